@@ -10,14 +10,18 @@ use Rattle.std.proofs.lemmas.Str.{IsUtf8-from_ascii}
 use Rattle.byteorder.specs.Endian.{little_bytes}
 use Rattle.byteorder.specs.Numbers.{little_number-reads_back, length-bytes_low_first}
 use Rattle.ipc_write.specs.Written.{schema_message}
+use Rattle.arrow_schema.specs.Column.{PlainSchema}
+use Rattle.arrow_schema.specs.Limits.{IsWithinLimits}
 use Rattle.segments.specs.Sectors.{sector_count}
+use Rattle.segments.specs.declared.extent.Extent.{Extent}
 use Rattle.catalogue.specs.declared.entry.Segment.{Segment}
-use Rattle.catalogue.specs.declared.limits.TheConstants.{MAX_NAME_BYTES, MAX_SEGMENT_ROWS, MAX_SEGMENTS}
-use Rattle.catalogue.specs.Entries.{PlainEntry, PlainCatalogue, is_between, is_name_byte, is_name, is_segment, is_entry, segment_count, IsCatalogue}
-use Rattle.catalogue.specs.Text.{sized, counted, segment_text, table_text, entry_text, list_text}
-use Rattle.catalogue.specs.Reading.{◌>>=◌, front_number, sized_at, many_at, counted_at, segment_at, schema_in, table_at, entry_at, catalogue_at}
+use Rattle.catalogue.specs.declared.limits.TheConstants.{MAX_NAME_BYTES, MAX_SEGMENT_ROWS, MAX_SEGMENTS, MAX_TABLES}
+use Rattle.catalogue.specs.Schemas.{is_within_limits}
+use Rattle.catalogue.specs.Entries.{PlainEntry, PlainCatalogue, PlainRoot, is_between, is_name_byte, is_name, is_segment, is_filled, has_no_page, is_entry, is_root_entry, segment_count, IsTable, IsRoot, IsCatalogue}
+use Rattle.catalogue.specs.Text.{sized, counted, extent_text, segment_text, table_text, entry_text, list_text, root_entry_text, root_text}
+use Rattle.catalogue.specs.Reading.{◌>>=◌, front_number, sized_at, name_at, many_at, counted_at, extent_in, segment_at, schema_in, body_at, entry_from, entry_at, catalogue_at, page_at, root_entry_at, root_at}
 use Rattle.catalogue.specs.inner.Messages.{AllAgain}
-use Rattle.catalogue.specs.laws.Kept.{IsEntry, entry_is, passes_catalogue}
+use Rattle.catalogue.specs.laws.Kept.{is_within, entry_is, passes_catalogue}
 
 -- ---- numbers and sized bytes
 
@@ -57,51 +61,58 @@ pub counted_again : {A : Type 0} (one_at : List ℕ → Option (A × List ℕ)) 
 counted_again one_at text xs rest lt all =
     rw (append_assoc (little_bytes 4 (length xs)) (flat_map text xs) rest, number_again 4 (length xs) (flat_map text xs ++ rest) (omega (arith, lt))) (many_again one_at text xs rest all)
 
--- ---- segments
+-- ---- extents and segments
+
+-- its numbers have 64 bits
+record Fits (e : Extent) : Type 0 where
+  pub start : e.run.start < 256 ^ 8
+  pub count : e.run.count < 256 ^ 8
+  pub bytes : e.bytes < 256 ^ 8
+
+fits : (e : Extent) → e.run.start < 2 ^ 64 → e.bytes < 2 ^ 64 → e.run.count ≡ sector_count e.bytes → Fits e
+fits e start bytes is =
+    let count : e.run.count ≡ (e.bytes + 511) / 512 = is in
+    record { start = omega (arith, start); count = omega (arith, bytes, count); bytes = omega (arith, bytes) }
+
+extent_again : (e : Extent) (rest : List ℕ) → Fits e → extent_in (extent_text e ++ rest) ≡ Some (e, rest)
+unfolding extent_in
+extent_again e rest f =
+    let a = little_bytes 8 e.run.start in
+    let b = little_bytes 8 e.run.count in
+    let c = little_bytes 8 e.bytes in
+    let parts : (a ++ (b ++ c)) ++ rest ≡ a ++ (b ++ (c ++ rest)) = append_assoc a (b ++ c) rest ∙ ap (λ x. a ++ x) (append_assoc b c rest) in
+    let e0 : front_number 8 (extent_text e ++ rest) ≡ Some (e.run.start, b ++ (c ++ rest)) = ap (front_number 8) parts ∙ number_again 8 e.run.start (b ++ (c ++ rest)) f.start in
+    bound_is (front_number 8 (extent_text e ++ rest)) (e.run.start, b ++ (c ++ rest)) (λ start. front_number 8 start.1 >>= λ count. front_number 8 count.1 >>= λ size.
+    Some (record { run = record { start = start.0; count = count.0 }; bytes = size.0 }, size.1)) (Some (e, rest)) e0
+    (bound_is (front_number 8 (b ++ (c ++ rest))) (e.run.count, c ++ rest) (λ count. front_number 8 count.1 >>= λ size.
+    Some (record { run = record { start = e.run.start; count = count.0 }; bytes = size.0 }, size.1)) (Some (e, rest)) (number_again 8 e.run.count (c ++ rest) f.count)
+    (bound_is (front_number 8 (c ++ rest)) (e.bytes, rest) (λ size.
+    Some (record { run = record { start = e.run.start; count = e.run.count }; bytes = size.0 }, size.1)) (Some (e, rest)) (number_again 8 e.bytes rest f.bytes) refl))
 
 -- what the test of a segment tells
-record Fits (s : Segment) : Type 0 where
-  pub start : s.place.run.start < 256 ^ 8
-  pub count : s.place.run.count < 256 ^ 8
-  pub bytes : s.place.bytes < 256 ^ 8
+record SegmentFits (s : Segment) : Type 0 where
+  pub place : Fits s.place
   pub rows : s.rows < 256 ^ 8
 
-fits : (s : Segment) → is_segment s ≡ true → Fits s
-fits s h =
+segment_fits : (s : Segment) → is_segment s ≡ true → SegmentFits s
+segment_fits s h =
     let parts = and_parts (ltb s.place.run.start (2 ^ 64) && ltb s.place.bytes (2 ^ 64)) (leb 1 s.place.bytes && (eqb s.place.run.count (sector_count s.place.bytes) && is_between 1 MAX_SEGMENT_ROWS s.rows)) h in
     let numbers = and_parts (ltb s.place.run.start (2 ^ 64)) (ltb s.place.bytes (2 ^ 64)) parts.0 in
     let some = and_parts (leb 1 s.place.bytes) (eqb s.place.run.count (sector_count s.place.bytes) && is_between 1 MAX_SEGMENT_ROWS s.rows) parts.1 in
     let sectors = and_parts (eqb s.place.run.count (sector_count s.place.bytes)) (is_between 1 MAX_SEGMENT_ROWS s.rows) some.1 in
     let rows = and_parts (leb 1 s.rows) (leb s.rows MAX_SEGMENT_ROWS) sectors.1 in
-    let start : s.place.run.start < 2 ^ 64 = ltb-true _ _ numbers.0 in
-    let bytes : s.place.bytes < 2 ^ 64 = ltb-true _ _ numbers.1 in
-    let count : s.place.run.count ≡ (s.place.bytes + 511) / 512 = eqb-true _ _ sectors.0 in
     let most : s.rows ≤ 4096 = leb-true _ _ rows.1 in
-    record { start = omega (arith, start); count = omega (arith, bytes, count); bytes = omega (arith, bytes); rows = omega (arith, most) }
+    record { place = fits s.place (ltb-true _ _ numbers.0) (ltb-true _ _ numbers.1) (eqb-true _ _ sectors.0); rows = omega (arith, most) }
 
 segment_again : (s : Segment) (rest : List ℕ) → is_segment s ≡ true → segment_at (segment_text s ++ rest) ≡ Some (s, rest)
 unfolding segment_at
 segment_again s rest h =
-    let f = fits s h in
-    let a = little_bytes 8 s.place.run.start in
-    let b = little_bytes 8 s.place.run.count in
-    let c = little_bytes 8 s.place.bytes in
-    let d = little_bytes 8 s.rows in
-    let parts : (a ++ (b ++ (c ++ d))) ++ rest ≡ a ++ (b ++ (c ++ (d ++ rest))) =
-    append_assoc a (b ++ (c ++ d)) rest ∙ ap (λ x. a ++ x) (append_assoc b (c ++ d) rest ∙ ap (λ x. b ++ x) (append_assoc c d rest)) in
-    let text = segment_text s ++ rest in
-    let e0 : front_number 8 text ≡ Some (s.place.run.start, b ++ (c ++ (d ++ rest))) = ap (front_number 8) parts ∙ number_again 8 s.place.run.start (b ++ (c ++ (d ++ rest))) f.start in
-    let e1 = number_again 8 s.place.run.count (c ++ (d ++ rest)) f.count in
-    let e2 = number_again 8 s.place.bytes (d ++ rest) f.bytes in
-    let e3 = number_again 8 s.rows rest f.rows in
-    bound_is (front_number 8 text) (s.place.run.start, b ++ (c ++ (d ++ rest))) (λ start. front_number 8 start.1 >>= λ count. front_number 8 count.1 >>= λ size. front_number 8 size.1 >>= λ rows.
-    Some (record { place = record { run = record { start = start.0; count = count.0 }; bytes = size.0 }; rows = rows.0 }, rows.1)) (Some (s, rest)) e0
-    (bound_is (front_number 8 (b ++ (c ++ (d ++ rest)))) (s.place.run.count, c ++ (d ++ rest)) (λ count. front_number 8 count.1 >>= λ size. front_number 8 size.1 >>= λ rows.
-    Some (record { place = record { run = record { start = s.place.run.start; count = count.0 }; bytes = size.0 }; rows = rows.0 }, rows.1)) (Some (s, rest)) e1
-    (bound_is (front_number 8 (c ++ (d ++ rest))) (s.place.bytes, d ++ rest) (λ size. front_number 8 size.1 >>= λ rows.
-    Some (record { place = record { run = record { start = s.place.run.start; count = s.place.run.count }; bytes = size.0 }; rows = rows.0 }, rows.1)) (Some (s, rest)) e2
-    (bound_is (front_number 8 (d ++ rest)) (s.rows, rest) (λ rows.
-    Some (record { place = record { run = record { start = s.place.run.start; count = s.place.run.count }; bytes = s.place.bytes }; rows = rows.0 }, rows.1)) (Some (s, rest)) e3 refl)))
+    let f = segment_fits s h in
+    let a = extent_text s.place in
+    let b = little_bytes 8 s.rows in
+    let e0 : extent_in (segment_text s ++ rest) ≡ Some (s.place, b ++ rest) = ap extent_in (append_assoc a b rest) ∙ extent_again s.place (b ++ rest) f.place in
+    bound_is (extent_in (segment_text s ++ rest)) (s.place, b ++ rest) (λ place. front_number 8 place.1 >>= λ rows. Some (record { place = place.0; rows = rows.0 }, rows.1)) (Some (s, rest)) e0
+    (bound_is (front_number 8 (b ++ rest)) (s.rows, rest) (λ rows. Some (record { place = s.place; rows = rows.0 }, rows.1)) (Some (s, rest)) (number_again 8 s.rows rest f.rows) refl)
 
 segments_again : (ss : List Segment) → list_all is_segment ss ≡ true → AllByRecursion (ReadAgain segment_at segment_text) ss
 segments_again [] all = tt
@@ -120,33 +131,74 @@ name_bytes_small (b ∷ bytes) all (suc i) = name_bytes_small bytes (and_parts (
 pub name_is_utf8 : (bytes : List ℕ) → is_name bytes ≡ true → IsUtf8 bytes
 name_is_utf8 bytes h = IsUtf8-from_ascii bytes (name_bytes_small bytes (and_parts (is_between 1 MAX_NAME_BYTES (length bytes)) (list_all is_name_byte bytes) h).1)
 
-name_short : (bytes : List ℕ) → is_name bytes ≡ true → length bytes < 2 ^ 32
+pub name_short : (bytes : List ℕ) → is_name bytes ≡ true → length bytes < 2 ^ 32
 name_short bytes h =
     let parts = and_parts (is_between 1 MAX_NAME_BYTES (length bytes)) (list_all is_name_byte bytes) h in
     let most : length bytes ≤ 64 = leb-true _ _ (and_parts (leb 1 (length bytes)) (leb (length bytes) MAX_NAME_BYTES) parts.0).1 in
     omega (arith, most)
 
--- ---- entries
+name_again : (name rest : List ℕ) → is_name name ≡ true → name_at (sized name ++ rest) ≡ Some (name, rest)
+unfolding name_at
+name_again name rest is = rw (sized_again name rest (name_short name is), is) refl
 
-table_again : AllAgain → (e : PlainEntry) (rest : List ℕ) → IsEntry e → length e.segments ≤ MAX_SEGMENTS → table_at e.name (table_text e ++ rest) ≡ Some (e, rest)
-unfolding table_at table_text
-table_again schemas e rest known few =
-    let message = schemas e.schema known.schema in
+-- ---- a table without its name
+
+body_again : AllAgain → (e : PlainEntry) (rest : List ℕ) → IsWithinLimits e.schema → length e.segments ≤ MAX_SEGMENTS → list_all is_segment e.segments ≡ true → body_at (table_text e ++ rest) ≡ Some ((e.schema, e.segments), rest)
+unfolding body_at table_text
+body_again schemas e rest within few sound =
+    let message = schemas e.schema within in
     let text = schema_message e.schema in
     let after = counted segment_text e.segments ++ rest in
-    let e0 : sized_at (table_text e ++ rest) ≡ Some (text, after) = ap sized_at (append_assoc (sized text) (counted segment_text e.segments) rest) ∙ sized_again text after message.short in
-    let e2 = counted_again segment_at segment_text e.segments rest (omega (arith, few)) (segments_again e.segments known.segments) in
-    bound_is (sized_at (table_text e ++ rest)) (text, after) (λ text. schema_in text.0 >>= λ schema. counted_at segment_at text.1 >>= λ segments. Some (record { name = e.name; schema = schema; segments = segments.0 }, segments.1)) (Some (e, rest)) e0
-    (bound_is (schema_in text) e.schema (λ schema. counted_at segment_at after >>= λ segments. Some (record { name = e.name; schema = schema; segments = segments.0 }, segments.1)) (Some (e, rest)) message.read
-    (bound_is (counted_at segment_at after) (e.segments, rest) (λ segments. Some (record { name = e.name; schema = e.schema; segments = segments.0 }, segments.1)) (Some (e, rest)) e2 refl))
+    let e0 : sized_at ((sized text ++ counted segment_text e.segments) ++ rest) ≡ Some (text, after) = ap sized_at (append_assoc (sized text) (counted segment_text e.segments) rest) ∙ sized_again text after message.short in
+    let e2 = counted_again segment_at segment_text e.segments rest (omega (arith, few)) (segments_again e.segments sound) in
+    bound_is (sized_at ((sized text ++ counted segment_text e.segments) ++ rest)) (text, after) (λ text. schema_in text.0 >>= λ schema. counted_at segment_at text.1 >>= λ segments. Some ((schema, segments.0), segments.1)) (Some ((e.schema, e.segments), rest)) e0
+    (bound_is (schema_in text) e.schema (λ schema. counted_at segment_at after >>= λ segments. Some ((schema, segments.0), segments.1)) (Some ((e.schema, e.segments), rest)) message.read
+    (bound_is (counted_at segment_at after) (e.segments, rest) (λ segments. Some ((e.schema, segments.0), segments.1)) (Some ((e.schema, e.segments), rest)) e2 refl))
+
+pub page_again : AllAgain → (most : ℕ) (e : PlainEntry) → IsTable e → length e.segments ≤ most → page_at most (table_text e) ≡ Some (e.schema, e.segments)
+unfolding page_at
+page_again schemas most e is few =
+    let body : body_at (table_text e) ≡ Some ((e.schema, e.segments), []) = ap body_at (sym (append-nil (table_text e))) ∙ body_again schemas e [] (is_within e.schema is.schema) is.few is.segments in
+    rw (body, is.schema, is.segments, le-leb (length e.segments) most few) refl
+
+abbrev Body : Type 0
+Body = PlainSchema × List Segment
+
+same_body : (a b : Body × List ℕ) → Some a ≡ Some b → a.0 ≡ b.0
+same_body a b h = ap (λ (o : Option (Body × List ℕ)). front o) h
+  where
+    front : Option (Body × List ℕ) → Body
+    front None = a.0
+    front (Some p) = p.0
+
+pub pages_apart : AllAgain → (e f : PlainEntry) (x y : List ℕ) → IsTable e → IsTable f → table_text e ++ x ≡ table_text f ++ y → (e.schema ≡ f.schema) × (e.segments ≡ f.segments)
+pages_apart schemas e f x y h k same =
+    let one : Body = (e.schema, e.segments) in
+    let other : Body = (f.schema, f.segments) in
+    let both : one ≡ other =
+    same_body (one, x) (other, y)
+    (sym (body_again schemas e x (is_within e.schema h.schema) h.few h.segments) ∙ ap body_at same ∙ body_again schemas f y (is_within f.schema k.schema) k.few k.segments) in
+    (ap (λ (b : Body). b.0) both, ap (λ (b : Body). b.1) both)
+
+-- ---- entries
+
+-- one without a page has its parts alone
+parts_alone : (e : PlainEntry) → has_no_page e.page ≡ true → entry_from e.name None (e.schema, e.segments) ≡ e
+parts_alone e none = λ i. record { name = e.name; schema = e.schema; segments = e.segments; page = no_page e.page none i }
+  where
+    no_page : (o : Option Extent) → has_no_page o ≡ true → None ≡ o
+    no_page None is = refl
+    no_page (Some p) is = absurd (cc is)
 
 entry_again : AllAgain → (e : PlainEntry) → is_entry e ≡ true → length e.segments ≤ MAX_SEGMENTS → ReadAgain entry_at entry_text e
 unfolding entry_at
 entry_again schemas e h few rest =
     let known = entry_is e h in
-    let e0 : sized_at (entry_text e ++ rest) ≡ Some (e.name, table_text e ++ rest) = ap sized_at (append_assoc (sized e.name) (table_text e) rest) ∙ sized_again e.name (table_text e ++ rest) (name_short e.name known.name) in
-    bound_is (sized_at (entry_text e ++ rest)) (e.name, table_text e ++ rest) (λ name. cond (is_name name.0) (table_at name.0 name.1) None) (Some (e, rest)) e0
-    (cond-true (is_name e.name) (table_at e.name (table_text e ++ rest)) None known.name ∙ table_again schemas e rest known few)
+    let after = table_text e ++ rest in
+    let e0 : name_at (entry_text e ++ rest) ≡ Some (e.name, after) = ap name_at (append_assoc (sized e.name) (table_text e) rest) ∙ name_again e.name after known.name in
+    bound_is (name_at (entry_text e ++ rest)) (e.name, after) (λ name. body_at name.1 >>= λ body. Some (entry_from name.0 None body.0, body.1)) (Some (e, rest)) e0
+    (bound_is (body_at after) ((e.schema, e.segments), rest) (λ body. Some (entry_from e.name None body.0, body.1)) (Some (e, rest)) (body_again schemas e rest known.schema few known.segments)
+    (ap (λ (x : PlainEntry). Some (x, rest)) (parts_alone e known.page)))
 
 entries_again : AllAgain → (c : PlainCatalogue) → list_all is_entry c ≡ true → segment_count c ≤ MAX_SEGMENTS → AllByRecursion (ReadAgain entry_at entry_text) c
 entries_again schemas [] all few = tt
@@ -178,3 +230,43 @@ same_front a b h = ap (λ (o : Option (PlainCatalogue × List ℕ)). front o) h
 
 pub texts_apart : AllAgain → (c d : PlainCatalogue) (x y : List ℕ) → IsCatalogue c → IsCatalogue d → list_text c ++ x ≡ list_text d ++ y → c ≡ d
 texts_apart schemas c d x y k l same = same_front (c, x) (d, y) (sym (front_again schemas c x k) ∙ ap (counted_at entry_at) same ∙ front_again schemas d y l)
+
+-- ---- roots
+
+root_entry_again : (r : PlainRoot) (rest : List ℕ) → is_root_entry r ≡ true → root_entry_at (root_entry_text r ++ rest) ≡ Some (r, rest)
+unfolding root_entry_at
+root_entry_again r rest h =
+    let parts = and_parts (is_name r.name) (is_filled 8 r.page) h in
+    let filled = and_parts (ltb r.page.run.start (2 ^ 64) && ltb r.page.bytes (2 ^ 64)) (leb 8 r.page.bytes && eqb r.page.run.count (sector_count r.page.bytes)) parts.1 in
+    let numbers = and_parts (ltb r.page.run.start (2 ^ 64)) (ltb r.page.bytes (2 ^ 64)) filled.0 in
+    let own = and_parts (leb 8 r.page.bytes) (eqb r.page.run.count (sector_count r.page.bytes)) filled.1 in
+    let f = fits r.page (ltb-true _ _ numbers.0) (ltb-true _ _ numbers.1) (eqb-true _ _ own.1) in
+    let after = extent_text r.page ++ rest in
+    let front : name_at (root_entry_text r ++ rest) ≡ Some (r.name, after) = ap name_at (append_assoc (sized r.name) (extent_text r.page) rest) ∙ name_again r.name after parts.0 in
+    bound_is (name_at (root_entry_text r ++ rest)) (r.name, after) (λ name. extent_in name.1 >>= λ page. Some (record { name = name.0; page = page.0 }, page.1)) (Some (r, rest)) front
+    (bound_is (extent_in after) (r.page, rest) (λ page. Some (record { name = r.name; page = page.0 }, page.1)) (Some (r, rest)) (extent_again r.page rest f) refl)
+
+roots_again : (rs : List PlainRoot) → list_all is_root_entry rs ≡ true → AllByRecursion (ReadAgain root_entry_at root_entry_text) rs
+roots_again [] all = tt
+roots_again (r ∷ rs) all = let parts = and_parts (is_root_entry r) (list_all is_root_entry rs) all in ((λ rest. root_entry_again r rest parts.0), roots_again rs parts.1)
+
+root_front_again : (rs : List PlainRoot) (rest : List ℕ) → IsRoot rs → counted_at root_entry_at (root_text rs ++ rest) ≡ Some (rs, rest)
+root_front_again rs rest is =
+    let few : length rs < 2 ^ 32 = let t = is.tables in omega (arith, t) in
+    counted_again root_entry_at root_entry_text rs rest few (roots_again rs is.entries)
+
+pub root_again : (rs : List PlainRoot) → IsRoot rs → root_at (root_text rs) ≡ Some rs
+unfolding root_at
+root_again rs is =
+    let all : counted_at root_entry_at (root_text rs) ≡ Some (rs, []) = ap (counted_at root_entry_at) (sym (append-nil (root_text rs))) ∙ root_front_again rs [] is in
+    rw (all, is.order, le-leb (length rs) MAX_TABLES is.tables) refl
+
+same_root : (a b : List PlainRoot × List ℕ) → Some a ≡ Some b → a.0 ≡ b.0
+same_root a b h = ap (λ (o : Option (List PlainRoot × List ℕ)). front o) h
+  where
+    front : Option (List PlainRoot × List ℕ) → List PlainRoot
+    front None = []
+    front (Some p) = p.0
+
+pub roots_apart : (rs ss : List PlainRoot) (x y : List ℕ) → IsRoot rs → IsRoot ss → root_text rs ++ x ≡ root_text ss ++ y → rs ≡ ss
+roots_apart rs ss x y k l same = same_root (rs, x) (ss, y) (sym (root_front_again rs x k) ∙ ap (counted_at root_entry_at) same ∙ root_front_again ss y l)

@@ -14,6 +14,7 @@ use Rattle.catalogue.specs.inner.Places.{place_of, seat_of}
 use Rattle.catalogue.proofs.Standing.{seated, gap, placed, set_segments, map_insert, map_remove, map_at}
 use Rattle.catalogue.proofs.Rows.{counted_within}
 use Rattle.catalogue.specs.laws.Changed.{renamed_stands, more_is, more_stands, exchanged_is}
+use Rattle.catalogue.specs.laws.Sums.{refilled}
 
 pub record Seated (es : List TableEntry) (e : TableEntry) (place : ℕ) : Type 0 where
   pub within : place < length es
@@ -91,49 +92,35 @@ more_kept (Err x) old new name more put err kept each most = ap is_catalogue err
 
 -- the entry at its place has other segments
 refilled_at : (es : List TableEntry) (name : List ℕ) (place : ℕ) (x new : TableEntry) (segments : List Segment) → place_of name 0 (map plain_entry es) ≡ Some place → x ≡ get_or es place x
-    → plain_entry new ≡ record { name = string_bytes x.name; schema = (plain_entry x).schema; segments = segments } → map plain_entry (set es place new) ≡ with_segments (map plain_entry es) name segments
+    → plain_entry new ≡ refilled (plain_entry x) segments → map plain_entry (set es place new) ≡ with_segments (map plain_entry es) name segments
 refilled_at es name place x new segments h is new_is =
     let c = map plain_entry es in
     let at : get_or c place (plain_entry x) ≡ plain_entry x = map_at plain_entry es place x ∙ ap plain_entry (sym is) in
     map-set plain_entry es place new
     ∙ ap (set c place) new_is
-    ∙ ap (λ (e : PlainEntry). set c place (record { name = e.name; schema = e.schema; segments = segments })) (sym at)
+    ∙ ap (λ (e : PlainEntry). set c place (refilled e segments)) (sym at)
     ∙ set_segments c name 0 place place (plain_entry x) segments h (omega arith)
 
 stood_at : (es : List TableEntry) (name : List ℕ) (place : ℕ) (x : TableEntry) → place_of name 0 (map plain_entry es) ≡ Some place → x ≡ get_or es place x → entry_of (map plain_entry es) name ≡ Some (plain_entry x)
 stood_at es name place x h is = (place_in es name place h).stood x ∙ ap (λ (e : TableEntry). Some (plain_entry e)) (sym is)
 
--- it has more
-more_at : (es : List TableEntry) (name : List ℕ) (place : ℕ) (x new : TableEntry) (more : List Segment) → place_of name 0 (map plain_entry es) ≡ Some place → x ≡ get_or es place x
-    → plain_entry new ≡ record { name = string_bytes x.name; schema = (plain_entry x).schema; segments = x.segments.items ++ more } → map plain_entry (set es place new) ≡ with_more (map plain_entry es) name more
-more_at es name place x new more h is new_is =
+-- after `append_more`: it has more
+pub more_at : {A B : Type 0} (r : Result A B) (es : List TableEntry) (name : List ℕ) (place : ℕ) (x new : TableEntry) (more : List Segment) → place_of name 0 (map plain_entry es) ≡ Some place → x ≡ get_or es place x
+    → OnOk r (plain_entry new ≡ refilled (plain_entry x) ((plain_entry x).segments ++ more)) → OnOk r (map plain_entry (set es place new) ≡ with_more (map plain_entry es) name more)
+more_at (Ok y) es name place x new more h is new_is =
     refilled_at es name place x new (x.segments.items ++ more) h is new_is ∙ sym (more_is (map plain_entry es) name (plain_entry x) more (stood_at es name place x h is))
+more_at (Err y) es name place x new more h is new_is = tt
 
--- some of them were exchanged, or all are as they were
+-- after `exchange`: some of them were exchanged
 pub exchanged_at : {A B : Type 0} (r : Result A B) (es : List TableEntry) (name : List ℕ) (at : ℕ) (x new : TableEntry) (place count : ℕ) (others : List Segment) → place_of name 0 (map plain_entry es) ≡ Some at → x ≡ get_or es at x
-    → plain_entry new ≡ record { name = string_bytes x.name; schema = (plain_entry x).schema; segments = new.segments.items } → OnOk r (new.segments.items ≡ with_others x.segments.items place count others)
+    → OnOk r (plain_entry new ≡ refilled (plain_entry x) (with_others (plain_entry x).segments place count others))
     → OnOk r (map plain_entry (set es at new) ≡ with_exchanged (map plain_entry es) name place count others)
-exchanged_at (Ok y) es name at x new place count others h is new_is filled =
-    refilled_at es name at x new (with_others x.segments.items place count others) h is (new_is ∙ (λ i. record { name = string_bytes x.name; schema = (plain_entry x).schema; segments = filled i }))
+exchanged_at (Ok y) es name at x new place count others h is new_is =
+    refilled_at es name at x new (with_others x.segments.items place count others) h is new_is
     ∙ sym (exchanged_is (map plain_entry es) name (plain_entry x) (stood_at es name at x h is) place count others)
-exchanged_at (Err y) es name at x new place count others h is new_is filled = tt
+exchanged_at (Err y) es name at x new place count others h is new_is = tt
 
-pub kept_at : {A B : Type 0} (r : Result A B) (es : List TableEntry) (at : ℕ) (x new : TableEntry) → x ≡ get_or es at x
-    → plain_entry new ≡ record { name = string_bytes x.name; schema = (plain_entry x).schema; segments = new.segments.items } → OnErr r (new.segments.items ≡ x.segments.items)
-    → OnErr r (map plain_entry (set es at new) ≡ map plain_entry es)
-kept_at (Ok y) es at x new is new_is same = tt
-kept_at (Err y) es at x new is new_is same =
-    map-set_same plain_entry es at new x (new_is ∙ (λ i. record { name = string_bytes x.name; schema = (plain_entry x).schema; segments = same i }) ∙ ap plain_entry is)
-
--- after `extend_from_slice`: the entry at its place has more segments, or all are as they were
-pub appended_at : {A B : Type 0} (r : Result A B) (es : List TableEntry) (name : List ℕ) (place : ℕ) (x new : TableEntry) (more : List Segment) → place_of name 0 (map plain_entry es) ≡ Some place → x ≡ get_or es place x
-    → plain_entry new ≡ record { name = string_bytes x.name; schema = (plain_entry x).schema; segments = cond (is_ok r) (x.segments.items ++ more) x.segments.items }
-    → OnOk r (map plain_entry (set es place new) ≡ with_more (map plain_entry es) name more)
-appended_at (Ok y) es name place x new more h is new_is = more_at es name place x new more h is new_is
-appended_at (Err y) es name place x new more h is new_is = tt
-
-pub unchanged_at : {A B : Type 0} (r : Result A B) (es : List TableEntry) (place : ℕ) (x new : TableEntry) (more : List Segment) → x ≡ get_or es place x
-    → plain_entry new ≡ record { name = string_bytes x.name; schema = (plain_entry x).schema; segments = cond (is_ok r) (x.segments.items ++ more) x.segments.items }
-    → OnErr r (map plain_entry (set es place new) ≡ map plain_entry es)
-unchanged_at (Ok y) es place x new more is new_is = tt
-unchanged_at (Err y) es place x new more is new_is = map-set_same plain_entry es place new x (new_is ∙ ap plain_entry is)
+-- after either: all is as it was
+pub kept_at : {A B : Type 0} (r : Result A B) (es : List TableEntry) (at : ℕ) (x new : TableEntry) → x ≡ get_or es at x → OnErr r (plain_entry new ≡ plain_entry x) → OnErr r (map plain_entry (set es at new) ≡ map plain_entry es)
+kept_at (Ok y) es at x new is same = tt
+kept_at (Err y) es at x new is same = map-set_same plain_entry es at new x (same ∙ ap plain_entry is)

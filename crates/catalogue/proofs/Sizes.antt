@@ -9,28 +9,22 @@ use Rattle.byteorder.specs.Numbers.{length-bytes_low_first}
 use Rattle.ipc_write.specs.Written.{schema_message}
 use Rattle.segments.specs.declared.run.Run.{Run}
 use Rattle.catalogue.specs.declared.entry.Segment.{Segment}
-use Rattle.catalogue.specs.Entries.{PlainEntry, PlainCatalogue, is_entry, row_count, runs_in, runs_of, segment_count, IsCatalogue}
-use Rattle.catalogue.specs.Text.{sized, counted, segment_text, table_text, entry_text, entry_size, list_text, list_size}
+use Rattle.segments.specs.declared.extent.Extent.{Extent}
+use Rattle.catalogue.specs.Entries.{PlainEntry, PlainCatalogue, PlainRoot, is_entry, row_count, runs_in, runs_of, segment_count, IsCatalogue}
+use Rattle.catalogue.specs.Text.{sized, counted, extent_text, segment_text, table_text, table_size, entry_text, entry_size, list_text, list_size, root_entry_text, root_text, root_size}
 use Rattle.catalogue.specs.laws.Kept.{entry_is}
 use Rattle.catalogue.proofs.Standing.{map_at}
 use Rattle.catalogue.proofs.Rows.{rows_le, passes_at}
 
+extent_size : (e : Extent) → length (extent_text e) ≡ 24
+extent_size e =
+    let a = little_bytes 8 e.run.start in
+    let b = little_bytes 8 e.run.count in
+    let c = little_bytes 8 e.bytes in
+    omega (arith, length-append a (b ++ c), length-append b c, length-bytes_low_first 0 8 e.run.start, length-bytes_low_first 0 8 e.run.count, length-bytes_low_first 0 8 e.bytes)
+
 segment_size : (s : Segment) → length (segment_text s) ≡ 32
-segment_size s =
-    let a = little_bytes 8 s.place.run.start in
-    let b = little_bytes 8 s.place.run.count in
-    let c = little_bytes 8 s.place.bytes in
-    let d = little_bytes 8 s.rows in
-    omega (
-      arith,
-      length-append a (b ++ (c ++ d)),
-      length-append b (c ++ d),
-      length-append c d,
-      length-bytes_low_first 0 8 s.place.run.start,
-      length-bytes_low_first 0 8 s.place.run.count,
-      length-bytes_low_first 0 8 s.place.bytes,
-      length-bytes_low_first 0 8 s.rows,
-    )
+segment_size s = omega (arith, length-append (extent_text s.place) (little_bytes 8 s.rows), extent_size s.place, length-bytes_low_first 0 8 s.rows)
 
 segments_size : (ss : List Segment) → length (flat_map segment_text ss) ≡ 32 * length ss
 segments_size [] = omega arith
@@ -39,20 +33,21 @@ segments_size (s ∷ ss) = omega (arith, length-append (segment_text s) (flat_ma
 sized_size : (bytes : List ℕ) → length (sized bytes) ≡ 4 + length bytes
 sized_size bytes = omega (arith, length-append (little_bytes 4 (length bytes)) bytes, length-bytes_low_first 0 4 (length bytes))
 
-entry_has_size : (e : PlainEntry) → length (entry_text e) ≡ entry_size e
+pub table_has_size : (e : PlainEntry) → length (table_text e) ≡ table_size e
 unfolding table_text
-entry_has_size e =
+table_has_size e =
     let message = schema_message e.schema in
     omega (
       arith,
-      length-append (sized e.name) (sized message ++ counted segment_text e.segments),
       length-append (sized message) (counted segment_text e.segments),
-      sized_size e.name,
       sized_size message,
       length-append (little_bytes 4 (length e.segments)) (flat_map segment_text e.segments),
       length-bytes_low_first 0 4 (length e.segments),
       segments_size e.segments,
     )
+
+entry_has_size : (e : PlainEntry) → length (entry_text e) ≡ entry_size e
+entry_has_size e = omega (arith, length-append (sized e.name) (table_text e), sized_size e.name, table_has_size e)
 
 entries_size : (c : PlainCatalogue) → length (flat_map entry_text c) ≡ sum_by entry_size c
 entries_size [] = refl
@@ -60,6 +55,25 @@ entries_size (e ∷ es) = omega (arith, length-append (entry_text e) (flat_map e
 
 pub text_has_size : (c : PlainCatalogue) → length (list_text c) ≡ list_size c
 text_has_size c = omega (arith, length-append (little_bytes 4 (length c)) (flat_map entry_text c), length-bytes_low_first 0 4 (length c), entries_size c)
+
+abbrev root_entry_size : PlainRoot → ℕ
+root_entry_size r = 28 + length r.name
+
+root_entries_size : (rs : List PlainRoot) → length (flat_map root_entry_text rs) ≡ sum_by root_entry_size rs
+root_entries_size [] = refl
+root_entries_size (r ∷ rs) =
+    omega (
+      arith,
+      length-append (root_entry_text r) (flat_map root_entry_text rs),
+      length-append (sized r.name) (extent_text r.page),
+      sized_size r.name,
+      extent_size r.page,
+      root_entries_size rs,
+      sum_by-cons root_entry_size r rs,
+    )
+
+pub root_has_size : (rs : List PlainRoot) → length (root_text rs) ≡ root_size rs
+root_has_size rs = omega (arith, length-append (little_bytes 4 (length rs)) (flat_map root_entry_text rs), length-bytes_low_first 0 4 (length rs), root_entries_size rs)
 
 -- ---- runs
 

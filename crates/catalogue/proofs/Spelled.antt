@@ -2,9 +2,9 @@
 use Rattle.std.proofs.Common.{◌≡◌, ◌≤◌, ◌<◌, ◌+◌, ◌*◌, ◌/◌, ◌%◌, ◌^◌, ◌&&◌, leb, eqb, ℕ, zero, suc, Bool, true, false, cond, List, [], ◌∷◌, ◌++◌, length, take, drop, Option, Some, None, refl, sym, ap, subst, ◌∙◌, append_assoc, arith}
 use Rattle.std.proofs.Math.Nat.{div-div-eq-div-mul, pow-suc}
 use Rattle.std.specs.Int.{byte_at, bytes_low_first}
-use Rattle.std.specs.List.{flat_map}
+use Rattle.std.specs.List.{flat_map, list_all}
 use Rattle.std.specs.Str.{bytes_eq}
-use Rattle.std.proofs.lemmas.Bool.{and_parts, leb-true, eqb-true}
+use Rattle.std.proofs.lemmas.Bool.{and_parts, and_from, leb-true, eqb-true}
 use Rattle.std.proofs.lemmas.List.{take-append-drop, length-take, append-nil, nil_from_length}
 use Rattle.std.proofs.lemmas.Option.{cond_some}
 use Rattle.std.proofs.lemmas.Slice.Eq.{bytes_eq-Decides}
@@ -18,9 +18,12 @@ use Rattle.ipc_message.specs.Header.{supported_codes}
 use Rattle.ipc_message.specs.Checks.{checked_schema}
 use Rattle.ipc_write.specs.Written.{schema_message}
 use Rattle.catalogue.specs.declared.entry.Segment.{Segment}
-use Rattle.catalogue.specs.Entries.{PlainEntry, PlainCatalogue, is_name, IsCatalogue, is_catalogue}
-use Rattle.catalogue.specs.Text.{sized, counted, segment_text, table_text, entry_text, list_text}
-use Rattle.catalogue.specs.Reading.{◌>>=◌, front_number, sized_at, many_at, counted_at, segment_at, raw_schema_in, schema_in, unfaulted, table_at, entry_at, catalogue_at}
+use Rattle.segments.specs.declared.extent.Extent.{Extent}
+use Rattle.catalogue.specs.declared.limits.TheConstants.{MAX_TABLES}
+use Rattle.catalogue.specs.Schemas.{is_within_limits}
+use Rattle.catalogue.specs.Entries.{PlainEntry, PlainCatalogue, PlainRoot, is_name, is_segment, ascends, root_names, IsCatalogue, is_catalogue}
+use Rattle.catalogue.specs.Text.{sized, counted, extent_text, segment_text, table_text, entry_text, list_text, root_entry_text, root_text}
+use Rattle.catalogue.specs.Reading.{◌>>=◌, front_number, sized_at, name_at, many_at, counted_at, extent_in, segment_at, raw_schema_in, schema_in, unfaulted, body_at, entry_from, entry_at, catalogue_at, page_at, root_entry_at, root_at}
 use Rattle.catalogue.specs.laws.Kept.{catalogue_is}
 
 -- ---- numbers
@@ -119,32 +122,57 @@ counted_takes one_at text one bytes r small e =
     let q = many_takes one_at text one a.0.0 a.0.1 r p.small a.2 in
     subst (λ k. Takes bytes (little_bytes 4 k ++ flat_map text r.0) r.1) (sym q.1) (then_takes bytes (little_bytes 4 a.0.0) a.0.1 (flat_map text r.0) r.1 p q.0)
 
-segment_takes : TakesOne segment_at segment_text
-unfolding segment_at
-segment_takes bytes r small e =
-    let a = bound (front_number 8 bytes) (λ start. front_number 8 start.1 >>= λ count. front_number 8 count.1 >>= λ size. front_number 8 size.1 >>= λ rows.
-    Some (record { place = record { run = record { start = start.0; count = count.0 }; bytes = size.0 }; rows = rows.0 }, rows.1)) r e in
-    let b = bound (front_number 8 a.0.1) (λ count. front_number 8 count.1 >>= λ size. front_number 8 size.1 >>= λ rows.
-    Some (record { place = record { run = record { start = a.0.0; count = count.0 }; bytes = size.0 }; rows = rows.0 }, rows.1)) r a.2 in
-    let c = bound (front_number 8 b.0.1) (λ size. front_number 8 size.1 >>= λ rows.
-    Some (record { place = record { run = record { start = a.0.0; count = b.0.0 }; bytes = size.0 }; rows = rows.0 }, rows.1)) r b.2 in
-    let d = bound (front_number 8 c.0.1) (λ rows. Some (record { place = record { run = record { start = a.0.0; count = b.0.0 }; bytes = c.0.0 }; rows = rows.0 }, rows.1)) r c.2 in
+extent_takes : TakesOne extent_in extent_text
+unfolding extent_in
+extent_takes bytes r small e =
+    let a = bound (front_number 8 bytes) (λ start. front_number 8 start.1 >>= λ count. front_number 8 count.1 >>= λ size.
+    Some (record { run = record { start = start.0; count = count.0 }; bytes = size.0 }, size.1)) r e in
+    let b = bound (front_number 8 a.0.1) (λ count. front_number 8 count.1 >>= λ size.
+    Some (record { run = record { start = a.0.0; count = count.0 }; bytes = size.0 }, size.1)) r a.2 in
+    let c = bound (front_number 8 b.0.1) (λ size. Some (record { run = record { start = a.0.0; count = b.0.0 }; bytes = size.0 }, size.1)) r b.2 in
     let p = number_takes 8 bytes a.0 small a.1 in
     let q = number_takes 8 a.0.1 b.0 p.small b.1 in
     let s = number_takes 8 b.0.1 c.0 q.small c.1 in
-    let t = number_takes 8 c.0.1 d.0 s.small d.1 in
-    let st = then_takes b.0.1 (little_bytes 8 c.0.0) c.0.1 (little_bytes 8 d.0.0) d.0.1 s t in
-    let qst = then_takes a.0.1 (little_bytes 8 b.0.0) b.0.1 (little_bytes 8 c.0.0 ++ little_bytes 8 d.0.0) d.0.1 q st in
-    let all = then_takes bytes (little_bytes 8 a.0.0) a.0.1 (little_bytes 8 b.0.0 ++ (little_bytes 8 c.0.0 ++ little_bytes 8 d.0.0)) d.0.1 p qst in
-    subst (λ (x : Segment × List ℕ). Takes bytes (segment_text x.0) x.1) (some_is (record { place = record { run = record { start = a.0.0; count = b.0.0 }; bytes = c.0.0 }; rows = d.0.0 }, d.0.1) r d.2) all
+    let qs = then_takes a.0.1 (little_bytes 8 b.0.0) b.0.1 (little_bytes 8 c.0.0) c.0.1 q s in
+    let all = then_takes bytes (little_bytes 8 a.0.0) a.0.1 (little_bytes 8 b.0.0 ++ little_bytes 8 c.0.0) c.0.1 p qs in
+    subst (λ (x : Extent × List ℕ). Takes bytes (extent_text x.0) x.1) (some_is (record { run = record { start = a.0.0; count = b.0.0 }; bytes = c.0.0 }, c.0.1) r c.2) all
+  where
+    some_is : (x y : Extent × List ℕ) → Some x ≡ Some y → x ≡ y
+    some_is x y h = cc
+
+segment_takes : TakesOne segment_at segment_text
+unfolding segment_at
+segment_takes bytes r small e =
+    let a = bound (extent_in bytes) (λ place. front_number 8 place.1 >>= λ rows. Some (record { place = place.0; rows = rows.0 }, rows.1)) r e in
+    let b = bound (front_number 8 a.0.1) (λ rows. Some (record { place = a.0.0; rows = rows.0 }, rows.1)) r a.2 in
+    let p = extent_takes bytes a.0 small a.1 in
+    let q = number_takes 8 a.0.1 b.0 p.small b.1 in
+    let all = then_takes bytes (extent_text a.0.0) a.0.1 (little_bytes 8 b.0.0) b.0.1 p q in
+    subst (λ (x : Segment × List ℕ). Takes bytes (segment_text x.0) x.1) (some_is (record { place = a.0.0; rows = b.0.0 }, b.0.1) r b.2) all
   where
     some_is : (x y : Segment × List ℕ) → Some x ≡ Some y → x ≡ y
     some_is x y h = cc
+
+-- ---- names
+
+pub record IsNameAt (bytes : List ℕ) (r : List ℕ × List ℕ) : Type 0 where
+  pub sized : sized_at bytes ≡ Some r
+  pub name : is_name r.0 ≡ true
+
+name_is_at : (bytes : List ℕ) (r : List ℕ × List ℕ) → name_at bytes ≡ Some r → IsNameAt bytes r
+unfolding name_at
+name_is_at bytes r e =
+    let a = bound (sized_at bytes) (λ name. cond (is_name name.0) (Some name) None) r e in
+    let t = cond_some (is_name a.0.0) a.0 r a.2 in
+    record { sized = a.1 ∙ ap Some t.1; name = ap (λ (x : List ℕ × List ℕ). is_name x.0) (sym t.1) ∙ t.0 }
 
 -- ---- entries
 
 entry_is : (x y : PlainEntry × List ℕ) → Some x ≡ Some y → x ≡ y
 entry_is x y h = cc
+
+root_entry_is : (x y : PlainRoot × List ℕ) → Some x ≡ Some y → x ≡ y
+root_entry_is x y h = cc
 
 pub schema_takes : (bytes : List ℕ) (s : PlainSchema) → schema_in bytes ≡ Some s → bytes ≡ schema_message s
 unfolding schema_in
@@ -154,32 +182,40 @@ schema_takes bytes s e =
     let t = cond_some (bytes_eq (schema_message b.0) bytes) b.0 s b.2 in
     sym ((bytes_eq-Decides (schema_message b.0) bytes).0 t.0) ∙ ap schema_message t.1
 
-table_takes : (name bytes : List ℕ) (r : PlainEntry × List ℕ) → AreBytes bytes → table_at name bytes ≡ Some r → Takes bytes (table_text r.0) r.1 × (r.0.name ≡ name)
-unfolding table_at table_text
-table_takes name bytes r small e =
-    let a = bound (sized_at bytes) (λ text. schema_in text.0 >>= λ schema. counted_at segment_at text.1 >>= λ segments. Some (record { name = name; schema = schema; segments = segments.0 }, segments.1)) r e in
-    let b = bound (schema_in a.0.0) (λ schema. counted_at segment_at a.0.1 >>= λ segments. Some (record { name = name; schema = schema; segments = segments.0 }, segments.1)) r a.2 in
-    let c = bound (counted_at segment_at a.0.1) (λ segments. Some (record { name = name; schema = b.0; segments = segments.0 }, segments.1)) r b.2 in
+-- a table of this schema and these segments
+abbrev table_of : PlainSchema × List Segment → PlainEntry
+table_of body = entry_from [] None body
+
+body_takes : TakesOne body_at (λ (body : PlainSchema × List Segment). table_text (table_of body))
+unfolding body_at table_text
+body_takes bytes r small e =
+    let a = bound (sized_at bytes) (λ text. schema_in text.0 >>= λ schema. counted_at segment_at text.1 >>= λ segments. Some ((schema, segments.0), segments.1)) r e in
+    let b = bound (schema_in a.0.0) (λ schema. counted_at segment_at a.0.1 >>= λ segments. Some ((schema, segments.0), segments.1)) r a.2 in
+    let c = bound (counted_at segment_at a.0.1) (λ segments. Some ((b.0, segments.0), segments.1)) r b.2 in
     let p = sized_takes bytes a.0 small a.1 in
     let q = counted_takes segment_at segment_text segment_takes a.0.1 c.0 p.0.small c.1 in
     let message : Takes bytes (sized (schema_message b.0)) a.0.1 = subst (λ m. Takes bytes (sized m) a.0.1) (schema_takes a.0.0 b.0 b.1) p.0 in
-    let made : PlainEntry × List ℕ = (record { name = name; schema = b.0; segments = c.0.0 }, c.0.1) in
-    subst (λ (x : PlainEntry × List ℕ). Takes bytes (sized (schema_message x.0.schema) ++ counted segment_text x.0.segments) x.1 × (x.0.name ≡ name)) (entry_is made r c.2)
-    (then_takes bytes (sized (schema_message b.0)) a.0.1 (counted segment_text c.0.0) c.0.1 message q, refl)
+    subst (λ (x : (PlainSchema × List Segment) × List ℕ). Takes bytes (sized (schema_message x.0.0) ++ counted segment_text x.0.1) x.1) (some_is ((b.0, c.0.0), c.0.1) r c.2)
+    (then_takes bytes (sized (schema_message b.0)) a.0.1 (counted segment_text c.0.0) c.0.1 message q)
+  where
+    some_is : (x y : (PlainSchema × List Segment) × List ℕ) → Some x ≡ Some y → x ≡ y
+    some_is x y h = cc
 
-pub named_table : (b : Bool) (o : Option (PlainEntry × List ℕ)) (x : PlainEntry × List ℕ) → cond b o None ≡ Some x → o ≡ Some x
-named_table true o x h = h
-named_table false o x h = absurd cc
+-- a name makes no difference to the text of a table
+same_table : (e : PlainEntry) → table_text (table_of (e.schema, e.segments)) ≡ table_text e
+unfolding table_text
+same_table e = refl
 
 entry_takes : TakesOne entry_at entry_text
 unfolding entry_at
 entry_takes bytes r small e =
-    let a = bound (sized_at bytes) (λ name. cond (is_name name.0) (table_at name.0 name.1) None) r e in
-    let t = named_table (is_name a.0.0) (table_at a.0.0 a.0.1) r a.2 in
-    let p = sized_takes bytes a.0 small a.1 in
-    let q = table_takes a.0.0 a.0.1 r p.0.small t in
-    let front : Takes bytes (sized r.0.name) a.0.1 = subst (λ n. Takes bytes (sized n) a.0.1) (sym q.1) p.0 in
-    then_takes bytes (sized r.0.name) a.0.1 (table_text r.0) r.1 front q.0
+    let a = bound (name_at bytes) (λ name. body_at name.1 >>= λ body. Some (entry_from name.0 None body.0, body.1)) r e in
+    let b = bound (body_at a.0.1) (λ body. Some (entry_from a.0.0 None body.0, body.1)) r a.2 in
+    let p = (sized_takes bytes a.0 small (name_is_at bytes a.0 a.1).sized).0 in
+    let q = body_takes a.0.1 b.0 p.small b.1 in
+    let made : PlainEntry × List ℕ = (entry_from a.0.0 None b.0.0, b.0.1) in
+    let table : Takes a.0.1 (table_text made.0) b.0.1 = subst (λ t. Takes a.0.1 t b.0.1) (same_table made.0) q in
+    subst (λ (x : PlainEntry × List ℕ). Takes bytes (entry_text x.0) x.1) (entry_is made r b.2) (then_takes bytes (sized a.0.0) a.0.1 (table_text made.0) b.0.1 p table)
 
 -- ---- the catalogue
 
@@ -199,4 +235,91 @@ catalogue_spelled bytes c e =
       spelled = λ small.
           let p = counted_takes entry_at entry_text entry_takes bytes a.0 small a.1 in
           p.parts ∙ ap (λ rest. list_text a.0.0 ++ rest) (nil_from_length a.0.1 (eqb-true (length a.0.1) 0 parts.0)) ∙ append-nil (list_text a.0.0) ∙ ap list_text t.1;
+    }
+
+-- ---- pages
+
+pub record IsPageSpelled (most : ℕ) (bytes : List ℕ) (e : PlainEntry) : Type 0 where
+  pub kept : is_within_limits e.schema ≡ true
+  pub segments : list_all is_segment e.segments ≡ true
+  pub few : length e.segments ≤ most
+  pub spelled : AreBytes bytes → bytes ≡ table_text e
+
+pub page_spelled : (most : ℕ) (bytes : List ℕ) (e : PlainEntry) → page_at most bytes ≡ Some (e.schema, e.segments) → IsPageSpelled most bytes e
+unfolding page_at
+page_spelled most bytes e h =
+    let b : PlainSchema × List Segment = (e.schema, e.segments) in
+    let a = bound (body_at bytes) (λ body. cond (eqb (length body.1) 0 && (is_within_limits body.0.0 && (list_all is_segment body.0.1 && leb (length body.0.1) most))) (Some body.0) None) b h in
+    let t = cond_some (eqb (length a.0.1) 0 && (is_within_limits a.0.0.0 && (list_all is_segment a.0.0.1 && leb (length a.0.0.1) most))) a.0.0 b a.2 in
+    let parts = and_parts (eqb (length a.0.1) 0) (is_within_limits a.0.0.0 && (list_all is_segment a.0.0.1 && leb (length a.0.0.1) most)) t.0 in
+    let own = and_parts (is_within_limits a.0.0.0) (list_all is_segment a.0.0.1 && leb (length a.0.0.1) most) parts.1 in
+    let last = and_parts (list_all is_segment a.0.0.1) (leb (length a.0.0.1) most) own.1 in
+    record {
+      kept = subst (λ (x : PlainSchema × List Segment). is_within_limits x.0 ≡ true) t.1 own.0;
+      segments = subst (λ (x : PlainSchema × List Segment). list_all is_segment x.1 ≡ true) t.1 last.0;
+      few = subst (λ (x : PlainSchema × List Segment). length x.1 ≤ most) t.1 (leb-true (length a.0.0.1) most last.1);
+      spelled = λ small.
+          let p = body_takes bytes a.0 small a.1 in
+          p.parts ∙ ap (λ rest. table_text (table_of a.0.0) ++ rest) (nil_from_length a.0.1 (eqb-true (length a.0.1) 0 parts.0)) ∙ append-nil (table_text (table_of a.0.0))
+          ∙ ap (λ (x : PlainSchema × List Segment). table_text (table_of x)) t.1 ∙ same_table e;
+    }
+
+-- ---- roots
+
+root_entry_takes : TakesOne root_entry_at root_entry_text
+unfolding root_entry_at
+root_entry_takes bytes r small e =
+    let a = bound (name_at bytes) (λ name. extent_in name.1 >>= λ page. Some (record { name = name.0; page = page.0 }, page.1)) r e in
+    let b = bound (extent_in a.0.1) (λ page. Some (record { name = a.0.0; page = page.0 }, page.1)) r a.2 in
+    let p = (sized_takes bytes a.0 small (name_is_at bytes a.0 a.1).sized).0 in
+    let q = extent_takes a.0.1 b.0 p.small b.1 in
+    subst (λ (x : PlainRoot × List ℕ). Takes bytes (root_entry_text x.0) x.1) (root_entry_is (record { name = a.0.0; page = b.0.0 }, b.0.1) r b.2) (then_takes bytes (sized a.0.0) a.0.1 (extent_text b.0.0) b.0.1 p q)
+
+-- each part that is read passes a test
+abbrev PassesOne : {A : Type 0} → (List ℕ → Option (A × List ℕ)) → (A → Bool) → Type 0
+PassesOne {A = A} one_at p = (bytes : List ℕ) (r : A × List ℕ) → one_at bytes ≡ Some r → p r.0 ≡ true
+
+many_pass : {A : Type 0} (one_at : List ℕ → Option (A × List ℕ)) (p : A → Bool) → PassesOne one_at p → (count : ℕ) (bytes : List ℕ) (r : List A × List ℕ) → many_at one_at count bytes ≡ Some r → list_all p r.0 ≡ true
+unfolding many_at
+many_pass {A = A} one_at p one zero bytes r e = ap (λ (x : List A × List ℕ). list_all p x.0) (sym (some_is ([], bytes) r e))
+  where
+    some_is : (x y : List A × List ℕ) → Some x ≡ Some y → x ≡ y
+    some_is x y h = cc
+many_pass {A = A} one_at p one (suc count) bytes r e =
+    let a = bound (one_at bytes) (λ first. many_at one_at count first.1 >>= λ others. Some (first.0 ∷ others.0, others.1)) r e in
+    let b = bound (many_at one_at count a.0.1) (λ others. Some (a.0.0 ∷ others.0, others.1)) r a.2 in
+    ap (λ (x : List A × List ℕ). list_all p x.0) (sym (some_is (a.0.0 ∷ b.0.0, b.0.1) r b.2)) ∙ and_from (p a.0.0) (list_all p b.0.0) (one bytes a.0 a.1) (many_pass one_at p one count a.0.1 b.0 b.1)
+  where
+    some_is : (x y : List A × List ℕ) → Some x ≡ Some y → x ≡ y
+    some_is x y h = cc
+
+root_entry_named : PassesOne root_entry_at (λ (r : PlainRoot). is_name r.name)
+unfolding root_entry_at
+root_entry_named bytes r e =
+    let a = bound (name_at bytes) (λ name. extent_in name.1 >>= λ page. Some (record { name = name.0; page = page.0 }, page.1)) r e in
+    let b = bound (extent_in a.0.1) (λ page. Some (record { name = a.0.0; page = page.0 }, page.1)) r a.2 in
+    ap (λ (x : PlainRoot × List ℕ). is_name x.0.name) (sym (root_entry_is (record { name = a.0.0; page = b.0.0 }, b.0.1) r b.2)) ∙ (name_is_at bytes a.0 a.1).name
+
+-- what is read of a text
+pub record IsRootSpelled (bytes : List ℕ) (rs : List PlainRoot) : Type 0 where
+  pub named : list_all (λ (r : PlainRoot). is_name r.name) rs ≡ true
+  pub order : ascends (root_names rs) ≡ true
+  pub tables : length rs ≤ MAX_TABLES
+  pub spelled : AreBytes bytes → bytes ≡ root_text rs
+
+pub root_spelled : (bytes : List ℕ) (rs : List PlainRoot) → root_at bytes ≡ Some rs → IsRootSpelled bytes rs
+unfolding root_at
+root_spelled bytes rs e =
+    let a = bound (counted_at root_entry_at bytes) (λ entries. cond (eqb (length entries.1) 0 && (ascends (root_names entries.0) && leb (length entries.0) MAX_TABLES)) (Some entries.0) None) rs e in
+    let t = cond_some (eqb (length a.0.1) 0 && (ascends (root_names a.0.0) && leb (length a.0.0) MAX_TABLES)) a.0.0 rs a.2 in
+    let parts = and_parts (eqb (length a.0.1) 0) (ascends (root_names a.0.0) && leb (length a.0.0) MAX_TABLES) t.0 in
+    let own = and_parts (ascends (root_names a.0.0)) (leb (length a.0.0) MAX_TABLES) parts.1 in
+    let n = bound (front_number 4 bytes) (λ count. many_at root_entry_at count.0 count.1) a.0 a.1 in
+    record {
+      named = subst (λ (x : List PlainRoot). list_all (λ (r : PlainRoot). is_name r.name) x ≡ true) t.1 (many_pass root_entry_at (λ (r : PlainRoot). is_name r.name) root_entry_named n.0.0 n.0.1 a.0 n.2);
+      order = subst (λ (x : List PlainRoot). ascends (root_names x) ≡ true) t.1 own.0;
+      tables = subst (λ (x : List PlainRoot). length x ≤ MAX_TABLES) t.1 (leb-true (length a.0.0) MAX_TABLES own.1);
+      spelled = λ small.
+          let p = counted_takes root_entry_at root_entry_text root_entry_takes bytes a.0 small a.1 in
+          p.parts ∙ ap (λ rest. root_text a.0.0 ++ rest) (nil_from_length a.0.1 (eqb-true (length a.0.1) 0 parts.0)) ∙ append-nil (root_text a.0.0) ∙ ap root_text t.1;
     }

@@ -158,11 +158,11 @@ low_place (x ∷ xs) name at place h =
     ]
 
 pub set_segments : (c : PlainCatalogue) (name : List ℕ) (at place index : ℕ) (d : PlainEntry) (segments : List Segment) → place_of name at c ≡ Some place → place ≡ at + index
-    → set c index (record { name = (get_or c index d).name; schema = (get_or c index d).schema; segments = segments }) ≡ with_segments c name segments
+    → set c index (record { name = (get_or c index d).name; schema = (get_or c index d).schema; segments = segments; page = None }) ≡ with_segments c name segments
 set_segments [] name at place index d segments h is = absurd cc
 set_segments (x ∷ xs) name at place zero d segments h is =
     elim (cases_Bool (bytes_eq x.name name)) [
-      | inl t ↦ sym (cond-true (bytes_eq x.name name) (record { name = x.name; schema = x.schema; segments = segments } ∷ xs) (x ∷ with_segments xs name segments) t)
+      | inl t ↦ sym (cond-true (bytes_eq x.name name) (record { name = x.name; schema = x.schema; segments = segments; page = None } ∷ xs) (x ∷ with_segments xs name segments) t)
       | inr f ↦ absurd (let l = low_place xs name (suc at) place (sym (cond-false (bytes_eq x.name name) (Some at) (place_of name (suc at) xs) f) ∙ h) in omega (arith, l, is))
     ]
 set_segments (x ∷ xs) name at place (suc k) d segments h is =
@@ -170,7 +170,7 @@ set_segments (x ∷ xs) name at place (suc k) d segments h is =
       | inl t ↦ absurd (let here = some_is at place (sym (cond-true (bytes_eq x.name name) (Some at) (place_of name (suc at) xs) t) ∙ h) in omega (arith, here, is))
       | inr f ↦
           ap (λ ys. x ∷ ys) (set_segments xs name (suc at) place k d segments (sym (cond-false (bytes_eq x.name name) (Some at) (place_of name (suc at) xs) f) ∙ h) (omega (arith, is)))
-          ∙ sym (cond-false (bytes_eq x.name name) (record { name = x.name; schema = x.schema; segments = segments } ∷ xs) (x ∷ with_segments xs name segments) f)
+          ∙ sym (cond-false (bytes_eq x.name name) (record { name = x.name; schema = x.schema; segments = segments; page = None } ∷ xs) (x ∷ with_segments xs name segments) f)
     ]
 
 -- ---- views of lists that change

@@ -20,19 +20,19 @@ abbrev pub without : PlainCatalogue → List ℕ → PlainCatalogue
 without [] name = []
 without (x ∷ xs) name = if bytes_eq x.name name then xs else x ∷ without xs name
 
--- the same entry under another name
+-- the same entry under another name; its page says nothing of the name, and stays
 abbrev pub named : List ℕ → PlainEntry → PlainEntry
-named name e = record { name = name; schema = e.schema; segments = e.segments }
+named name e = record { name = name; schema = e.schema; segments = e.segments; page = e.page }
 
 -- with the entry of one name under another one
 abbrev pub renamed : PlainCatalogue → List ℕ → List ℕ → PlainCatalogue
 renamed c from to = elim (entry_of c from) [ None ↦ c | Some e ↦ with_entry (without c from) (named to e) ]
 
--- with these segments for the table of a name; with more of them behind those that it has
+-- with these segments for the table of a name, and without its page, which doesn't say them; with more of them behind those that it has
 abbrev pub with_segments : PlainCatalogue → List ℕ → List Segment → PlainCatalogue
 with_segments [] name segments = []
 with_segments (x ∷ xs) name segments =
-    if bytes_eq x.name name then record { name = x.name; schema = x.schema; segments = segments } ∷ xs else x ∷ with_segments xs name segments
+    if bytes_eq x.name name then record { name = x.name; schema = x.schema; segments = segments; page = None } ∷ xs else x ∷ with_segments xs name segments
 
 abbrev pub with_more : PlainCatalogue → List ℕ → List Segment → PlainCatalogue
 with_more c name more = elim (entry_of c name) [ None ↦ c | Some e ↦ with_segments c name (e.segments ++ more) ]

@@ -1,5 +1,5 @@
--- What a catalogue keeps: the name of each table, its schema and its segments (docs/formats/store.md).
-use Rattle.std.specs.Prelude.{◌≡◌, ◌≤◌, ◌^◌, ◌==◌, ◌&&◌, ◌||◌, ℕ, Bool, true, nat_le, nat_lt, List, [], ◌∷◌, length, map, flat_map, sum_by, string_bytes}
+-- What a catalogue keeps: the name of each table, its schema, its segments and its page (docs/formats/store.md).
+use Rattle.std.specs.Prelude.{◌≡◌, ◌≤◌, ◌^◌, ◌==◌, ◌&&◌, ◌||◌, ℕ, Bool, true, false, nat_le, nat_lt, List, [], ◌∷◌, length, map, flat_map, sum_by, string_bytes, Option, Some, None}
 use Rattle.std.specs.List.{list_all}
 use Rattle.std.specs.Cmp.Lexicographic.{slice_cmp}
 use Rattle.std.specs.Ordering.{nat_cmp, is_lt}
@@ -7,16 +7,19 @@ use Rattle.arrow_schema.specs.Column.{PlainSchema}
 use Rattle.arrow_schema.specs.View.{schema_of}
 use Rattle.segments.specs.Sectors.{sector_count}
 use Rattle.segments.specs.declared.run.Run.{Run}
+use Rattle.segments.specs.declared.extent.Extent.{Extent}
 use Rattle.catalogue.specs.Schemas.{is_within_limits}
 use Rattle.catalogue.specs.declared.limits.TheConstants.{MAX_NAME_BYTES, MAX_SEGMENT_ROWS, MAX_TABLES, MAX_SEGMENTS}
 use Rattle.catalogue.specs.declared.entry.Segment.{Segment}
 use Rattle.catalogue.specs.declared.entry.TableEntry.{TableEntry}
+use Rattle.catalogue.specs.declared.entry.RootEntry.{RootEntry}
 
--- a table as the catalogue keeps it
+-- a table as the catalogue keeps it; its page, if it has one, is where its text lies by itself
 pub record PlainEntry : Type 0 where
   pub name : List ℕ
   pub schema : PlainSchema
   pub segments : List Segment
+  pub page : Option Extent
 
 -- the tables in order
 abbrev pub PlainCatalogue : Type 0
@@ -24,7 +27,16 @@ PlainCatalogue = List PlainEntry
 
 -- what an entry of the code is
 abbrev pub plain_entry : TableEntry → PlainEntry
-plain_entry e = record { name = string_bytes e.name; schema = schema_of e.schema; segments = e.segments.items }
+plain_entry e = record { name = string_bytes e.name; schema = schema_of e.schema; segments = e.segments.items; page = e.page }
+
+-- a table of a root: its name, and where its page lies
+pub record PlainRoot : Type 0 where
+  pub name : List ℕ
+  pub page : Extent
+
+-- what one of the code is
+abbrev pub plain_root : RootEntry → PlainRoot
+plain_root r = record { name = string_bytes r.name; page = r.page }
 
 -- a number from this one to that one
 abbrev pub is_between : ℕ → ℕ → ℕ → Bool
@@ -44,9 +56,17 @@ is_segment s =
     (nat_lt s.place.run.start (2 ^ 64) && nat_lt s.place.bytes (2 ^ 64))
     && (nat_le 1 s.place.bytes && ((s.place.run.count == sector_count s.place.bytes) && is_between 1 MAX_SEGMENT_ROWS s.rows))
 
--- an entry that may stand
+-- a run of just the sectors that its bytes need, which are so many at least; its numbers have 64 bits
+abbrev pub is_filled : (least : ℕ) → Extent → Bool
+is_filled least e = (nat_lt e.run.start (2 ^ 64) && nat_lt e.bytes (2 ^ 64)) && (nat_le least e.bytes && (e.run.count == sector_count e.bytes))
+
+abbrev pub has_no_page : Option Extent → Bool
+has_no_page None = true
+has_no_page (Some page) = false
+
+-- an entry that may stand: the catalogues of stores are written as lists, whose tables have no pages
 abbrev pub is_entry : PlainEntry → Bool
-is_entry e = is_name e.name && (is_within_limits e.schema && list_all is_segment e.segments)
+is_entry e = is_name e.name && (is_within_limits e.schema && (list_all is_segment e.segments && has_no_page e.page))
 
 abbrev pub names_of : PlainCatalogue → List (List ℕ)
 names_of c = map (λ e. e.name) c
@@ -89,3 +109,21 @@ pub record IsCatalogue (c : PlainCatalogue) : Type 0 where
 -- the same as a test
 abbrev pub is_catalogue : PlainCatalogue → Bool
 is_catalogue c = (list_all is_entry c && ascends (names_of c)) && (nat_le (length c) MAX_TABLES && nat_le (segment_count c) MAX_SEGMENTS)
+
+-- a table whose text may be that of a page
+pub record IsTable (e : PlainEntry) : Type 0 where
+  pub schema : is_within_limits e.schema ≡ true
+  pub segments : list_all is_segment e.segments ≡ true
+  pub few : length e.segments ≤ MAX_SEGMENTS
+
+-- a root that may be written: each table has a name and a page, in order of the names, and there are not too many
+abbrev pub is_root_entry : PlainRoot → Bool
+is_root_entry r = is_name r.name && is_filled 8 r.page
+
+abbrev pub root_names : List PlainRoot → List (List ℕ)
+root_names rs = map (λ (r : PlainRoot). r.name) rs
+
+pub record IsRoot (rs : List PlainRoot) : Type 0 where
+  pub entries : list_all is_root_entry rs ≡ true
+  pub order : ascends (root_names rs) ≡ true
+  pub tables : length rs ≤ MAX_TABLES

@@ -1,5 +1,6 @@
--- The catalogue that a text spells. A part of a text is read as a value and the bytes behind it.
-use Rattle.std.specs.Prelude.{◌≡◌, ◌&&◌, ◌==◌, ℕ, zero, suc, nat_le, if◌then◌else◌, List, [], ◌∷◌, length, take, drop, Option, Some, None, Result, Ok, Err}
+-- The catalogue, the root and the page that a text spells. A part of a text is read as a value and the bytes behind it.
+use Rattle.std.specs.Prelude.{◌≡◌, ◌&&◌, ◌==◌, ℕ, zero, suc, nat_le, if◌then◌else◌, List, [], ◌∷◌, length, take, drop, map, Option, Some, None, Result, Ok, Err}
+use Rattle.std.specs.List.{list_all}
 use Rattle.std.specs.Str.{bytes_eq}
 use Rattle.byteorder.specs.Endian.{little_number}
 use Rattle.arrow_schema.specs.Column.{PlainSchema}
@@ -11,7 +12,10 @@ use Rattle.ipc_message.specs.Framing.{Envelope, NextMessage, next_message, end_o
 use Rattle.ipc_message.specs.Header.{supported_codes, header}
 use Rattle.ipc_message.specs.Checks.{checked_schema}
 use Rattle.ipc_write.specs.Written.{schema_message}
-use Rattle.catalogue.specs.Entries.{PlainEntry, PlainCatalogue, is_name, is_catalogue}
+use Rattle.segments.specs.declared.extent.Extent.{Extent}
+use Rattle.catalogue.specs.Schemas.{is_within_limits}
+use Rattle.catalogue.specs.Entries.{PlainEntry, PlainCatalogue, PlainRoot, is_name, is_segment, ascends, root_names, is_catalogue}
+use Rattle.catalogue.specs.declared.limits.TheConstants.{MAX_TABLES}
 use Rattle.catalogue.specs.declared.entry.Segment.{Segment}
 use Rattle.catalogue.specs.declared.decoding.DecodeError.{DecodeError}
 use Rattle.catalogue.specs.declared.decoding.DecodeError.TheVariants.{NoText, OutOfMemory}
@@ -59,13 +63,24 @@ counted_at one_at bytes = do
   count ← front_number 4 bytes
   many_at one_at count.0 count.1
 
-unfoldable pub segment_at : List ℕ → Option (Segment × List ℕ)
-segment_at bytes = do
+unfoldable pub extent_in : List ℕ → Option (Extent × List ℕ)
+extent_in bytes = do
   start ← front_number 8 bytes
   count ← front_number 8 start.1
   size ← front_number 8 count.1
-  rows ← front_number 8 size.1
-  Some (record { place = record { run = record { start = start.0; count = count.0 }; bytes = size.0 }; rows = rows.0 }, rows.1)
+  Some (record { run = record { start = start.0; count = count.0 }; bytes = size.0 }, size.1)
+
+unfoldable pub segment_at : List ℕ → Option (Segment × List ℕ)
+segment_at bytes = do
+  place ← extent_in bytes
+  rows ← front_number 8 place.1
+  Some (record { place = place.0; rows = rows.0 }, rows.1)
+
+-- four bytes of length, and a name of a table
+unfoldable pub name_at : List ℕ → Option (List ℕ × List ℕ)
+name_at bytes = do
+  name ← sized_at bytes
+  if is_name name.0 then Some name else None
 
 -- ---- the schema that a message has
 
@@ -98,21 +113,46 @@ schema_in bytes = do
 
 -- ---- the catalogue
 
--- the table of this name
-unfoldable pub table_at : List ℕ → List ℕ → Option (PlainEntry × List ℕ)
-table_at name bytes = do
+-- a schema and segments
+unfoldable pub body_at : List ℕ → Option ((PlainSchema × List Segment) × List ℕ)
+body_at bytes = do
   text ← sized_at bytes
   schema ← schema_in text.0
   segments ← counted_at segment_at text.1
-  Some (record { name = name; schema = schema; segments = segments.0 }, segments.1)
+  Some ((schema, segments.0), segments.1)
+
+-- the table of this name and page that has them
+abbrev pub entry_from : List ℕ → Option Extent → PlainSchema × List Segment → PlainEntry
+entry_from name page body = record { name = name; schema = body.0; segments = body.1; page = page }
 
 unfoldable pub entry_at : List ℕ → Option (PlainEntry × List ℕ)
 entry_at bytes = do
-  name ← sized_at bytes
-  if is_name name.0 then table_at name.0 name.1 else None
+  name ← name_at bytes
+  body ← body_at name.1
+  Some (entry_from name.0 None body.0, body.1)
 
 -- the catalogue whose text these bytes are: its entries, which may stand so, and nothing behind them
 unfoldable pub catalogue_at : List ℕ → Option PlainCatalogue
 catalogue_at bytes = do
   entries ← counted_at entry_at bytes
   if (length entries.1 == 0) && is_catalogue entries.0 then Some entries.0 else None
+
+-- ---- a root and pages
+
+-- what a page says, with at most so many segments, and nothing behind them
+unfoldable pub page_at : (most : ℕ) → List ℕ → Option (PlainSchema × List Segment)
+page_at most bytes = do
+  body ← body_at bytes
+  if (length body.1 == 0) && (is_within_limits body.0.0 && (list_all is_segment body.0.1 && nat_le (length body.0.1) most)) then Some body.0 else None
+
+unfoldable pub root_entry_at : List ℕ → Option (PlainRoot × List ℕ)
+root_entry_at bytes = do
+  name ← name_at bytes
+  page ← extent_in name.1
+  Some (record { name = name.0; page = page.0 }, page.1)
+
+-- the tables of a root: each name comes before the next, there are not too many, and nothing stands behind them
+unfoldable pub root_at : List ℕ → Option (List PlainRoot)
+root_at bytes = do
+  entries ← counted_at root_entry_at bytes
+  if (length entries.1 == 0) && (ascends (root_names entries.0) && nat_le (length entries.0) MAX_TABLES) then Some entries.0 else None

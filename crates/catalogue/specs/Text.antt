@@ -1,8 +1,9 @@
--- The text of a catalogue (docs/formats/store.md). Every number is little-endian.
+-- The texts of a catalogue (docs/formats/store.md): the list of its tables, or a root and a page for each table. Every number is little-endian.
 use Rattle.std.specs.Prelude.{ℕ, ◌+◌, ◌*◌, List, ◌++◌, length, flat_map, sum_by}
 use Rattle.byteorder.specs.Endian.{little_bytes}
 use Rattle.ipc_write.specs.Written.{schema_message}
-use Rattle.catalogue.specs.Entries.{PlainEntry, PlainCatalogue}
+use Rattle.segments.specs.declared.extent.Extent.{Extent}
+use Rattle.catalogue.specs.Entries.{PlainEntry, PlainCatalogue, PlainRoot}
 use Rattle.catalogue.specs.declared.entry.Segment.{Segment}
 
 -- four bytes of length, and so many bytes
@@ -13,11 +14,15 @@ sized bytes = little_bytes 4 (length bytes) ++ bytes
 abbrev pub counted : {A : Type 0} → (A → List ℕ) → List A → List ℕ
 counted text xs = little_bytes 4 (length xs) ++ flat_map text xs
 
--- four numbers of 64 bits: the first sector, the sectors, the bytes, the rows
-abbrev pub segment_text : Segment → List ℕ
-segment_text s = little_bytes 8 s.place.run.start ++ (little_bytes 8 s.place.run.count ++ (little_bytes 8 s.place.bytes ++ little_bytes 8 s.rows))
+-- three numbers of 64 bits: the first sector, the sectors, the bytes
+abbrev pub extent_text : Extent → List ℕ
+extent_text e = little_bytes 8 e.run.start ++ (little_bytes 8 e.run.count ++ little_bytes 8 e.bytes)
 
--- a table without its name: the message of its schema, and its segments
+-- where it lies, and its rows as a number of 64 bits
+abbrev pub segment_text : Segment → List ℕ
+segment_text s = extent_text s.place ++ little_bytes 8 s.rows
+
+-- a table without its name: the message of its schema, and its segments. It is the text of a page
 unfoldable pub table_text : PlainEntry → List ℕ
 table_text e = sized (schema_message e.schema) ++ counted segment_text e.segments
 
@@ -28,9 +33,22 @@ entry_text e = sized e.name ++ table_text e
 abbrev pub list_text : PlainCatalogue → List ℕ
 list_text c = counted entry_text c
 
+-- a root: the name of each table, and where its page lies
+abbrev pub root_entry_text : PlainRoot → List ℕ
+root_entry_text r = sized r.name ++ extent_text r.page
+
+abbrev pub root_text : List PlainRoot → List ℕ
+root_text rs = counted root_entry_text rs
+
 -- how many bytes they have; where runs start doesn't matter
+abbrev pub table_size : PlainEntry → ℕ
+table_size e = 8 + length (schema_message e.schema) + 32 * length e.segments
+
 abbrev pub entry_size : PlainEntry → ℕ
-entry_size e = 12 + length e.name + length (schema_message e.schema) + 32 * length e.segments
+entry_size e = 4 + length e.name + table_size e
 
 abbrev pub list_size : PlainCatalogue → ℕ
 list_size c = 4 + sum_by entry_size c
+
+abbrev pub root_size : List PlainRoot → ℕ
+root_size rs = 4 + sum_by (λ (r : PlainRoot). 28 + length r.name) rs

@@ -67,6 +67,13 @@ impl Catalogue {
         &self.entries
     }
 
+    /// The tables in order, in the memory that they have.
+    pub fn into_entries(self) -> Vec<TableEntry>
+        ensures { map plain_entry result.items ≡ catalogue_of self }
+    {
+        self.entries
+    }
+
     /// The table of a name, if there is one.
     pub fn get(&self, name: &str) -> Option<&TableEntry>
         ensures entry { option_map (λ e. plain_entry e.now) result ≡ entry_of (catalogue_of self.now) name.now }
@@ -99,7 +106,7 @@ impl Catalogue {
         take_entry(&mut self.entries, name)
     }
 
-    /// Gives the table of a name another name, and with it its place. It takes no memory.
+    /// Gives the table of a name another name, and with it its place; its page stays. It takes no memory.
     pub fn rename(&mut self, from: &str, to: String)
         requires name { is_name (string_bytes to) ≡ true }
         ensures renamed { catalogue_of self.new ≡ renamed (catalogue_of self.old) from.now (string_bytes to) }
@@ -107,7 +114,7 @@ impl Catalogue {
         rename_entry(&mut self.entries, from, to);
     }
 
-    /// Puts segments behind those of a table. Where there is no table of the name, nothing changes.
+    /// Puts segments behind those of a table, which is without a page then. Where there is no table of the name, nothing changes.
     pub fn append_segments(&mut self, name: &str, more: &[Segment]) -> Result<(), AllocError>
         requires segments { list_all is_segment more.now ≡ true }
         requires most { segment_count (catalogue_of self.old) + length more.now ≤ MAX_SEGMENTS }
@@ -117,8 +124,8 @@ impl Catalogue {
         append_to(&mut self.entries, name, more)
     }
 
-    /// Exchanges so many segments of a table, from a place on, for others. Where there is no table of the name, nothing
-    /// changes.
+    /// Exchanges so many segments of a table, from a place on, for others; the table is without a page then. Where there is
+    /// no table of the name, nothing changes.
     pub fn exchange_segments(
         &mut self,
         name: &str,

@@ -1,12 +1,13 @@
 // A text is read.
-ghost use Rattle.std.specs.Prelude.{◌≡◌, map, string_bytes};
+ghost use Rattle.std.specs.Prelude.{◌≡◌, ◌≤◌, map, length, string_bytes, IfOk};
 ghost use Rattle.catalogue.specs.Entries.{plain_entry};
-ghost use Rattle.catalogue.specs.Reading.{Gives, front_number, sized_at, many_at, segment_at, raw_schema_in, schema_in, table_at, entry_at, catalogue_at};
+ghost use Rattle.catalogue.specs.Reading.{Gives, front_number, sized_at, name_at, many_at, extent_in, segment_at, raw_schema_in, schema_in, body_at, entry_at, catalogue_at, page_at};
 ghost use Rattle.arrow_schema.specs.View.{schema_of};
 ghost use Rattle.ipc_message.specs.View.{raw_schema_of};
 ghost use Rattle.catalogue.specs.View.{catalogue_of};
 
 use crate::encoding::message_of;
+use crate::entry::{are_sound, is_within_limits};
 use crate::names::is_name;
 use crate::{Catalogue, Segment, TableEntry};
 use arrow_schema::Schema;
@@ -25,7 +26,7 @@ pub enum DecodeError {
     OutOfMemory,
 }
 
-fn u32_at(bytes: &[u8]) -> Result<(u32, &[u8]), DecodeError>
+pub(crate) fn u32_at(bytes: &[u8]) -> Result<(u32, &[u8]), DecodeError>
     ensures { Gives (λ x. (x.0, x.1.now)) result (front_number 4 bytes.now) }
 {
     if bytes.len() < 4 {
@@ -55,18 +56,39 @@ fn sized_at(bytes: &[u8]) -> Result<(&[u8], &[u8]), DecodeError>
     Ok(rest.split_at(size))
 }
 
+// A name of a table.
+#[tactic(auto, unfolding(crate::specs::Reading::name_at))]
+pub(crate) fn name_at(alloc: Global, bytes: &[u8]) -> Result<(String, &[u8]), DecodeError>
+    ensures { Gives (λ x. (string_bytes x.0, x.1.now)) result (name_at bytes.now) }
+{
+    let (name, rest) = sized_at(bytes)?;
+    let Ok(name) = std::str::from_utf8(name) else {
+        return Err(DecodeError::NoText);
+    };
+    if !is_name(name) {
+        return Err(DecodeError::NoText);
+    }
+    let name = String::from_str(alloc, name)?;
+    Ok((name, rest))
+}
+
+#[tactic(auto, unfolding(crate::specs::Reading::extent_in))]
+pub(crate) fn extent_in(bytes: &[u8]) -> Result<(Extent, &[u8]), DecodeError>
+    ensures { Gives (λ x. (x.0, x.1.now)) result (extent_in bytes.now) }
+{
+    let (start, rest) = u64_at(bytes)?;
+    let (count, rest) = u64_at(rest)?;
+    let (bytes, rest) = u64_at(rest)?;
+    let run = Run { start, count };
+    Ok((Extent { run, bytes }, rest))
+}
+
 #[tactic(auto, unfolding(crate::specs::Reading::segment_at))]
 fn segment_at(bytes: &[u8]) -> Result<(Segment, &[u8]), DecodeError>
     ensures { Gives (λ x. (x.0, x.1.now)) result (segment_at bytes.now) }
 {
-    let (start, rest) = u64_at(bytes)?;
-    let (count, rest) = u64_at(rest)?;
-    let (size, rest) = u64_at(rest)?;
+    let (place, rest) = extent_in(bytes)?;
     let (rows, rest) = u64_at(rest)?;
-    let place = Extent {
-        run: Run { start, count },
-        bytes: size,
-    };
     Ok((Segment { place, rows }, rest))
 }
 
@@ -114,35 +136,31 @@ fn schema_in(alloc: Global, bytes: &[u8]) -> Result<Schema, DecodeError>
     }
 }
 
-#[tactic(auto, unfolding(crate::specs::Reading::table_at))]
-fn table_at(alloc: Global, name: String, bytes: &[u8]) -> Result<(TableEntry, &[u8]), DecodeError>
-    ensures { Gives (λ x. (plain_entry x.0, x.1.now)) result (table_at (string_bytes name) bytes.now) }
+// A schema, segments, and the bytes behind them.
+#[tactic(auto, unfolding(crate::specs::Reading::body_at))]
+fn body_at(alloc: Global, bytes: &[u8]) -> Result<(Schema, Vec<Segment>, &[u8]), DecodeError>
+    ensures { Gives (λ x. ((schema_of x.0, x.1.items), x.2.now)) result (body_at bytes.now) }
 {
     let (message, rest) = sized_at(bytes)?;
     let schema = schema_in(alloc, message)?;
     let (count, rest) = u32_at(rest)?;
     let (segments, rest) = segments_at(alloc, count, rest)?;
-    let entry = TableEntry {
-        name,
-        schema,
-        segments,
-    };
-    Ok((entry, rest))
+    Ok((schema, segments, rest))
 }
 
 #[tactic(auto, unfolding(crate::specs::Reading::entry_at))]
 fn entry_at(alloc: Global, bytes: &[u8]) -> Result<(TableEntry, &[u8]), DecodeError>
     ensures { Gives (λ x. (plain_entry x.0, x.1.now)) result (entry_at bytes.now) }
 {
-    let (name, rest) = sized_at(bytes)?;
-    let Ok(name) = std::str::from_utf8(name) else {
-        return Err(DecodeError::NoText);
+    let (name, rest) = name_at(alloc, bytes)?;
+    let (schema, segments, rest) = body_at(alloc, rest)?;
+    let entry = TableEntry {
+        name,
+        schema,
+        segments,
+        page: None,
     };
-    if !is_name(name) {
-        return Err(DecodeError::NoText);
-    }
-    let name = String::from_str(alloc, name)?;
-    table_at(alloc, name, rest)
+    Ok((entry, rest))
 }
 
 fn entries_at(
@@ -176,6 +194,31 @@ pub fn decode(alloc: Global, bytes: &[u8]) -> Result<Catalogue, DecodeError>
         return Err(DecodeError::NoText);
     }
     Catalogue::of(entries).ok_or(DecodeError::NoText)
+}
+
+/// The schema and the segments, at most so many, that a page of this text says.
+///
+/// # Errors
+/// `NoText` where they are the text of no such page.
+#[tactic(auto, unfolding(crate::specs::Reading::page_at))]
+pub fn decode_page(
+    alloc: Global,
+    most: u64,
+    bytes: &[u8],
+) -> Result<(Schema, Vec<Segment>), DecodeError>
+    ensures exact { Gives (λ x. (schema_of x.0, x.1.items)) result (page_at most bytes.now) }
+    ensures few { IfOk result (λ x. length x.1.items ≤ most) }
+{
+    let (schema, segments, rest) = body_at(alloc, bytes)?;
+    if rest.is_empty()
+        && is_within_limits(&schema)
+        && are_sound(&segments)
+        && segments.len() as u64 <= most
+    {
+        Ok((schema, segments))
+    } else {
+        Err(DecodeError::NoText)
+    }
 }
 
 impl From<AllocError> for DecodeError {

@@ -3,6 +3,7 @@ ghost use Rattle.std.specs.Prelude.{◌≡◌, ◌<◌, ◌++◌, true, map, opt
 ghost use Rattle.std.specs.Vec.{vec_capacity};
 ghost use Rattle.catalogue.specs.Entries.{plain_entry, names_of, ascends};
 ghost use Rattle.catalogue.specs.Edits.{entry_of, with_entry, without, renamed, with_more, with_others, with_exchanged};
+ghost use Rattle.catalogue.specs.laws.Sums.{refilled};
 ghost use Rattle.catalogue.specs.declared.entry.Segment.{Segment};
 
 use crate::places::{place_of, seat_of};
@@ -53,11 +54,22 @@ pub(crate) fn rename_entry(entries: &mut Vec<TableEntry>, from: &str, to: String
                 name: to,
                 schema: entry.schema,
                 segments: entry.segments,
+                page: entry.page,
             };
             put_entry(entries, renamed).unwrap();
         }
         None => {}
     }
+}
+
+// Puts segments behind those of an entry, whose page doesn't say them.
+fn append_more(entry: &mut TableEntry, more: &[Segment]) -> Result<(), AllocError>
+    ensures more { OnOk result (plain_entry entry.new ≡ refilled (plain_entry entry.old) ((plain_entry entry.old).segments ++ more.now)) }
+    ensures err { OnErr result (plain_entry entry.new ≡ plain_entry entry.old) }
+{
+    entry.segments.extend_from_slice(more)?;
+    entry.page = None;
+    Ok(())
 }
 
 // Puts segments behind those of the entry of a name.
@@ -70,7 +82,7 @@ pub(crate) fn append_to(
     ensures err { OnErr result (map plain_entry entries.new.items ≡ map plain_entry entries.old.items) }
 {
     match place_of(entries, name) {
-        Some(place) => entries[place].segments.extend_from_slice(more),
+        Some(place) => append_more(&mut entries[place], more),
         None => Ok(()),
     }
 }
@@ -94,18 +106,20 @@ fn exchanged(
         .collect(alloc)
 }
 
-// Exchanges so many segments from a place on for others.
+// Exchanges so many segments of an entry from a place on for others, which its page doesn't say.
 fn exchange(
-    segments: &mut Vec<Segment>,
+    entry: &mut TableEntry,
     place: usize,
     count: usize,
     others: &[Segment],
 ) -> Result<(), AllocError>
-    ensures exchanged { OnOk result (segments.new.items ≡ with_others segments.old.items place count others.now) }
-    ensures err { OnErr result (segments.new.items ≡ segments.old.items) }
+    ensures exchanged { OnOk result
+        (plain_entry entry.new ≡ refilled (plain_entry entry.old) (with_others (plain_entry entry.old).segments place count others.now)) }
+    ensures err { OnErr result (plain_entry entry.new ≡ plain_entry entry.old) }
 {
-    let alloc = *segments.allocator();
-    *segments = exchanged(alloc, segments, place, count, others)?;
+    let alloc = *entry.segments.allocator();
+    entry.segments = exchanged(alloc, &entry.segments, place, count, others)?;
+    entry.page = None;
     Ok(())
 }
 
@@ -121,7 +135,7 @@ pub(crate) fn exchange_in(
     ensures err { OnErr result (map plain_entry entries.new.items ≡ map plain_entry entries.old.items) }
 {
     match place_of(entries, name) {
-        Some(at) => exchange(&mut entries[at].segments, place, count, others),
+        Some(at) => exchange(&mut entries[at], place, count, others),
         None => Ok(()),
     }
 }

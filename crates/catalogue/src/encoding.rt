@@ -5,12 +5,13 @@ ghost use Rattle.arrow_schema.specs.Limits.{IsWithinLimits};
 ghost use Rattle.arrow_schema.specs.View.{schema_of};
 ghost use Rattle.ipc_write.specs.Written.{schema_message};
 ghost use Rattle.catalogue.specs.Entries.{plain_entry, is_entry};
-ghost use Rattle.catalogue.specs.Text.{sized, counted, segment_text, entry_text, list_text};
+ghost use Rattle.catalogue.specs.Text.{sized, counted, extent_text, segment_text, table_text, entry_text, list_text};
 ghost use Rattle.catalogue.specs.View.{catalogue_of};
 
 use crate::{Catalogue, Segment, TableEntry};
 use arrow_schema::Schema;
 use ipc_write::{metadata_is_within_its_limit, write_schema};
+use segments::Extent;
 use std::alloc::{AllocError, Global};
 
 fn put_number(out: &mut Vec<u8>, number: u64) -> Result<(), AllocError>
@@ -19,14 +20,14 @@ fn put_number(out: &mut Vec<u8>, number: u64) -> Result<(), AllocError>
     out.extend_from_slice(&number.to_le_bytes())
 }
 
-fn put_count(out: &mut Vec<u8>, count: usize) -> Result<(), AllocError>
+pub(crate) fn put_count(out: &mut Vec<u8>, count: usize) -> Result<(), AllocError>
     requires { count < 2 ^ 32 }
     ensures { OnOk result (out.new.items ≡ out.old.items ++ little_bytes 4 count) }
 {
     out.extend_from_slice(&(count as u32).to_le_bytes())
 }
 
-fn put_sized(out: &mut Vec<u8>, bytes: &[u8]) -> Result<(), AllocError>
+pub(crate) fn put_sized(out: &mut Vec<u8>, bytes: &[u8]) -> Result<(), AllocError>
     requires { length bytes.now < 2 ^ 32 }
     ensures { OnOk result (out.new.items ≡ out.old.items ++ sized bytes.now) }
 {
@@ -34,12 +35,18 @@ fn put_sized(out: &mut Vec<u8>, bytes: &[u8]) -> Result<(), AllocError>
     out.extend_from_slice(bytes)
 }
 
+pub(crate) fn put_extent(out: &mut Vec<u8>, extent: Extent) -> Result<(), AllocError>
+    ensures { OnOk result (out.new.items ≡ out.old.items ++ extent_text extent) }
+{
+    put_number(out, extent.run.start)?;
+    put_number(out, extent.run.count)?;
+    put_number(out, extent.bytes)
+}
+
 fn put_segment(out: &mut Vec<u8>, segment: &Segment) -> Result<(), AllocError>
     ensures { OnOk result (out.new.items ≡ out.old.items ++ segment_text segment.now) }
 {
-    put_number(out, segment.place.run.start)?;
-    put_number(out, segment.place.run.count)?;
-    put_number(out, segment.place.bytes)?;
+    put_extent(out, segment.place)?;
     put_number(out, segment.rows)
 }
 
@@ -66,16 +73,25 @@ pub(crate) fn message_of(alloc: Global, schema: &Schema) -> Result<Vec<u8>, Allo
     Ok(message)
 }
 
+// The text of a table without its name.
 #[tactic(auto, unfolding(crate::specs::Text::table_text))]
+fn put_table(alloc: Global, out: &mut Vec<u8>, entry: &TableEntry) -> Result<(), AllocError>
+    requires sound { is_entry (plain_entry entry.now) ≡ true }
+    requires segments { length entry.now.segments.items < 2 ^ 32 }
+    ensures { OnOk result (out.new.items ≡ out.old.items ++ table_text (plain_entry entry.now)) }
+{
+    let message = message_of(alloc, &entry.schema)?;
+    put_sized(out, &message)?;
+    put_segments(out, &entry.segments)
+}
+
 fn put_entry(alloc: Global, out: &mut Vec<u8>, entry: &TableEntry) -> Result<(), AllocError>
     requires sound { is_entry (plain_entry entry.now) ≡ true }
     requires segments { length entry.now.segments.items < 2 ^ 32 }
     ensures { OnOk result (out.new.items ≡ out.old.items ++ entry_text (plain_entry entry.now)) }
 {
     put_sized(out, entry.name.as_bytes())?;
-    let message = message_of(alloc, &entry.schema)?;
-    put_sized(out, &message)?;
-    put_segments(out, &entry.segments)
+    put_table(alloc, out, entry)
 }
 
 /// The text of a catalogue.
@@ -88,5 +104,16 @@ pub fn encode(alloc: Global, catalogue: &Catalogue) -> Result<Vec<u8>, AllocErro
     for entry in entries {
         put_entry(alloc, &mut out, entry)?;
     }
+    Ok(out)
+}
+
+/// The text of the page of a table: its schema and its segments, and nothing of its name.
+pub fn encode_page(alloc: Global, entry: &TableEntry) -> Result<Vec<u8>, AllocError>
+    requires sound { is_entry (plain_entry entry.now) ≡ true }
+    requires segments { length entry.now.segments.items < 2 ^ 32 }
+    ensures text { IfOk result (λ text. text.items ≡ table_text (plain_entry entry.now)) }
+{
+    let mut out = Vec::new(alloc);
+    put_table(alloc, &mut out, entry)?;
     Ok(out)
 }

@@ -3,7 +3,7 @@ ghost use Rattle.std.specs.Prelude.{◌≡◌, ◌<◌, ◌^◌, IfOk};
 ghost use Rattle.std.specs.List.{list_all};
 ghost use Rattle.arrow_schema.specs.View.{schema_of};
 ghost use Rattle.catalogue.specs.Schemas.{is_within_limits};
-ghost use Rattle.catalogue.specs.Entries.{is_segment, is_entry, plain_entry, row_count, runs_in};
+ghost use Rattle.catalogue.specs.Entries.{is_segment, has_no_page, is_entry, plain_entry, row_count, runs_in};
 
 use crate::edits::put_runs;
 use crate::limits::MAX_SEGMENT_ROWS;
@@ -25,6 +25,15 @@ pub struct TableEntry {
     pub name: String,
     pub schema: Schema,
     pub segments: Vec<Segment>,
+    /// Where the text of the table lies, if it lies in a page of its own.
+    pub page: Option<Extent>,
+}
+
+/// A table of a root: its name, and where its page lies.
+#[derive(Drop)]
+pub struct RootEntry {
+    pub name: String,
+    pub page: Extent,
 }
 
 impl Segment {
@@ -39,9 +48,18 @@ impl Segment {
     }
 }
 
+fn has_no_page(page: Option<Extent>) -> bool
+    ensures { result ≡ has_no_page page }
+{
+    match page {
+        Some(_) => false,
+        None => true,
+    }
+}
+
 // Whether it keeps the limits of schemas.
 #[tactic(auto, using(crate::specs::laws::Kept::passes_limits, crate::specs::laws::Kept::fails_limits))]
-fn is_within_limits(schema: &Schema) -> bool
+pub(crate) fn is_within_limits(schema: &Schema) -> bool
     ensures { result ≡ is_within_limits (schema_of schema.now) }
 {
     match schema.check() {
@@ -50,7 +68,7 @@ fn is_within_limits(schema: &Schema) -> bool
     }
 }
 
-fn are_sound(segments: &[Segment]) -> bool
+pub(crate) fn are_sound(segments: &[Segment]) -> bool
     ensures { result ≡ list_all is_segment segments.now }
 {
     for segment in segments {
@@ -87,7 +105,10 @@ impl TableEntry {
     pub fn is_sound(&self) -> bool
         ensures { result ≡ is_entry (plain_entry self.now) }
     {
-        is_name(&self.name) && is_within_limits(&self.schema) && are_sound(&self.segments)
+        is_name(&self.name)
+            && is_within_limits(&self.schema)
+            && are_sound(&self.segments)
+            && has_no_page(self.page)
     }
 
     /// The same entry in memory of its own.
@@ -98,6 +119,7 @@ impl TableEntry {
             name: self.name.clone()?,
             schema: self.schema.copy(alloc)?,
             segments: Vec::from_slice(alloc, &self.segments)?,
+            page: self.page,
         })
     }
 }

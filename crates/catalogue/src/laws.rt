@@ -1,14 +1,15 @@
 // Laws of the definitions, for the crates above: each call does nothing, and its contract is the law.
-ghost use Rattle.std.specs.Prelude.{◌≡◌, ◌≤◌, ◌*◌, ◌++◌, ℕ, List, length, Some};
-ghost use Rattle.std.specs.List.{Contains};
+ghost use Rattle.std.specs.Prelude.{◌≡◌, ◌≤◌, ◌*◌, ◌++◌, ℕ, true, List, length, Some};
+ghost use Rattle.std.specs.List.{Contains, list_all};
 ghost use Rattle.facts.specs.Bytes.{AreBytes};
 ghost use Rattle.catalogue.specs.declared.entry.Segment.{Segment};
-ghost use Rattle.catalogue.specs.declared.limits.TheConstants.{MAX_SEGMENTS, MAX_SEGMENT_ROWS};
-ghost use Rattle.catalogue.specs.Entries.{PlainEntry, PlainCatalogue, row_count, runs_of, IsCatalogue};
+ghost use Rattle.catalogue.specs.declared.limits.TheConstants.{MAX_TABLES, MAX_SEGMENTS, MAX_SEGMENT_ROWS};
+ghost use Rattle.catalogue.specs.Schemas.{is_within_limits};
+ghost use Rattle.catalogue.specs.Entries.{PlainEntry, PlainCatalogue, PlainRoot, is_name, is_segment, ascends, root_names, row_count, runs_of, IsTable, IsRoot, IsCatalogue};
 ghost use Rattle.catalogue.specs.Edits.{entry_of, with_entry, without};
 ghost use Rattle.catalogue.specs.Counts.{HasMore, HasSame, HasFewer};
-ghost use Rattle.catalogue.specs.Text.{list_text, list_size};
-ghost use Rattle.catalogue.specs.Reading.{catalogue_at};
+ghost use Rattle.catalogue.specs.Text.{list_text, list_size, table_text, table_size, root_text, root_size};
+ghost use Rattle.catalogue.specs.Reading.{catalogue_at, page_at, root_at};
 ghost use Rattle.catalogue.specs.inner.Messages.{AllAgain};
 
 // The message of a schema is read again, and its length has 32 bits.
@@ -30,6 +31,31 @@ pub fn one_text_each()
 {
     schemas_are_read_again();
 }
+
+/// One text for the page of each table, and one table for each page; a name makes no difference to it. The clauses are
+/// those of [`one_text_each`]; `size`: how many bytes it has.
+pub fn one_page_each()
+    ensures kept { (most : ℕ) (bytes : List ℕ) (e : PlainEntry) → page_at most bytes ≡ Some (e.schema, e.segments)
+        → (is_within_limits e.schema ≡ true) × (list_all is_segment e.segments ≡ true) × (length e.segments ≤ most) }
+    ensures found { (most : ℕ) (bytes : List ℕ) (e : PlainEntry) → AreBytes bytes → page_at most bytes ≡ Some (e.schema, e.segments)
+        → bytes ≡ table_text e }
+    ensures again { (most : ℕ) (e : PlainEntry) → IsTable e → length e.segments ≤ most → page_at most (table_text e) ≡ Some (e.schema, e.segments) }
+    ensures apart { (e f : PlainEntry) (x y : List ℕ) → IsTable e → IsTable f → table_text e ++ x ≡ table_text f ++ y
+        → (e.schema ≡ f.schema) × (e.segments ≡ f.segments) }
+    ensures size { (e : PlainEntry) → length (table_text e) ≡ table_size e }
+{
+    schemas_are_read_again();
+}
+
+/// One text for each root, and one root for each text, as [`one_page_each`].
+pub fn one_root_each()
+    ensures kept { (bytes : List ℕ) (rs : List PlainRoot) → root_at bytes ≡ Some rs
+        → (list_all (λ (r : PlainRoot). is_name r.name) rs ≡ true) × (ascends (root_names rs) ≡ true) × (length rs ≤ MAX_TABLES) }
+    ensures found { (bytes : List ℕ) (rs : List PlainRoot) → AreBytes bytes → root_at bytes ≡ Some rs → bytes ≡ root_text rs }
+    ensures again { (rs : List PlainRoot) → IsRoot rs → root_at (root_text rs) ≡ Some rs }
+    ensures apart { (rs ss : List PlainRoot) (x y : List ℕ) → IsRoot rs → IsRoot ss → root_text rs ++ x ≡ root_text ss ++ y → rs ≡ ss }
+    ensures size { (rs : List PlainRoot) → length (root_text rs) ≡ root_size rs }
+{}
 
 /// How many bytes a text has. Where runs start makes no difference.
 pub fn texts_have_these_sizes()

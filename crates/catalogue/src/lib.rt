@@ -1,12 +1,15 @@
-//! The catalogue of a store: its tables, and the one text in which they are kept.
+//! The catalogue of a store: its tables, and the texts in which they are kept.
 //!
 //! `encode` writes the text of a catalogue, and `decode` reads just such texts: each catalogue has one text, and each
 //! text is that of one catalogue. A catalogue is changed by name.
 //!
+//! A long one is kept in pages: `encode_page` writes the text of one table, and `encode_root` where the page of each lies;
+//! `decode_page` and `decode_root` read just such texts. A renamed table keeps its page.
+//!
 //! ```
 //! let mut catalogue = decode(alloc, &text)?;
 //! catalogue.remove("old");
-//! catalogue.put(TableEntry { name, schema, segments })?;
+//! catalogue.put(TableEntry { name, schema, segments, page: None })?;
 //! let text = encode(alloc, &catalogue)?;
 //! ```
 #![tactic(auto)]
@@ -20,14 +23,17 @@ mod laws;
 mod limits;
 mod names;
 mod places;
+mod roots;
 mod testing;
 
 pub use catalogue::Catalogue;
-pub use decoding::{DecodeError, decode};
-pub use encoding::encode;
-pub use entry::{Segment, TableEntry};
+pub use decoding::{DecodeError, decode, decode_page};
+pub use encoding::{encode, encode_page};
+pub use entry::{RootEntry, Segment, TableEntry};
 pub use laws::{
-    counts_after_changes, one_text_each, rows_are_few, runs_are_named, texts_have_these_sizes,
+    counts_after_changes, one_page_each, one_root_each, one_text_each, rows_are_few,
+    runs_are_named, texts_have_these_sizes,
 };
 pub use limits::{MAX_NAME_BYTES, MAX_SEGMENT_ROWS, MAX_SEGMENTS, MAX_TABLES};
 pub use names::is_name;
+pub use roots::{decode_root, encode_root};

@@ -4,7 +4,7 @@ use Rattle.std.specs.Cmp.Lexicographic.{pointwise}
 use Rattle.byteorder.specs.Endian.{little_bytes, little_number}
 use Rattle.segments.specs.Sectors.{filled}
 use Rattle.commit.specs.declared.sector.CatalogueKind.{CatalogueKind}
-use Rattle.commit.specs.declared.sector.CatalogueKind.TheVariants.{Whole}
+use Rattle.commit.specs.declared.sector.CatalogueKind.TheVariants.{Whole, Pages}
 use Rattle.commit.specs.declared.sector.FormatVersion.{FormatVersion}
 use Rattle.commit.specs.declared.sector.FormatVersion.TheVariants.{One}
 use Rattle.commit.specs.declared.sector.Commit.{Commit}
@@ -18,6 +18,7 @@ version_number One = 1
 
 abbrev pub kind_number : CatalogueKind → ℕ
 kind_number Whole = 0
+kind_number Pages = 1
 
 -- the fields of the sector one behind the other
 abbrev pub fields_text : Commit → List ℕ
@@ -33,6 +34,14 @@ commit_text c = filled (fields_text c)
 abbrev pub u64_at : ℕ → List ℕ → ℕ
 u64_at at bytes = little_number 8 (drop at bytes)
 
+-- a number of 32 bits at this byte
+abbrev pub u32_at : ℕ → List ℕ → ℕ
+u32_at at bytes = little_number 4 (drop at bytes)
+
+-- the kind whose number stands there. Where another number stands, the text of the commit is another one too
+abbrev pub kind_in : List ℕ → CatalogueKind
+kind_in bytes = if u32_at 52 bytes == 1 then Pages else Whole
+
 -- the commit that a sector spells, if it spells one
 abbrev pub fields_of : List ℕ → Commit
 fields_of bytes = record {
@@ -40,7 +49,7 @@ fields_of bytes = record {
   catalogue = record { run = record { start = u64_at 16 bytes; count = u64_at 24 bytes }; bytes = u64_at 32 bytes };
   device_sectors = u64_at 40 bytes;
   version = One;
-  kind = Whole;
+  kind = kind_in bytes;
 }
 
 -- a commit of an epoch stands in the sector of its number: even epochs in sector 0, odd ones in sector 1; epochs count from 1

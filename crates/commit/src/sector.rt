@@ -1,7 +1,7 @@
 // The commit sector and its text.
 ghost use Rattle.std.specs.Prelude.{◌≡◌, ◌+◌, ◌≤◌, ◌<◌, ◌^◌, ◌%◌, ◌++◌, ℕ, List, length, Option, Some};
 ghost use Rattle.segments.specs.Sectors.{filled};
-ghost use Rattle.commit.specs.Sector.{version_number, kind_number, commit_text, u64_at, fields_of, commit_at, IsCommit};
+ghost use Rattle.commit.specs.Sector.{version_number, kind_number, commit_text, u64_at, u32_at, kind_in, fields_of, commit_at, IsCommit};
 ghost use Rattle.commit.specs.laws.Sectors.{IsFoundAt};
 
 use byteorder::{ByteOrder, LittleEndian};
@@ -12,6 +12,8 @@ use segments::{Extent, Run};
 pub enum CatalogueKind {
     /// One text has all of it.
     Whole,
+    /// A root names the page of each table.
+    Pages,
 }
 
 /// The version of the store's format.
@@ -50,6 +52,7 @@ impl CatalogueKind {
     {
         match self {
             CatalogueKind::Whole => 0,
+            CatalogueKind::Pages => 1,
         }
     }
 }
@@ -86,6 +89,24 @@ fn u64_at(sector: &[u8; 512], at: usize) -> u64
     LittleEndian::read_u64(&sector[at..])
 }
 
+fn u32_at(sector: &[u8; 512], at: usize) -> u32
+    requires { at + 4 ≤ 512 }
+    ensures { result ≡ u32_at at sector.now }
+{
+    LittleEndian::read_u32(&sector[at..])
+}
+
+// The kind whose number stands here. The text of the commit that is found has the same number, so no other one is taken for it.
+fn kind(sector: &[u8; 512]) -> CatalogueKind
+    ensures { result ≡ kind_in sector.now }
+{
+    if u32_at(sector, 52) == 1 {
+        CatalogueKind::Pages
+    } else {
+        CatalogueKind::Whole
+    }
+}
+
 // The commit whose fields stand here, if the sector spells one.
 fn fields(sector: &[u8; 512]) -> Commit
     ensures { result ≡ fields_of sector.now }
@@ -101,7 +122,7 @@ fn fields(sector: &[u8; 512]) -> Commit
         },
         device_sectors: u64_at(sector, 40),
         version: FormatVersion::One,
-        kind: CatalogueKind::Whole,
+        kind: kind(sector),
     }
 }
 

@@ -63,7 +63,7 @@ after_exchange c edit name place count new is can segments len =
 pub put_is_entry : (c : PlainCatalogue) (edit : Edit) (name : String Global) (schema : Schema) (segments : List Segment) → edit ≡ edits.Put name schema → CanEdit c edit → list_all is_segment segments ≡ true → is_entry (new_entry (string_bytes name) (schema_of schema) segments) ≡ true
 put_is_entry c edit name schema segments is can each =
     let may = (subst (λ (x : Edit). CanEdit c x) is can).1 in
-    entry_stands (new_entry (string_bytes name) (schema_of schema) segments) may.0 may.1 each
+    entry_stands (new_entry (string_bytes name) (schema_of schema) segments) may.0 may.1 each refl
 
 pub extend_is_few : (c : PlainCatalogue) (edit : Edit) (name : String Global) (segments : List Segment) → edit ≡ edits.Extend name → CanEdit c edit → IsCatalogue (edited c (edit_of edit) segments) → segment_count c + length segments ≤ MAX_SEGMENTS
 extend_is_few c edit name segments is can stands =

@@ -17,7 +17,7 @@ use Rattle.cells.specs.Cell.{Cell}
 use Rattle.ipc_write.specs.Written.{end_of_stream}
 use Rattle.canonical_stream.specs.Canonical.{rows_messages, stream_parts}
 use Rattle.catalogue.specs.declared.entry.Segment.{Segment}
-use Rattle.catalogue.specs.Entries.{PlainEntry, PlainCatalogue, is_name, is_segment, is_entry, runs_in_segments, runs_in, runs_of, segment_count}
+use Rattle.catalogue.specs.Entries.{PlainEntry, PlainCatalogue, is_segment, is_entry, runs_in_segments, runs_in, runs_of, segment_count}
 use Rattle.catalogue.specs.Edits.{entry_of}
 use Rattle.catalogue.specs.laws.Order.{by_found}
 use Rattle.catalogue.specs.laws.Changed.{found_passes}
@@ -33,6 +33,7 @@ use Rattle.store.specs.Fits.{ExportFits, ExportsFit}
 use Rattle.store.specs.Exporting.{OfSegment, PieceIs}
 use Rattle.commit.specs.Placing.{Uses}
 use Rattle.catalogue.specs.Schemas.{is_within_limits}
+use Rattle.catalogue.specs.laws.Kept.{passes_limits, entry_is}
 use Rattle.store.specs.laws.Edited.{none_listed}
 use Rattle.store.proofs.ReadTables.{runs_on_device}
 
@@ -373,11 +374,10 @@ module _ (size : ℕ) (text : Run) (c : PlainCatalogue) (name : List ℕ) (e : P
 pub entry_exportable : (size : ℕ) (text : Run) (c : PlainCatalogue) (name : List ℕ) (e : PlainEntry) (b : PlainExport) → list_all is_entry c ≡ true → runs_fault size text (runs_of c) ≡ None → entry_of c name ≡ Some e
     → b.schema ≡ e.schema → b.segments ≡ e.segments → IsExportable size b
 entry_exportable size text c name e b sound fit found schema segments =
-    let is = found_passes is_entry c name e sound found in
-    let parts = and_parts (is_within_limits e.schema) (list_all is_segment e.segments) (and_parts (is_name e.name) (is_within_limits e.schema && list_all is_segment e.segments) is).1 in
+    let is = entry_is e (found_passes is_entry c name e sound found) in
     record {
-      within = ap is_within_limits schema ∙ parts.0;
-      sound = ap (list_all is_segment) segments ∙ parts.1;
+      within = ap is_within_limits schema ∙ passes_limits e.schema is.schema;
+      sound = ap (list_all is_segment) segments ∙ is.segments;
       placed = ap (λ (gs : List Segment). all_on_device size (runs_in_segments gs)) segments ∙ runs_on_device size c name e (fault_none size text (runs_of c) fit).0 found;
     }
 

@@ -68,7 +68,7 @@ change_of change = record { edit = edit_of change.edit; streams = new_streams ch
 
 -- a new entry
 abbrev pub new_entry : List ℕ → PlainSchema → List Segment → PlainEntry
-new_entry name schema segments = record { name = name; schema = schema; segments = segments }
+new_entry name schema segments = record { name = name; schema = schema; segments = segments; page = None }
 
 -- after an edit with these new segments
 abbrev pub edited : PlainCatalogue → PlainEdit → List Segment → PlainCatalogue

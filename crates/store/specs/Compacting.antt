@@ -28,7 +28,7 @@ use Rattle.store.specs.Applying.{EndsAs}
 
 -- two neighbouring segments as a table of their own
 abbrev pub pair_of : PlainEntry → ℕ → PlainEntry
-pair_of e place = record { name = e.name; schema = e.schema; segments = from_place e.segments place 2 }
+pair_of e place = record { name = e.name; schema = e.schema; segments = from_place e.segments place 2; page = None }
 
 -- the cut keeps all rows in one piece
 abbrev pub is_one_piece : PlainTable → Bool

@@ -37,6 +37,7 @@ fn new_entry(
         name: name.clone()?,
         schema: schema.copy(alloc)?,
         segments: Vec::from_slice(alloc, segments)?,
+        page: None,
     })
 }
 

@@ -51,6 +51,7 @@ fn pair_of(alloc: Global, entry: &TableEntry, place: usize) -> Result<TableEntry
         name: entry.name.clone()?,
         schema: entry.schema.copy(alloc)?,
         segments: Vec::from_slice(alloc, &entry.segments[place..place + 2])?,
+        page: None,
     })
 }
 

@@ -1,5 +1,5 @@
 // A table is read from the segments of its entry.
-ghost use Rattle.std.specs.Prelude.{◌≡◌, ◌≤◌, ◌+◌, ℕ, true, List, [], Some, None, length, option_map, sum_by, IfOk, IfErr, IfSome};
+ghost use Rattle.std.specs.Prelude.{◌≡◌, ◌≤◌, ◌+◌, ℕ, true, List, [], Option, Some, None, length, option_map, sum_by, IfOk, IfErr, IfSome};
 ghost use Rattle.std.specs.List.{list_all};
 ghost use Rattle.sector_dev.specs.Disk.{now, shown_image};
 ghost use Rattle.arrow_schema.specs.Column.{PlainSchema};
@@ -8,6 +8,7 @@ ghost use Rattle.arrow_schema.specs.View.{schema_of};
 ghost use Rattle.values.specs.TableView.{table_of, is_in_parts};
 ghost use Rattle.cells.specs.Weight.{table_weight};
 ghost use Rattle.ipc_write.specs.Written.{schema_message};
+ghost use Rattle.segments.specs.declared.extent.Extent.{Extent};
 ghost use Rattle.catalogue.specs.Entries.{is_segment, is_entry, plain_entry};
 ghost use Rattle.commit.specs.Standing.{is_size, is_on_device, all_on_device};
 ghost use Rattle.store.specs.Held.{rows_in_bytes, segment_rows, joined_rows, rows_held};
@@ -151,8 +152,8 @@ fn read_segments<D: SectorDevice>(
     ensures count { IfOk result (λ g. length (gathered_table g).rows ≡ sum_by (λ s. s.rows) segments.now) }
     ensures rows { IfOk result (λ g. D.tells ≡ true
         → rows_held (gathered_table empty).schema segments.now (shown_image (now (D.story device.old))) ≡ Some (gathered_table g).rows) }
-    ensures unread { IfErr result (λ e. (name : List ℕ) → Unreads D.tells (shown_image (now (D.story device.old)))
-        (record { name = name; schema = (gathered_table empty).schema; segments = segments.now }) e) }
+    ensures unread { IfErr result (λ e. (name : List ℕ) (page : Option Extent) → Unreads D.tells (shown_image (now (D.story device.old)))
+        (record { name = name; schema = (gathered_table empty).schema; segments = segments.now; page = page }) e) }
 {
     let mut gathered = empty;
     for (place, segment) in segments.iter().enumerate() {

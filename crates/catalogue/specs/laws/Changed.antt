@@ -72,7 +72,7 @@ renamed_stands c from to e kept name found =
     let tables = k.tables in
     let segments = k.segments in
     passes_catalogue (with_entry left (named to e)) (record {
-      entries = with_all is_entry left (named to e) (without_all is_entry c from k.entries) (entry_stands (named to e) name stood.schema stood.segments);
+      entries = with_all is_entry left (named to e) (without_all is_entry c from k.entries) (entry_stands (named to e) name stood.schema stood.segments stood.page);
       order = with_rises left (named to e) (without_rises c from k.order);
       tables = omega (arith, put_most one left (named to e), taken_out one c from e found, number c, number (with_entry left (named to e)), tables);
       segments = omega (arith, put_most segments_in left (named to e), taken_out segments_in c from e found, segments);
@@ -110,7 +110,7 @@ refilled_stands c name e segments kept found all most =
     let size : length d ≡ length c = sym (length-map d (λ (x : PlainEntry). x.name)) ∙ ap (λ (ns : List (List ℕ)). length ns) (same_names c name segments) ∙ length-map c (λ (x : PlainEntry). x.name) in
     let tables = k.tables in
     passes_catalogue d (record {
-      entries = refilled_all is_entry c name segments (λ x is. let s = entry_is x is in entry_stands (refilled x segments) s.name s.schema all) k.entries;
+      entries = refilled_all is_entry c name segments (λ x is. let s = entry_is x is in entry_stands (refilled x segments) s.name s.schema all refl) k.entries;
       order = ap ascends (same_names c name segments) ∙ k.order;
       tables = omega (arith, size, tables);
       segments = most;

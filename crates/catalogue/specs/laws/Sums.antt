@@ -10,9 +10,9 @@ use Rattle.catalogue.specs.Entries.{PlainEntry, PlainCatalogue, names_of, comes_
 use Rattle.catalogue.specs.Edits.{entry_of, with_entry, without, with_segments}
 use Rattle.catalogue.specs.laws.Order.{order, by_order, by_seat, by_found, none_found, turned, other_name, same_name, none_behind}
 
--- an entry with other segments
+-- an entry with other segments, and without its page
 abbrev pub refilled : PlainEntry → List Segment → PlainEntry
-refilled e segments = record { name = e.name; schema = e.schema; segments = segments }
+refilled e segments = record { name = e.name; schema = e.schema; segments = segments; page = None }
 
 module _ (f : PlainEntry → ℕ) where
   -- ---- an entry is put

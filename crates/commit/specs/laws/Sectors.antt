@@ -1,19 +1,24 @@
 -- One text for each commit, and one commit for each text.
-use Rattle.std.specs.Prelude.{◌≡◌, ◌≤◌, ◌%◌, ◌==◌, ◌&&◌, ℕ, Bool, true, false, nat_eq, nat_lt, if◌then◌else◌, List, ◌∷◌, ◌++◌, drop, replicate, Option, Some, None, refl}
+use Rattle.std.specs.Prelude.{◌≡◌, ◌≤◌, ◌<◌, ◌^◌, ◌%◌, ◌==◌, ◌&&◌, ℕ, Bool, true, false, nat_eq, nat_lt, if◌then◌else◌, List, ◌∷◌, ◌++◌, drop, replicate, Option, Some, None, refl}
 use Rattle.std.proofs.Common.{ap, ◌∙◌, subst, arith}
 use Rattle.std.proofs.lemmas.Bool.Decides.{nat_tests}
 use Rattle.std.specs.Cmp.Lexicographic.{pointwise, bytes_decides}
 use Rattle.byteorder.specs.Endian.{little_bytes}
 use Rattle.byteorder.specs.Numbers.{little_number-reads_back}
 use Rattle.commit.specs.declared.sector.CatalogueKind.{CatalogueKind}
-use Rattle.commit.specs.declared.sector.CatalogueKind.TheVariants.{Whole}
+use Rattle.commit.specs.declared.sector.CatalogueKind.TheVariants.{Whole, Pages}
 use Rattle.commit.specs.declared.sector.FormatVersion.{FormatVersion}
 use Rattle.commit.specs.declared.sector.FormatVersion.TheVariants.{One}
 use Rattle.commit.specs.declared.sector.Commit.{Commit}
-use Rattle.commit.specs.Sector.{version_number, kind_number, commit_text, u64_at, fields_of, is_placed, commit_at, IsCommit}
+use Rattle.commit.specs.Sector.{version_number, kind_number, commit_text, u64_at, u32_at, kind_in, fields_of, is_placed, commit_at, IsCommit}
 
-one_kind : (k : CatalogueKind) → Whole ≡ k
-one_kind Whole = refl
+own_kind : (k : CatalogueKind) → (if kind_number k == 1 then Pages else Whole) ≡ k
+own_kind Whole = refl
+own_kind Pages = refl
+
+kind_small : (k : CatalogueKind) → kind_number k < 2 ^ 32
+kind_small Whole = omega arith
+kind_small Pages = omega arith
 
 one_version : (v : FormatVersion) → One ≡ v
 one_version One = refl
@@ -33,12 +38,14 @@ fields_again c is =
     let n : u64_at 24 (commit_text c) ≡ c.catalogue.run.count = little_number-reads_back 8 c.catalogue.run.count rest2 is.count_fits in
     let b : u64_at 32 (commit_text c) ≡ c.catalogue.bytes = little_number-reads_back 8 c.catalogue.bytes rest3 is.bytes_fit in
     let d : u64_at 40 (commit_text c) ≡ c.device_sectors = little_number-reads_back 8 c.device_sectors rest4 is.sectors_fit in
+    let k : u32_at 52 (commit_text c) ≡ kind_number c.kind = little_number-reads_back 4 (kind_number c.kind) zeros (kind_small c.kind) in
+    let kind : kind_in (commit_text c) ≡ c.kind = ap (λ (x : ℕ). if x == 1 then Pages else Whole) k ∙ own_kind c.kind in
     λ i. record {
       epoch = e i;
       catalogue = record { run = record { start = s i; count = n i }; bytes = b i };
       device_sectors = d i;
       version = one_version c.version i;
-      kind = one_kind c.kind i;
+      kind = kind i;
     }
 
 -- a commit that is written in its sector is found there

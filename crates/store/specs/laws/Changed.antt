@@ -155,7 +155,7 @@ module _ (image : Image) where
     where
       by_name : (was : PlainTable) (u : Tables) → table_held image x ≡ Some was → tables_held image xs ≡ Some u → t ≡ with_table u x.name was → (b : Bool) → bytes_eq x.name name ≡ b
           → (if b then Some x else entry_of xs name) ≡ Some e → (entry_of xs name ≡ Some e → tables_held image (with_segments xs name segments) ≡ Some (with_table u name table))
-          → tables_held image (if b then record { name = x.name; schema = x.schema; segments = segments } ∷ xs else x ∷ with_segments xs name segments) ≡ Some (with_table t name table)
+          → tables_held image (if b then record { name = x.name; schema = x.schema; segments = segments; page = None } ∷ xs else x ∷ with_segments xs name segments) ≡ Some (with_table t name table)
       by_name was u first others same true here h later =
           let named : x.name ≡ name = bytes_same x.name name here in
           let stood : x ≡ e = cc h in

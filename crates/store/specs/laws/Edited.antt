@@ -247,7 +247,7 @@ pub edit_stands : (c : PlainCatalogue) (edit : PlainEdit) (streams : List (List 
 edit_stands c (put name schema) streams segments k can each most =
     let e : PlainEntry = new_entry name schema segments in
     let tables = can.2 in
-    catalogue_is (with_entry c e) (put_stands c e (passes_catalogue c k) (entry_stands e can.0 can.1 each) (omega (arith, tables, put_tables c name schema segments)) most)
+    catalogue_is (with_entry c e) (put_stands c e (passes_catalogue c k) (entry_stands e can.0 can.1 each refl) (omega (arith, tables, put_tables c name schema segments)) most)
 edit_stands c (extend name) streams segments k can each most =
     let e : PlainEntry = can.0 in
     let h : entry_of c name ≡ Some e = can.1 in

@@ -35,7 +35,7 @@ module _ (image : Image) where
   same_with (x ∷ xs) name e segments found same = by_name (bytes_eq x.name name) found (λ h. same_with xs name e segments h same)
     where
       by_name : (b : Bool) → (if b then Some x else entry_of xs name) ≡ Some e → (entry_of xs name ≡ Some e → tables_held image (with_segments xs name segments) ≡ tables_held image xs)
-          → tables_held image (if b then record { name = x.name; schema = x.schema; segments = segments } ∷ xs else x ∷ with_segments xs name segments) ≡ tables_held image (x ∷ xs)
+          → tables_held image (if b then record { name = x.name; schema = x.schema; segments = segments; page = None } ∷ xs else x ∷ with_segments xs name segments) ≡ tables_held image (x ∷ xs)
       by_name true h later =
           let is : x ≡ e = cc h in
           let rows : rows_held x.schema segments image ≡ rows_held x.schema x.segments image =

@@ -1,5 +1,4 @@
-use Rattle.std.proofs.Common.{◌∙◌, map, refl, sym, ap, arith}
-use Rattle.catalogue.specs.declared.entry.TableEntry.{TableEntry}
+use Rattle.std.proofs.Common.{◌∙◌, map, sym, ap, arith}
 use Rattle.catalogue.specs.Entries.{plain_entry}
 use Rattle.catalogue.specs.inner.Places.{place_of}
 use Rattle.catalogue.proofs.Standing.{absent}
@@ -17,15 +16,10 @@ index_mut-requires c =
 pub returns-in-Some-clause-exchanged : goal.returns-in-Some-clause-exchanged
 returns-in-Some-clause-exchanged c =
     let found = ap (λ es. place_of c.args.name.now 0 (map plain_entry es)) (sym c.deref.ensures.value) ∙ sym c.place_of.ensures ∙ c.in-Some.is in
-    let x = c.index_mut.result.now in
-    let new : TableEntry = record { name = x.name; schema = x.schema; segments = c.exchange.new.segments } in
-    exchanged_at c.exchange.result c.args.entries.now.items c.args.name.now c.in-Some.at x new c.args.place c.args.count c.args.others.now found c.index_mut.ensures.value refl c.exchange.ensures.exchanged
+    exchanged_at c.exchange.result c.args.entries.now.items c.args.name.now c.in-Some.at c.index_mut.result.now c.exchange.new.entry c.args.place c.args.count c.args.others.now found c.index_mut.ensures.value c.exchange.ensures.exchanged
 
 pub returns-in-Some-clause-err : goal.returns-in-Some-clause-err
-returns-in-Some-clause-err c =
-    let x = c.index_mut.result.now in
-    let new : TableEntry = record { name = x.name; schema = x.schema; segments = c.exchange.new.segments } in
-    kept_at c.exchange.result c.args.entries.now.items c.in-Some.at x new c.index_mut.ensures.value refl c.exchange.ensures.err
+returns-in-Some-clause-err c = kept_at c.exchange.result c.args.entries.now.items c.in-Some.at c.index_mut.result.now c.exchange.new.entry c.index_mut.ensures.value c.exchange.ensures.err
 
 pub returns-in-None-clause-exchanged : goal.returns-in-None-clause-exchanged
 returns-in-None-clause-exchanged c =

@@ -1,4 +1,4 @@
-use Rattle.std.proofs.Common.{◌≡◌, true, drop, sym, subst}
+use Rattle.std.proofs.Common.{◌≡◌, true, drop, refl, sym, subst}
 use Rattle.catalogue.specs.Entries.{PlainEntry, plain_entry, is_entry}
 use Rattle.catalogue.specs.laws.Kept.{entry_is, entry_stands}
 use Rattle.commit.specs.Standing.{all_on_device}
@@ -18,4 +18,4 @@ read_entry-requires-clause-sound g c =
     let e = plain_entry c.args.entry.now in
     let own = entry_is e c.requires.sound in
     subst (λ (x : PlainEntry). is_entry x ≡ true) (sym c.in-Ok.ensures)
-    (entry_stands (pair_of e c.args.place) own.name own.schema (front_passes (drop c.args.place e.segments) 2 (back_passes e.segments c.args.place own.segments)))
+    (entry_stands (pair_of e c.args.place) own.name own.schema (front_passes (drop c.args.place e.segments) 2 (back_passes e.segments c.args.place own.segments)) refl)

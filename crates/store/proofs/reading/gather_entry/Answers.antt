@@ -43,8 +43,8 @@ returns-in-Ok-clause-unread g c =
     let e = plain_entry c.args.entry.now in
     let start : (gathered_table c.in-Ok.empty).schema ≡ e.schema = ap (λ (t : PlainTable). t.schema) c.in-Ok.ensures.empty in
     let segments : c.deref-in-Ok.result.now ≡ e.segments = c.deref-in-Ok.ensures.value in
-    let same : record { name = e.name; schema = (gathered_table c.in-Ok.empty).schema; segments = c.deref-in-Ok.result.now } ≡ e = λ i. record { name = e.name; schema = start i; segments = segments i } in
-    subst (λ (x : PlainEntry). Unreads D.tells image x c.in-Err-read_segments.refusal) same (c.in-Err-read_segments.ensures.unread e.name)
+    let same : record { name = e.name; schema = (gathered_table c.in-Ok.empty).schema; segments = c.deref-in-Ok.result.now; page = e.page } ≡ e = λ i. record { name = e.name; schema = start i; segments = segments i; page = e.page } in
+    subst (λ (x : PlainEntry). Unreads D.tells image x c.in-Err-read_segments.refusal) same (c.in-Err-read_segments.ensures.unread e.name e.page)
 
 -- ---- what is asked of the reading of its segments
 

@@ -49,7 +49,7 @@ returns-in-Err-clause-reads g c =
     reads_more D.size D.story D.failed D.tells (refused c.in-Err.refusal) c.args.device.now c.loop-place.device c.append_segment.new.device c.loop-place.invariant.reads c.in-Err.ensures.reads
 
 pub returns-in-Err-clause-unread : goal.returns-in-Err-clause-unread
-returns-in-Err-clause-unread g c = λ name.
+returns-in-Err-clause-unread g c = λ name page.
     let D = g.D.SectorDevice in
     let segments = c.args.segments.now in
     let place = c.loop-place.place in
@@ -57,7 +57,7 @@ returns-in-Err-clause-unread g c = λ name.
     let so_far = gathered_table c.loop-place.gathered in
     let before = D.story c.args.device.now in
     let mid = D.story c.loop-place.device in
-    unreads_step D.tells (shown_image (now before)) (shown_image (now mid)) (record { name = name; schema = (gathered_table c.args.empty).schema; segments = segments }) so_far.schema so_far.rows segment place c.in-Err.refusal
+    unreads_step D.tells (shown_image (now before)) (shown_image (now mid)) (record { name = name; schema = (gathered_table c.args.empty).schema; segments = segments; page = page }) so_far.schema so_far.rows segment place c.in-Err.refusal
     c.loop-place.invariant.schema (λ told. image_then before mid (c.loop-place.invariant.reads.moments told)) c.loop-place-test.true (at_place segments place segment refl c.loop-place-test.true) c.loop-place.invariant.light c.loop-place.invariant.rows c.in-Err.ensures.unread
 
 pub loop-place-preserved : goal.loop-place-preserved

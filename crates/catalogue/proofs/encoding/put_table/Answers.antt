@@ -1,6 +1,6 @@
 use Rattle.catalogue.specs.Entries.{plain_entry}
 use Rattle.catalogue.specs.laws.Kept.{entry_is}
-use Rattle.catalogue.proofs.encoding.put_entry.Goals as goal
+use Rattle.catalogue.proofs.encoding.put_table.Goals as goal
 
 pub message_of-requires : goal.message_of-requires
 message_of-requires c = (entry_is (plain_entry c.args.entry.now) c.requires.sound).schema

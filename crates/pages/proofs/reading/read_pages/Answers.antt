@@ -1,0 +1,30 @@
+use Rattle.std.proofs.Common.{◌≡◌, ◌-◌, ◌∙◌, ℕ, ap, sym, map, drop, length, Ok, arith}
+use Rattle.sector_dev.specs.Disk.{now, shown_image}
+use Rattle.sector_dev.specs.laws.Time.{read_on}
+use Rattle.catalogue.specs.declared.limits.TheConstants.{MAX_SEGMENTS}
+use Rattle.catalogue.specs.declared.entry.TableEntry.{TableEntry}
+use Rattle.catalogue.specs.Entries.{PlainCatalogue, plain_entry, plain_root}
+use Rattle.pages.specs.Stored.{page_shown, pages_shown}
+use Rattle.pages.proofs.Behind.{behind, next_read, not_read, all_read, none_behind, page_then, told_of_all}
+use Rattle.pages.proofs.reading.read_pages.Goals as goal
+
+pub returns-in-Err-clause-moments : goal.returns-in-Err-clause-moments
+returns-in-Err-clause-moments g c = λ told. read_on _ _ _ (c.loop-root.invariant.moments told) (c.read_table.ensures.moments told)
+
+pub returns-in-Err-clause-damaged : goal.returns-in-Err-clause-damaged
+returns-in-Err-clause-damaged g c = λ told.
+    let D = g.D.SectorDevice in
+    let size = D.size c.args.device.now in
+    let old = D.story c.args.device.now in
+    let x = c.root-item.result in
+    told_of_all _ (pages_shown size old MAX_SEGMENTS (map plain_root c.args.roots.now)) c.in-Err.error
+    (λ cause is. c.loop-root.invariant.found told
+    ∙ not_read size (shown_image (now old)) c.loop-root.left c.args.roots.now c.loop-root.root-index x c.loop-root.entries.items cause c.loop-root-test.true c.root-item.is
+    (sym (page_then size (D.size c.loop-root.device) old (D.story c.loop-root.device) c.loop-root.left x.page c.loop-root.invariant.same (c.loop-root.invariant.moments told)) ∙ is))
+    (c.in-Err.ensures.damaged told)
+
+pub returns-clause-found : goal.returns-clause-found
+returns-clause-found g c = λ told.
+    let D = g.D.SectorDevice in
+    c.loop-root.invariant.found told
+    ∙ all_read (D.size c.args.device.now) (shown_image (now (D.story c.args.device.now))) c.loop-root.left c.args.roots.now c.loop-root.root-index c.loop-root.entries.items (omega (arith, c.loop-root-test.false))

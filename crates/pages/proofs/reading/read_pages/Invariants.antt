@@ -1,0 +1,17 @@
+use Rattle.std.proofs.Common.{◌≡◌, ◌≤◌, true, map, drop}
+use Rattle.sector_dev.specs.Time.{OnlyReads}
+use Rattle.catalogue.specs.declared.limits.TheConstants.{MAX_SEGMENTS}
+use Rattle.catalogue.specs.Entries.{plain_entry, plain_root}
+use Rattle.pages.specs.Stored.{pages_shown}
+use Rattle.pages.proofs.Behind.{behind}
+use Rattle.pages.proofs.reading.read_pages.Given as goal
+
+-- all tables are those so far, and behind them those that are left, with as many segments as are left
+abbrev pub invariant-loop-root : goal.invariant-loop-root
+invariant-loop-root g l = let D = g.D.SectorDevice in record {
+  same : D.size l.device ≡ D.size l.fn.device;
+  count : D.failed l.device ≡ D.failed l.fn.device;
+  moments : D.tells ≡ true → OnlyReads (D.story l.fn.device) (D.story l.device);
+  found : D.tells ≡ true → pages_shown (D.size l.fn.device) (D.story l.fn.device) MAX_SEGMENTS (map plain_root l.roots)
+      ≡ behind (map plain_entry l.entries.items) (pages_shown (D.size l.fn.device) (D.story l.fn.device) l.left (map plain_root (drop l.root-index l.roots)));
+}

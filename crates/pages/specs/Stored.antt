@@ -1,0 +1,69 @@
+-- How a stored catalogue is read: the list that a commit names, or a root, and then page after page.
+use Rattle.std.specs.Prelude.{◌≡◌, ◌-◌, ℕ, List, [], ◌∷◌, ◌++◌, length, flat_map, Option, Some, None, Result, Ok, Err}
+use Rattle.std.specs.List.{AllByRecursion}
+use Rattle.sector_dev.specs.Disk.{Image, Story, now, shown_image}
+use Rattle.arrow_schema.specs.Column.{PlainSchema}
+use Rattle.segments.specs.declared.run.Run.{Run}
+use Rattle.segments.specs.declared.extent.Extent.{Extent}
+use Rattle.commit.specs.declared.cause.Cause.{Cause}
+use Rattle.commit.specs.declared.cause.Cause.TheVariants.{CatalogueText}
+use Rattle.commit.specs.declared.sector.CatalogueKind.{CatalogueKind}
+use Rattle.commit.specs.declared.sector.CatalogueKind.TheVariants.{Whole, Pages}
+use Rattle.commit.specs.Standing.{Reading, extent_at}
+use Rattle.catalogue.specs.declared.entry.Segment.{Segment}
+use Rattle.catalogue.specs.declared.limits.TheConstants.{MAX_SEGMENTS}
+use Rattle.catalogue.specs.Entries.{PlainEntry, PlainCatalogue, PlainRoot, runs_in}
+use Rattle.catalogue.specs.Reading.{catalogue_at, page_at, root_at, entry_from}
+
+-- what is read once something was read; the first cause is told
+abbrev pub then_read : {A B : Type 0} → Result A Cause → (A → Result B Cause) → Result B Cause
+then_read (Err cause) next = Err cause
+then_read (Ok x) next = next x
+
+abbrev pub or_no_text : {A : Type 0} → Option A → Result A Cause
+or_no_text None = Err CatalogueText
+or_no_text (Some x) = Ok x
+
+-- what a page says that lies there, with at most so many segments
+abbrev pub page_in : ℕ → Image → (most : ℕ) → Extent → Result (PlainSchema × List Segment) Cause
+page_in size image most page = then_read (extent_at size image 8 page) (λ bytes. or_no_text (page_at most bytes))
+
+-- page after page in the order of the root, each tested whole before the next; segments are counted over the pages so far
+unfoldable pub pages_at : ℕ → Image → (most : ℕ) → List PlainRoot → Result PlainCatalogue Cause
+pages_at size image most [] = Ok []
+pages_at size image most (r ∷ rs) =
+    then_read (page_in size image most r.page)
+    (λ body. then_read (pages_at size image (most - length body.1) rs) (λ others. Ok (entry_from r.name (Some r.page) body ∷ others)))
+
+-- the catalogue that the text of a commit of this kind spells: a list says all of it, a root where the pages lie
+abbrev pub by_kind : CatalogueKind → ℕ → Image → List ℕ → Result PlainCatalogue Cause
+by_kind Whole size image text = or_no_text (catalogue_at text)
+by_kind Pages size image text = then_read (or_no_text (root_at text)) (pages_at size image MAX_SEGMENTS)
+
+-- the runs that it names, table after table: that of the page, if there is one, and those of the segments
+abbrev pub page_runs : Option Extent → List Run
+page_runs None = []
+page_runs (Some page) = page.run ∷ []
+
+abbrev pub stored_runs_in : PlainEntry → List Run
+stored_runs_in e = page_runs e.page ++ runs_in e
+
+abbrev pub stored_runs : PlainCatalogue → List Run
+stored_runs c = flat_map stored_runs_in c
+
+abbrev pub stored_reading : Reading PlainCatalogue
+stored_reading = record { at = λ size image k text. by_kind k.kind size image text; runs = stored_runs }
+
+-- the entry has no page, or its page says what the entry does
+abbrev pub HoldsPage : ℕ → Image → PlainEntry → Type 0
+HoldsPage size image e = (page : Extent) → e.page ≡ Some page → page_in size image (length e.segments) page ≡ Ok (e.schema, e.segments)
+
+abbrev pub HoldsPages : ℕ → Image → PlainCatalogue → Type 0
+HoldsPages size image c = AllByRecursion (HoldsPage size image) c
+
+-- the same as reads give it
+abbrev pub page_shown : ℕ → Story → (most : ℕ) → Extent → Result (PlainSchema × List Segment) Cause
+page_shown size story most page = page_in size (shown_image (now story)) most page
+
+abbrev pub pages_shown : ℕ → Story → (most : ℕ) → List PlainRoot → Result PlainCatalogue Cause
+pages_shown size story most rs = pages_at size (shown_image (now story)) most rs

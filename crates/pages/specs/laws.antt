@@ -1,0 +1,3 @@
+-- Laws that the crates above use.
+pub mod Read
+pub mod Local

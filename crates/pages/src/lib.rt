@@ -1,0 +1,13 @@
+//! The catalogue of a store as it lies on a device: whole in one text, or in pages.
+//!
+//! A short catalogue is one text, which the commit names. Of a long one the commit names a root: the name of each table, and
+//! where the page of the table lies, which says its schema and its segments. A change writes the pages of the tables that it
+//! changes and a new root; the other pages stay where they are. `StoredCatalogue` reads both kinds, of any size.
+#![tactic(auto)]
+
+mod laws;
+mod reading;
+mod stored;
+
+pub use laws::pages_hold_what_was_read;
+pub use stored::StoredCatalogue;

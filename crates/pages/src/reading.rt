@@ -1,0 +1,111 @@
+// Pages are read from a device.
+ghost use Rattle.std.specs.Prelude.{◌≡◌, ◌≢◌, ◌≤◌, true, Some, Ok, length, map, string_bytes, IfOk, IfErr};
+ghost use Rattle.sector_dev.specs.Time.{OnlyReads};
+ghost use Rattle.arrow_schema.specs.View.{schema_of};
+ghost use Rattle.catalogue.specs.declared.limits.TheConstants.{MAX_SEGMENTS};
+ghost use Rattle.catalogue.specs.Entries.{plain_entry, plain_root};
+ghost use Rattle.catalogue.specs.Reading.{entry_from};
+ghost use Rattle.commit.specs.Standing.{is_size};
+ghost use Rattle.commit.specs.Opening.{CountsOpen, TellsCause};
+ghost use Rattle.pages.specs.Stored.{page_shown, pages_shown};
+
+use arrow_schema::Schema;
+use catalogue::{DecodeError, MAX_SEGMENTS, RootEntry, Segment, TableEntry, decode_page};
+use commit::{Cause, OpenError, read_extent};
+use sector_dev::SectorDevice;
+use segments::Extent;
+use std::alloc::Global;
+
+// What a page says that lies there, with at most so many segments.
+fn read_page<D: SectorDevice>(
+    alloc: Global,
+    device: &mut D,
+    most: u64,
+    page: Extent,
+) -> Result<(Schema, Vec<Segment>), OpenError>
+    requires { is_size (D.size device.old) ≡ true }
+    ensures size { D.size device.new ≡ D.size device.old }
+    ensures count { CountsOpen (D.failed device.old) (D.failed device.new) result }
+    ensures moments { D.tells ≡ true → OnlyReads (D.story device.old) (D.story device.new) }
+    ensures found { IfOk result (λ x. D.tells ≡ true
+        → page_shown (D.size device.old) (D.story device.old) most page ≡ Ok (schema_of x.0, x.1.items)) }
+    ensures damaged { IfErr result (λ e. D.tells ≡ true → TellsCause e (page_shown (D.size device.old) (D.story device.old) most page)) }
+    ensures a_store { IfErr result (λ e. e ≢ OpenError.NotAStore) }
+    ensures few { IfOk result (λ x. length x.1.items ≤ most) }
+{
+    match read_extent(alloc, device, 8, page) {
+        Ok(bytes) => match decode_page(alloc, most, &bytes) {
+            Ok(body) => Ok(body),
+            Err(DecodeError::NoText) => Err(OpenError::Damaged(Cause::CatalogueText)),
+            Err(DecodeError::OutOfMemory) => Err(OpenError::OutOfMemory),
+        },
+        Err(error) => Err(error),
+    }
+}
+
+// The table of a root, with what its page says.
+fn read_table<D: SectorDevice>(
+    alloc: Global,
+    device: &mut D,
+    most: u64,
+    root: &RootEntry,
+) -> Result<TableEntry, OpenError>
+    requires { is_size (D.size device.old) ≡ true }
+    ensures size { D.size device.new ≡ D.size device.old }
+    ensures count { CountsOpen (D.failed device.old) (D.failed device.new) result }
+    ensures moments { D.tells ≡ true → OnlyReads (D.story device.old) (D.story device.new) }
+    ensures found { IfOk result (λ e. D.tells ≡ true
+        → page_shown (D.size device.old) (D.story device.old) most root.now.page ≡ Ok ((plain_entry e).schema, (plain_entry e).segments)) }
+    ensures damaged { IfErr result (λ e. D.tells ≡ true
+        → TellsCause e (page_shown (D.size device.old) (D.story device.old) most root.now.page)) }
+    ensures a_store { IfErr result (λ e. e ≢ OpenError.NotAStore) }
+    ensures few { IfOk result (λ e. length (plain_entry e).segments ≤ most) }
+    ensures entry { IfOk result (λ e. plain_entry e
+        ≡ entry_from (string_bytes root.now.name) (Some root.now.page) ((plain_entry e).schema, (plain_entry e).segments)) }
+{
+    match read_page(alloc, device, most, root.page) {
+        Ok((schema, segments)) => match root.name.clone() {
+            Ok(name) => Ok(TableEntry {
+                name,
+                schema,
+                segments,
+                page: Some(root.page),
+            }),
+            Err(_) => Err(OpenError::OutOfMemory),
+        },
+        Err(error) => Err(error),
+    }
+}
+
+// Page after page, in the order of the root, up to the first that can't be read.
+pub(crate) fn read_pages<D: SectorDevice>(
+    alloc: Global,
+    device: &mut D,
+    roots: &[RootEntry],
+) -> Result<Vec<TableEntry>, OpenError>
+    requires { is_size (D.size device.old) ≡ true }
+    ensures size { D.size device.new ≡ D.size device.old }
+    ensures count { CountsOpen (D.failed device.old) (D.failed device.new) result }
+    ensures moments { D.tells ≡ true → OnlyReads (D.story device.old) (D.story device.new) }
+    ensures found { IfOk result (λ entries. D.tells ≡ true
+        → pages_shown (D.size device.old) (D.story device.old) MAX_SEGMENTS (map plain_root roots.now) ≡ Ok (map plain_entry entries.items)) }
+    ensures damaged { IfErr result (λ e. D.tells ≡ true
+        → TellsCause e (pages_shown (D.size device.old) (D.story device.old) MAX_SEGMENTS (map plain_root roots.now))) }
+    ensures a_store { IfErr result (λ e. e ≢ OpenError.NotAStore) }
+{
+    let mut entries = Vec::new(alloc);
+    let mut left = MAX_SEGMENTS;
+    for root in roots {
+        match read_table(alloc, device, left, root) {
+            Ok(entry) => {
+                left -= entry.segments.len() as u64;
+                match entries.push(entry) {
+                    Ok(()) => {}
+                    Err(_) => return Err(OpenError::OutOfMemory),
+                }
+            }
+            Err(error) => return Err(error),
+        }
+    }
+    Ok(entries)
+}

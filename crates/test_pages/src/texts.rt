@@ -1,0 +1,206 @@
+// The texts of a root and of a page (catalogue). The bytes were written by hand after docs/formats/store.md.
+use arrow_schema::Schema;
+use catalogue::{DecodeError, RootEntry, Segment, decode_page, decode_root};
+use std::alloc::{AllocError, Global};
+
+/// Four tables in pages of 160 bytes each, in the sectors 2, 4, 5 and 6.
+const ROOT: [u8; 120] = [
+    0x04, 0x00, 0x00, 0x00, 0x01, 0x00, 0x00, 0x00, 0x74, 0x02, 0x00, 0x00, 0x00, 0x00, 0x00, 0x00,
+    0x00, 0x01, 0x00, 0x00, 0x00, 0x00, 0x00, 0x00, 0x00, 0xa0, 0x00, 0x00, 0x00, 0x00, 0x00, 0x00,
+    0x00, 0x01, 0x00, 0x00, 0x00, 0x75, 0x04, 0x00, 0x00, 0x00, 0x00, 0x00, 0x00, 0x00, 0x01, 0x00,
+    0x00, 0x00, 0x00, 0x00, 0x00, 0x00, 0xa0, 0x00, 0x00, 0x00, 0x00, 0x00, 0x00, 0x00, 0x01, 0x00,
+    0x00, 0x00, 0x76, 0x05, 0x00, 0x00, 0x00, 0x00, 0x00, 0x00, 0x00, 0x01, 0x00, 0x00, 0x00, 0x00,
+    0x00, 0x00, 0x00, 0xa0, 0x00, 0x00, 0x00, 0x00, 0x00, 0x00, 0x00, 0x01, 0x00, 0x00, 0x00, 0x77,
+    0x06, 0x00, 0x00, 0x00, 0x00, 0x00, 0x00, 0x00, 0x01, 0x00, 0x00, 0x00, 0x00, 0x00, 0x00, 0x00,
+    0xa0, 0x00, 0x00, 0x00, 0x00, 0x00, 0x00, 0x00,
+];
+
+const NAMES: &[&str] = &["t", "u", "v", "w"];
+
+const STARTS: &[u64] = &[2, 4, 5, 6];
+
+/// A table of one column, a nullable Int32 of the name `a`, and of one segment: 2 rows in 328 bytes, in sector 3.
+const PAGE: [u8; 192] = [
+    0x98, 0x00, 0x00, 0x00, 0xff, 0xff, 0xff, 0xff, 0x90, 0x00, 0x00, 0x00, 0x10, 0x00, 0x00, 0x00,
+    0x0c, 0x00, 0x18, 0x00, 0x04, 0x00, 0x06, 0x00, 0x08, 0x00, 0x10, 0x00, 0x0c, 0x00, 0x00, 0x00,
+    0x04, 0x00, 0x01, 0x00, 0x18, 0x00, 0x00, 0x00, 0x00, 0x00, 0x00, 0x00, 0x00, 0x00, 0x00, 0x00,
+    0x00, 0x00, 0x00, 0x00, 0x08, 0x00, 0x0c, 0x00, 0x04, 0x00, 0x08, 0x00, 0x08, 0x00, 0x00, 0x00,
+    0x00, 0x00, 0x00, 0x00, 0x04, 0x00, 0x00, 0x00, 0x01, 0x00, 0x00, 0x00, 0x18, 0x00, 0x00, 0x00,
+    0x00, 0x00, 0x00, 0x00, 0x10, 0x00, 0x14, 0x00, 0x04, 0x00, 0x08, 0x00, 0x09, 0x00, 0x0c, 0x00,
+    0x00, 0x00, 0x10, 0x00, 0x10, 0x00, 0x00, 0x00, 0x10, 0x00, 0x00, 0x00, 0x01, 0x02, 0x00, 0x00,
+    0x1c, 0x00, 0x00, 0x00, 0x24, 0x00, 0x00, 0x00, 0x01, 0x00, 0x00, 0x00, 0x61, 0x00, 0x00, 0x00,
+    0x00, 0x00, 0x00, 0x00, 0x08, 0x00, 0x0c, 0x00, 0x04, 0x00, 0x08, 0x00, 0x08, 0x00, 0x00, 0x00,
+    0x20, 0x00, 0x00, 0x00, 0x01, 0x00, 0x00, 0x00, 0x00, 0x00, 0x00, 0x00, 0x01, 0x00, 0x00, 0x00,
+    0x03, 0x00, 0x00, 0x00, 0x00, 0x00, 0x00, 0x00, 0x01, 0x00, 0x00, 0x00, 0x00, 0x00, 0x00, 0x00,
+    0x48, 0x01, 0x00, 0x00, 0x00, 0x00, 0x00, 0x00, 0x02, 0x00, 0x00, 0x00, 0x00, 0x00, 0x00, 0x00,
+];
+
+/// Where a byte of the page may be another one: the letter of the name, the first sector of the segment, and in its bytes
+/// and in its rows the lower two of eight bytes.
+const FREE: &[usize] = &[
+    124, 160, 161, 162, 163, 164, 165, 166, 167, 176, 177, 184, 185,
+];
+
+/// Memory was refused.
+#[derive(Clone, Copy)]
+struct NotMade;
+
+/// What was read of a text.
+#[derive(Clone, Copy, PartialEq, Eq)]
+enum Seen {
+    Same,
+    Other,
+    Refused,
+}
+
+fn is_entry(entry: &RootEntry, place: usize) -> bool {
+    let (name, start) = (NAMES.get(place), STARTS.get(place));
+    let page = entry.page;
+    name.is_some_and(|name| entry.name.as_str() == *name)
+        && start == Some(&page.run.start)
+        && page.run.count == 1
+        && page.bytes == 160
+}
+
+fn are_four(entries: &[RootEntry]) -> bool {
+    for (place, entry) in entries.iter().enumerate() {
+        if !is_entry(entry, place) {
+            return false;
+        }
+    }
+    entries.len() == 4
+}
+
+fn seen_root(alloc: Global, bytes: &[u8]) -> Result<Seen, NotMade> {
+    match decode_root(alloc, bytes) {
+        Ok(entries) if are_four(&entries) => Ok(Seen::Same),
+        Ok(_) => Ok(Seen::Other),
+        Err(DecodeError::NoText) => Ok(Seen::Refused),
+        Err(DecodeError::OutOfMemory) => Err(NotMade),
+    }
+}
+
+fn is_one_segment(segments: &[Segment]) -> bool {
+    match segments {
+        [segment] => {
+            let place = segment.place;
+            (place.run.start, place.run.count, place.bytes, segment.rows) == (3, 1, 328, 2)
+        }
+        _ => false,
+    }
+}
+
+fn is_named_a(schema: &Schema) -> bool {
+    match schema.fields.as_slice() {
+        [field] => field.name.as_str() == "a",
+        _ => false,
+    }
+}
+
+fn seen_page(alloc: Global, most: u64, bytes: &[u8]) -> Result<Seen, NotMade> {
+    match decode_page(alloc, most, bytes) {
+        Ok((schema, segments)) if is_named_a(&schema) && is_one_segment(&segments) => Ok(
+            Seen::Same,
+        ),
+        Ok(_) => Ok(Seen::Other),
+        Err(DecodeError::NoText) => Ok(Seen::Refused),
+        Err(DecodeError::OutOfMemory) => Err(NotMade),
+    }
+}
+
+// The bytes with another one at this place.
+fn other(alloc: Global, bytes: &[u8], place: usize) -> Result<Vec<u8>, NotMade> {
+    let mut other = Vec::from_slice(alloc, bytes)?;
+    if let Some(byte) = other.get_mut(place) {
+        *byte ^= 1;
+    }
+    Ok(other)
+}
+
+// Of a root the numbers of a page may be other ones: the count, the lengths and the names in their order stay.
+fn wanted_of_root(place: usize) -> Seen {
+    if place >= 4 && (place - 4) % 29 >= 5 {
+        Seen::Other
+    } else {
+        Seen::Refused
+    }
+}
+
+fn wanted_of_page(place: usize) -> Seen {
+    if FREE.contains(&place) {
+        Seen::Other
+    } else {
+        Seen::Refused
+    }
+}
+
+// The first byte of the root whose change is not seen as it should be.
+fn wrong_in_root(alloc: Global) -> Result<Option<usize>, NotMade> {
+    for place in 0..ROOT.len() {
+        if seen_root(alloc, &other(alloc, &ROOT, place)?)? != wanted_of_root(place) {
+            return Ok(Some(place));
+        }
+    }
+    Ok(None)
+}
+
+fn wrong_in_page(alloc: Global) -> Result<Option<usize>, NotMade> {
+    for place in 0..PAGE.len() {
+        if seen_page(alloc, 1, &other(alloc, &PAGE, place)?)? != wanted_of_page(place) {
+            return Ok(Some(place));
+        }
+    }
+    Ok(None)
+}
+
+// A text that is cut, or that has a byte more, is none.
+fn wrong_cut(alloc: Global) -> Result<Option<usize>, NotMade> {
+    for end in 0..ROOT.len() {
+        if seen_root(alloc, &ROOT[..end])? != Seen::Refused {
+            return Ok(Some(end));
+        }
+    }
+    for end in 0..PAGE.len() {
+        if seen_page(alloc, 1, &PAGE[..end])? != Seen::Refused {
+            return Ok(Some(end));
+        }
+    }
+    Ok(None)
+}
+
+fn are_read(alloc: Global) -> Result<bool, NotMade> {
+    let root = seen_root(alloc, &ROOT)? == Seen::Same;
+    let page = seen_page(alloc, 1, &PAGE)? == Seen::Same;
+    let full = seen_page(alloc, 0, &PAGE)? == Seen::Refused;
+    Ok(root && page && full)
+}
+
+fn no_place(wrong: Result<Option<usize>, NotMade>) -> bool {
+    matches!(wrong, Ok(None))
+}
+
+#[test]
+fn a_root_and_a_page_are_read(rt: HostRuntime) {
+    assert!(rt; matches!(are_read(rt.alloc()), Ok(true)));
+}
+
+#[test]
+fn each_byte_of_a_root_is_read(rt: HostRuntime) {
+    assert!(rt; no_place(wrong_in_root(rt.alloc())));
+}
+
+#[test]
+fn each_byte_of_a_page_is_read(rt: HostRuntime) {
+    assert!(rt; no_place(wrong_in_page(rt.alloc())));
+}
+
+#[test]
+fn texts_that_are_cut_are_refused(rt: HostRuntime) {
+    assert!(rt; no_place(wrong_cut(rt.alloc())));
+}
+
+impl From<AllocError> for NotMade {
+    fn from(_: AllocError) -> Self {
+        NotMade
+    }
+}
