@@ -184,6 +184,10 @@ plain_of remaining calls_in.Tables asks = (tables_call, refl, refl)
 plain_of remaining (calls_in.Schema name) asks = (schema_call (string_bytes name), refl, refl)
 plain_of remaining (calls_in.Read name) asks = (read_call (string_bytes name), refl, refl)
 plain_of remaining (calls_in.Export name) asks = (export_call (string_bytes name), refl, refl)
+plain_of remaining (calls_in.OpenExport name) asks = (open_export_call (string_bytes name), refl, refl)
+plain_of remaining (calls_in.ExportNext id) asks = (export_next_call id, refl, refl)
+plain_of remaining (calls_in.CloseExport id) asks = (close_export_call id, refl, refl)
+plain_of remaining calls_in.Compact asks = (compact_call, refl, refl)
 
 pub are_more : {R : Type 0} (remaining : R → Option (List ℕ)) (calls : List (Call R)) (plains : List PlainCall) (call : Call R) (plain : PlainCall) → AreCallsOf remaining calls plains → IsCallOf remaining call plain
     → AreCallsOf remaining (calls ++ call ∷ []) (plains ++ plain ∷ [])

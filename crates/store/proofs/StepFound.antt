@@ -60,7 +60,7 @@ module _ (tells : Bool) (a b : Image) (same : tells ≡ true → b ≡ a) where
   pair_then e place _ u = absurd u
 
   pub in_then : (e : PlainEntry) (r : Refusal) → UnreadsIn tells b e r → UnreadsIn tells a e r
-  in_then e r (place, within, unread) = (place, within, pair_then e place r unread)
+  in_then e r (place, within, before, (few, unread)) = (place, within, first_then e place before, (few, pair_then e place r unread))
 
   pub last_then : (segment : Segment) (place : ℕ) (r : Refusal) → UnreadsLast tells b segment place r → UnreadsLast tells a segment place r
   last_then segment place refusals.Device u = tt
@@ -249,8 +249,9 @@ one_entry c number x e a b = let both : Some x ≡ Some e = sym a ∙ b in cc bo
 pub item_at : (entries : List TableEntry) (place : ℕ) (item : TableEntry) → place < length entries → item ≡ get_or entries place item → slice_get (map plain_entry entries) place ≡ Some (plain_entry item)
 item_at entries place item lt is = slice_get-map plain_entry entries place ∙ ap (option_map plain_entry) (slice_get_read entries (length entries) place item refl lt is)
 
-pub unread_in : (tells : Bool) (image : Image) (c : PlainCatalogue) (number : ℕ) (e : PlainEntry) (r : Refusal) → slice_get c number ≡ Some e → UnreadsIn tells image e r → UnreadsInPairs tells image c r
-unread_in tells image c number e r at (place, within, unread) = record { number = number; entry = e; at = at; place = place; within = within; unread = unread }
+pub unread_in : (tells : Bool) (image : Image) (c : PlainCatalogue) (number : ℕ) (e : PlainEntry) (r : Refusal) → slice_get c number ≡ Some e → AllStay tells image c number → UnreadsIn tells image e r → UnreadsInPairs tells image c r
+unread_in tells image c number e r at others (place, within, before, (few, unread)) =
+    record { number = number; entry = e; at = at; others = others; place = place; within = within; before = before; few = few; unread = unread }
 
 -- the rows of two segments are few
 pub few_at : (segments : List Segment) (i : ℕ) (d : Segment) → list_all is_segment segments ≡ true → i < length segments → (get_or segments i d).rows ≤ MAX_SEGMENT_ROWS

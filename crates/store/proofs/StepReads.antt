@@ -94,4 +94,4 @@ module _ (laws : TableLaws) (image : Image) (c : PlainCatalogue) (k : IsCatalogu
   -- so a step is not decided only for want of memory, or because the device failed
   pub step_fails : (tells : Bool) → tells ≡ true → (r : Refusal) → UnreadsStep tells image c r → FailsReading r
   step_fails tells told r (inl pair) = pair_fails tells told r pair
-  step_fails tells told r (inr last) = last_fails tells told r last
+  step_fails tells told r (inr (stay, last)) = last_fails tells told r last

@@ -1,5 +1,5 @@
 -- What each call of a place answers and leaves, on any device and any place: also where it stands for no machine, as one whose store is damaged.
-use Rattle.std.specs.Prelude.{◌≡◌, ◌≢◌, ◌⊎◌, ◌↔◌, ℕ, Bool, true, false, List, [], ◌∷◌, Option, Some, None, option_map, Result, Ok, Err, IfSome, IfErr, OnOk}
+use Rattle.std.specs.Prelude.{◌≡◌, ◌≢◌, ◌⊎◌, ◌↔◌, ℕ, Bool, true, false, List, [], ◌∷◌, Option, Some, None, option_map, Result, Ok, Err, IfSome, IfOk, IfErr, OnOk}
 use Rattle.sector_dev.specs.Disk.{Story, Image, now, shown_image}
 use Rattle.sector_dev.specs.Time.{Grows, OnlyReads}
 use Rattle.sector_dev.specs.declared.device.SectorDevice.{Ghosts}
@@ -22,16 +22,22 @@ use Rattle.store.specs.declared.call.Place.{Place}
 use Rattle.store.specs.declared.call.Place.TheVariants as places
 use Rattle.commit.specs.declared.opening_refusal.OpeningRefusal.{OpeningRefusal}
 use Rattle.commit.specs.declared.opening_refusal.OpeningRefusal.TheVariants as openings
-use Rattle.store.specs.Calls.{PlainCall, apply_call, format_call, open_call, close_call, tables_call, schema_call, read_call, export_call, stream_call}
-use Rattle.store.specs.Calls.{PlainReply, done, counts, schema_is, table_is, bytes_are, refused, shut_by, counted}
+use Rattle.store.specs.Calls.{PlainCall, apply_call, format_call, open_call, close_call, tables_call, schema_call, read_call, export_call, stream_call, open_export_call, export_next_call, close_export_call, compact_call}
+use Rattle.store.specs.Calls.{PlainReply, done, counts, schema_is, table_is, bytes_are, export_is, piece_is, nothing, refused, shut_by, counted}
 use Rattle.store.specs.Opening.{TellsOpening, TellsFormatting, IsOfFormatting}
 use Rattle.store.specs.Held.{whole_reading}
 use Rattle.store.specs.Machine.{Machine}
-use Rattle.store.specs.Fits.{StoreFits, device_of, listed_in, is_halted, IsOnDisk, FindsStore, FormatsStore, IsNewStore}
+use Rattle.store.specs.Fits.{StoreFits, book_of, device_of, listed_in, is_halted, IsOnDisk, FindsStore, FormatsStore, IsNewStore}
 use Rattle.store.specs.Deciding.{reads_device}
 use Rattle.store.specs.Applying.{GoesOn, IsApplied, IsKept, IsApplyingAtEachMoment, IsDoneOnDisk}
 use Rattle.store.specs.Listing.{RefusesTables, RefusesSchema}
 use Rattle.store.specs.Reading.{RefusesRead, ReadsTable, OnlyReadsStore, ended}
+use Rattle.store.specs.declared.compacting.Compaction.{Compaction}
+use Rattle.store.specs.declared.compacting.Compaction.TheVariants as compactions
+use Rattle.store.specs.Exchanging.{Shrinks}
+use Rattle.store.specs.Compacting.{step_reply, HasStepped, RefusesStep}
+use Rattle.export_book.specs.Book.{open_at}
+use Rattle.store.specs.Exporting.{RefusesExport, OpensAt, GivesPiece, after_giving, RefusesPiece, ReadsForExport, RefusesClosing, ClosesAt}
 use Rattle.store.specs.Places.{IsCallOf, AreCallsOf, device_in, PlaceFits, PlaceGoes, PlaceRuns}
 
 -- ---- where a call leaves the place
@@ -140,6 +146,46 @@ AnswersExport halted tells image found (bytes_are bytes) = (t : PlainTable) × R
 AnswersExport halted tells image found (refused r) = RefusesRead halted tells image found r
 AnswersExport halted tells image found _ = ⊥
 
+-- an export that is opened, on a device that is not called
+abbrev pub AnswersOpenExport : {D : Type 0} {g : Ghosts D} → (size : D → ℕ) → (story : D → Story) → (failed : D → ℕ) → (tells : Bool) → Store D g → List ℕ → PlainReply → Store D g → Type 0
+AnswersOpenExport size story failed tells old name (export_is id) new = OpensAt (is_halted old) (entry_of (listed_in old) name) old id new × (device_of new ≡ device_of old)
+AnswersOpenExport size story failed tells old name (refused r) new =
+    RefusesExport (is_halted old) (entry_of (listed_in old) name) (book_of old) r × OnlyReadsStore size story failed tells (refused r) old new × (device_of new ≡ device_of old)
+AnswersOpenExport size story failed tells old name _ new = ⊥
+
+-- its next piece
+abbrev pub AnswersNext : {D : Type 0} {g : Ghosts D} → (size : D → ℕ) → (story : D → Story) → (failed : D → ℕ) → (tells : Bool) → Store D g → ℕ → PlainReply → Store D g → Type 0
+AnswersNext size story failed tells old id (piece_is piece) new =
+    GivesPiece (is_halted old) tells (shown_image (now (story (device_of old)))) (open_at (book_of old) id) piece
+    × (book_of new ≡ after_giving piece id (book_of old)) × ReadsForExport size story failed tells done old new
+AnswersNext size story failed tells old id (refused r) new =
+    RefusesPiece (is_halted old) tells (shown_image (now (story (device_of old)))) (open_at (book_of old) id) r
+    × (book_of new ≡ book_of old) × ReadsForExport size story failed tells (refused r) old new
+AnswersNext size story failed tells old id _ new = ⊥
+
+-- and its closing
+abbrev pub AnswersCloseExport : {D : Type 0} {g : Ghosts D} → (size : D → ℕ) → (story : D → Story) → (failed : D → ℕ) → (tells : Bool) → Store D g → ℕ → PlainReply → Store D g → Type 0
+AnswersCloseExport size story failed tells old id done new = ClosesAt (is_halted old) (open_at (book_of old) id) old id new × (device_of new ≡ device_of old)
+AnswersCloseExport size story failed tells old id (refused r) new =
+    RefusesClosing (is_halted old) (open_at (book_of old) id) r × OnlyReadsStore size story failed tells (refused r) old new × (device_of new ≡ device_of old)
+AnswersCloseExport size story failed tells old id _ new = ⊥
+
+-- a step of a compaction: what it does or why it is refused, and what it leaves
+pub record Compacts {D : Type 0} {g : Ghosts D} (size : D → ℕ) (story : D → Story) (failed : D → ℕ) (tells : Bool) (old : Store D g) (result : Result Compaction Refusal) (new : Store D g) : Type 0 where
+  pub step : IfOk result (λ done. HasStepped size story tells old done new)
+  pub told : IfErr result (λ e. RefusesStep size story tells (is_halted old) old e new)
+  pub shrinks : IfOk result (λ done. done ≢ compactions.Nothing → Shrinks (listed_in old) (listed_in new))
+  pub idle : result ≡ Ok compactions.Nothing → OnlyReadsStore size story failed tells nothing old new
+  pub kept : IfErr result (λ e. IsKept old new)
+  pub reads : IfErr result (λ e. e ≢ refusals.Device → tells ≡ true → OnlyReads (story (device_of old)) (story (device_of new)))
+  pub halted : (result ≡ Err refusals.Halted) ↔ (is_halted old ≡ true)
+  pub still : is_halted old ≡ true → new ≡ old
+  pub halts : is_halted old ≡ false → (is_halted new ≡ true) ↔ (result ≡ Err refusals.Device)
+  pub book : book_of new ≡ book_of old
+
+abbrev pub AnswersCompact : {D : Type 0} {g : Ghosts D} → (size : D → ℕ) → (story : D → Story) → (failed : D → ℕ) → (tells : Bool) → Store D g → PlainReply → Store D g → Type 0
+AnswersCompact size story failed tells old reply new = (result : Result Compaction Refusal) × (reply ≡ step_reply result) × Compacts size story failed tells old result new
+
 abbrev pub AnswersOpen : {D : Type 0} {g : Ghosts D} → (size : D → ℕ) → (story : D → Story) → (failed : D → ℕ) → (tells : Bool) → Store D g → PlainCall → PlainReply → Place D g → Type 0
 AnswersOpen size story failed tells old (apply_call c) reply new = IsOpenWith (λ store. AnswersCommand size story tells old c reply store) new
 AnswersOpen size story failed tells old format_call reply new = AnswersFormatting size story tells (device_of old) reply new
@@ -154,8 +200,10 @@ AnswersOpen size story failed tells old (export_call name) reply new =
     AnswersExport (is_halted old) tells (shown_image (now (story (device_of old)))) (entry_of (listed_in old) name) reply
     × IsOpenWith (λ store. OnlyReadsStore size story failed tells reply old store) new
 AnswersOpen size story failed tells old (stream_call c) reply new = IsOpenWith (λ store. AnswersStream size story tells old c reply store) new
--- the others are not asked of a place yet
-AnswersOpen size story failed tells old _ reply new = ⊥
+AnswersOpen size story failed tells old (open_export_call name) reply new = IsOpenWith (λ store. AnswersOpenExport size story failed tells old name reply store) new
+AnswersOpen size story failed tells old (export_next_call id) reply new = IsOpenWith (λ store. AnswersNext size story failed tells old id reply store) new
+AnswersOpen size story failed tells old (close_export_call id) reply new = IsOpenWith (λ store. AnswersCloseExport size story failed tells old id reply store) new
+AnswersOpen size story failed tells old compact_call reply new = IsOpenWith (λ store. AnswersCompact size story failed tells old reply store) new
 
 -- ---- calls of a place
 

@@ -26,7 +26,7 @@ pub data PlainCall : Type 0 where
   compact_call : PlainCall
 
 pub data PlainReply : Type 0 where
-  -- a command, a formatting, an opening or a closing that was done
+  -- a command, a formatting, an opening or a closing that was done, of a store or of an export
   done : PlainReply
   -- the names of the tables and how many rows each has
   counts : List (List ℕ × ℕ) → PlainReply

@@ -135,12 +135,16 @@ UnreadsLast tells image segment place refusals.OutOfMemory = Unit {0}
 UnreadsLast tells image segment place (refusals.SegmentUnread number) = (number ≡ place) × (tells ≡ true → bytes_at image segment.place.run.start segment.place.bytes ≡ None)
 UnreadsLast tells image segment place _ = ⊥
 
+-- it is the first pair of which nothing is known: all before it stay two segments, and by the number of its rows it may be one piece
 pub record UnreadsInPairs (tells : Bool) (image : Image) (c : PlainCatalogue) (r : Refusal) : Type 0 where
   pub number : ℕ
   pub entry : PlainEntry
   pub at : slice_get c number ≡ Some entry
+  pub others : AllStay tells image c number
   pub place : ℕ
   pub within : place + 2 ≤ length entry.segments
+  pub before : FirstStay tells image entry place
+  pub few : row_count (pair_of entry place) ≤ MAX_PIECE_ROWS
   pub unread : UnreadsPair tells image entry place r
 
 pub record UnreadsMoving (tells : Bool) (image : Image) (c : PlainCatalogue) (r : Refusal) : Type 0 where
@@ -151,9 +155,9 @@ pub record UnreadsMoving (tells : Bool) (image : Image) (c : PlainCatalogue) (r 
   pub last : IsLast c number place entry segment
   pub unread : UnreadsLast tells image segment place r
 
--- why nothing is decided
+-- why nothing is decided: the last segment is looked at where all pairs stay two segments
 abbrev pub UnreadsStep : (tells : Bool) → Image → PlainCatalogue → Refusal → Type 0
-UnreadsStep tells image c r = UnreadsInPairs tells image c r ⊎ UnreadsMoving tells image c r
+UnreadsStep tells image c r = UnreadsInPairs tells image c r ⊎ (AllStay tells image c (length c) × UnreadsMoving tells image c r)
 
 -- what a step leaves of a store: its change carried out, or all as it was
 abbrev pub EndsStep : {D : Type 0} {g : Ghosts D} → (size : D → ℕ) → (old : Store D g) → Option PlainChange → (new : Store D g) → Type 0

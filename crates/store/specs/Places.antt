@@ -1,5 +1,5 @@
 -- Calls of a place, which is an open store or a shut device, and what a run of them leaves.
-use Rattle.std.specs.Prelude.{◌≡◌, ◌≢◌, ◌<◌, ◌-◌, ◌^◌, ◌||◌, ℕ, Bool, true, false, List, [], ◌∷◌, map, take, drop, string_bytes, Option, None, IfSome}
+use Rattle.std.specs.Prelude.{◌≡◌, ◌≢◌, ◌<◌, ◌-◌, ◌^◌, ◌||◌, ℕ, Bool, true, false, List, [], ◌∷◌, map, take, drop, string_bytes, Option, option_map, None, IfSome}
 use Rattle.std.specs.List.{list_any}
 use Rattle.sector_dev.specs.Disk.{Story, Image, moment, LeftSince}
 use Rattle.sector_dev.specs.declared.device.SectorDevice.{Ghosts}
@@ -14,7 +14,7 @@ use Rattle.store.specs.declared.call.Reply.{Reply}
 use Rattle.store.specs.declared.call.Reply.TheVariants as replies
 use Rattle.store.specs.declared.call.Place.{Place}
 use Rattle.store.specs.declared.call.Place.TheVariants as places
-use Rattle.store.specs.Calls.{PlainCall, apply_call, format_call, open_call, close_call, tables_call, schema_call, read_call, export_call, stream_call, open_export_call, PlainReply, done, counts, schema_is, table_is, bytes_are, export_is, refused, shut_by, is_device_reply}
+use Rattle.store.specs.Calls.{PlainCall, apply_call, format_call, open_call, close_call, tables_call, schema_call, read_call, export_call, stream_call, open_export_call, export_next_call, close_export_call, compact_call, PlainReply, done, counts, schema_is, table_is, bytes_are, export_is, piece_is, merged, moved, nothing, refused, shut_by, is_device_reply}
 use Rattle.store.specs.Machine.{Machine, shut, halted}
 use Rattle.store.specs.Runs.{Goes, Run}
 use Rattle.store.specs.Since.{story_at, IsLeftFrom}
@@ -40,6 +40,10 @@ IsCallOf remaining calls.Tables plain = plain ≡ tables_call
 IsCallOf remaining (calls.Schema name) plain = plain ≡ schema_call (string_bytes name)
 IsCallOf remaining (calls.Read name) plain = plain ≡ read_call (string_bytes name)
 IsCallOf remaining (calls.Export name) plain = plain ≡ export_call (string_bytes name)
+IsCallOf remaining (calls.OpenExport name) plain = plain ≡ open_export_call (string_bytes name)
+IsCallOf remaining (calls.ExportNext id) plain = plain ≡ export_next_call id
+IsCallOf remaining (calls.CloseExport id) plain = plain ≡ close_export_call id
+IsCallOf remaining calls.Compact plain = plain ≡ compact_call
 
 -- one by one
 abbrev pub AreCallsOf : {R : Type 0} → (remaining : R → Option (List ℕ)) → List (Call R) → List PlainCall → Type 0
@@ -59,6 +63,11 @@ reply_in (replies.Tables found) = counts (map (λ t. (string_bytes t.0, t.1)) fo
 reply_in (replies.Schema schema) = schema_is (schema_of schema)
 reply_in (replies.Table table) = table_is (table_of table)
 reply_in (replies.Bytes bytes) = bytes_are bytes.items
+reply_in (replies.Export id) = export_is id
+reply_in (replies.Piece piece) = piece_is (option_map (λ v. v.items) piece)
+reply_in replies.Merged = merged
+reply_in replies.Moved = moved
+reply_in replies.Nothing = nothing
 reply_in (replies.Refused refusal) = refused refusal
 reply_in (replies.NotOpened refusal) = shut_by refusal
 

@@ -98,22 +98,19 @@ StepStream s m c done wrote new = StepApply s m c done wrote new
 StepStream s m c (refused r) wrote new = StepApply s m c (refused r) wrote new
 StepStream s m c _ wrote new = ⊥
 
--- so many exports may be open
-abbrev pub MOST_EXPORTS : ℕ
-MOST_EXPORTS = 64
-
 -- an export of a table of which nothing was given yet: its pieces, joined, are a stream that means the table. They are one for each segment, and two
 abbrev pub IsExportOf : Option PlainTable → Export → Type 0
 IsExportOf None e = ⊥
 IsExportOf (Some table) e = (meaning supported_codes (joined e.pieces) ≡ Ok table) × (e.given ≡ 0) × (length e.pieces ≡ length e.runs + 2)
 
+-- while 64 are open, and behind the last id, no other one is opened
 abbrev pub StepOpenExport : Setting → Machine → List ℕ → PlainReply → Bool → Machine → Type 0
 StepOpenExport s m name (export_is id) wrote new =
-    (m.phase ≡ running) × (id ≡ m.next_id) × (id < 2 ^ 64) × (export_at m.exports id ≡ None) × (length m.exports < MOST_EXPORTS)
+    (m.phase ≡ running) × (id ≡ m.next_id) × (id < 2 ^ 64) × (export_at m.exports id ≡ None) × (length m.exports < 64)
     × ((e : Export) × (e.id ≡ id) × IsExportOf (table_at (tables_now s m) name) e × (new ≡ with_export e m)) × (wrote ≡ false)
 StepOpenExport s m name (refused refusals.NoTable) wrote new = (m.phase ≡ running) × (table_at (tables_now s m) name ≡ None) × Stays m wrote new
 StepOpenExport s m name (refused (refusals.TooMany limits.Exports)) wrote new =
-    (m.phase ≡ running) × IsSome (table_at (tables_now s m) name) × ((MOST_EXPORTS ≤ length m.exports) ⊎ (2 ^ 64 ≤ m.next_id)) × Stays m wrote new
+    (m.phase ≡ running) × IsSome (table_at (tables_now s m) name) × ((64 ≤ length m.exports) ⊎ (2 ^ 64 ≤ m.next_id)) × Stays m wrote new
 StepOpenExport s m name (refused refusals.Halted) wrote new = (m.phase ≢ running) × Stays m wrote new
 StepOpenExport s m name (refused refusals.OutOfMemory) wrote new = (m.phase ≡ running) × Stays m wrote new
 StepOpenExport s m name _ wrote new = ⊥

@@ -22,12 +22,19 @@ pub enum Call<R = Empty> {
     Read(String),
     /// The canonical stream of a table.
     Export(String),
+    /// An export of a table that gives its pieces one after another.
+    OpenExport(String),
+    /// The next piece of the export of this id.
+    ExportNext(u64),
+    CloseExport(u64),
+    /// One step of a compaction.
+    Compact,
 }
 
 /// What is answered.
 #[derive(Drop)]
 pub enum Reply {
-    /// A command, a formatting, an opening or a closing was done.
+    /// A command, a formatting, an opening or a closing was done, of a store or of an export.
     Done,
     /// The name of each table, and how many rows it has.
     Tables(Vec<(String, u64)>),
@@ -35,6 +42,16 @@ pub enum Reply {
     Table(Table),
     /// The bytes of a stream.
     Bytes(Vec<u8>),
+    /// The id of an export.
+    Export(u64),
+    /// Its next piece; `None` behind the last one.
+    Piece(Option<Vec<u8>>),
+    /// Two neighbouring segments became one.
+    Merged,
+    /// The segment that started last lies elsewhere, further in front.
+    Moved,
+    /// A step of a compaction had nothing to do.
+    Nothing,
     Refused(Refusal),
     /// The device was not opened or formatted.
     NotOpened(OpeningRefusal),

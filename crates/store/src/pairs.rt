@@ -10,7 +10,7 @@ ghost use Rattle.store.specs.Deciding.{pieces_put};
 ghost use Rattle.store.specs.Reading.{IsRead, OnlyReadsDevice, ended};
 ghost use Rattle.store.specs.Compacting.{pair_of, is_one_piece, UnreadsPair, UnreadsInPairs};
 ghost use Rattle.store.specs.inner.Reading.{runs_in};
-ghost use Rattle.store.specs.inner.Compacting.{IsPair, FindsIn, UnreadsIn, FindsPair};
+ghost use Rattle.store.specs.inner.Compacting.{IsPair, FindsIn, UnreadsFew, UnreadsIn, FindsPair};
 
 use crate::change::{Change, Edit, NewSegments, SegmentRows};
 use crate::reading::read_entry;
@@ -93,7 +93,7 @@ fn joined_at<D: SectorDevice>(
     requires within { place + 2 ≤ length (plain_entry entry.now).segments }
     ensures reads { OnlyReadsDevice D.size D.story D.failed D.tells (ended result) device.old device.new }
     ensures pair { IfOk result (IsPair D.tells (shown_image (now (D.story device.old))) (plain_entry entry.now) place) }
-    ensures unread { IfErr result (UnreadsPair D.tells (shown_image (now (D.story device.old))) (plain_entry entry.now) place) }
+    ensures unread { IfErr result (UnreadsFew D.tells (shown_image (now (D.story device.old))) (plain_entry entry.now) place) }
 {
     if !may_be_one(entry, place) {
         return Ok(None);

@@ -3,13 +3,14 @@ ghost use Rattle.std.specs.Prelude.{◌≡◌, true, List, length, IfOk, IfErr};
 ghost use Rattle.tables.specs.Tables.{Tables};
 ghost use Rattle.tables.specs.View.{command_of};
 ghost use Rattle.tables.specs.Commands.{import_stream, append_stream};
-ghost use Rattle.store.specs.Calls.{PlainCall, apply_call, format_call, open_call, tables_call, schema_call, read_call, export_call, counted};
+ghost use Rattle.store.specs.Calls.{PlainCall, apply_call, format_call, open_call, tables_call, schema_call, read_call, export_call, open_export_call, export_next_call, close_export_call, compact_call, counted};
 ghost use Rattle.store.specs.Machine.{Machine};
+ghost use Rattle.store.specs.Compacting.{reply_of};
 ghost use Rattle.store.specs.Answering.{AnswersOpening, AnswersFormatting, Answers, AnswersEach, AnswersAs, AnswersCall, AnswersCalls};
 ghost use Rattle.store.specs.Fits.{DeviceFits, StoreFits, device_of};
 ghost use Rattle.store.specs.Places.{IsStreamOf, AreCallsOf, asks_store, reply_in, replies_of, device_in, PlaceFits, PlaceGoes, PlaceLives};
 
-use crate::{Call, Place, Reply, Store};
+use crate::{Call, Compaction, Place, Reply, Store};
 use sector_dev::SectorDevice;
 use std::alloc::Global;
 use std::io::Read;
@@ -168,6 +169,68 @@ fn export_in<D: SectorDevice>(alloc: Global, store: Store<D>, name: &str) -> (Pl
     }
 }
 
+// An export is opened.
+fn open_export_in<D: SectorDevice>(alloc: Global, store: Store<D>, name: &str) -> (Place<D>, Reply)
+    ensures goes { D.tells ≡ true → (base : Tables) (m : Machine) → StoreFits D.size D.story base m store
+        → PlaceGoes D.size D.story D.failed base m (open_export_call name.now) (reply_in result.1) (device_of store) result.0 }
+    ensures answers { Answers D.size D.story D.failed D.tells (Place.Open store) (open_export_call name.now) (reply_in result.1) result.0 }
+{
+    let mut store = store;
+    match store.open_export(alloc, name) {
+        Ok(id) => (Place::Open(store), Reply::Export(id)),
+        Err(refusal) => (Place::Open(store), Reply::Refused(refusal)),
+    }
+}
+
+// Its next piece.
+fn export_next_in<D: SectorDevice>(alloc: Global, store: Store<D>, id: u64) -> (Place<D>, Reply)
+    ensures goes { D.tells ≡ true → (base : Tables) (m : Machine) → StoreFits D.size D.story base m store
+        → PlaceGoes D.size D.story D.failed base m (export_next_call id) (reply_in result.1) (device_of store) result.0 }
+    ensures answers { Answers D.size D.story D.failed D.tells (Place.Open store) (export_next_call id) (reply_in result.1) result.0 }
+{
+    let mut store = store;
+    match store.export_next(alloc, id) {
+        Ok(piece) => (Place::Open(store), Reply::Piece(piece)),
+        Err(refusal) => (Place::Open(store), Reply::Refused(refusal)),
+    }
+}
+
+// An export is closed.
+fn close_export_in<D: SectorDevice>(store: Store<D>, id: u64) -> (Place<D>, Reply)
+    ensures goes { D.tells ≡ true → (base : Tables) (m : Machine) → StoreFits D.size D.story base m store
+        → PlaceGoes D.size D.story D.failed base m (close_export_call id) (reply_in result.1) (device_of store) result.0 }
+    ensures answers { Answers D.size D.story D.failed D.tells (Place.Open store) (close_export_call id) (reply_in result.1) result.0 }
+{
+    let mut store = store;
+    match store.close_export(id) {
+        Ok(()) => (Place::Open(store), Reply::Done),
+        Err(refusal) => (Place::Open(store), Reply::Refused(refusal)),
+    }
+}
+
+fn step_reply(done: Compaction) -> Reply
+    ensures { reply_in result ≡ reply_of done }
+{
+    match done {
+        Compaction::Merged => Reply::Merged,
+        Compaction::Moved => Reply::Moved,
+        Compaction::Nothing => Reply::Nothing,
+    }
+}
+
+// A step of a compaction.
+fn compact_in<D: SectorDevice>(alloc: Global, store: Store<D>) -> (Place<D>, Reply)
+    ensures goes { D.tells ≡ true → (base : Tables) (m : Machine) → StoreFits D.size D.story base m store
+        → PlaceGoes D.size D.story D.failed base m compact_call (reply_in result.1) (device_of store) result.0 }
+    ensures answers { Answers D.size D.story D.failed D.tells (Place.Open store) compact_call (reply_in result.1) result.0 }
+{
+    let mut store = store;
+    match store.compact_step(alloc) {
+        Ok(done) => (Place::Open(store), step_reply(done)),
+        Err(refusal) => (Place::Open(store), Reply::Refused(refusal)),
+    }
+}
+
 // A call of an open store.
 fn answer_open<D: SectorDevice, R: Read + Drop>(
     alloc: Global,
@@ -187,6 +250,10 @@ fn answer_open<D: SectorDevice, R: Read + Drop>(
         Call::Schema(name) => schema_in(alloc, store, &name),
         Call::Read(name) => read_in(alloc, store, &name),
         Call::Export(name) => export_in(alloc, store, &name),
+        Call::OpenExport(name) => open_export_in(alloc, store, &name),
+        Call::ExportNext(id) => export_next_in(alloc, store, id),
+        Call::CloseExport(id) => close_export_in(store, id),
+        Call::Compact => compact_in(alloc, store),
     }
 }
 
@@ -226,13 +293,19 @@ fn answer_all<D: SectorDevice, R: Read + Drop>(
     Ok((place, replies))
 }
 
-/// Answers calls in order: commands, formattings, openings, closings and readings. Where there is no memory for the replies all is given back.
+/// Answers calls in order: commands, formattings, openings, closings, readings, exports in pieces and steps of a compaction. Where there is no memory
+/// for the replies all is given back.
 ///
 /// What is promised of them is [`PlaceLives`] of `specs/Places.antt`, for a place that stands for a machine with some tables. Each reply follows
 /// from the tables of the commands that were acknowledged before its call, in order (`replied`, `specs/Steps.antt`). Each image that a stop may leave
 /// at any moment has the tables of what was settled: all that was acknowledged before, in order, and the command in flight whole or not at all
 /// (`stops`). Only where no store is open, or its device failed, is a call refused as halted. A command whose bytes come from a reader has all
 /// that its reader had left, where that is told (`AreCallsOf`).
+///
+/// An export that is opened in it, and comes to its end while it stays open, gives pieces that are a stream of the table that stood when it was
+/// opened, whatever commands and steps of a compaction came in between (`snapshots`); until it is closed no sector that it keeps is written. A step
+/// of a compaction settles nothing: the tables are the same before it, behind it and at each stop in it. On any device and any store, also where it
+/// stands for no machine, each call is answered as its method says (`AnswersEach`, `specs/Answering.antt`).
 pub fn run<D: SectorDevice, R: Read + Drop>(
     alloc: Global,
     place: Place<D>,

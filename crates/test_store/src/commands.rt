@@ -9,8 +9,8 @@ use Cell::{Null, Number, Text};
 use Input::{Changed, Column, First, Front, Ints, Texts};
 use Pieces::{Failing, Single, Whole};
 use Step::{
-    Append, AppendFrom, Close, Create, Export, Format, Give, GiveTable, Import, ImportFrom, Open,
-    Read, Remove, Rename, Save, Schema, Tables,
+    Append, AppendFrom, Close, CloseExport, Compact, Create, Export, ExportNext, Format, Give,
+    GiveTable, Import, ImportFrom, Open, OpenExport, Read, Remove, Rename, Save, Schema, Tables,
 };
 use std::alloc::Global;
 
@@ -244,10 +244,45 @@ const FULL: &[Row] = &[
     ),
 ];
 
+// Sectors that an export keeps are not written, by a command or by a step of a compaction, until it is closed.
+const KEPT: &[Row] = &[
+    (
+        16,
+        &[
+            (Format, "ok"),
+            (Import("t", First(562)), "ok"),
+            (OpenExport("t"), "export 0"),
+            (Remove("t"), "ok"),
+            (Import("u", First(1074)), "S8 NoRoom 9"),
+            (CloseExport(0), "ok"),
+            (Import("u", First(1074)), "ok"),
+        ],
+        "epoch 4, 201 in 12, u: 3+9",
+    ),
+    (
+        16,
+        &[
+            (Format, "ok"),
+            (Import("t", First(562)), "ok"),
+            (OpenExport("t"), "export 0"),
+            (Remove("t"), "ok"),
+            (Import("u", First(250)), "ok"),
+            (Append("u", First(250)), "ok"),
+            (Compact, "S8 NoRoom 5"),
+            (ExportNext(0), "152 bytes"),
+            (ExportNext(0), "2400 bytes"),
+            (CloseExport(0), "ok"),
+            (Compact, "merged"),
+        ],
+        "epoch 6, 201 in 11, u: 3+5",
+    ),
+];
+
 fn room(part: usize) -> Option<&'static [Row]> {
     Some(match part {
         0 => FILLED,
         1 => FULL,
+        2 => KEPT,
         _ => return None,
     })
 }
@@ -454,6 +489,10 @@ const HALTED: &[Row] = &[
             (Schema("t"), "S10 Halted"),
             (Read("t"), "S10 Halted"),
             (Export("t"), "S10 Halted"),
+            (OpenExport("t"), "S10 Halted"),
+            (ExportNext(0), "S10 Halted"),
+            (CloseExport(0), "S10 Halted"),
+            (Compact, "S10 Halted"),
             (Open, "C1 NotAStore"),
             (Close, "S10 Halted"),
             (Format, "ok"),
@@ -649,6 +688,43 @@ const FROM_READERS: &[Row] = &[
     ),
 ];
 
+// An export gives the table that it found, also where the table is gone. What it kept is free once it is closed.
+const IN_PIECES: &[Row] = &[(
+    16,
+    &[
+        (Format, "ok"),
+        (Import("t", TWO), "ok"),
+        (OpenExport("u"), "S1 NoTable"),
+        (OpenExport("t"), "export 0"),
+        (Remove("t"), "ok"),
+        (ExportNext(0), "152 bytes"),
+        (ExportNext(0), "160 bytes"),
+        (ExportNext(0), "8 bytes"),
+        (ExportNext(0), "no piece"),
+        (CloseExport(0), "ok"),
+        (CloseExport(0), "S11 NoExport"),
+        (Create("t", INT), "ok"),
+    ],
+    "epoch 4, 169 in 3, t:",
+)];
+
+// Two segments become one, which moves to the front then. The table is read as before.
+const COMPACTED: &[Row] = &[(
+    16,
+    &[
+        (Format, "ok"),
+        (Compact, "nothing"),
+        (Import("t", TWO), "ok"),
+        (Append("t", TWO), "ok"),
+        (Compact, "merged"),
+        (Read("t"), "\"a\":int32?: 7 -1 7 -1"),
+        (Compact, "moved"),
+        (Compact, "nothing"),
+        (Read("t"), "\"a\":int32?: 7 -1 7 -1"),
+    ],
+    "epoch 5, 201 in 3, t: 2+1",
+)];
+
 fn read(part: usize) -> Option<&'static [Row]> {
     Some(match part {
         0 => READ_BACK,
@@ -657,6 +733,8 @@ fn read(part: usize) -> Option<&'static [Row]> {
         3 => SAVED,
         4 => SELECTED,
         5 => FROM_READERS,
+        6 => IN_PIECES,
+        7 => COMPACTED,
         _ => return None,
     })
 }

@@ -1,130 +1,185 @@
-// Exports that give their pieces one after another: how long each piece is, and the sectors that they keep.
+// Exports that give their pieces one after another: how long each piece is, what they mean together, and how many may be open.
 use crate::inputs::{Cell, INT, Input};
 use crate::made::{NotMade, assert_no_row};
-use crate::playing::{Slot, new_slot, reply_to};
-use crate::shown::is_laid_out;
-use crate::steps::{Step, says};
+use crate::playing::{Slot, WAYS, Way, is_played, new_slot, play, replies_of, wrong_reply};
+use crate::steps::{Step, Steps, add_table};
 use Cell::{Null, Number};
 use Input::{First, Ints};
-use Row::{Closes, Gives, Laid, Opens, OpensFirst, Says};
-use Step::{Append, Close, Create, Format, Give, Import, Open, Remove, Rename};
+use Step::{
+    Append, Close, CloseExport, Compact, Create, ExportNext, Format, Give, Import, Open,
+    OpenExport, Remove, Rename,
+};
+use ipc_stream::decode;
 use sector_dev::ModelDevice;
 use std::alloc::Global;
-use store::{Place, Store};
-use tables::{Limit, Refusal};
+use store::{Place, Reply, Store};
 
-// What is asked, and what is to come of it.
-#[derive(Clone, Copy)]
-enum Row {
-    Says(Step, &'static str),
-    // An export of the table is opened: its id.
-    Opens(&'static str, Result<u64, Refusal>),
-    // So many exports of the table `t` are opened, from the id 0 on.
-    OpensFirst(u64),
-    // The bytes of the next piece of an export.
-    Gives(u64, Result<Option<usize>, Refusal>),
-    Closes(u64, Result<(), Refusal>),
-    // Where a store that was closed keeps what.
-    Laid(&'static str),
-}
+const PIECES: Steps = &[
+    (Format, "ok"),
+    (Create("t", INT), "ok"),
+    (Give("t", &[&[Number(1)], &[Null]]), "ok"),
+    (Create("u", INT), "ok"),
+    (OpenExport("t"), "export 0"),
+    (ExportNext(0), "152 bytes"),
+    (ExportNext(0), "168 bytes"),
+    (ExportNext(0), "8 bytes"),
+    (ExportNext(0), "no piece"),
+    (ExportNext(0), "no piece"),
+    (OpenExport("u"), "export 1"),
+    (ExportNext(1), "152 bytes"),
+    (ExportNext(1), "8 bytes"),
+    (ExportNext(1), "no piece"),
+    (OpenExport("v"), "S1 NoTable"),
+];
 
-const NO_EXPORT: Refusal = Refusal::NoExport;
-
-const TOO_MANY: Refusal = Refusal::TooMany(Limit::Exports);
-
-const PIECES: &[Row] = &[
-    Says(Format, "ok"),
-    Says(Create("t", INT), "ok"),
-    Says(Give("t", &[&[Number(1)], &[Null]]), "ok"),
-    Says(Create("u", INT), "ok"),
-    Opens("t", Ok(0)),
-    Gives(0, Ok(Some(152))),
-    Gives(0, Ok(Some(168))),
-    Gives(0, Ok(Some(8))),
-    Gives(0, Ok(None)),
-    Gives(0, Ok(None)),
-    Opens("u", Ok(1)),
-    Gives(1, Ok(Some(152))),
-    Gives(1, Ok(Some(8))),
-    Gives(1, Ok(None)),
-    Opens("v", Err(Refusal::NoTable)),
-    Gives(2, Err(NO_EXPORT)),
-    Closes(2, Err(NO_EXPORT)),
-    Closes(0, Ok(())),
-    Closes(0, Err(NO_EXPORT)),
-    Gives(0, Err(NO_EXPORT)),
-    Gives(1, Ok(None)),
-    Opens("t", Ok(2)),
-    Says(Close, "ok"),
-    Says(Open, "ok"),
-    Gives(2, Err(NO_EXPORT)),
-    Opens("t", Ok(0)),
+const CLOSED: Steps = &[
+    (Format, "ok"),
+    (Create("t", INT), "ok"),
+    (OpenExport("t"), "export 0"),
+    (OpenExport("t"), "export 1"),
+    (ExportNext(2), "S11 NoExport"),
+    (CloseExport(2), "S11 NoExport"),
+    (CloseExport(0), "ok"),
+    (CloseExport(0), "S11 NoExport"),
+    (ExportNext(0), "S11 NoExport"),
+    (ExportNext(1), "152 bytes"),
+    (OpenExport("t"), "export 2"),
+    (Close, "ok"),
+    (ExportNext(2), "S10 Halted"),
+    (Open, "ok"),
+    (ExportNext(2), "S11 NoExport"),
+    (OpenExport("t"), "export 0"),
 ];
 
 // A table is appended to, renamed, dropped and replaced while it is exported. An export that was opened later has more.
-const MEANWHILE: &[Row] = &[
-    Says(Format, "ok"),
-    Says(Import("t", Ints(&[7, -1])), "ok"),
-    Opens("t", Ok(0)),
-    Gives(0, Ok(Some(152))),
-    Says(Append("t", Ints(&[5])), "ok"),
-    Opens("t", Ok(1)),
-    Says(Rename("t", "v"), "ok"),
-    Says(Remove("v"), "ok"),
-    Says(Import("t", First(100)), "ok"),
-    Opens("t", Ok(2)),
-    Says(Import("t", First(50)), "ok"),
-    Gives(0, Ok(Some(160))),
-    Gives(0, Ok(Some(8))),
-    Gives(0, Ok(None)),
-    Closes(0, Ok(())),
-    Gives(1, Ok(Some(152))),
-    Gives(1, Ok(Some(160))),
-    Gives(1, Ok(Some(160))),
-    Gives(1, Ok(Some(8))),
-    Gives(2, Ok(Some(152))),
-    Gives(2, Ok(Some(552))),
-    Gives(2, Ok(Some(8))),
+const MEANWHILE: Steps = &[
+    (Format, "ok"),
+    (Import("t", Ints(&[7, -1])), "ok"),
+    (OpenExport("t"), "export 0"),
+    (ExportNext(0), "152 bytes"),
+    (Append("t", Ints(&[5])), "ok"),
+    (OpenExport("t"), "export 1"),
+    (Rename("t", "v"), "ok"),
+    (Remove("v"), "ok"),
+    (Import("t", First(100)), "ok"),
+    (OpenExport("t"), "export 2"),
+    (Import("t", First(50)), "ok"),
+    (ExportNext(0), "160 bytes"),
+    (ExportNext(0), "8 bytes"),
+    (ExportNext(0), "no piece"),
+    (CloseExport(0), "ok"),
+    (ExportNext(1), "152 bytes"),
+    (ExportNext(1), "160 bytes"),
+    (ExportNext(1), "160 bytes"),
+    (ExportNext(1), "8 bytes"),
+    (ExportNext(2), "152 bytes"),
+    (ExportNext(2), "552 bytes"),
+    (ExportNext(2), "8 bytes"),
 ];
 
-// What an export keeps is free once it is closed.
-const KEPT: &[Row] = &[
-    Says(Format, "ok"),
-    Says(Import("t", First(562)), "ok"),
-    Opens("t", Ok(0)),
-    Says(Remove("t"), "ok"),
-    Says(Import("u", First(1074)), "S8 NoRoom 9"),
-    Closes(0, Ok(())),
-    Says(Import("u", First(1074)), "ok"),
-    Says(Close, "ok"),
-    Laid("epoch 4, 201 in 12, u: 3+9"),
+fn script(number: usize) -> Option<Steps> {
+    Some(match number {
+        0 => PIECES,
+        1 => CLOSED,
+        2 => MEANWHILE,
+        _ => return None,
+    })
+}
+
+// The place of the first wrong step, a hundred for each script.
+fn wrong_step(alloc: Global, way: Way) -> Result<Option<usize>, NotMade> {
+    for number in 0..usize::MAX {
+        let Some(steps) = script(number) else {
+            return Ok(None);
+        };
+        if let Some(place) = play(alloc, &mut new_slot(alloc, 64)?, steps, way)? {
+            return Ok(Some(number.wrapping_mul(100).wrapping_add(place)));
+        }
+    }
+    Ok(None)
+}
+
+#[test]
+fn exports_give_the_table_that_they_found(rt: HostRuntime) {
+    assert_no_row(&rt, wrong_step(rt.alloc(), Way::EachCall));
+    assert_no_row(&rt, wrong_step(rt.alloc(), Way::OneRun));
+}
+
+// The segments of t lie in the lowest sectors, 3 and 2. Once it is dropped the last step would move the other table there if they were free.
+const DROPPED: Steps = &[
+    (Format, "ok"),
+    (Import("t", Ints(&[7, -1])), "ok"),
+    (Append("t", Ints(&[5])), "ok"),
+    (OpenExport("t"), "export 0"),
+    (ExportNext(0), "152 bytes"),
+    (Remove("t"), "ok"),
+    (Import("u", Ints(&[9, 9])), "ok"),
+    (Append("u", Ints(&[9])), "ok"),
+    (Compact, "merged"),
+    (Compact, "moved"),
+    (ExportNext(0), "160 bytes"),
+    (ExportNext(0), "160 bytes"),
+    (ExportNext(0), "8 bytes"),
+    (ExportNext(0), "no piece"),
 ];
+
+fn dropped() -> Steps {
+    DROPPED
+}
+
+fn joined(alloc: Global, replies: &[Reply]) -> Result<Vec<u8>, NotMade> {
+    let mut bytes = Vec::new(alloc);
+    for reply in replies {
+        if let Reply::Piece(Some(piece)) = reply {
+            bytes.extend_from_slice(piece)?;
+        }
+    }
+    Ok(bytes)
+}
+
+// The table that the pieces mean, as `"a":int32?: 7 -1`.
+fn meant(alloc: Global, replies: &[Reply]) -> Result<String, NotMade> {
+    let Ok(table) = decode(alloc, joined(alloc, replies)?) else {
+        return Err(NotMade);
+    };
+    let mut text = String::new(alloc);
+    add_table(alloc, &mut text, &table)?;
+    Ok(text)
+}
+
+fn is_given_on(alloc: Global, slot: &mut Slot, way: Way) -> Result<bool, NotMade> {
+    let replies = replies_of(alloc, slot, dropped(), way)?;
+    let well = wrong_reply(alloc, &replies, dropped())?.is_none();
+    Ok(well && meant(alloc, &replies)?.as_str() == "\"a\":int32?: 7 -1 5")
+}
+
+// The place of the first way in which the table is not given as it was.
+fn wrong_way(alloc: Global) -> Result<Option<usize>, NotMade> {
+    for (place, way) in WAYS.iter().enumerate() {
+        if !is_given_on(alloc, &mut new_slot(alloc, 16)?, *way)? {
+            return Ok(Some(place));
+        }
+    }
+    Ok(None)
+}
+
+#[test]
+fn a_table_that_is_dropped_is_given_to_its_end(rt: HostRuntime) {
+    assert_no_row(&rt, wrong_way(rt.alloc()));
+}
+
+const EMPTY: Steps = &[(Format, "ok"), (Create("t", INT), "ok")];
 
 // 64 exports may be open. An id that was given is not given again.
-const FULL: &[Row] = &[
-    Says(Format, "ok"),
-    Says(Create("t", INT), "ok"),
-    OpensFirst(64),
-    Opens("t", Err(TOO_MANY)),
-    Gives(63, Ok(Some(152))),
-    Closes(5, Ok(())),
-    Opens("t", Ok(64)),
-    Opens("t", Err(TOO_MANY)),
-    Gives(5, Err(NO_EXPORT)),
-    Gives(64, Ok(Some(152))),
+const FULL: Steps = &[
+    (OpenExport("t"), "S7 TooMany Exports"),
+    (ExportNext(63), "152 bytes"),
+    (CloseExport(5), "ok"),
+    (OpenExport("t"), "export 64"),
+    (OpenExport("t"), "S7 TooMany Exports"),
+    (ExportNext(5), "S11 NoExport"),
+    (ExportNext(64), "152 bytes"),
 ];
-
-fn next_length(
-    alloc: Global,
-    store: &mut Store<ModelDevice>,
-    id: u64,
-) -> Result<Option<usize>, Refusal> {
-    match store.export_next(alloc, id) {
-        Ok(Some(piece)) => Ok(Some(piece.len())),
-        Ok(None) => Ok(None),
-        Err(refusal) => Err(refusal),
-    }
-}
 
 fn are_opened(alloc: Global, store: &mut Store<ModelDevice>, count: u64) -> bool {
     for id in 0..count {
@@ -135,56 +190,23 @@ fn are_opened(alloc: Global, store: &mut Store<ModelDevice>, count: u64) -> bool
     true
 }
 
-fn is_answered(alloc: Global, store: &mut Store<ModelDevice>, row: Row) -> bool {
-    match row {
-        Opens(name, want) => store.open_export(alloc, name) == want,
-        OpensFirst(count) => are_opened(alloc, store, count),
-        Gives(id, want) => next_length(alloc, store, id) == want,
-        Closes(id, want) => store.close_export(id) == want,
-        Says(..) | Laid(_) => false,
-    }
+fn is_full(alloc: Global, slot: &mut Slot) -> Result<bool, NotMade> {
+    let Some(Place::Open(store)) = slot else {
+        return Err(NotMade);
+    };
+    Ok(are_opened(alloc, store, 64) && is_played(alloc, slot, FULL)?)
 }
 
-fn is_right(alloc: Global, slot: &mut Slot, row: Row) -> Result<bool, NotMade> {
-    if let Says(step, want) = row {
-        return says(alloc, &reply_to(alloc, slot, step)?, want);
-    }
-    match (slot, row) {
-        (Some(Place::Open(store)), row) => Ok(is_answered(alloc, store, row)),
-        (Some(Place::Shut(device)), Laid(want)) => is_laid_out(alloc, device, want),
-        _ => Err(NotMade),
-    }
+fn wrong_count(alloc: Global, slot: &mut Slot) -> Result<Option<usize>, NotMade> {
+    let well = is_played(alloc, slot, EMPTY)? && is_full(alloc, slot)?;
+    Ok(if well { None } else { Some(0) })
 }
 
-fn wrong_in(alloc: Global, slot: &mut Slot, rows: &[Row]) -> Result<Option<usize>, NotMade> {
-    for (place, row) in rows.iter().enumerate() {
-        if !is_right(alloc, slot, *row)? {
-            return Ok(Some(place));
-        }
-    }
-    Ok(None)
-}
-
-fn wrong_row(alloc: Global, sectors: u64, rows: &[Row]) -> Result<Option<usize>, NotMade> {
-    wrong_in(alloc, &mut new_slot(alloc, sectors)?, rows)
-}
-
-#[test]
-fn exports_give_their_pieces(rt: HostRuntime) {
-    assert_no_row(&rt, wrong_row(rt.alloc(), 64, PIECES));
-}
-
-#[test]
-fn exports_give_the_table_that_they_found(rt: HostRuntime) {
-    assert_no_row(&rt, wrong_row(rt.alloc(), 64, MEANWHILE));
-}
-
-#[test]
-fn exports_keep_their_sectors_until_they_are_closed(rt: HostRuntime) {
-    assert_no_row(&rt, wrong_row(rt.alloc(), 16, KEPT));
+fn wrong_when_full(alloc: Global) -> Result<Option<usize>, NotMade> {
+    wrong_count(alloc, &mut new_slot(alloc, 64)?)
 }
 
 #[test]
 fn exports_are_64_at_most(rt: HostRuntime) {
-    assert_no_row(&rt, wrong_row(rt.alloc(), 64, FULL));
+    assert_no_row(&rt, wrong_when_full(rt.alloc()));
 }

@@ -1,13 +1,16 @@
-// A read of the device that fails while a store is opened, a table is read or exported, or its rows are weighed for an append or selected from. The store is halted
-// then; opened again it has all that it had.
+// A read of the device that fails while a store is opened, a table is read or exported, its rows are weighed for an append or selected from, or its segments
+// become one or move. The store is halted then; opened again it has all that it had.
 use crate::inputs::Input;
 use crate::made::{NotMade, assert_no_row};
 use crate::openings::{T, U, device_after, stored};
-use crate::playing::{Slot, Way, is_played, replies_of, shut, wrong_reply};
+use crate::playing::{Slot, Way, is_played, play, replies_of, shut, wrong_reply};
 use crate::steps::{Step, Steps};
 use crate::stops::{OPENING, are_refused, count_below};
 use Input::Column;
-use Step::{Append, Export, Give, Open, Read, Remove, Save, Tables};
+use Step::{
+    Append, CloseExport, Compact, Export, ExportNext, Give, Open, OpenExport, Read, Remove, Save,
+    Tables,
+};
 use sector_dev::ModelDevice;
 use std::alloc::Global;
 use store::{Place, Reply, Store};
@@ -83,6 +86,83 @@ fn wrong_read(alloc: Global, way: Way) -> Result<Option<usize>, NotMade> {
 fn each_read_of_the_device_fails_in_turn(rt: HostRuntime) {
     assert_no_row(&rt, wrong_read(rt.alloc(), Way::EachCall));
     assert_no_row(&rt, wrong_read(rt.alloc(), Way::OneRun));
+}
+
+// The segments of t are the fifth and the sixth sector that is read, and where they became one those of u the seventh and the eighth.
+const IN_PIECES: Steps = &[
+    (Open, "ok"),
+    (OpenExport("t"), "export 0"),
+    (ExportNext(0), "152 bytes"),
+    (ExportNext(0), "160 bytes"),
+    (ExportNext(0), "S9 Device"),
+    (ExportNext(0), "S10 Halted"),
+    (OpenExport("t"), "S10 Halted"),
+    (CloseExport(0), "S10 Halted"),
+    (Open, "ok"),
+    (ExportNext(0), "S11 NoExport"),
+    (OpenExport("t"), "export 0"),
+    (ExportNext(0), "152 bytes"),
+    (ExportNext(0), "160 bytes"),
+    (ExportNext(0), "160 bytes"),
+    (ExportNext(0), "8 bytes"),
+    (CloseExport(0), "ok"),
+];
+
+const MERGING: Steps = &[
+    (Open, "ok"),
+    (Compact, "S9 Device"),
+    (Compact, "S10 Halted"),
+    (Open, "ok"),
+    (Read("t"), T),
+    (Compact, "merged"),
+    (Read("t"), T),
+];
+
+const MOVING: Steps = &[
+    (Open, "ok"),
+    (Compact, "merged"),
+    (Compact, "S9 Device"),
+    (Compact, "S10 Halted"),
+    (Open, "ok"),
+    (Read("u"), U),
+    (Compact, "moved"),
+    (Read("u"), U),
+];
+
+// Which read fails, and what is asked.
+fn step_by_step(number: usize) -> Option<(u64, Steps)> {
+    Some(match number {
+        0 => (6, IN_PIECES),
+        1 => (5, MERGING),
+        2 => (6, MERGING),
+        3 => (7, MOVING),
+        4 => (8, MOVING),
+        _ => return None,
+    })
+}
+
+// The place of the first wrong step, a hundred for each script.
+fn wrong_step(alloc: Global, way: Way) -> Result<Option<usize>, NotMade> {
+    for number in 0..usize::MAX {
+        let Some((k, steps)) = step_by_step(number) else {
+            return Ok(None);
+        };
+        if let Some(place) = play(
+            alloc,
+            &mut Some(Place::Shut(failing(alloc, k)?)),
+            steps,
+            way,
+        )? {
+            return Ok(Some(number.wrapping_mul(100).wrapping_add(place)));
+        }
+    }
+    Ok(None)
+}
+
+#[test]
+fn a_read_fails_in_an_export_and_in_a_compaction(rt: HostRuntime) {
+    assert_no_row(&rt, wrong_step(rt.alloc(), Way::EachCall));
+    assert_no_row(&rt, wrong_step(rt.alloc(), Way::OneRun));
 }
 
 const EXPORTING: Steps = &[

@@ -4,7 +4,7 @@ use crate::pieces::PieceReader;
 use crate::steps::{Call, Step, Steps, call_of, says};
 use sector_dev::ModelDevice;
 use std::alloc::Global;
-use store::{OpeningRefusal, Place, Reply, Store, run};
+use store::{Compaction, OpeningRefusal, Place, Reply, Store, run};
 use tables::{Command, Refusal};
 
 /// Where steps are taken; empty only between two of them.
@@ -104,6 +104,36 @@ fn exported(alloc: Global, store: &mut Store<ModelDevice>, name: &str) -> Reply 
     }
 }
 
+fn export_opened(alloc: Global, store: &mut Store<ModelDevice>, name: &str) -> Reply {
+    match store.open_export(alloc, name) {
+        Ok(id) => Reply::Export(id),
+        Err(refusal) => Reply::Refused(refusal),
+    }
+}
+
+fn piece_given(alloc: Global, store: &mut Store<ModelDevice>, id: u64) -> Reply {
+    match store.export_next(alloc, id) {
+        Ok(piece) => Reply::Piece(piece),
+        Err(refusal) => Reply::Refused(refusal),
+    }
+}
+
+fn export_closed(store: &mut Store<ModelDevice>, id: u64) -> Reply {
+    match store.close_export(id) {
+        Ok(()) => Reply::Done,
+        Err(refusal) => Reply::Refused(refusal),
+    }
+}
+
+fn compacted(alloc: Global, store: &mut Store<ModelDevice>) -> Reply {
+    match store.compact_step(alloc) {
+        Ok(Compaction::Merged) => Reply::Merged,
+        Ok(Compaction::Moved) => Reply::Moved,
+        Ok(Compaction::Nothing) => Reply::Nothing,
+        Err(refusal) => Reply::Refused(refusal),
+    }
+}
+
 // What is asked of an open store that stays open.
 fn reply_of(alloc: Global, store: &mut Store<ModelDevice>, call: Call) -> Reply {
     match call {
@@ -114,6 +144,10 @@ fn reply_of(alloc: Global, store: &mut Store<ModelDevice>, call: Call) -> Reply 
         Call::Schema(name) => schema_at(alloc, store, &name),
         Call::Read(name) => read_at(alloc, store, &name),
         Call::Export(name) => exported(alloc, store, &name),
+        Call::OpenExport(name) => export_opened(alloc, store, &name),
+        Call::ExportNext(id) => piece_given(alloc, store, id),
+        Call::CloseExport(id) => export_closed(store, id),
+        Call::Compact => compacted(alloc, store),
         Call::Format | Call::Open | Call::Close => Reply::Done,
     }
 }

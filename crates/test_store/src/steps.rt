@@ -34,6 +34,10 @@ pub enum Step {
     Schema(&'static str),
     Read(&'static str),
     Export(&'static str),
+    OpenExport(&'static str),
+    ExportNext(u64),
+    CloseExport(u64),
+    Compact,
 }
 
 /// The columns, the conditions and the limit of a query.
@@ -152,6 +156,10 @@ pub fn call_of(alloc: Global, step: Step) -> Result<Call, NotMade> {
         Step::Schema(name) => Call::Schema(String::from_str(alloc, name)?),
         Step::Read(name) => Call::Read(String::from_str(alloc, name)?),
         Step::Export(name) => Call::Export(String::from_str(alloc, name)?),
+        Step::OpenExport(name) => Call::OpenExport(String::from_str(alloc, name)?),
+        Step::ExportNext(id) => Call::ExportNext(id),
+        Step::CloseExport(id) => Call::CloseExport(id),
+        Step::Compact => Call::Compact,
         Step::ImportFrom(name, input, pieces) => Call::ImportFrom {
             name: String::from_str(alloc, name)?,
             reader: reader(alloc, input, pieces)?,
@@ -257,6 +265,12 @@ fn add_reply(alloc: Global, text: &mut String, reply: &Reply) -> Result<(), NotM
         Reply::Schema(schema) => add_schema(alloc, text, schema),
         Reply::Table(table) => add_table(alloc, text, table),
         Reply::Bytes(bytes) => add_stream(alloc, text, bytes),
+        Reply::Export(id) => Ok(write!(text, "export {id}")?),
+        Reply::Piece(Some(piece)) => Ok(write!(text, "{} bytes", piece.len())?),
+        Reply::Piece(None) => Ok(text.push_str("no piece")?),
+        Reply::Merged => Ok(text.push_str("merged")?),
+        Reply::Moved => Ok(text.push_str("moved")?),
+        Reply::Nothing => Ok(text.push_str("nothing")?),
         Reply::Refused(refusal) => Ok(write!(text, "{refusal}")?),
         Reply::NotOpened(refusal) => Ok(write!(text, "{refusal}")?),
     }

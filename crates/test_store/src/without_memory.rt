@@ -1,11 +1,15 @@
 // Scripts of which one allocation at the most is refused, by tests/refused_memory_in_crates.
 use crate::inputs::Input;
 use crate::made::NotMade;
+use crate::pieces::Pieces;
 use crate::playing::{Slot, Way, new_slot, replies_of, reply_to, shut, wrong_reply};
 use crate::shown::is_laid_out;
 use crate::steps::{Step, Steps, says};
 use crate::stops::{is_whole, script};
-use Step::{Close, Export, Format, Import, Open, Read, Schema, Tables};
+use Step::{
+    AppendFrom, Close, CloseExport, Compact, Export, ExportNext, Format, Import, ImportFrom, Open,
+    OpenExport, Read, Schema, Tables,
+};
 use sector_dev::{ModelDevice, SectorDevice};
 use std::alloc::Global;
 use store::{OpeningRefusal, Reply};
@@ -99,12 +103,23 @@ fn commands_change_all_or_nothing_also_without_memory(rt: HostRuntime) {
 const LISTED: Steps = &[
     (Format, "ok"),
     (Import("t", Input::Ints(&[7, -1])), "ok"),
+    (ImportFrom("u", Input::Ints(&[5]), Pieces::Whole), "ok"),
+    (AppendFrom("u", Input::Ints(&[6]), Pieces::Whole), "ok"),
     (Close, "ok"),
     (Open, "ok"),
-    (Tables, "t 2"),
+    (Tables, "t 2, u 2"),
     (Schema("t"), "\"a\":int32?"),
     (Read("t"), "\"a\":int32?: 7 -1"),
     (Export("t"), "stream of \"a\":int32?: 7 -1"),
+    (OpenExport("u"), "export 0"),
+    (ExportNext(0), "152 bytes"),
+    (ExportNext(0), "160 bytes"),
+    (ExportNext(0), "160 bytes"),
+    (ExportNext(0), "8 bytes"),
+    (ExportNext(0), "no piece"),
+    (CloseExport(0), "ok"),
+    (Compact, "merged"),
+    (Read("u"), "\"a\":int32?: 5 6"),
 ];
 
 fn listed() -> Steps {

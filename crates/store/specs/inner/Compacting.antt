@@ -3,10 +3,11 @@ use Rattle.std.specs.Prelude.{◌≡◌, ◌⊎◌, ◌≤◌, ◌<◌, ◌+◌,
 use Rattle.sector_dev.specs.Disk.{Image}
 use Rattle.segments.specs.Sectors.{bytes_at}
 use Rattle.segments.specs.declared.run.Run.{Run}
+use Rattle.cells.specs.declared.limits.TheConstants.{MAX_PIECE_ROWS}
 use Rattle.values.specs.TableView.{table_of}
 use Rattle.values.specs.declared.table.Table.{Table}
 use Rattle.catalogue.specs.declared.entry.Segment.{Segment}
-use Rattle.catalogue.specs.Entries.{PlainEntry, PlainCatalogue}
+use Rattle.catalogue.specs.Entries.{PlainEntry, PlainCatalogue, row_count}
 use Rattle.tables.specs.declared.refusal.Refusal.{Refusal}
 use Rattle.store.specs.declared.change.Change.{Change}
 use Rattle.store.specs.declared.moving.Last.{Last}
@@ -20,7 +21,7 @@ use Rattle.store.specs.Compacting.{pair_of, is_one_piece, StaysTwo, FirstStay, A
 
 -- of a pair at a place: a table whose rows are one piece, or none where they stay two segments
 abbrev pub IsPair : (tells : Bool) → Image → PlainEntry → ℕ → Option Table → Type 0
-IsPair tells image e place (Some table) = IsRead tells image (pair_of e place) (table_of table) × (is_one_piece (table_of table) ≡ true)
+IsPair tells image e place (Some table) = (row_count (pair_of e place) ≤ MAX_PIECE_ROWS) × IsRead tells image (pair_of e place) (table_of table) × (is_one_piece (table_of table) ≡ true)
 IsPair tells image e place None = StaysTwo tells image e place
 
 -- of a table
@@ -28,8 +29,12 @@ abbrev pub FindsIn : (tells : Bool) → Image → PlainEntry → Option Change �
 FindsIn tells image e (Some change) = IsMergeIn tells image e (change_of change)
 FindsIn tells image e None = FirstStay tells image e (length e.segments)
 
+-- why one that may be one piece is not
+abbrev pub UnreadsFew : (tells : Bool) → Image → PlainEntry → ℕ → Refusal → Type 0
+UnreadsFew tells image e place r = (row_count (pair_of e place) ≤ MAX_PIECE_ROWS) × UnreadsPair tells image e place r
+
 abbrev pub UnreadsIn : (tells : Bool) → Image → PlainEntry → Refusal → Type 0
-UnreadsIn tells image e r = (place : ℕ) × (place + 2 ≤ length e.segments) × UnreadsPair tells image e place r
+UnreadsIn tells image e r = (place : ℕ) × (place + 2 ≤ length e.segments) × FirstStay tells image e place × UnreadsFew tells image e place r
 
 -- of all tables
 abbrev pub FindsPair : (tells : Bool) → Image → PlainCatalogue → Option Change → Type 0

@@ -39,5 +39,8 @@ returns-in-Err-decide_move-clause-unread g c =
     let D = g.D.SectorDevice in
     let before = D.story c.args.device.now in
     let mid = D.story c.first_pair.new.device in
-    inr (moving_then D.tells (shown_image (now before)) (shown_image (now mid)) (λ told. image_then before mid (c.in-Ok-None.ensures.reads.moments told)) (map plain_entry c.args.entries.now) c.in-Err-decide_move.refusal
-    c.in-Err-decide_move.ensures.unread)
+    inr (
+      rw c.in-Ok-None.field-0-is at c.in-Ok-None.ensures.found,
+      moving_then D.tells (shown_image (now before)) (shown_image (now mid)) (λ told. image_then before mid (c.in-Ok-None.ensures.reads.moments told)) (map plain_entry c.args.entries.now) c.in-Err-decide_move.refusal
+          c.in-Err-decide_move.ensures.unread,
+    )

@@ -58,7 +58,7 @@ returns-in-Err-clause-unread g c =
     let mid = D.story c.loop-entry.device in
     let item = c.entry-item.result in
     unread_in D.tells (shown_image (now before)) (map plain_entry c.args.entries.now) c.loop-entry.entry-index (plain_entry item) c.in-Err.refusal
-    (item_at c.args.entries.now c.loop-entry.entry-index item c.loop-entry-test.true c.entry-item.is)
+    (item_at c.args.entries.now c.loop-entry.entry-index item c.loop-entry-test.true c.entry-item.is) c.loop-entry.invariant.stay
     (in_then D.tells (shown_image (now before)) (shown_image (now mid)) (λ told. image_then before mid (c.loop-entry.invariant.reads.moments told)) (plain_entry item) c.in-Err.refusal c.in-Err.ensures.unread)
 
 pub loop-entry-preserved : goal.loop-entry-preserved

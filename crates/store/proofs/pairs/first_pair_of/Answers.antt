@@ -27,8 +27,8 @@ returns-in-Ok-clause-found g c =
       within = omega arith;
       before = c.loop-place.invariant.stay;
       table = table_of c.in-Ok-Some.table;
-      read = read_then D.tells (shown_image (now before)) (shown_image (now mid)) (λ told. image_then before mid (c.loop-place.invariant.reads.moments told)) (pair_of e place) (table_of c.in-Ok-Some.table) pair.0;
-      one = pair.1;
+      read = read_then D.tells (shown_image (now before)) (shown_image (now mid)) (λ told. image_then before mid (c.loop-place.invariant.reads.moments told)) (pair_of e place) (table_of c.in-Ok-Some.table) pair.1;
+      one = pair.2;
       is = c.in-Ok.ensures;
     }
 
@@ -37,6 +37,14 @@ returns-in-Err-merge-clause-reads g c =
     let D = g.D.SectorDevice in
     let reads = c.in-Ok-Some.ensures.reads in
     reads_more D.size D.story D.failed D.tells (refused OutOfMemory) c.args.device.now c.loop-place.device c.joined_at.new.device c.loop-place.invariant.reads (record { same = reads.same; moments = reads.moments; count = reads.count })
+
+pub returns-in-Err-merge-clause-unread : goal.returns-in-Err-merge-clause-unread
+returns-in-Err-merge-clause-unread g c =
+    let e = plain_entry c.args.entry.now in
+    let place = c.loop-place.place in
+    let within : place + 2 ≤ length e.segments = omega arith in
+    let pair = rw c.in-Ok-Some.field-0-is at c.in-Ok-Some.ensures.pair in
+    (place, within, c.loop-place.invariant.stay, (pair.0, tt))
 
 pub returns-in-Err-clause-reads : goal.returns-in-Err-clause-reads
 returns-in-Err-clause-reads g c =
@@ -51,7 +59,12 @@ returns-in-Err-clause-unread g c =
     let e = plain_entry c.args.entry.now in
     let place = c.loop-place.place in
     let within : place + 2 ≤ length e.segments = omega arith in
-    (place, within, pair_then D.tells (shown_image (now before)) (shown_image (now mid)) (λ told. image_then before mid (c.loop-place.invariant.reads.moments told)) e place c.in-Err.refusal c.in-Err.ensures.unread)
+    let unread = c.in-Err.ensures.unread in (
+      place,
+      within,
+      c.loop-place.invariant.stay,
+      (unread.0, pair_then D.tells (shown_image (now before)) (shown_image (now mid)) (λ told. image_then before mid (c.loop-place.invariant.reads.moments told)) e place c.in-Err.refusal unread.1),
+    )
 
 pub loop-place-preserved : goal.loop-place-preserved
 loop-place-preserved g c =

@@ -2,7 +2,7 @@ use Rattle.std.proofs.Common.{refl, sym, ap, ◌∙◌, subst}
 use Rattle.tables.specs.Commands.{import_stream, append_stream}
 use Rattle.tables.specs.View.{command_of}
 use Rattle.store.specs.declared.call.Place.TheVariants as places
-use Rattle.store.specs.Calls.{apply_call, format_call, open_call, close_call, tables_call, schema_call, read_call, export_call, done, counted}
+use Rattle.store.specs.Calls.{apply_call, format_call, open_call, close_call, tables_call, schema_call, read_call, export_call, open_export_call, export_next_call, close_export_call, compact_call, done, counted}
 use Rattle.store.specs.Fits.{DeviceFits}
 use Rattle.store.specs.Places.{IsStreamOf, IsCallOf, reply_in, PlaceGoes}
 use Rattle.store.specs.Answering.{AnswersFormatting, AnswersOpening}
@@ -125,6 +125,46 @@ returns-in-Export g c =
     record {
       plain = export_call c.deref-in-Export.result.now;
       is = subst (λ k. IsCallOf g.R.Read.remaining k (export_call c.deref-in-Export.result.now)) (sym c.in-Export.is) (ap export_call c.deref-in-Export.ensures);
+      goes = e.goes;
+      answers = e.answers;
+    }
+
+pub returns-in-OpenExport : goal.returns-in-OpenExport
+returns-in-OpenExport g c =
+    let e = c.open_export_in.ensures in
+    record {
+      plain = open_export_call c.deref-in-OpenExport.result.now;
+      is = subst (λ k. IsCallOf g.R.Read.remaining k (open_export_call c.deref-in-OpenExport.result.now)) (sym c.in-OpenExport.is) (ap open_export_call c.deref-in-OpenExport.ensures);
+      goes = e.goes;
+      answers = e.answers;
+    }
+
+pub returns-in-ExportNext : goal.returns-in-ExportNext
+returns-in-ExportNext g c =
+    let e = c.export_next_in.ensures in
+    record {
+      plain = export_next_call c.in-ExportNext.id;
+      is = subst (λ k. IsCallOf g.R.Read.remaining k (export_next_call c.in-ExportNext.id)) (sym c.in-ExportNext.is) refl;
+      goes = e.goes;
+      answers = e.answers;
+    }
+
+pub returns-in-CloseExport : goal.returns-in-CloseExport
+returns-in-CloseExport g c =
+    let e = c.close_export_in.ensures in
+    record {
+      plain = close_export_call c.in-CloseExport.id;
+      is = subst (λ k. IsCallOf g.R.Read.remaining k (close_export_call c.in-CloseExport.id)) (sym c.in-CloseExport.is) refl;
+      goes = e.goes;
+      answers = e.answers;
+    }
+
+pub returns-in-Compact : goal.returns-in-Compact
+returns-in-Compact g c =
+    let e = c.compact_in.ensures in
+    record {
+      plain = compact_call;
+      is = subst (λ k. IsCallOf g.R.Read.remaining k compact_call) (sym c.in-Compact.is) refl;
       goes = e.goes;
       answers = e.answers;
     }

@@ -1,4 +1,4 @@
-use Rattle.std.proofs.Common.{◌≡◌, Bool, Some, None, Result, Ok, Err, refl, sym, ◌∙◌, subst}
+use Rattle.std.proofs.Common.{◌≡◌, Bool, Some, None, Result, Ok, Err, inr, refl, sym, ◌∙◌, subst}
 use Rattle.std.proofs.lemmas.Bool.{true≢false, false_from_ne_true}
 use Rattle.sector_dev.specs.Disk.{Disk, Story, now, shown_image}
 use Rattle.sector_dev.specs.Time.{OnlyReads}
@@ -114,6 +114,21 @@ returns-in-Ok-Some-clause-refused g c = λ told base m fits.
     let ends = c.in-Err-carry_out.ensures in
     refused_goes D.size D.story D.failed base m D.tells told c.laws_below.ensures old mid c.carry_out.new.self fits runs there reads c.in-Ok-Some.step.done (change_of c.in-Ok-Some.step.change)
     (rw c.in-Ok-Some.field-0-is at c.in-Ok-Some.ensures.found) ends.size ends.book mid.exported (ends.carries told (there.sound runs).stands) c.in-Err-carry_out.refusal ends.count ends.carried ends.halts ends.kept ends.quiet
+
+pub returns-in-Ok-Some-clause-told : goal.returns-in-Ok-Some-clause-told
+returns-in-Ok-Some-clause-told g c =
+    let D = g.D.SectorDevice in
+    let old = c.args.self.now in
+    let new = c.carry_out.new.self in
+    let r = c.in-Err-carry_out.refusal in
+    let change = change_of c.in-Ok-Some.step.change in
+    subst (λ (b : Bool). RefusesStep D.size D.story D.tells b old r new) (sym c.if-self.false)
+    (inr (record {
+      done = c.in-Ok-Some.step.done;
+      change = change;
+      step = rw c.in-Ok-Some.field-0-is at c.in-Ok-Some.ensures.found;
+      ends = ends_after D.size D.story D.failed D.tells old c.find_step.new.self done c.in-Ok-Some.ensures.reads (Ok change) (Err r) new c.in-Err-carry_out.ensures.carried;
+    }))
 
 pub returns-in-Ok-Some-clause-reads : goal.returns-in-Ok-Some-clause-reads
 returns-in-Ok-Some-clause-reads g c = λ other told.

@@ -1,0 +1,25 @@
+use Rattle.std.proofs.Common.{ap}
+use Rattle.store.specs.Calls.{close_export_call, done, refused}
+use Rattle.store.proofs.Answered.{stays_open}
+use Rattle.store.proofs.running.close_export_in.Goals as goal
+
+pub returns-in-Ok-clause-goes : goal.returns-in-Ok-clause-goes
+returns-in-Ok-clause-goes g c = λ told base m fits.
+    let D = g.D.SectorDevice in
+    stays_open D.size D.story D.failed base m (close_export_call c.args.id) (done) c.args.store c.close_export.new.self (c.in-Ok.ensures.goes told base m fits)
+
+pub returns-in-Err-clause-goes : goal.returns-in-Err-clause-goes
+returns-in-Err-clause-goes g c = λ told base m fits.
+    let D = g.D.SectorDevice in
+    stays_open D.size D.story D.failed base m (close_export_call c.args.id) (refused c.in-Err.refusal) c.args.store c.close_export.new.self (c.in-Err.ensures.refused told base m fits)
+
+pub returns-in-Ok-clause-answers : goal.returns-in-Ok-clause-answers
+returns-in-Ok-clause-answers g c =
+    let D = g.D.SectorDevice in
+    let e = c.in-Ok.ensures in
+    record { answers = (e.closed, e.device); same = ap D.size e.device; count = ap D.failed e.device }
+
+pub returns-in-Err-clause-answers : goal.returns-in-Err-clause-answers
+returns-in-Err-clause-answers g c =
+    let e = c.in-Err.ensures in
+    record { answers = (e.told, e.kept, e.device); same = e.kept.device.same; count = e.kept.device.count }
