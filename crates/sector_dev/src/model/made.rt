@@ -39,6 +39,13 @@ impl ModelDevice {
         self.recorded
     }
 
+    /// Whether the stop of `stop_at` has come.
+    pub fn has_stopped(&self) -> bool
+        ensures { result ≡ (faults_of self.now).stopped }
+    {
+        self.faults.stopped
+    }
+
     /// Makes the k-th write or sync from now fail once; 0: none.
     pub fn fail_at(&mut self, k: u64)
         ensures faults { faults_of self.new ≡ record (faults_of self.old) { fail = k } }
