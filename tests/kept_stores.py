@@ -55,7 +55,9 @@ def texts_of(columns):
 
 
 def stream_of(table):
-    return stream(table.columns, [table.values] if table.values[0] else [])
+    """In the batches in which it is written."""
+    rows = range(0, len(table.values[0]), 4096)
+    return stream(table.columns, [[column[place:place + 4096] for column in table.values] for place in rows])
 
 
 def command(path, step, before):
@@ -83,22 +85,39 @@ def number(value, size):
     return value.to_bytes(size, "little")
 
 
+def entry_text(name, table, segments=b""):
+    """Of a table in a list: its segments are numbers of 32 bytes each."""
+    message = message_of(table)
+    return number(len(name), 4) + name.encode() + number(len(message), 4) + message + number(len(segments) // 32, 4) + segments
+
+
 def list_text(tables):
     """Of tables without segments."""
-    text = number(len(tables), 4)
-    for name, table in sorted(tables.items()):
-        message = message_of(table)
-        text += number(len(name), 4) + name.encode() + number(len(message), 4) + message + number(0, 4)
-    return text
+    return number(len(tables), 4) + b"".join(entry_text(name, table) for name, table in sorted(tables.items()))
+
+
+def laid(sectors, epoch, front, text):
+    """A device with what stands in front, behind the commit sectors, then the list, and the one commit that names it."""
+    numbers = (epoch, 2 + len(front) // SECTOR, -(-len(text) // SECTOR), len(text), sectors)
+    commit = b"ARWSTOR1" + b"".join(number(value, 8) for value in numbers) + number(1, 4)
+    commits = [b"", commit] if epoch % 2 else [commit, b""]
+    return (b"".join(commit.ljust(SECTOR, b"\0") for commit in commits) + front + text).ljust(sectors * SECTOR, b"\0")
 
 
 def laid_store(sectors, steps):
-    """What a device holds after these creations: one commit, and its list behind the commit sectors."""
-    text, epoch = list_text(after_all(steps)), len(steps) + 1
-    numbers = (epoch, 2, -(-len(text) // SECTOR), len(text), sectors)
-    commit = b"ARWSTOR1" + b"".join(number(value, 8) for value in numbers) + number(1, 4)
-    fronts = [b"", commit] if epoch % 2 else [commit, b""]
-    return (b"".join(front.ljust(SECTOR, b"\0") for front in fronts) + text).ljust(sectors * SECTOR, b"\0")
+    """What a device holds after these creations."""
+    return laid(sectors, len(steps) + 1, b"", list_text(after_all(steps)))
+
+
+def laid_segments(sectors, name, table):
+    """A store of this table alone, each of whose rows is a segment of one sector."""
+    [values] = table.values
+    segments, places = [], []
+    for place, value in enumerate(values):
+        segment = stream(table.columns, [[[value]]])
+        segments.append(segment.ljust(SECTOR, b"\0"))
+        places.append(b"".join(number(part, 8) for part in (2 + place, 1, len(segment), 1)))
+    return laid(sectors, 2, b"".join(segments), number(1, 4) + entry_text(name, table, b"".join(places)))
 
 
 def table_lines(tables):
