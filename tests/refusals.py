@@ -41,6 +41,15 @@ def on_a_copy(store):
     return answer
 
 
+def with_table(program, store, name):
+    """The same, and in place of the bytes the stream of a table that the copy has then."""
+    def answer(command, given, **extra):
+        with tempfile.TemporaryDirectory() as room:
+            copy = shutil.copy(store, room)
+            return *answer_of([copy if word == store else word for word in command], given, **extra), answer_of([program, "export", copy, name], b"")
+    return answer
+
+
 def of_a_new_file(path):
     """Answers of commands that make this file, each in a folder of its own; and beside them the bytes of the file, where it is left, and the answer of the
     same command after it, undisturbed."""

@@ -44,6 +44,7 @@ States words.Tables opened.Tables = Unit {0}
 States (words.Schema name) (opened.Schema n) = n.now ≡ name.now
 States (words.Export name) (opened.Export n) = n.now ≡ name.now
 States words.Check opened.Check = Unit {0}
+States words.Compact opened.Compact = Unit {0}
 States _ _ = ⊥
 
 -- why the words state no command: the texts of fields or of conditions are refused, or memory is, where the command owns its names

@@ -27,6 +27,7 @@ use Rattle.store.specs.Reading.{ReadsTable, RefusesRead, OnlyReadsStore, ended}
 use Rattle.command_refusals.specs.declared.refusal.Refusal.{Refusal}
 use Rattle.command_refusals.specs.declared.refusal.Refusal.TheVariants.{Io}
 use Rattle.store_commands.specs.Changing.{Answered, AnswersCommand, AnswersInput}
+use Rattle.store_commands.specs.Compacting.{Compacts}
 use Rattle.store_commands.specs.Printed.{tables_text, schema_text, RefusesPrinting}
 use Rattle.store_commands.specs.Reading.{OfStore, store_ended, IsReadable, RefusesCheck}
 use Rattle.store_commands.specs.Selecting.{rows_text, QueryAnswers, RefusesQuery}
@@ -129,3 +130,5 @@ Serves {g = g} remaining contents opened.Check old new before after result =
     Prints (Appends (contents before.output) (contents after.output) (codes "ok\n") × AreReadable old)
     (OfStore (λ refusal. g.tells ≡ true → RefusesCheck (is_halted old) (image_of old) (listed_in old) refusal) (AreReadable old))
     (OnlyRead result old new) before after result
+Serves remaining contents opened.Compact old new before after result =
+    Compacts contents old new before.output after.output result × (after.hint ≡ before.hint)

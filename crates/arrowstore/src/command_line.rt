@@ -24,6 +24,7 @@ const OTHER_COMMANDS: &str =
   tables  Prints a line for each table: its name, and how many rows it has
   schema  Prints a line for each field of a table
   check   Reads all tables, and prints ok where each can be read
+  compact Joins small segments, moves the last ones forward, and prints how many steps that took
 
 What each refusal means, and what to do: arrowstore help refusals
 The version: arrowstore --version";

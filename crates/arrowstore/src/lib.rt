@@ -26,8 +26,9 @@ pub use running::run;
 pub use serving_device::serve_device;
 pub use serving_open::serve_open;
 pub use store_commands::{
-    LARGEST_INPUT, append_input, append_text, apply_command, check_tables, export_table,
-    import_input, new_table, print_schema, print_selection, print_tables, query_of, recode,
+    LARGEST_INPUT, append_input, append_text, apply_command, check_tables, compact_tables,
+    export_table, import_input, new_table, print_schema, print_selection, print_tables, query_of,
+    recode,
 };
 pub use store_requests::{QueryWords, StoreCommand};
 pub use text_import::{RefusedPart, TextForm};

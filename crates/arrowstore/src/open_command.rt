@@ -39,16 +39,19 @@ pub enum OpenCommand<'a> {
     Export { name: &'a str },
     /// Whether all tables can be read.
     Check,
+    /// Steps of a compaction until there is nothing to do.
+    Compact,
 }
 
 impl OpenCommand<'_> {
-    // Whether it changes nothing.
+    // Whether it writes nothing to the store.
     pub(crate) fn only_reads(&self) -> bool {
         match self {
             OpenCommand::Change(_)
             | OpenCommand::Import { .. }
             | OpenCommand::Append { .. }
-            | OpenCommand::AppendText { .. } => false,
+            | OpenCommand::AppendText { .. }
+            | OpenCommand::Compact => false,
             _ => true,
         }
     }
@@ -132,5 +135,6 @@ pub fn stated<'a>(alloc: Global, command: &StoreCommand<'a>) -> Result<OpenComma
         StoreCommand::Schema { name } => Ok(OpenCommand::Schema { name }),
         StoreCommand::Export { name } => Ok(OpenCommand::Export { name }),
         StoreCommand::Check => Ok(OpenCommand::Check),
+        StoreCommand::Compact => Ok(OpenCommand::Compact),
     }
 }

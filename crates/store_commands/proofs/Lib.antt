@@ -1,5 +1,7 @@
 mod GivenLemmas
 mod ChangingLemmas
+mod CompactingLemmas
+mod CopyingLemmas
 mod ReadingLemmas
 mod TextLemmas
 mod RefusedInputs

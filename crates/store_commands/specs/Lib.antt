@@ -2,6 +2,9 @@ pub mod Given
 pub mod Recode
 pub mod Printed
 pub mod Changing
+pub mod Compacting
+pub mod Copying
+pub mod inner
 pub mod TextRows
 pub mod Selecting
 pub mod Reading

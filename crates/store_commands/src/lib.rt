@@ -1,8 +1,9 @@
 //! The commands of an open store on any device, over any reader and writer, and [`recode`].
 //!
 //! [`apply_command`], [`import_input`], [`append_input`] and [`append_text`] change its tables; [`print_tables`],
-//! [`print_schema`], [`print_selection`], [`export_table`] and [`check_tables`] read them. Their contracts say which bytes are
-//! taken and given, and what became of the store. [`recode`] reads a stream and writes its canonical form.
+//! [`print_schema`], [`print_selection`], [`export_table`] and [`check_tables`] read them; [`compact_tables`] moves their rows together,
+//! and [`copy_tables`] copies all into another store. Their contracts say which bytes are taken and given, and what became of the store.
+//! [`recode`] reads a stream and writes its canonical form.
 //!
 //! ```
 //! let mut output = Vec::new(alloc);
@@ -11,6 +12,8 @@
 #![tactic(auto)]
 
 mod changing;
+mod compacting;
+mod copying;
 mod creating;
 mod input;
 mod printing;
@@ -20,6 +23,8 @@ mod stream;
 mod text_rows;
 
 pub use changing::{append_input, apply_command, import_input};
+pub use compacting::compact_tables;
+pub use copying::copy_tables;
 pub use creating::new_table;
 pub use input::LARGEST_INPUT;
 pub use printing::{print_schema, print_tables};

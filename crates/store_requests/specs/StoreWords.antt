@@ -8,10 +8,11 @@ use Rattle.clap.specs.Words.{Text}
 unfoldable pub takes_input_word : Text → Bool
 takes_input_word word = bytes_eq (codes "import") word || bytes_eq (codes "append") word
 
--- those that change the tables
+-- those that change the tables, or where their rows lie
 unfoldable pub changes_word : Text → Bool
 changes_word word =
-    takes_input_word word || (bytes_eq (codes "create") word || (bytes_eq (codes "rename") word || bytes_eq (codes "drop") word))
+    takes_input_word word
+    || (bytes_eq (codes "create") word || (bytes_eq (codes "rename") word || (bytes_eq (codes "drop") word || bytes_eq (codes "compact") word)))
 
 -- those that read one table; a query may be saved as another one
 unfoldable pub reads_table_word : Text → Bool

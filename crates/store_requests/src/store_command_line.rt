@@ -166,6 +166,7 @@ fn command_of<'a>(
         "schema" => Ok(StoreCommand::Schema { name }),
         "export" => Ok(StoreCommand::Export { name }),
         "check" => Ok(StoreCommand::Check),
+        "compact" => Ok(StoreCommand::Compact),
         _ => Ok(StoreCommand::Tables),
     }
 }
@@ -208,7 +209,7 @@ struct Usage {
 }
 
 // In the order of the help.
-const COMMANDS: [Usage; 11] = [
+const COMMANDS: [Usage; 12] = [
     Usage {
         name: "format",
         about: "Makes a file of so many sectors, and an empty store in it",
@@ -286,6 +287,15 @@ seconds, .. they are behind 1970-01-01.",
         name: "check",
         about: "Reads all tables, and prints ok where each can be read",
         example: "Example: arrowstore check store",
+        behind: Behind::Nothing,
+    },
+    Usage {
+        name: "compact",
+        about: "Joins small segments, moves the last ones forward, and prints how many steps that took",
+        example: "Example: arrowstore compact store
+
+The tables stay as they are, also where it is stopped. Each append leaves a segment of
+its own, with a bound on how many a store has; what is joined is read faster too.",
         behind: Behind::Nothing,
     },
 ];

@@ -81,6 +81,8 @@ pub enum StoreCommand<'a> {
     },
     /// Whether all tables can be read.
     Check,
+    /// Segments that can be one become one, and lie as far in front as they can.
+    Compact,
 }
 
 #[tactic(auto, unfolding(crate::specs::StoreWords::takes_input_word))]
@@ -94,7 +96,7 @@ fn takes_input_word(word: &str) -> bool
 fn changes_word(word: &str) -> bool
     ensures { result ≡ changes_word word.now }
 {
-    takes_input_word(word) || word == "create" || word == "rename" || word == "drop"
+    takes_input_word(word) || matches!(word, "create" | "rename" | "drop" | "compact")
 }
 
 #[tactic(auto, unfolding(crate::specs::StoreWords::reads_table_word))]

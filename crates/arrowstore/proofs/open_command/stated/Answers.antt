@@ -53,6 +53,10 @@ pub returns-in-Check-clause-reads : goal.returns-in-Check-clause-reads
 unfolding takes_input_word
 returns-in-Check-clause-reads c = rw c.in-Check.is refl
 
+pub returns-in-Compact-clause-reads : goal.returns-in-Compact-clause-reads
+unfolding takes_input_word
+returns-in-Compact-clause-reads c = rw c.in-Compact.is refl
+
 -- what those state that own nothing
 
 pub returns-in-Import-clause-stated : goal.returns-in-Import-clause-stated
@@ -82,3 +86,7 @@ returns-in-Export-clause-stated c = rw c.in-Export.is refl
 pub returns-in-Check-clause-stated : goal.returns-in-Check-clause-stated
 unfolding States
 returns-in-Check-clause-stated c = rw c.in-Check.is tt
+
+pub returns-in-Compact-clause-stated : goal.returns-in-Compact-clause-stated
+unfolding States
+returns-in-Compact-clause-stated c = rw c.in-Compact.is tt

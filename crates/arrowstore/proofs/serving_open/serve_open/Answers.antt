@@ -75,3 +75,10 @@ returns-in-Check-clause-serves g c =
     let new = c.check_tables.new in
     serves_as g.R.Read.remaining g.W.Write.contents c.args.command opened.Check c.args.store.now new.store (channels c.args.input.now c.args.output.now c.args.hint.now)
     (channels c.args.input.now new.output c.args.hint.now) c.check_tables.result c.in-Check.is (record { written = both_written c.check_tables.result _ _ e.written e.read; told = e.told; leaves = e.reads; unhinted = refl })
+
+pub returns-in-Compact-clause-serves : goal.returns-in-Compact-clause-serves
+unfolding Serves
+returns-in-Compact-clause-serves g c =
+    let new = c.compact_tables.new in
+    serves_as g.R.Read.remaining g.W.Write.contents c.args.command opened.Compact c.args.store.now new.store (channels c.args.input.now c.args.output.now c.args.hint.now)
+    (channels c.args.input.now new.output c.args.hint.now) c.compact_tables.result c.in-Compact.is (c.compact_tables.ensures.compacts, refl)
