@@ -1,5 +1,5 @@
 // The node and the buffers of a column with a dictionary, and what its dictionary has.
-ghost use Rattle.std.specs.Prelude.{◌≡◌, ◌≤◌, ◌*◌, ◌/◌, true, OnOk, IfOk, Some, [], length, map};
+ghost use Rattle.std.specs.Prelude.{◌≡◌, ◌≤◌, ◌*◌, ◌/◌, ◌&&◌, true, OnOk, IfOk, Some, [], length, map};
 ghost use Rattle.std.specs.List.{flat_map, list_all};
 ghost use Rattle.arrow_schema.specs.View.{bits_of, column_of, index_of};
 ghost use Rattle.array_build.specs.Batch.{batch_in, dictionary_in};
@@ -10,7 +10,9 @@ ghost use Rattle.array_build.specs.inner.Runs.{runs_bits};
 ghost use Rattle.array_runs.specs.Runs.{are_runs_sound, runs_cells};
 ghost use Rattle.cells.specs.Dictionary.{entries_of};
 ghost use Rattle.cells.specs.Entry.{entry_cell};
+ghost use Rattle.columns.specs.Buildable.{is_null_or_entry};
 ghost use Rattle.columns.specs.Built.{index_bytes};
+ghost use Rattle.columns.specs.Texts.{has_utf8_texts};
 ghost use Rattle.values.specs.Borrowed.{borrowed_cell};
 
 use crate::batch::{BuiltBatch, BuiltDictionary, push_buffer, push_slots};
@@ -131,6 +133,34 @@ pub(crate) fn push_run_indices<'a>(
     let slots = count_slots(runs)?;
     let mut entries = IndexSet::with_capacity(alloc, likely_entries(slots, runs))?;
     push_codes(alloc, batch, &mut entries, slots, field, spec, runs)
+}
+
+/// How many distinct values the cells of runs of a column with a dictionary have. An entry of an array's own dictionary is looked up once for each run.
+pub fn count_entries<'a>(
+    alloc: Global,
+    field: &'a Field,
+    spec: DictSpec,
+    runs: &[SlotRun<'a>],
+) -> Result<usize, AllocError>
+    requires spec { field.now.dictionary ≡ Some spec }
+    requires sound { are_runs_sound (column_of field.now) runs.now ≡ true }
+    requires coded { list_all (λ c. is_null_or_entry c && has_utf8_texts c) (runs_cells (column_of field.now) runs.now) ≡ true }
+    ensures { IfOk result (λ count. count ≡ length (entries_of (runs_cells (column_of field.now) runs.now))) }
+{
+    let slots = count_slots(runs)?;
+    let mut entries = IndexSet::with_capacity(alloc, likely_entries(slots, runs))?;
+    let mut indices = room_for(alloc, spec.index.width, slots)?;
+    let mut valid = vec![in alloc; false; slots]?;
+    put_codes(
+        alloc,
+        &mut entries,
+        indices.as_mut_slice(),
+        valid.as_mut_slice(),
+        field,
+        spec,
+        runs,
+    )?;
+    Ok(entries.len())
 }
 
 /// The batch of so many values, as a dictionary.

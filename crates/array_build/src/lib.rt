@@ -40,3 +40,4 @@ mod widths;
 pub use batch::{Buffer, BuiltBatch, BuiltDictionary};
 pub use building::build;
 pub use by_runs::build_runs;
+pub use coded_cells::count_entries;

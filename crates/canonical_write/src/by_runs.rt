@@ -112,7 +112,7 @@ pub(crate) fn messages_of_parts<'a>(
 ///
 /// The caller sees to it that the rows are a table. Refused only where a growth was. It takes the memory of the stream, and of the buffers that had to be
 /// made, and time linear in the stream and in the runs; and in the cells of the pieces that have rows under several dictionaries of 8 or 16 bit indices,
-/// whose rows are borrowed.
+/// which are gone through for each of their first such runs, to find where the pieces end.
 pub fn encode_runs(
     alloc: Global,
     schema: &Schema,

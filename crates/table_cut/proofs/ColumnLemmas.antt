@@ -24,13 +24,13 @@ use Rattle.table_cut.specs.inner.Columns.{arrays_behind, rows_behind, cells_behi
 pub arrays_next : (j : ℕ) (r : RowRun) → other_arrays (arrays_behind j r) ≡ arrays_behind (j + 1) r
 arrays_next j r = other_placed r.bytes.now r.dictionaries.now r.arrays.now j
 
-rows_first : (j : ℕ) (c : Column) (cs : Columns) (rows : List RowRun) → map first_cell (flat_map (rows_behind j (and_column c cs)) rows) ≡ flat_map (cells_behind j c) rows
+pub rows_first : (j : ℕ) (c : Column) (cs : Columns) (rows : List RowRun) → map first_cell (flat_map (rows_behind j (and_column c cs)) rows) ≡ flat_map (cells_behind j c) rows
 rows_first j c cs [] = refl
 rows_first j c cs (r ∷ rows) =
     map-append first_cell (rows_behind j (and_column c cs) r) (flat_map (rows_behind j (and_column c cs)) rows)
     ∙ λ i. first_cells c cs (arrays_behind j r) (range_with_len r.from r.len) i ++ rows_first j c cs rows i
 
-rows_others : (j : ℕ) (c : Column) (cs : Columns) (rows : List RowRun) → map other_cells (flat_map (rows_behind j (and_column c cs)) rows) ≡ flat_map (rows_behind (j + 1) cs) rows
+pub rows_others : (j : ℕ) (c : Column) (cs : Columns) (rows : List RowRun) → map other_cells (flat_map (rows_behind j (and_column c cs)) rows) ≡ flat_map (rows_behind (j + 1) cs) rows
 rows_others j c cs [] = refl
 rows_others j c cs (r ∷ rows) =
     let own : map other_cells (rows_behind j (and_column c cs) r) ≡ rows_behind (j + 1) cs r
@@ -64,10 +64,10 @@ are_more j rows (r ∷ rss) rs are is =
     let e : j + suc (length rss) ≡ j + 1 + length rss = omega arith in
     (are.0, are_more (j + 1) rows rss rs are.1 (subst (λ (k : ℕ). IsColumn k rows rs) e is))
 
-abbrev is_sound_behind : ℕ → Columns → RowRun → Bool
+abbrev pub is_sound_behind : ℕ → Columns → RowRun → Bool
 is_sound_behind j cs r = are_sound cs (r.from + r.len) (arrays_behind j r)
 
-sound_own : (j : ℕ) (c : Column) (cs : Columns) (rows : List RowRun) → list_all (is_sound_behind j (and_column c cs)) rows ≡ true
+pub sound_own : (j : ℕ) (c : Column) (cs : Columns) (rows : List RowRun) → list_all (is_sound_behind j (and_column c cs)) rows ≡ true
     → (list_all (has_sound_array j c) rows ≡ true) × (list_all (is_sound_behind (j + 1) cs) rows ≡ true)
 unfolding are_sound
 sound_own j c cs [] h = (refl, refl)

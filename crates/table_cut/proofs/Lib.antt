@@ -13,3 +13,4 @@ pub mod PartLemmas
 pub mod RunSteps
 pub mod RoomLemmas
 pub mod SharedLemmas
+pub mod FitLemmas

@@ -31,7 +31,8 @@ fn slots_at<'a>(run: RowRun<'a>, place: usize) -> SlotRun<'a>
     }
 }
 
-fn column_at<'a>(
+/// The runs of slots that the column at a place has of some rows.
+pub(crate) fn column_at<'a>(
     alloc: Global,
     runs: &[RowRun<'a>],
     place: usize,

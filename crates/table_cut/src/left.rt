@@ -102,8 +102,8 @@ impl<'a> RowsLeft<'a> {
 
     /// The rows of the next piece: the longest front of the rows that are left which is within the limits of a piece. It takes time linear in the runs of
     /// the piece, and for a piece that is too heavy with one run more, in the rows of that run; where its rows stand under several dictionaries of 8 or 16
-    /// bit indices, also in the cells of all its rows. Refused only where a growth was; from then on it is not told which rows are left, and a caller that
-    /// tries again begins with [`RowsLeft::new`].
+    /// bit indices, also in the cells of all its rows, for each of its first such runs anew, and for one that does not fit as often as it can be halved.
+    /// Refused only where a growth was; from then on it is not told which rows are left, and a caller that tries again begins with [`RowsLeft::new`].
     pub fn next_piece(&mut self, alloc: Global, schema: &Schema) -> Result<RunPiece<'a>, AllocError>
         requires schema { IsWithinLimits (schema_of schema.now) }
         requires sound { are_runs_sound (columns_of (schema_of schema.now).columns) (runs_left self.old) ≡ true }

@@ -9,10 +9,12 @@ ghost use Rattle.cells.specs.Dictionary.{is_any_limited, dictionaries_fit};
 ghost use Rattle.columns.specs.CellAt.{row_at};
 ghost use Rattle.facts.specs.Bytes.{AreBytes};
 ghost use Rattle.table_cut.specs.Rows.{arrays_of_run, run_rows, runs_rows};
+ghost use Rattle.table_cut.specs.inner.Fit.{are_flat};
 ghost use Rattle.table_cut.specs.inner.Room.{IsRunOf, AreRunsOf, IsRunBehind, IsSeen, IsSeenWithin, HasRoom, IsRoom};
 ghost use Rattle.table_cut.specs.SeenRows.{HaveSeen};
 ghost use Rattle.values.specs.Borrowed.{borrowed_cells};
 
+use crate::columns_fit::{are_flat, runs_fit};
 use crate::row_run::RowRun;
 use crate::shared::runs_share_entries;
 use arrays::shared_entries_fit;
@@ -22,6 +24,9 @@ use std::alloc::{AllocError, Global};
 use crate::seen_rows::SeenRows;
 use values::Values;
 
+// For how many runs of a piece its columns are gone through, each time from its first row on.
+const MOST_TRIED: usize = 16;
+
 /// What is known of the entries that dictionaries have in the rows of a piece.
 #[derive(Drop)]
 pub(crate) enum Seen<'a> {
@@ -29,6 +34,8 @@ pub(crate) enum Seen<'a> {
     Nothing,
     /// All rows have, in each dictionary whose indices name only so many, the entries that those of this run have.
     Shared(RowRun<'a>),
+    /// The columns of all rows were gone through, for so many runs.
+    Columns(usize),
     /// Each row was gone through.
     Rows(SeenRows<'a>),
 }
@@ -164,6 +171,74 @@ fn room_alone<'a>(schema: &Schema, run: RowRun<'a>) -> Room<'a>
     room_sharing(schema, run, run)
 }
 
+// Whether the dictionaries have room for the rows of a piece and of a run behind it.
+fn fits_behind<'a>(
+    alloc: Global,
+    schema: &'a Schema,
+    piece: &[RowRun<'a>],
+    run: RowRun<'a>,
+) -> Result<bool, AllocError>
+    requires flat { are_flat (columns_of (schema_of schema.now).columns) ≡ true }
+    requires before { AreRunsOf (schema_of schema.now) piece.now }
+    requires own { IsRunOf (schema_of schema.now) run }
+    ensures { IfOk result (λ fit. let columns = columns_of (schema_of schema.now).columns in
+        fit ≡ dictionaries_fit (schema_of schema.now) (runs_rows columns piece.now ++ run_rows columns run.entry)) }
+{
+    let mut runs = Vec::from_slice(alloc, piece)?;
+    runs.push(run)?;
+    runs_fit(alloc, schema, &runs)
+}
+
+// How many rows of a run there is room for behind a piece: where not for all, by halves.
+fn rows_behind<'a>(
+    alloc: Global,
+    schema: &'a Schema,
+    piece: &[RowRun<'a>],
+    run: RowRun<'a>,
+) -> Result<usize, AllocError>
+    requires flat { are_flat (columns_of (schema_of schema.now).columns) ≡ true }
+    requires behind { IsRunBehind (schema_of schema.now) piece.now run }
+    ensures { IfOk result (λ n. HasRoom (schema_of schema.now) (runs_rows (columns_of (schema_of schema.now).columns) piece.now) run.entry n) }
+{
+    if fits_behind(alloc, schema, piece, run)? {
+        return Ok(run.len);
+    }
+    let mut fitting = 0;
+    let mut past = run.len;
+    while fitting + 1 < past {
+        let half = fitting + (past - fitting) / 2;
+        if fits_behind(alloc, schema, piece, run.front(half))? {
+            fitting = half;
+        } else {
+            past = half;
+        }
+    }
+    Ok(fitting)
+}
+
+// The same behind a piece of which that is found by columns, unless it was for many of its runs; else its rows are gone through.
+fn room_anew<'a>(
+    alloc: Global,
+    schema: &'a Schema,
+    tried: usize,
+    piece: &[RowRun<'a>],
+    run: RowRun<'a>,
+) -> Result<Room<'a>, AllocError>
+    requires limited { is_any_limited (columns_of (schema_of schema.now).columns) ≡ true }
+    requires behind { IsRunBehind (schema_of schema.now) piece.now run }
+    ensures { IfOk result (λ room. IsRoom (schema_of schema.now) (runs_rows (columns_of (schema_of schema.now).columns) piece.now) run.entry room) }
+{
+    if tried < MOST_TRIED && are_flat(&schema.fields) {
+        let rows = rows_behind(alloc, schema, piece, run)?;
+        return Ok(Room {
+            rows,
+            seen: Seen::Columns(tried + 1),
+        });
+    }
+    let seen = see_runs(alloc, schema, piece)?;
+    room_behind(alloc, schema, seen, run)
+}
+
 // The same behind a piece, all of whose rows have the entries that those of one run have.
 fn room_behind_shared<'a>(
     alloc: Global,
@@ -180,8 +255,7 @@ fn room_behind_shared<'a>(
     if runs_share_entries(&schema.fields, first, run) {
         return Ok(room_sharing(schema, first, run));
     }
-    let seen = see_runs(alloc, schema, piece)?;
-    room_behind(alloc, schema, seen, run)
+    room_anew(alloc, schema, 0, piece, run)
 }
 
 // How many rows of a run the dictionaries of a piece have room for, behind the rows that it has.
@@ -200,6 +274,7 @@ fn room_for<'a>(
     match seen {
         Seen::Nothing => Ok(room_alone(schema, run)),
         Seen::Shared(first) => room_behind_shared(alloc, schema, first, piece, run),
+        Seen::Columns(tried) => room_anew(alloc, schema, tried, piece, run),
         Seen::Rows(rows) => room_behind(alloc, schema, rows, run),
     }
 }

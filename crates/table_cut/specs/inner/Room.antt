@@ -34,6 +34,8 @@ pub record IsRunBehind (s : PlainSchema) (piece : List RowRun) (run : RowRun) : 
 abbrev pub IsSeen : PlainSchema → List (List Cell) → Seen → Type 0
 IsSeen s rows seens.Nothing = rows ≡ []
 IsSeen s rows (seens.Shared first) = AreRowsSharing (columns_of s.columns) (arrays_of_run first) rows
+-- that they fit is known of each piece
+IsSeen s rows (seens.Columns tried) = Unit {0}
 IsSeen s rows (seens.Rows seen) = HaveSeen s rows seen
 
 -- nothing is asked where no dictionary has a limit

@@ -1,5 +1,4 @@
 use Rattle.std.proofs.Common.{List, subst, map}
-use Rattle.std.proofs.lemmas.Result.{IfOk-weaker}
 use Rattle.arrays.specs.Shared.{ShareEntries}
 use Rattle.arrow_schema.specs.Column.{columns_of}
 use Rattle.arrow_schema.specs.View.{schema_of, column_of}
@@ -14,10 +13,3 @@ room_sharing-requires-clause-shares c =
 
 pub returns-then-runs_share_entries : goal.returns-then-runs_share_entries
 returns-then-runs_share_entries c = c.room_sharing.ensures (runs_rows (columns_of (schema_of c.args.schema.now).columns) c.args.piece.now) c.requires.seen
-
-pub room_behind-requires-clause-seen : goal.room_behind-requires-clause-seen
-room_behind-requires-clause-seen c = (runs_rows (columns_of (schema_of c.args.schema.now).columns) c.args.piece.now, c.in_ok-seen.ensures)
-
-pub returns : goal.returns
-returns c =
-    IfOk-weaker c.room_behind.result _ _ (λ room is. is (runs_rows (columns_of (schema_of c.args.schema.now).columns) c.args.piece.now) c.in_ok-seen.ensures c.requires.behind.fits) c.room_behind.ensures

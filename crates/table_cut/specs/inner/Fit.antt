@@ -1,0 +1,43 @@
+-- The columns of runs of rows, where none is a list or a struct, and whether the dictionary of each has room for its cells.
+use Rattle.std.specs.Prelude.{◌≡◌, ℕ, ◌+◌, Bool, true, not, ◌&&◌, List, Some, None}
+use Rattle.std.specs.List.{flat_map, list_all}
+use Rattle.arrow_schema.specs.Column.{Column, Columns, column, no_column, and_column}
+use Rattle.arrow_schema.specs.Limits.{is_nested}
+use Rattle.cells.specs.Cell.{Cell}
+use Rattle.cells.specs.Dictionary.{holdings, has_few_entries}
+use Rattle.columns.specs.Buildable.{is_null_or_entry}
+use Rattle.columns.specs.Texts.{has_utf8_texts}
+use Rattle.table_cut.specs.declared.row_run.RowRun.{RowRun}
+use Rattle.table_cut.specs.inner.Columns.{cells_behind, has_sound_array}
+
+abbrev pub is_flat : Column → Bool
+is_flat (column name nullable kind dictionary pairs) = not (is_nested kind)
+
+unfoldable pub are_flat : Columns → Bool
+are_flat no_column = true
+are_flat (and_column c cs) = is_flat c && are_flat cs
+
+-- its dictionaries have room for these cells
+abbrev pub column_fits : Column → List Cell → Bool
+column_fits c cells = list_all has_few_entries (holdings c cells)
+
+-- so have those of the columns from a place on
+unfoldable pub fit_behind : ℕ → Columns → List RowRun → Bool
+fit_behind j no_column runs = true
+fit_behind j (and_column c cs) runs = column_fits c (flat_map (cells_behind j c) runs) && fit_behind (j + 1) cs runs
+
+-- where there is a dictionary, each cell is a null, or a value that a dictionary can have
+abbrev pub is_column_coded : Column → List Cell → Bool
+is_column_coded (column name nullable kind None pairs) cells = true
+is_column_coded (column name nullable kind (Some index) pairs) cells = list_all (λ c. is_null_or_entry c && has_utf8_texts c) cells
+
+-- the distinct cells of the column at a place can be counted
+pub record IsCounted (j : ℕ) (c : Column) (runs : List RowRun) : Type 0 where
+  pub flat : is_flat c ≡ true
+  pub sound : list_all (has_sound_array j c) runs ≡ true
+  pub coded : is_column_coded c (flat_map (cells_behind j c) runs) ≡ true
+
+-- and those of the columns from a place on
+unfoldable pub AreCounted : ℕ → Columns → List RowRun → Type 0
+AreCounted j no_column runs = Unit {0}
+AreCounted j (and_column c cs) runs = IsCounted j c runs × AreCounted (j + 1) cs runs
