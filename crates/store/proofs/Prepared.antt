@@ -1,11 +1,11 @@
 -- What was prepared for a change can be published, and then stands.
-use Rattle.std.specs.Prelude.{◌≡◌, ◌≤◌, ◌<◌, ◌+◌, ◌^◌, ◌==◌, ◌&&◌, ◌||◌, ℕ, Bool, true, false, not, nat_le, List, [], ◌∷◌, ◌++◌, length, map, if◌then◌else◌, Some, None, Err, refl, vec_len}
+use Rattle.std.specs.Prelude.{◌≡◌, ◌≤◌, ◌<◌, ◌+◌, ◌^◌, ◌==◌, ◌&&◌, ◌||◌, ℕ, Bool, true, false, not, nat_le, List, [], ◌∷◌, ◌++◌, length, map, if◌then◌else◌, Option, Some, None, Ok, Err, refl, vec_len}
 use Rattle.std.specs.Global.{Vec}
 use Rattle.std.specs.List.{list_all, AllByRecursion}
 use Rattle.std.proofs.Common.{inl, inr, ⊎_elim, ◌≢◌, sym, ap, ◌∙◌, subst, arith, append-nil}
 use Rattle.std.proofs.lemmas.Bool.{and_parts, or_parts, false_from_ne_true, leb-true, cases_eq}
 use Rattle.std.proofs.lemmas.List.{length-map}
-use Rattle.sector_dev.specs.Disk.{Disk, Image}
+use Rattle.sector_dev.specs.Disk.{Disk, Image, synced_image}
 use Rattle.array_build.specs.declared.batch.Buffer.{Buffer}
 use Rattle.canonical_write.specs.View.{joined_parts, streams_in}
 use Rattle.canonical_write.specs.declared.encoder.EncodedPieces.{EncodedPieces}
@@ -42,7 +42,10 @@ use Rattle.commit.specs.laws.Placed.{text_last, plan_follows, placed_extent, tak
 use Rattle.commit.specs.laws.Fit.{fit_again, times_both, times_some, some_times, once, all_on}
 use Rattle.tables.specs.declared.refusal.Refusal.TheVariants as refusals
 use Rattle.store.specs.declared.stored.StoredCatalogue.{StoredCatalogue}
-use Rattle.store.specs.Held.{whole_reading, catalogue_or_cause}
+use Rattle.store.specs.Held.{whole_reading, catalogue_or_cause, list_or_cause}
+use Rattle.commit.specs.declared.sector.CatalogueKind.{CatalogueKind}
+use Rattle.commit.specs.declared.sector.CatalogueKind.TheVariants.{Whole, Pages}
+use Rattle.commit.specs.laws.Frame.{rules_found}
 use Rattle.store.specs.Changes.{PlainChange, PlainEdit, IsChange, edited, given_up, placed_segments, HoldsStreams}
 use Rattle.store.specs.Carrying.{HasNext, unplaced, outline, asked_sizes, IsCarried}
 use Rattle.store.specs.inner.Prepared.{placed, taking_refusal, IsPrepared}
@@ -148,6 +151,11 @@ left_over false false false true false apart named fresh = refl
 left_over false false false false true apart named fresh = refl
 left_over false false false false false apart named fresh = refl
 
+-- a catalogue that was read is kept as a list
+kept_whole : (kind : CatalogueKind) (o : Option PlainCatalogue) (c : PlainCatalogue) → list_or_cause kind o ≡ Ok c → kind ≡ Whole
+kept_whole Whole o c is = refl
+kept_whole Pages o c is = absurd (cc is)
+
 -- ---- what was prepared
 
 module _ (old new : Space) (k : Commit) (c : PlainCatalogue) (change : PlainChange) (plan : Plan StoredCatalogue) (back : List Run) (p : IsPrepared old new k c change plan back) where
@@ -249,7 +257,10 @@ module _ (old new : Space) (k : Commit) (c : PlainCatalogue) (change : PlainChan
         whole = p.size ∙ sym (ap (λ (x : Commit). x.catalogue.bytes) p.commit);
         written = subst (λ (ps : List PlainPiece). IsPieceOf ps plan.commit.catalogue.run p.text) (sym p.whole)
             (subst (λ (x : Commit). IsPieceOf (p.pieces ++ record { run = p.run; bytes = p.text } ∷ []) x.catalogue.run p.text) (sym p.commit) (last_piece p.pieces (record { run = p.run; bytes = p.text })));
-        read = λ image holds same. ap catalogue_or_cause p.found;
+        read = λ image holds same.
+            let found = rules_found whole_reading old.size (synced_image d) k c stands.found in
+            let kind : plan.commit.kind ≡ Whole = ap (λ (x : Commit). x.kind) p.commit ∙ kept_whole k.kind (catalogue_at found.text) c found.spelled in
+            ap (λ (x : CatalogueKind). list_or_cause x (catalogue_at p.text)) kind ∙ ap catalogue_or_cause p.found;
         fit = fit_then listed;
       };
     }

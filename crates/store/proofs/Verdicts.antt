@@ -20,6 +20,8 @@ use Rattle.catalogue.specs.laws.Kept.{entry_is}
 use Rattle.commit.specs.declared.sector.Commit.{Commit}
 use Rattle.commit.specs.Publishing.{next_commit}
 use Rattle.commit.specs.Standing.{rules, standing, used_runs, Stands, InSome}
+use Rattle.commit.specs.declared.sector.CatalogueKind.{CatalogueKind}
+use Rattle.commit.specs.declared.sector.CatalogueKind.TheVariants.{Whole, Pages}
 use Rattle.commit.specs.laws.Frame.{rules_found}
 use Rattle.tables.specs.declared.refusal.Refusal.{Refusal}
 use Rattle.tables.specs.declared.refusal.Refusal.TheVariants as refusals
@@ -27,7 +29,7 @@ use Rattle.tables.specs.Commands.{PlainCommand, create, import_stream, append_st
 use Rattle.tables.specs.Tables.{Tables, table_at, with_table, without_table}
 use Rattle.tables.specs.Verdict.{import_tests, of_meaning, empty_table, verdict}
 use Rattle.store.specs.Machine.{holds}
-use Rattle.store.specs.Held.{catalogue_or_cause, whole_reading, tables_held, held_tables, held_by}
+use Rattle.store.specs.Held.{list_or_cause, whole_reading, tables_held, held_tables, held_by}
 use Rattle.store.specs.Changes.{put, move, remove, PlainChange, edited, placed_segments, stream_rows, MakesOf}
 use Rattle.store.specs.Reading.{Unreads}
 use Rattle.store.specs.Deciding.{missing_in, full_in, create_tests, rename_tests, names_changed, pieces_put, decided_create, decided_table, of_entry, Addition, given_rows, streamed_rows, unselected, entry_added, entry_selected, entry_read, reads_device, IsNotRead, IsDecided, IsAnswered}
@@ -181,11 +183,12 @@ answered laws image c t command d catalogue held brings (inr (inr is)) = inr (de
 pub standing_catalogue : LawsBelow → (size : ℕ) (image : Image) (k : Commit) (c : PlainCatalogue) → standing whole_reading size image ≡ rules k c → IsCatalogue c
 standing_catalogue laws size image k c is =
     let found = rules_found whole_reading size image k c is in
-    laws.catalogues found.text c (by_text (catalogue_at found.text) found.spelled)
+    laws.catalogues found.text c (by_text k.kind (catalogue_at found.text) found.spelled)
   where
-    by_text : (o : Option PlainCatalogue) → catalogue_or_cause o ≡ Ok c → o ≡ Some c
-    by_text None h = absurd (cc h)
-    by_text (Some x) h = let same : x ≡ c = cc h in ap Some same
+    by_text : (kind : CatalogueKind) (o : Option PlainCatalogue) → list_or_cause kind o ≡ Ok c → o ≡ Some c
+    by_text Whole None h = absurd (cc h)
+    by_text Whole (Some x) h = let same : x ≡ c = cc h in ap Some same
+    by_text Pages o h = absurd (cc h)
 
 module _ (laws : LawsBelow) (size : ℕ) (entries : List UsageEntry) (k : Commit) (c : PlainCatalogue) (before : Disk) (t : Tables) (command : PlainCommand) (image : Image)
     (stands : Stands whole_reading size before k c) (held : tables_held (synced_image before) c ≡ Some t) (brings : BringsTables command)

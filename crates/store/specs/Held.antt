@@ -16,6 +16,8 @@ use Rattle.catalogue.specs.Entries.{PlainEntry, PlainCatalogue, runs_of}
 use Rattle.catalogue.specs.Reading.{catalogue_at}
 use Rattle.commit.specs.declared.cause.Cause.{Cause}
 use Rattle.commit.specs.declared.cause.Cause.TheVariants.{CatalogueText}
+use Rattle.commit.specs.declared.sector.CatalogueKind.{CatalogueKind}
+use Rattle.commit.specs.declared.sector.CatalogueKind.TheVariants.{Whole, Pages}
 use Rattle.commit.specs.Standing as standings
 use Rattle.commit.specs.Standing.{Reading, Standing, standing, IsLocal}
 use Rattle.tables.specs.Tables.{Tables, no_tables, with_table}
@@ -92,8 +94,13 @@ abbrev pub catalogue_or_cause : Option PlainCatalogue → Result PlainCatalogue 
 catalogue_or_cause None = Err CatalogueText
 catalogue_or_cause (Some c) = Ok c
 
+-- only lists are read as yet
+abbrev pub list_or_cause : CatalogueKind → Option PlainCatalogue → Result PlainCatalogue Cause
+list_or_cause Whole o = catalogue_or_cause o
+list_or_cause Pages o = Err CatalogueText
+
 abbrev pub whole_reading : Reading PlainCatalogue
-whole_reading = record { at = λ size image k text. catalogue_or_cause (catalogue_at text); runs = runs_of }
+whole_reading = record { at = λ size image k text. list_or_cause k.kind (catalogue_at text); runs = runs_of }
 
 abbrev pub held_tables : Option Tables → Held
 held_tables None = broken

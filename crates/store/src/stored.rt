@@ -4,7 +4,7 @@ ghost use Rattle.catalogue.specs.View.{catalogue_of};
 ghost use Rattle.store.specs.Held.{whole_reading, whole_is_local};
 
 use catalogue::{Catalogue, DecodeError, decode, one_text_each};
-use commit::{Cause, Commit, OpenError, ReadCatalogue};
+use commit::{CatalogueKind, Cause, Commit, OpenError, ReadCatalogue};
 use sector_dev::SectorDevice;
 use segments::Run;
 use std::alloc::{AllocError, Global};
@@ -25,14 +25,17 @@ impl ReadCatalogue for StoredCatalogue {
     fn read<D: SectorDevice>(
         alloc: Global,
         _device: &mut D,
-        _commit: Commit,
+        commit: Commit,
         text: &[u8],
     ) -> Result<Self, OpenError> {
         one_text_each();
-        match decode(alloc, text) {
-            Ok(list) => Ok(StoredCatalogue { list }),
-            Err(DecodeError::NoText) => Err(OpenError::Damaged(Cause::CatalogueText)),
-            Err(DecodeError::OutOfMemory) => Err(OpenError::OutOfMemory),
+        match commit.kind {
+            CatalogueKind::Whole => match decode(alloc, text) {
+                Ok(list) => Ok(StoredCatalogue { list }),
+                Err(DecodeError::NoText) => Err(OpenError::Damaged(Cause::CatalogueText)),
+                Err(DecodeError::OutOfMemory) => Err(OpenError::OutOfMemory),
+            },
+            CatalogueKind::Pages => Err(OpenError::Damaged(Cause::CatalogueText)),
         }
     }
 

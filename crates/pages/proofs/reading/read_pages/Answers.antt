@@ -1,11 +1,10 @@
-use Rattle.std.proofs.Common.{◌≡◌, ◌-◌, ◌∙◌, ℕ, ap, sym, map, drop, length, Ok, arith}
+use Rattle.std.proofs.Common.{◌≡◌, ◌+◌, ◌-◌, ◌∙◌, ℕ, ap, sym, map, drop, length, Ok, arith}
 use Rattle.sector_dev.specs.Disk.{now, shown_image}
 use Rattle.sector_dev.specs.laws.Time.{read_on}
 use Rattle.catalogue.specs.declared.limits.TheConstants.{MAX_SEGMENTS}
-use Rattle.catalogue.specs.declared.entry.TableEntry.{TableEntry}
-use Rattle.catalogue.specs.Entries.{PlainCatalogue, plain_entry, plain_root}
-use Rattle.pages.specs.Stored.{page_shown, pages_shown}
-use Rattle.pages.proofs.Behind.{behind, next_read, not_read, all_read, none_behind, page_then, told_of_all}
+use Rattle.catalogue.specs.Entries.{plain_entry, plain_root}
+use Rattle.pages.specs.Stored.{pages_shown}
+use Rattle.pages.proofs.Behind.{behind, next_read, not_read, all_read, page_then, told_of_all}
 use Rattle.pages.proofs.reading.read_pages.Goals as goal
 
 pub returns-in-Err-clause-moments : goal.returns-in-Err-clause-moments
@@ -28,3 +27,25 @@ returns-clause-found g c = λ told.
     let D = g.D.SectorDevice in
     c.loop-root.invariant.found told
     ∙ all_read (D.size c.args.device.now) (shown_image (now (D.story c.args.device.now))) c.loop-root.left c.args.roots.now c.loop-root.root-index c.loop-root.entries.items (omega (arith, c.loop-root-test.false))
+
+pub returns-in-Err-push-clause-moments : goal.returns-in-Err-push-clause-moments
+returns-in-Err-push-clause-moments g c = λ told. read_on _ _ _ (c.loop-root.invariant.moments told) (c.read_table.ensures.moments told)
+
+pub loop-root-preserved : goal.loop-root-preserved
+loop-root-preserved g c =
+    let D = g.D.SectorDevice in
+    let size = D.size c.args.device.now in
+    let old = D.story c.args.device.now in
+    let i = c.loop-root.root-index in
+    let x = c.root-item.result in
+    let count : length c.in-Ok.entry.segments.items ≡ c.len.result = omega (arith, c.len.ensures, c.in-Ok.entry.segments.ok.0) in
+    record {
+      same = c.read_table.ensures.size ∙ c.loop-root.invariant.same;
+      count = c.in-Ok.ensures.count ∙ c.loop-root.invariant.count;
+      moments = λ told. read_on _ _ _ (c.loop-root.invariant.moments told) (c.read_table.ensures.moments told);
+      found = λ told. c.loop-root.invariant.found told
+          ∙ next_read size (shown_image (now old)) c.loop-root.left c.args.roots.now i x c.loop-root.entries.items c.push.new.self.items c.in-Ok.entry c.loop-root-test.true c.root-item.is
+          (sym (page_then size (D.size c.loop-root.device) old (D.story c.loop-root.device) c.loop-root.left x.page c.loop-root.invariant.same (c.loop-root.invariant.moments told)) ∙ c.in-Ok.ensures.found told)
+          c.in-Ok.ensures.entry c.in-Ok-push.ensures.items
+          ∙ ap (λ (n : ℕ). behind (map plain_entry c.push.new.self.items) (pages_shown size old (c.loop-root.left - n) (map plain_root (drop (i + 1) c.args.roots.now)))) count;
+    }
