@@ -23,8 +23,8 @@ use crate::stream::{Stream, begin_stream, end_stream, into_bytes, into_parts, sc
 use array_build::Buffer;
 use arrow_schema::Schema;
 use canonical_stream::pieces_can_be_built;
-use table_cut::{RowRun, RowsLeft, RunPiece};
 use std::alloc::{AllocError, Global};
+use table_cut::{RowRun, RowsLeft, RunPiece};
 use values::Part;
 
 // Writes the messages of the rows that are left, of which there are so many. The front that is kept for the next piece is the caller's, so that no turn of the

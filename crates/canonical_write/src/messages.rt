@@ -16,12 +16,12 @@ use crate::front::{BatchFront, borrowed};
 use crate::stream::{Stream, push_body};
 use array_build::{Buffer, BuiltBatch, BuiltDictionary, build, build_runs};
 use arrow_schema::Schema;
+use canonical_stream::{written_batches_pass, written_entries_are_read};
 use columns::{dictionaries_are_written_alone, written_arrays_have_their_shape};
 use ipc_write::{BatchContents, write_dictionary_front};
-use table_cut::{RowRun, RunPiece, column_runs};
 use std::alloc::{AllocError, Global};
+use table_cut::{RowRun, RunPiece, column_runs};
 use values::Values;
-use canonical_stream::{written_batches_pass, written_entries_are_read};
 
 // All but the body of the message of a dictionary's entries.
 fn write_entries_front(

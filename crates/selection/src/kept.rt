@@ -9,8 +9,8 @@ ghost use Rattle.selection.specs.inner.Picked.{picked_rows, is_picked_sound};
 
 use crate::picked::{PickedBatch, whole_run};
 use query::next_set;
-use table_cut::RowRun;
 use std::alloc::{AllocError, Global};
+use table_cut::RowRun;
 
 /// Rows that are kept, as runs, and how many they are.
 #[derive(Drop)]

@@ -13,8 +13,8 @@ ghost use Rattle.values.specs.Parts.{batch_rows, part_rows, parts_rows, is_batch
 use crate::copying::copy_array;
 use arrow_schema::Field;
 use columns::{Dictionary, PlacedArray, array_or, no_array};
-use table_cut::RowRun;
 use std::alloc::{AllocError, Global};
+use table_cut::RowRun;
 use values::{Batch, Part};
 
 /// The arrays that a record batch has of the columns asked for, in the bytes of its part, and how many rows it has.

@@ -28,6 +28,7 @@ mod gathered;
 mod importing;
 mod input;
 mod laws;
+mod lending;
 mod listing;
 mod moving;
 mod new_rows;
@@ -50,6 +51,6 @@ pub use laws::{
     snapshots_give_their_table, undisturbed_runs_settle_what_was_acknowledged,
     undisturbed_runs_tell_no_failure, undisturbed_runs_tell_no_halt, what_is_done_is_the_verdict,
 };
-pub use running::run;
+pub use running::{answer, run};
 pub use store::Store;
 pub use stored::StoredCatalogue;

@@ -257,8 +257,8 @@ fn answer_open<D: SectorDevice, R: Read + Drop>(
     }
 }
 
-// One call.
-fn answer<D: SectorDevice, R: Read + Drop>(
+/// Answers one call, as [`run`] answers each of its own.
+pub fn answer<D: SectorDevice, R: Read + Drop>(
     alloc: Global,
     place: Place<D>,
     call: Call<R>,

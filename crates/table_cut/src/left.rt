@@ -14,6 +14,7 @@ ghost use Rattle.table_cut.specs.Piece.{within_piece};
 ghost use Rattle.values.specs.Parts.{part_rows, parts_rows, is_batch_sound, are_parts_sound};
 
 use crate::fitting::fitting;
+use crate::longest_fronts_are_pieces;
 use crate::room::{Seen, room_within};
 use crate::row_run::RowRun;
 use arrays::shared_entries_fit;
@@ -21,7 +22,6 @@ use arrow_schema::Schema;
 use cells::{MAX_PIECE_ROWS, has_limits};
 use columns::PlacedArray;
 use std::alloc::{AllocError, Global};
-use crate::longest_fronts_are_pieces;
 use values::Part;
 
 /// The rows of a table that is kept in record batches, of which the first are in pieces already.

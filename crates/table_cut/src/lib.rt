@@ -10,8 +10,9 @@
 //! ```
 //!
 //! [`RowsLeft`] cuts a table that is kept in record batches into the same pieces, as runs of its rows, and [`column_runs`] tells what each column has of
-//! them. Where a piece ends is found from the weights of spans of rows ([`arrays::row_span_weight`]). Rows are borrowed only where a dictionary has
-//! indices of 8 or 16 bits, and a piece has rows under several such dictionaries.
+//! them. Where a piece ends is found from the weights of spans of rows ([`arrays::row_span_weight`]). Where a piece has rows under several dictionaries
+//! of 8 or 16 bit indices, its columns are gone through, and the entries of each are counted ([`array_build::count_entries`]). Rows are borrowed only where
+//! there are lists or structs besides, or many such dictionaries in one piece.
 //!
 //! ```ignore
 //! let mut left = RowsLeft::new(alloc, parts)?;
@@ -20,6 +21,7 @@
 //! ```
 #![tactic(auto)]
 
+mod columns_fit;
 mod columns_of_runs;
 mod fitting;
 mod holding;

@@ -16,12 +16,12 @@ ghost use Rattle.values.specs.Borrowed.{borrowed_cells};
 
 use crate::columns_fit::{are_flat, runs_fit};
 use crate::row_run::RowRun;
+use crate::seen_rows::SeenRows;
 use crate::shared::runs_share_entries;
 use arrays::shared_entries_fit;
 use arrow_schema::Schema;
 use columns::row;
 use std::alloc::{AllocError, Global};
-use crate::seen_rows::SeenRows;
 use values::Values;
 
 // For how many runs of a piece its columns are gone through, each time from its first row on.

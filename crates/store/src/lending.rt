@@ -1,0 +1,28 @@
+// The device that a store stands on, to look at.
+ghost use Rattle.std.specs.Prelude.{◌≡◌};
+ghost use Rattle.store.specs.Fits.{device_of};
+ghost use Rattle.store.specs.Places.{device_in};
+
+use crate::{Place, Store};
+use sector_dev::SectorDevice;
+
+impl<D: SectorDevice> Store<D> {
+    /// The device that it stands on.
+    pub fn device(&self) -> &D
+        ensures { result.now ≡ device_of self.now }
+    {
+        &self.device
+    }
+}
+
+impl<D: SectorDevice> Place<D> {
+    /// Its device.
+    pub fn device(&self) -> &D
+        ensures { result.now ≡ device_in self.now }
+    {
+        match self {
+            Place::Open(store) => store.device(),
+            Place::Shut(device) => device,
+        }
+    }
+}
