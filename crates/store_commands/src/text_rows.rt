@@ -1,5 +1,5 @@
 // Rows of an input that is a text: CSV or JSON Lines.
-ghost use Rattle.std.specs.Prelude.{◌≡◌, ◌≢◌, true, codes, string_bytes, IfErr, OnOk};
+ghost use Rattle.std.specs.Prelude.{◌≡◌, ◌≢◌, true, codes, string_bytes, IfErr, IfOk, IfSome, Ok, OnOk};
 ghost use Rattle.std.specs.Io.KnownBytes.{Appends};
 ghost use Rattle.catalogue.specs.Edits.{entry_of};
 ghost use Rattle.tables.specs.Commands.{append_rows};
@@ -13,9 +13,10 @@ ghost use Rattle.store.specs.Reading.{ended};
 ghost use Rattle.store_commands.specs.Changing.{AnswersCommand};
 ghost use Rattle.arrow_schema.specs.Limits.{IsWithinLimits};
 ghost use Rattle.arrow_schema.specs.View.{schema_of};
-ghost use Rattle.facts.specs.Outcomes.{Gives};
+ghost use Rattle.facts.specs.Outcomes.{Gives, Reports};
 ghost use Rattle.text_import.specs.Form.{rows_of_text};
 ghost use Rattle.text_import.specs.Refusals.{given, refused_by};
+ghost use Rattle.values.specs.TableView.{table_of};
 ghost use Rattle.store_commands.specs.TextRows.{HandsRows, RefusesText, IfOfText, HintsAt, IfHinted};
 
 use crate::apply_command;
@@ -27,8 +28,9 @@ use std::alloc::Global;
 use std::io::{Read, Write};
 use store::Store;
 use tables::Command;
-use text_columns::csv_table;
+use text_columns::{csv_table, jsonl_table};
 use text_import::{RefusedPart, TextError, TextForm, refused_part, rows_of_text};
+use values::Weighed;
 
 // The part of the first refused record that is refused. Where memory is refused for it, no part is told.
 #[tactic(auto, using(crate::proofs::TextLemmas::hints_at))]
@@ -56,7 +58,24 @@ fn refused_in(
     }
 }
 
-// The command that appends the rows of a text to the table of a name. Of a CSV text they are read into arrays where that is possible.
+// The table of the rows of a text, where they are read into arrays, and what they weigh.
+fn read_table(
+    alloc: Global,
+    form: &TextForm<'_>,
+    schema: &Schema,
+    text: &[u8],
+) -> Result<Option<Weighed>, TextError>
+    requires { IsWithinLimits (schema_of schema.now) }
+    ensures read { IfOk result (λ found. IfSome found (λ w. rows_of_text form.now (schema_of schema.now) text.now ≡ Ok (table_of w.table).rows)) }
+    ensures refused { IfErr result (λ e. Reports (refused_by e) (rows_of_text form.now (schema_of schema.now) text.now)) }
+{
+    match form {
+        TextForm::Csv { null_text } => csv_table(alloc, schema, text, null_text),
+        TextForm::JsonLines => Ok(jsonl_table(alloc, schema, text)?),
+    }
+}
+
+// The command that appends the rows of a text to the table of a name. They are read into arrays where that is possible.
 fn read_command(
     alloc: Global,
     form: &TextForm<'_>,
@@ -67,10 +86,8 @@ fn read_command(
     requires { IsWithinLimits (schema_of schema.now) }
     ensures { Gives refused_by command_of result (given (append_rows (string_bytes name)) (rows_of_text form.now (schema_of schema.now) text.now)) }
 {
-    if let TextForm::Csv { null_text } = form {
-        if let Some(new) = csv_table(alloc, schema, text, null_text)? {
-            return Ok(Command::AppendTable { name, new });
-        }
+    if let Some(new) = read_table(alloc, form, schema, text)? {
+        return Ok(Command::AppendTable { name, new });
     }
     let rows = rows_of_text(alloc, form, schema, text)?;
     Ok(Command::AppendRows { name, rows })

@@ -6,3 +6,6 @@ pub mod Tables
 pub mod PlainText
 pub mod PlainRecords
 pub mod PlainRows
+pub mod TokenCells
+pub mod MemberGrammar
+pub mod LineRows

@@ -30,68 +30,68 @@ use Rattle.text_columns.specs.inner.Kept.{HasRow, HasRows, IsOf, KeepAll, Keeps,
 -- ---- the item at a place
 
 module _ {X : Type 0} where
-  at_set : (xs : List X) (i : ℕ) (x : X) → i < length xs → slice_get (set xs i x) i ≡ Some x
+  pub at_set : (xs : List X) (i : ℕ) (x : X) → i < length xs → slice_get (set xs i x) i ≡ Some x
   at_set [] i x lt = absurd (omega arith)
   at_set (y ∷ xs) zero x lt = refl
   at_set (y ∷ xs) (suc i) x lt = at_set xs i x (omega arith)
 
-  at_other : (xs : List X) (i j : ℕ) (x : X) → (i ≡ j → ⊥) → slice_get (set xs i x) j ≡ slice_get xs j
+  pub at_other : (xs : List X) (i j : ℕ) (x : X) → (i ≡ j → ⊥) → slice_get (set xs i x) j ≡ slice_get xs j
   at_other [] i j x ne = refl
   at_other (y ∷ xs) zero zero x ne = absurd (ne refl)
   at_other (y ∷ xs) zero (suc j) x ne = refl
   at_other (y ∷ xs) (suc i) zero x ne = refl
   at_other (y ∷ xs) (suc i) (suc j) x ne = at_other xs i j x (λ e. ne (ap suc e))
 
-  dropped_here : (xs : List X) (i : ℕ) (x : X) → slice_get xs i ≡ Some x → drop i xs ≡ x ∷ drop (suc i) xs
+  pub dropped_here : (xs : List X) (i : ℕ) (x : X) → slice_get xs i ≡ Some x → drop i xs ≡ x ∷ drop (suc i) xs
   dropped_here [] i x e = absurd cc
   dropped_here (y ∷ xs) zero x e = (let same : y ≡ x = cc in rw same refl)
   dropped_here (y ∷ xs) (suc i) x e = dropped_here xs i x e
 
-  taken_here : (xs : List X) (i : ℕ) (x : X) → slice_get xs i ≡ Some x → take (suc i) xs ≡ take i xs ++ x ∷ []
+  pub taken_here : (xs : List X) (i : ℕ) (x : X) → slice_get xs i ≡ Some x → take (suc i) xs ≡ take i xs ++ x ∷ []
   taken_here [] i x e = absurd cc
   taken_here (y ∷ xs) zero x e = (let same : y ≡ x = cc in rw same refl)
   taken_here (y ∷ xs) (suc i) x e = ap (λ (ys : List X). y ∷ ys) (taken_here xs i x e)
 
-  there_within : (xs : List X) (i : ℕ) → i < length xs → (x : X) × (slice_get xs i ≡ Some x)
+  pub there_within : (xs : List X) (i : ℕ) → i < length xs → (x : X) × (slice_get xs i ≡ Some x)
   there_within [] i lt = absurd (omega arith)
   there_within (y ∷ xs) zero lt = (y, refl)
   there_within (y ∷ xs) (suc i) lt = there_within xs i (omega arith)
 
-  at_end : (xs : List X) (x d : X) (i : ℕ) → i ≡ length xs → get_or (xs ++ x ∷ []) i d ≡ x
+  pub at_end : (xs : List X) (x d : X) (i : ℕ) → i ≡ length xs → get_or (xs ++ x ∷ []) i d ≡ x
   at_end [] x d i e = rw e refl
   at_end (y ∷ xs) x d zero e = absurd (omega arith)
   at_end (y ∷ xs) x d (suc i) e = at_end xs x d i (omega arith)
 
-  at_front : (xs : List X) (x d : X) (i : ℕ) → i < length xs → get_or (xs ++ x ∷ []) i d ≡ get_or xs i d
+  pub at_front : (xs : List X) (x d : X) (i : ℕ) → i < length xs → get_or (xs ++ x ∷ []) i d ≡ get_or xs i d
   at_front [] x d i lt = absurd (omega arith)
   at_front (y ∷ xs) x d zero lt = refl
   at_front (y ∷ xs) x d (suc i) lt = at_front xs x d i (omega arith)
 
-  dropped_all : (xs : List X) (i : ℕ) → length xs ≤ i → drop i xs ≡ []
+  pub dropped_all : (xs : List X) (i : ℕ) → length xs ≤ i → drop i xs ≡ []
   dropped_all [] zero le = refl
   dropped_all [] (suc i) le = refl
   dropped_all (y ∷ xs) zero le = absurd (omega arith)
   dropped_all (y ∷ xs) (suc i) le = dropped_all xs i (omega arith)
 
-  taken_all : (xs : List X) (i : ℕ) → length xs ≤ i → take i xs ≡ xs
+  pub taken_all : (xs : List X) (i : ℕ) → length xs ≤ i → take i xs ≡ xs
   taken_all [] zero le = refl
   taken_all [] (suc i) le = refl
   taken_all (y ∷ xs) zero le = absurd (omega arith)
   taken_all (y ∷ xs) (suc i) le = ap (λ (ys : List X). y ∷ ys) (taken_all xs i (omega arith))
 
-  length_taken : (xs : List X) (i : ℕ) → i ≤ length xs → length (take i xs) ≡ i
+  pub length_taken : (xs : List X) (i : ℕ) → i ≤ length xs → length (take i xs) ≡ i
   length_taken xs zero le = refl
   length_taken [] (suc i) le = absurd (omega arith)
   length_taken (y ∷ xs) (suc i) le = ap suc (length_taken xs i (omega arith))
 
-  length_put : (xs : List X) (i : ℕ) (x : X) → length (set xs i x) ≡ length xs
+  pub length_put : (xs : List X) (i : ℕ) (x : X) → length (set xs i x) ≡ length xs
   length_put [] i x = refl
   length_put (y ∷ xs) zero x = refl
   length_put (y ∷ xs) (suc i) x = ap suc (length_put xs i x)
 
 -- ---- one more row
 
-parts_weigh : (cs : List Column) (xs : List Cell) (c : Column) (x : Cell) → length xs ≡ length cs
+pub parts_weigh : (cs : List Column) (xs : List Cell) (c : Column) (x : Cell) → length xs ≡ length cs
     → parts_weight (columns_of (cs ++ c ∷ [])) (cells_of (xs ++ x ∷ [])) ≡ parts_weight (columns_of cs) (cells_of xs) + weight c x
 unfolding parts_weight
 parts_weigh [] [] c x e = omega arith
@@ -99,11 +99,11 @@ parts_weigh [] (y ∷ xs) c x e = absurd (omega arith)
 parts_weigh (d ∷ cs) [] c x e = absurd (omega arith)
 parts_weigh (d ∷ cs) (y ∷ xs) c x e = let others = parts_weigh cs xs c x (omega arith) in omega (arith, others)
 
-none_weigh : (cells : List Cell) → 1 + parts_weight (columns_of []) (cells_of cells) ≡ 1
+pub none_weigh : (cells : List Cell) → 1 + parts_weight (columns_of []) (cells_of cells) ≡ 1
 unfolding parts_weight
 none_weigh cells = refl
 
-column_more : (j : ℕ) (rows : List (List Cell)) (row : List Cell) → column_at j (rows ++ row ∷ []) ≡ column_at j rows ++ get_or row j null ∷ []
+pub column_more : (j : ℕ) (rows : List (List Cell)) (row : List Cell) → column_at j (rows ++ row ∷ []) ≡ column_at j rows ++ get_or row j null ∷ []
 column_more j rows row = map-append (λ (r : List Cell). get_or r j null) rows (row ∷ [])
 
 -- the first fields of a record have come behind the rows, and weigh so much with their row

@@ -25,10 +25,10 @@ use Rattle.text_columns.specs.declared.builder.ColumnBuilder.{ColumnBuilder}
 use Rattle.text_columns.specs.inner.Kept.{AppendsBoolean, AppendsSpelled, Holds, IsOf, KeepsField, TakesNull, TakesText}
 
 -- one more cell of a list that is mapped
-one_mapped : {A : Type 0} (f : Cell → A) (cells : List Cell) (c : Cell) (old new : List A) → old ≡ map f cells → new ≡ old ++ f c ∷ [] → new ≡ map f (cells ++ c ∷ [])
+pub one_mapped : {A : Type 0} (f : Cell → A) (cells : List Cell) (c : Cell) (old new : List A) → old ≡ map f cells → new ≡ old ++ f c ∷ [] → new ≡ map f (cells ++ c ∷ [])
 one_mapped f cells c old new is e = e ∙ rw is (sym (map-append f cells (c ∷ [])))
 
-one_joined : (f : Cell → List ℕ) (cells : List Cell) (c : Cell) (old new : List ℕ) → old ≡ flat_map f cells → new ≡ old ++ f c → new ≡ flat_map f (cells ++ c ∷ [])
+pub one_joined : (f : Cell → List ℕ) (cells : List Cell) (c : Cell) (old new : List ℕ) → old ≡ flat_map f cells → new ≡ old ++ f c → new ≡ flat_map f (cells ++ c ∷ [])
 one_joined f cells c old new is e = e ∙ rw (is, flat_map-append, append-nil) refl
 
 -- one more offset
@@ -49,7 +49,7 @@ offset_more width cells c =
     ∙ ap (λ (xs : List ℕ). offsets_of width (map (λ d. length (contents_of d)) cells) ++ xs) (append-nil (little_bytes width (0 + length (flat_map contents_of cells) + length (contents_of c))) ∙ ap (little_bytes width) zero_plus)
 
 -- a text comes behind others, or a null, which has no bytes
-texts_hold : (width : OffsetWidth) (cells : List Cell) (c : Cell) (offsets contents newer longer : Vec ℕ) → Holds (Texts width offsets contents) cells → longer.items ≡ contents.items ++ contents_of c
+pub texts_hold : (width : OffsetWidth) (cells : List Cell) (c : Cell) (offsets contents newer longer : Vec ℕ) → Holds (Texts width offsets contents) cells → longer.items ≡ contents.items ++ contents_of c
     → newer.items ≡ offsets.items ++ little_bytes (width_of width) (length contents.items + length (contents_of c)) → Holds (Texts width newer longer) (cells ++ c ∷ [])
 texts_hold width cells c offsets contents newer longer holds more end =
     (rw (holds.0, holds.1) at end ∙ sym (offset_more (width_of width) cells c), one_joined contents_of cells c contents.items longer.items holds.1 more)
@@ -69,7 +69,7 @@ texts_null width old contents new e = λ kind cells t.
       holds = texts_hold width cells null old contents new contents t.holds (sym (append-nil contents.items)) (e ∙ ap (λ (n : ℕ). old.items ++ little_bytes (width_of width) n) same);
     }
 
-null_weighs : (kind : Kind) (values : Values) → IsOf kind values → kind_weight kind null ≡ 1
+pub null_weighs : (kind : Kind) (values : Values) → IsOf kind values → kind_weight kind null ≡ 1
 unfolding kind_weight
 null_weighs booleans values h = refl
 null_weighs (integers bits signed) values h = refl
@@ -94,12 +94,12 @@ boolean_taken t old new a booleans cells k = record {
 }
 boolean_taken t old new a _ cells k = absurd k.kind_is
 
-dates_read : (unit : _) (o : Option ℤ) (x : Cell) → number_cell (integers (date_bits unit) true) o ≡ Ok x → number_cell (dates unit) o ≡ Ok x
+pub dates_read : (unit : _) (o : Option ℤ) (x : Cell) → number_cell (integers (date_bits unit) true) o ≡ Ok x → number_cell (dates unit) o ≡ Ok x
 unfolding fits_kind
 dates_read unit None x h = absurd cc
 dates_read unit (Some n) x h = h
 
-times_read : (unit : _) (timezone : List ℕ) (o : Option ℤ) (x : Cell) → number_cell (integers 64 true) o ≡ Ok x → number_cell (timestamps unit timezone) o ≡ Ok x
+pub times_read : (unit : _) (timezone : List ℕ) (o : Option ℤ) (x : Cell) → number_cell (integers 64 true) o ≡ Ok x → number_cell (timestamps unit timezone) o ≡ Ok x
 unfolding fits_kind
 times_read unit timezone None x h = absurd cc
 times_read unit timezone (Some n) x h = h

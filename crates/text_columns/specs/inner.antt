@@ -3,3 +3,4 @@ pub mod Placed
 pub mod Tables
 pub mod Plain
 pub mod Columns
+pub mod Lines

@@ -60,7 +60,11 @@ fn push_signed(values: &mut Vec<u8>, width: BitWidth, number: i128) -> Result<bo
 }
 
 // Appends the bytes of a number, where the type holds it.
-fn push_number(values: &mut Vec<u8>, integer: IntegerType, number: i128) -> Result<bool, AllocError>
+pub(crate) fn push_number(
+    values: &mut Vec<u8>,
+    integer: IntegerType,
+    number: i128,
+) -> Result<bool, AllocError>
     ensures { IfOk result (λ pushed. pushed ≡ true → AppendsInteger (bits_of integer.width) integer.signed number values.old.items values.new.items) }
 {
     if integer.signed {

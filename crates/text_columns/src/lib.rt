@@ -1,8 +1,11 @@
-//! A CSV text as the arrays of one record batch, under a schema of columns of integers, dates, timestamps, booleans and texts.
+//! A text as the arrays of one record batch, under a schema of columns of integers, dates, timestamps, booleans and texts.
 //!
 //! [`csv_table`] answers the table of just the rows that `text_import::csv_rows` gives of the same text, and what they weigh, or the same
 //! refusal. No value is made of a cell and no row is: each field goes into the buffers of its column where it is read. For other schemas,
 //! and for rows that are too heavy for a table, it answers none, and the rows are those of `csv_rows`.
+//!
+//! [`jsonl_table`] does the same of JSON Lines, token by token: no tree is made of a line. It answers none also for a text that is refused, or that has
+//! a line which is an array, or an object with a name twice.
 //!
 //! ```
 //! let fields = arrow_schema::parse_fields(alloc, &["a:int32?", "s:utf8"])?;
@@ -16,6 +19,8 @@
 mod builder;
 mod column_values;
 mod integers;
+mod lines;
+mod members;
 mod placing;
 mod plain;
 mod reading;
@@ -23,5 +28,6 @@ mod records;
 mod starting;
 mod table;
 mod texts;
+mod tokens;
 
-pub use table::csv_table;
+pub use table::{csv_table, jsonl_table};

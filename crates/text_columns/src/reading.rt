@@ -1,15 +1,19 @@
-// A CSV text into columns: where its records stand, or else by the reader of the kit.
+// A text into columns. Of CSV: where its records stand, or else by the reader of the kit.
+ghost use Rattle.std.specs.Prelude.{IfOk, IfSome};
 ghost use Rattle.arrow_schema.specs.View.{schema_of};
 ghost use Rattle.text_import.specs.Records.{csv_rows_of};
+ghost use Rattle.text_import.specs.Objects.{jsonl_rows_of};
 ghost use Rattle.text_columns.specs.inner.Columns.{ReadsColumns};
+ghost use Rattle.text_columns.specs.inner.Kept.{HasRows};
 
 use crate::builder::ColumnBuilder;
+use crate::lines::push_lines;
 use crate::plain::push_plain_text;
 use crate::records::{RowsRead, push_rows};
 use crate::starting::no_rows;
 use arrow_schema::Schema;
-use std::alloc::Global;
-use text_import::{TextError, csv_records};
+use std::alloc::{AllocError, Global};
+use text_import::{TextError, csv_records, distinct_names, split_lines};
 
 /// The columns of a text, and how many rows were read into them.
 #[derive(Drop)]
@@ -71,5 +75,27 @@ pub(crate) fn read_columns(
     match read_plain(alloc, schema, text, null_text)? {
         Some(columns) => Ok(Some(columns)),
         None => read_records(alloc, schema, text, null_text),
+    }
+}
+
+/// The columns of a text of JSON Lines; none where a column has a type that is not read into arrays, or a dictionary, where two columns have one
+/// name, where a line is no object of one value for each of its members, or where the rows are too heavy for a table.
+pub(crate) fn read_lines(
+    alloc: Global,
+    schema: &Schema,
+    text: &[u8],
+) -> Result<Option<Columns>, AllocError>
+    ensures { IfOk result (λ found. IfSome found (λ c. HasRows (schema_of schema.now) (jsonl_rows_of (schema_of schema.now) text.now) c.read c.builders.items)) }
+{
+    let Some(mut builders) = no_rows(alloc, &schema.fields)? else {
+        return Ok(None);
+    };
+    let Some(names) = distinct_names(alloc, &schema.fields)? else {
+        return Ok(None);
+    };
+    let lines = split_lines(alloc, text)?;
+    match push_lines(alloc, &names, &lines, builders.as_mut_slice())? {
+        Some(read) => Ok(Some(Columns { builders, read })),
+        None => Ok(None),
     }
 }

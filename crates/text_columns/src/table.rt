@@ -1,4 +1,4 @@
-// The table of a CSV text.
+// The table of a text.
 ghost use Rattle.std.specs.Prelude.{◌≡◌, true, Ok, List, length, IfOk, IfErr, IfSome};
 ghost use Rattle.arrow_schema.specs.Column.{PlainSchema};
 ghost use Rattle.arrow_schema.specs.Limits.{IsWithinLimits};
@@ -6,6 +6,7 @@ ghost use Rattle.arrow_schema.specs.View.{schema_of};
 ghost use Rattle.cells.specs.Cell.{Cell};
 ghost use Rattle.cells.specs.Weight.{table_weight};
 ghost use Rattle.facts.specs.Outcomes.{Reports};
+ghost use Rattle.text_import.specs.Objects.{jsonl_rows_of};
 ghost use Rattle.text_import.specs.Records.{csv_rows_of};
 ghost use Rattle.text_import.specs.Refusals.{refused_by};
 ghost use Rattle.values.specs.Parts.{part_rows};
@@ -14,7 +15,7 @@ ghost use Rattle.text_columns.specs.inner.Tables.{HasTable, IsPartOf, MakesRows}
 
 use crate::builder::ColumnBuilder;
 use crate::placing::place_all;
-use crate::reading::{Columns, read_columns};
+use crate::reading::{Columns, read_columns, read_lines};
 use arrow_schema::Schema;
 use columns::{
     built_reads_back, listed_reads_back, rows_can_be_built, written_arrays_have_their_shape,
@@ -82,6 +83,32 @@ pub fn csv_table(
 {
     rows_of_texts_are_rows();
     let Some(columns) = read_columns(alloc, schema, text, null_text.as_bytes())? else {
+        return Ok(None);
+    };
+    let Columns { builders, read } = columns;
+    let table = build_table(alloc, schema, builders, read.rows)?;
+    Ok(Some(Weighed {
+        table,
+        weight: read.weight,
+    }))
+}
+
+/// The table of the rows of a text of JSON Lines, kept in one record batch, and what its rows weigh; none where a line is refused, is an array or has
+/// a member with parts or twice, where a column has a type that is not read into arrays, or a dictionary, or where the rows are too heavy for a table:
+/// the rows are then those of `text_import::jsonl_rows`, or its refusal.
+pub fn jsonl_table(
+    alloc: Global,
+    schema: &Schema,
+    text: &[u8],
+) -> Result<Option<Weighed>, AllocError>
+    requires { IsWithinLimits (schema_of schema.now) }
+    ensures read { IfOk result (λ found. IfSome found (λ w. jsonl_rows_of (schema_of schema.now) text.now ≡ Ok (table_of w.table).rows)) }
+    ensures schema { IfOk result (λ found. IfSome found (λ w. (table_of w.table).schema ≡ schema_of schema.now)) }
+    ensures weight { IfOk result (λ found. IfSome found (λ w. w.weight ≡ table_weight (schema_of schema.now) (table_of w.table).rows)) }
+    ensures in_parts { IfOk result (λ found. IfSome found (λ w. is_in_parts w.table ≡ true)) }
+{
+    rows_of_texts_are_rows();
+    let Some(columns) = read_lines(alloc, schema, text)? else {
         return Ok(None);
     };
     let Columns { builders, read } = columns;

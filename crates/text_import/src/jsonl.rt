@@ -21,14 +21,15 @@ use cells::{Row, has_limits};
 use serde_json::Value;
 use std::alloc::{AllocError, Global};
 
-// The parts of a text before, between and behind its line feeds.
-fn parts_of(alloc: Global, text: &[u8]) -> Result<Vec<&[u8]>, AllocError>
+/// The lines of a text: its parts before, between and behind its line feeds. The last one is empty where the text ends with a line feed.
+pub fn split_lines(alloc: Global, text: &[u8]) -> Result<Vec<&[u8]>, AllocError>
     ensures { IfOk result (λ v. text_list v.items ≡ slice_split (λ b. b == 10) text.now) }
 {
     text.split(|byte| *byte == b'\n').collect(alloc)
 }
 
-fn is_blank(line: &[u8]) -> bool
+/// Whether a line has spaces, tabs and carriage returns alone.
+pub fn is_blank(line: &[u8]) -> bool
     ensures { result ≡ is_blank line.now }
 {
     for byte in line {
@@ -68,7 +69,7 @@ fn line_row(alloc: Global, schema: &Schema, limited: bool, line: &[u8]) -> Resul
 pub(crate) fn line_at(alloc: Global, text: &[u8], place: u64) -> Result<Option<&[u8]>, AllocError>
     ensures { IfOk result (λ line. option_map (λ t. t.now) line ≡ slice_get (lines_of text.now) place) }
 {
-    let parts = parts_of(alloc, text)?;
+    let parts = split_lines(alloc, text)?;
     let mut before = place;
     for line in &parts {
         if is_blank(line) {
@@ -112,6 +113,6 @@ fn line_rows(alloc: Global, schema: &Schema, lines: &[&[u8]]) -> Result<Vec<Row>
 pub fn jsonl_rows(alloc: Global, schema: &Schema, text: &[u8]) -> Result<Vec<Row>, TextError>
     ensures exact { Gives refused_by (λ v. map row_of v.items) result (jsonl_rows_of (schema_of schema.now) text.now) }
 {
-    let parts = parts_of(alloc, text)?;
+    let parts = split_lines(alloc, text)?;
     line_rows(alloc, schema, &parts)
 }

@@ -1,0 +1,436 @@
+-- Rows of lines of JSON that come behind others, by the buffers of their columns.
+use Rattle.std.specs.Borrow.{Bor}
+use Rattle.std.specs.Str.{is_utf8}
+use Rattle.std.specs.Cmp.Lexicographic.{slice_cmp}
+use Rattle.std.specs.Ordering.{match_ordering, nat_cmp}
+use Rattle.std.specs.Prelude.{Option, Some, None, Ok, Err, Result, IfOk, IfSome, slice_get, get_or, bytes_eq, not, nat_lt, ◌||◌, filter, is_some, MatchOption, option_map, if◌then◌else◌}
+use Rattle.std.proofs.Common.{Ordering, Less, Equal, Greater, ◌≡◌, ℕ, zero, suc, ◌+◌, ◌-◌, ◌≤◌, ◌<◌, Bool, true, false, List, [], ◌∷◌, ◌++◌, length, take, drop, set, map, refl, arith, ap, sym, subst, ◌∙◌, inl, inr, length-append}
+use Rattle.std.proofs.lemmas.Bool.{cases_lt, false≢true, le-ltb, or_from}
+use Rattle.std.proofs.lemmas.List.{drop_more}
+use Rattle.std.proofs.lemmas.List.Sums.{sum_by-append}
+use Rattle.std.proofs.lemmas.Option.{slice_get_within}
+use Rattle.std.proofs.lemmas.Slice.Eq.{bytes_eq-Decides}
+use Rattle.json.specs.Token.{Token}
+use Rattle.json.specs.Token as tokens
+use Rattle.json.specs.Json.{members, parse_map, read_key, value}
+use Rattle.json.specs.Lex.{tokens as tokens_of}
+use Rattle.json.proofs.Grammar.{read_key-shorter, value_is, value-begin_object}
+use Rattle.serde_json.specs.Data.{Data, Members, no_members, member, object, put}
+use Rattle.serde_json.specs.Find.{get_member}
+use Rattle.serde_json.specs.Read.{converted, of_json, of_members, read}
+use Rattle.serde_json.proofs.Views.{get_member-put, get_member-put_other}
+use Rattle.arrow_schema.specs.Column.{Column, columns_of, no_column, PlainSchema}
+use Rattle.arrow_schema.specs.Parts.{name_of_column}
+use Rattle.text_import.specs.declared.refusal.Refusal.{Refusal}
+use Rattle.cells.specs.Cell.{Cell, Cells, null, cell_list, cells_of}
+use Rattle.cells.specs.Dictionary.{dictionaries_fit, is_any_limited}
+use Rattle.cells.specs.Weight.{parts_weight, row_weight, table_weight, weight}
+use Rattle.cells.specs.laws.Cells.{cells_listed}
+use Rattle.cells.specs.laws.Unlimited.{unlimited_fit}
+use Rattle.facts.specs.Texts.{text_list}
+use Rattle.text_import.specs.Objects.{cells_by_name, cells_in, has_name, has_unknown, is_blank, keys_of, line_row, line_value, names_of, repeats, value_row}
+use Rattle.text_import.specs.Refusals.{numbered}
+use Rattle.text_import.specs.Rows.{rows_from}
+use Rattle.text_import.specs.inner.Names.{text_where_utf8}
+use Rattle.text_import.specs.laws.Behind.{behind, behind_none, row_more, rows_end}
+use Rattle.text_import.proofs.ObjectLemmas.{name_more, names_end}
+use Rattle.text_import.proofs.RowLemmas.{cells_behind}
+use Rattle.text_columns.specs.declared.builder.ColumnBuilder.{ColumnBuilder}
+use Rattle.text_columns.specs.declared.records.RowsRead.{RowsRead}
+use Rattle.text_columns.specs.inner.Kept.{HasRows, KeepAll, Keeps, column_at}
+use Rattle.text_columns.specs.inner.Lines.{Completes, CompletesRow, HasKeptValue, HasNamedRow, HasValueRow, HoldMembers, HoldsMember, KeepsLine, KeepsObject, KeepsToken, PushesMember, PushesMembers, below, token_data}
+use Rattle.text_columns.proofs.MemberGrammar.{member_read, members_over, object_read, text_read}
+use Rattle.text_columns.proofs.Rows.{at_end, at_front, at_other, at_set, column_more, dropped_all, dropped_here, length_put, length_taken, none_weigh, parts_weigh, taken_all, taken_here, there_within, unlimited}
+
+some_same : {X : Type 0} {x y : X} → Some x ≡ Some y → x ≡ y
+some_same e = cc
+
+-- ---- names
+
+name_at : (cs : List Column) (j : ℕ) (c : Column) → slice_get cs j ≡ Some c → slice_get (names_of (columns_of cs)) j ≡ Some (name_of_column c)
+name_at [] j c e = absurd cc
+name_at (d ∷ cs) zero c e = (let same : d ≡ c = cc in rw same refl)
+name_at (d ∷ cs) (suc j) c e = name_at cs j c e
+
+has_here : (names : List (List ℕ)) (j : ℕ) (k : List ℕ) → slice_get names j ≡ Some k → has_name names k ≡ true
+has_here [] j k e = absurd cc
+has_here (n ∷ names) zero k e =
+    let same : n ≡ k = cc in
+    let equal : bytes_eq k n ≡ true = (bytes_eq-Decides k n).1 (sym same) in
+    rw equal refl
+has_here (n ∷ names) (suc j) k e = rw (has_here names j k e) (or_true (bytes_eq k n))
+  where
+    or_true : (b : Bool) → (b || true) ≡ true
+    or_true true = refl
+    or_true false = refl
+
+both_false : (a b : Bool) → (a || b) ≡ false → (a ≡ false) × (b ≡ false)
+both_false true b e = absurd (false≢true (sym e))
+both_false false b e = (refl, e)
+
+apart : (names : List (List ℕ)) (i j : ℕ) (a b : List ℕ) → repeats names ≡ false → slice_get names i ≡ Some a → slice_get names j ≡ Some b → (i ≡ j → ⊥) → a ≡ b → ⊥
+apart [] i j a b e ea eb ne same = absurd cc
+apart (n ∷ names) zero zero a b e ea eb ne same = ne refl
+apart (n ∷ names) zero (suc j) a b e ea eb ne same =
+    let none = (both_false (has_name names n) (repeats names) e).0 in
+    let first : n ≡ a = cc in
+    let there = has_here names j n (eb ∙ ap Some (sym same ∙ sym first)) in
+    false≢true (sym none ∙ there)
+apart (n ∷ names) (suc i) zero a b e ea eb ne same =
+    let none = (both_false (has_name names n) (repeats names) e).0 in
+    let first : n ≡ b = cc in
+    let there = has_here names i n (ea ∙ ap Some (same ∙ sym first)) in
+    false≢true (sym none ∙ there)
+apart (n ∷ names) (suc i) (suc j) a b e ea eb ne same = apart names i j a b (both_false (has_name names n) (repeats names) e).1 ea eb (λ x. ne (ap suc x)) same
+
+-- a key that is known is so among others
+known_put_at : (names : List (List ℕ)) (o : Ordering) (k l : List ℕ) (d e : Data) (ms : Members) → has_name names k ≡ true → has_unknown names (l ∷ keys_of ms) ≡ false
+    → has_unknown names (keys_of (put k d ms)) ≡ false → has_unknown names (keys_of (match_ordering o (member k d (member l e ms)) (member l d ms) (member l e (put k d ms)))) ≡ false
+known_put_at names Less k l d e ms known all later = rw known all
+known_put_at names Equal k l d e ms known all later = all
+known_put_at names Greater k l d e ms known all later = or_from _ _ (both_false (not (has_name names l)) (has_unknown names (keys_of ms)) all).0 later
+
+known_put : (names : List (List ℕ)) (k : List ℕ) (d : Data) (ms : Members) → has_name names k ≡ true → has_unknown names (keys_of ms) ≡ false → has_unknown names (keys_of (put k d ms)) ≡ false
+known_put names k d no_members known all = rw known refl
+known_put names k d (member l e ms) known all =
+    known_put_at names (slice_cmp nat_cmp k l) k l d e ms known all (known_put names k d ms known (both_false (not (has_name names l)) (has_unknown names (keys_of ms)) all).1)
+
+-- ---- one more member
+
+free_found : (c : Column) (so : List Cell) (o : Option Data) (b : ColumnBuilder) → HoldsMember c so o None b → Keeps c so b
+free_found c so None b h = h
+free_found c so (Some d) b h = absurd h
+
+member_held : (cs : List Column) (rows : List (List Cell)) (found : Members) (k : List ℕ) (d : Data) (place : ℕ) (old new : List Token) (ws ws2 : List (Option ℕ)) (bs bs2 : List ColumnBuilder)
+    → repeats (names_of (columns_of cs)) ≡ false → slice_get (names_of (columns_of cs)) place ≡ Some k → (p : PushesMember place old new ws ws2 bs bs2) → p.keeps.data_is ≡ d
+    → HoldMembers cs rows found ws bs → HoldMembers cs rows (put k d found) ws2 bs2
+member_held cs rows found k d place old new ws ws2 bs bs2 distinct named p same_data h = rw (p.kept, p.pushed) (record {
+  count = length_put bs place p.behind ∙ h.count;
+  counted = length_put ws place (Some p.heavy) ∙ h.counted;
+  each = λ j c b w dc db dw. elim (cases_lt j place) [
+    | inl before ↦ other j c b w dc db dw (λ e. omega arith)
+    | inr from ↦ elim (cases_lt place j) [
+      | inl after ↦ other j c b w dc db dw (λ e. omega arith)
+      | inr up ↦ own j c b w dc db dw (omega arith)
+    ]
+  ];
+})
+  where
+    other : (j : ℕ) (c : Column) (b : ColumnBuilder) (w : Option ℕ) → slice_get cs j ≡ Some c → slice_get (set bs place p.behind) j ≡ Some b → slice_get (set ws place (Some p.heavy)) j ≡ Some w
+        → (place ≡ j → ⊥) → HoldsMember c (column_at j rows) (get_member (name_of_column c) (put k d found)) w b
+    other j c b w dc db dw ne =
+        let names_differ : name_of_column c ≡ k → ⊥ = apart (names_of (columns_of cs)) j place (name_of_column c) k distinct (name_at cs j c dc) named (λ e. ne (sym e)) in
+        let same = get_member-put_other (name_of_column c) k d found names_differ in
+        let builder = sym (at_other bs place j p.behind ne) ∙ db in
+        let kept = sym (at_other ws place j (Some p.heavy) ne) ∙ dw in
+        subst (λ (o : Option Data). HoldsMember c (column_at j rows) o w b) (sym same) (h.each j c b w dc builder kept)
+
+    own : (j : ℕ) (c : Column) (b : ColumnBuilder) (w : Option ℕ) → slice_get cs j ≡ Some c → slice_get (set bs place p.behind) j ≡ Some b → slice_get (set ws place (Some p.heavy)) j ≡ Some w
+        → j ≡ place → HoldsMember c (column_at j rows) (get_member (name_of_column c) (put k d found)) w b
+    own j c b w dc db dw is =
+        let here : slice_get cs place ≡ Some c = subst (λ (n : ℕ). slice_get cs n ≡ Some c) is dc in
+        let name : name_of_column c ≡ k = some_same (sym (name_at cs place c here) ∙ named) in
+        let builder : p.behind ≡ b = some_same (sym (at_set bs place p.behind (slice_get_within bs place p.before p.here)) ∙ subst (λ (n : ℕ). slice_get (set bs place p.behind) n ≡ Some b) is db) in
+        let kept : Some p.heavy ≡ w = some_same (sym (at_set ws place (Some p.heavy) (slice_get_within ws place None p.free)) ∙ subst (λ (n : ℕ). slice_get (set ws place (Some p.heavy)) n ≡ Some w) is dw) in
+        let before = free_found c (column_at place rows) (get_member (name_of_column c) found) p.before (h.each place c p.before None here p.here p.free) in
+        let value : HasKeptValue c d p.heavy (column_at place rows) p.behind = subst (λ (x : Data). HasKeptValue c x p.heavy (column_at place rows) p.behind) same_data (p.keeps.keeps c (column_at place rows) before) in
+        rw (is, name, get_member-put k d found, ← builder, ← kept) value
+
+-- ---- the members of an object, one after another
+
+token_read : (depth : ℕ) (t : Token) (r : List Token) (d : Data) → token_data t ≡ Some d → converted of_json (value depth (t ∷ r)) ≡ Some (d, r)
+token_read depth tokens.begin_object r d e = absurd cc
+token_read depth tokens.end_object r d e = absurd cc
+token_read depth tokens.begin_array r d e = absurd cc
+token_read depth tokens.end_array r d e = absurd cc
+token_read depth (tokens.key s) r d e = absurd cc
+token_read depth (tokens.string s) r d e = ap (converted of_json) (value_is depth (tokens.string s ∷ r)) ∙ ap (λ (o : Option Data). option_map {U = Data × List Token} (λ x. (x, r)) o) e
+token_read depth (tokens.number s) r d e = ap (converted of_json) (value_is depth (tokens.number s ∷ r)) ∙ ap (λ (o : Option Data). option_map {U = Data × List Token} (λ x. (x, r)) o) e
+token_read depth (tokens.boolean b) r d e = ap (converted of_json) (value_is depth (tokens.boolean b ∷ r)) ∙ ap (λ (o : Option Data). option_map {U = Data × List Token} (λ x. (x, r)) o) e
+token_read depth tokens.null r d e = ap (converted of_json) (value_is depth (tokens.null ∷ r)) ∙ ap (λ (o : Option Data). option_map {U = Data × List Token} (λ x. (x, r)) o) e
+token_read depth tokens.bad r d e = absurd cc
+
+-- some members were read, and the others follow
+pub record MembersRead (names : List (List ℕ)) (all left : List Token) (ws0 ws : List (Option ℕ)) (bs0 bs : List ColumnBuilder) : Type 0 where
+  pub found : Members
+  pub turns : ℕ
+  pub enough : length left ≤ turns
+  pub read : converted (λ ms. of_members ms no_members) (members (value below) (length all) all) ≡ converted (λ ms. of_members ms found) (members (value below) turns left)
+  pub known : has_unknown names (keys_of found) ≡ false
+  pub each : (cs : List Column) (rows : List (List Cell)) → names_of (columns_of cs) ≡ names → HoldMembers cs rows no_members ws0 bs0 → HoldMembers cs rows found ws bs
+
+pub members_none : (names : List (List ℕ)) (all : List Token) (ws : List (Option ℕ)) (bs : List ColumnBuilder) → MembersRead names all all ws ws bs bs
+members_none names all ws bs = record { found = no_members; turns = length all; enough = omega arith; read = refl; known = refl; each = λ cs rows e h. h }
+
+pub members_more : (names : List (List ℕ)) (all left behind_key new : List Token) (k : List ℕ) (place : ℕ) (ws0 ws ws2 : List (Option ℕ)) (bs0 bs bs2 : List ColumnBuilder) → repeats names ≡ false
+    → read_key left ≡ Some (Some k, behind_key) → slice_get names place ≡ Some k → PushesMember place behind_key new ws ws2 bs bs2 → MembersRead names all left ws0 ws bs0 bs
+    → MembersRead names all new ws0 ws2 bs0 bs2
+members_more names all left behind_key new k place ws0 ws ws2 bs0 bs bs2 distinct key named p m =
+    let d = p.keeps.data_is in
+    let less = read_key-shorter left (Some k) behind_key key in
+    let one : length behind_key ≡ suc (length new) = ap length p.read in
+    let some : 0 < m.turns = omega (arith, less, m.enough) in
+    let one_value : converted of_json (value below behind_key) ≡ Some (d, new) = ap (λ (ts : List Token). converted of_json (value below ts)) p.read ∙ token_read below p.token new d p.keeps.read in
+    record {
+      found = put k d m.found;
+      turns = m.turns - 1;
+      enough = omega (arith, less, m.enough, one);
+      read = m.read ∙ member_read (value below) m.found m.turns k left behind_key new d some key one_value;
+      known = known_put names k d m.found (has_here names place k named) m.known;
+      each = λ cs rows e h.
+          member_held cs rows m.found k d place behind_key new ws ws2 bs bs2 (rw e distinct) (rw e named) p refl (m.each cs rows e h);
+    }
+
+pub members_all : (names : List (List ℕ)) (all left new : List Token) (ws0 ws : List (Option ℕ)) (bs0 bs : List ColumnBuilder) → read_key left ≡ Some (None, new)
+    → MembersRead names all left ws0 ws bs0 bs → PushesMembers names all new ws0 ws bs0 bs
+members_all names all left new ws0 ws bs0 bs key m = record {
+  found = m.found;
+  read = m.read ∙ members_over (value below) m.found m.turns left new m.enough key;
+  known = m.known;
+  each = m.each;
+}
+
+-- ---- a row of members
+
+-- the first columns have a cell of this row, and the others that of their member, where there is one
+pub record NamedHalf (cs : List Column) (found : Members) (rows : List (List Cell)) (i heavy : ℕ) (ws : List (Option ℕ)) (bs : List ColumnBuilder) : Type 0 where
+  pub row : List Cell
+  pub len : length row ≡ i
+  pub read : cells_behind row (cells_by_name (columns_of (drop i cs)) found) ≡ cells_by_name (columns_of cs) found
+  pub weighs : 1 + parts_weight (columns_of (take i cs)) (cells_of row) ≡ heavy
+  pub count : length bs ≡ length cs
+  pub counted : length ws ≡ length cs
+  pub done : (j : ℕ) (c : Column) (b : ColumnBuilder) → j < i → slice_get cs j ≡ Some c → slice_get bs j ≡ Some b → Keeps c (column_at j rows ++ get_or row j null ∷ []) b
+  pub rest : (j : ℕ) (c : Column) (b : ColumnBuilder) (w : Option ℕ) → i ≤ j → slice_get cs j ≡ Some c → slice_get bs j ≡ Some b → slice_get ws j ≡ Some w
+      → HoldsMember c (column_at j rows) (get_member (name_of_column c) found) w b
+
+none_behind : (r : Result Cells Refusal) → cells_behind [] r ≡ r
+none_behind (Ok cells) = refl
+none_behind (Err e) = refl
+
+pub named_none : (cs : List Column) (found : Members) (rows : List (List Cell)) (ws : List (Option ℕ)) (bs : List ColumnBuilder) → HoldMembers cs rows found ws bs → NamedHalf cs found rows 0 1 ws bs
+named_none cs found rows ws bs h = record {
+  row = [];
+  len = refl;
+  read = none_behind (cells_by_name (columns_of cs) found);
+  weighs = none_weigh [];
+  count = h.count;
+  counted = h.counted;
+  done = λ j c b lt. absurd (omega arith);
+  rest = λ j c b w le. h.each j c b w;
+}
+
+pub named_more : (cs : List Column) (found : Members) (rows : List (List Cell)) (i heavy more : ℕ) (w : Option ℕ) (ws : List (Option ℕ)) (bs : List ColumnBuilder) (old new : ColumnBuilder)
+    → slice_get bs i ≡ Some old → slice_get ws i ≡ Some w → Completes w more old new → NamedHalf cs found rows i heavy ws bs → NamedHalf cs found rows (i + 1) (heavy + more) ws (set bs i new)
+named_more cs found rows i heavy more w ws bs old new here weighed completes h =
+    let within : i < length bs = slice_get_within bs i old here in
+    let (c, col) = there_within cs i (omega (arith, within, h.count)) in
+    let k = completes c (column_at i rows) (get_member (name_of_column c) found) (h.rest i c old w (omega arith) col here weighed) in
+    let one : i + 1 ≡ suc i = omega arith in
+    let fields : drop i cs ≡ c ∷ drop (suc i) cs = dropped_here cs i c col in
+    let short : length h.row ≡ length (take i cs) = h.len ∙ sym (length_taken cs i (omega (arith, within, h.count))) in
+    let heavier = parts_weigh (take i cs) h.row c k.kept short in
+    record {
+      row = h.row ++ k.kept ∷ [];
+      len = length-append h.row (k.kept ∷ []) ∙ ap (λ (n : ℕ). n + 1) h.len;
+      read = rw one (sym (name_more h.row c (columns_of (drop (suc i) cs)) found k.kept k.read) ∙ rw fields at h.read);
+      weighs = rw (one, taken_here cs i c col) (omega (arith, heavier, h.weighs, k.weighs));
+      count = length_put bs i new ∙ h.count;
+      counted = h.counted;
+      done = λ j d b lt dc db. elim (cases_lt j i) [
+        | inl before ↦
+            let same = at_other bs i j new (λ e. omega arith) in
+            let front = at_front h.row k.kept null j (omega (arith, h.len, before)) in
+            subst (λ (x : Cell). Keeps d (column_at j rows ++ x ∷ []) b) (sym front) (h.done j d b before dc (sym same ∙ db))
+        | inr after ↦
+            let is : j ≡ i = omega arith in
+            let put_here = at_set bs i new within in
+            let is_new : new ≡ b = some_same (sym put_here ∙ subst (λ (n : ℕ). slice_get (set bs i new) n ≡ Some b) is db) in
+            let is_own : c ≡ d = some_same (sym col ∙ subst (λ (n : ℕ). slice_get cs n ≡ Some d) is dc) in
+            let end : get_or (h.row ++ k.kept ∷ []) j null ≡ k.kept = at_end h.row k.kept null j (is ∙ sym h.len) in
+            rw (end, is, ← is_new, ← is_own) k.keeps
+      ];
+      rest = λ j d b v le dc db dv.
+          let same = at_other bs i j new (λ e. omega arith) in
+          h.rest j d b v (omega (arith, le)) dc (sym same ∙ db) dv;
+    }
+
+pub named_all : (cs : List Column) (found : Members) (rows : List (List Cell)) (i heavy : ℕ) (ws : List (Option ℕ)) (bs : List ColumnBuilder) → length bs ≤ i
+    → NamedHalf cs found rows i heavy ws bs → HasNamedRow cs found heavy rows bs
+named_all cs found rows i heavy ws bs le h =
+    let none : drop i cs ≡ [] = dropped_all cs i (omega (arith, le, h.count)) in
+    let all : take i cs ≡ cs = taken_all cs i (omega (arith, le, h.count)) in
+    record {
+      row = h.row;
+      read = sym (rw none at h.read) ∙ names_end h.row found;
+      weighs = rw all at h.weighs;
+      keeps = record {
+        count = h.count;
+        each = λ j c b dc db.
+            let lt : j < length bs = slice_get_within bs j b db in
+            subst (λ (xs : List Cell). Keeps c xs b) (sym (column_more j rows h.row)) (h.done j c b (omega (arith, lt, le)) dc db);
+      };
+    }
+
+-- ---- the object of a line
+
+-- no member was read yet
+pub hold_none : (cs : List Column) (rows : List (List Cell)) (ws : List (Option ℕ)) (bs : List ColumnBuilder) → length ws ≡ length bs
+    → ((j : ℕ) (w : Option ℕ) → slice_get ws j ≡ Some w → w ≡ None) → KeepAll cs rows bs → HoldMembers cs rows no_members ws bs
+hold_none cs rows ws bs size none k = record {
+  count = k.count;
+  counted = size ∙ k.count;
+  each = λ j c b w dc db dw. rw (none j w dw) (k.each j c b dc db);
+}
+
+pub none_more : (ws : List (Option ℕ)) (i j : ℕ) (w : Option ℕ) → i < length ws → ((k : ℕ) (v : Option ℕ) → k < i → slice_get ws k ≡ Some v → v ≡ None) → j < i + 1 → slice_get (set ws i None) j ≡ Some w → w ≡ None
+none_more ws i j w within none lt e = elim (cases_lt j i) [
+  | inl before ↦ none j w before (sym (at_other ws i j None (λ x. omega arith)) ∙ e)
+  | inr after ↦
+      let is : j ≡ i = omega arith in
+      sym (some_same (sym (at_set ws i None within) ∙ subst (λ (n : ℕ). slice_get (set ws i None) n ≡ Some w) is e))
+]
+
+pub object_kept : (names : List (List ℕ)) (all inside rest : List Token) (heavy : ℕ) (ws ws2 : List (Option ℕ)) (bs bs2 bs3 : List ColumnBuilder) → all ≡ tokens.begin_object ∷ inside → rest ≡ []
+    → repeats names ≡ false → length ws ≡ length bs → ((j : ℕ) (w : Option ℕ) → slice_get ws j ≡ Some w → w ≡ None) → PushesMembers names inside rest ws ws2 bs bs2 → CompletesRow ws2 heavy bs2 bs3 → KeepsObject names all heavy bs bs3
+object_kept names all inside rest heavy ws ws2 bs bs2 bs3 opens ends distinct size none m completes =
+    let one = value-begin_object 127 inside (omega arith) in
+    let whole : converted of_json (value 127 all) ≡ Some (object m.found, []) =
+    ap (λ (ts : List Token). converted of_json (value 127 ts)) opens
+    ∙ ap (converted of_json) one
+    ∙ object_read (members (value below) (length inside) inside)
+    ∙ ap (parse_map object) (m.read ∙ ap (λ (ts : List Token). Some (m.found, ts)) ends) in
+    record {
+      data_is = object m.found;
+      read = whole;
+      keeps = λ cs rows e k.
+          let h = completes cs rows m.found (m.each cs rows e (hold_none cs rows ws bs size none k)) in
+          let own : repeats (names_of (columns_of cs)) ≡ false = rw e distinct in
+          let known : has_unknown (names_of (columns_of cs)) (keys_of m.found) ≡ false = rw e m.known in
+          record {
+            row = h.row;
+            read = rw (own, known) h.read;
+            weighs = h.weighs;
+            keeps = h.keeps;
+          };
+    }
+
+-- ---- the rows of lines
+
+-- the lines that are no blanks
+abbrev pub filled : List (Bor (List ℕ)) → List (List ℕ)
+filled lines = filter (λ line. not (is_blank line)) (text_list lines)
+
+-- some lines have come as rows, and the others are left
+pub record LinesRead (s : PlainSchema) (lines left : List (Bor (List ℕ))) (i heavy : ℕ) (bs : List ColumnBuilder) : Type 0 where
+  pub rows : List (List Cell)
+  pub read : behind rows (rows_from (line_row s) (i + 1) (filled left)) ≡ rows_from (line_row s) 1 (filled lines)
+  pub count : length rows ≡ i
+  pub weighs : table_weight s rows ≡ heavy
+  pub keeps : KeepAll s.columns rows bs
+
+pub lines_none : (s : PlainSchema) (lines : List (Bor (List ℕ))) (bs : List ColumnBuilder) → KeepAll s.columns [] bs → LinesRead s lines lines 0 0 bs
+lines_none s lines bs k = record { rows = []; read = behind_none _; count = refl; weighs = refl; keeps = k }
+
+filled_at : (line : Bor (List ℕ)) (lines : List (Bor (List ℕ))) → is_blank line.now ≡ false → filled (line ∷ lines) ≡ line.now ∷ filled lines
+filled_at line lines e = rw e refl
+
+skipped_at : (line : Bor (List ℕ)) (lines : List (Bor (List ℕ))) → is_blank line.now ≡ true → filled (line ∷ lines) ≡ filled lines
+skipped_at line lines e = rw e refl
+
+pub lines_skipped : (s : PlainSchema) (lines : List (Bor (List ℕ))) (n i heavy : ℕ) (line : Bor (List ℕ)) (bs : List ColumnBuilder) → drop n lines ≡ line ∷ drop (n + 1) lines → is_blank line.now ≡ true
+    → LinesRead s lines (drop n lines) i heavy bs → LinesRead s lines (drop (n + 1) lines) i heavy bs
+lines_skipped s lines n i heavy line bs here blank h = record {
+  rows = h.rows;
+  read = ap (λ (xs : List (List ℕ)). behind h.rows (rows_from (line_row s) (i + 1) xs)) (sym (ap filled here ∙ skipped_at line (drop (n + 1) lines) blank)) ∙ h.read;
+  count = h.count;
+  weighs = h.weighs;
+  keeps = h.keeps;
+}
+
+-- a row that is not too heavy is accepted
+line_accepted : (s : PlainSchema) (line : List ℕ) (d : Data) (row : List Cell) (heavy : ℕ) → line_value line ≡ Ok d → cells_in (columns_of s.columns) d ≡ Ok (cells_of row)
+    → 1 + parts_weight (columns_of s.columns) (cells_of row) ≡ heavy → heavy ≤ 16777216 → is_any_limited (columns_of s.columns) ≡ false → line_row s line ≡ Ok row
+line_accepted s line d row heavy value cells weighs few free =
+    let light : nat_lt 16777216 (row_weight s row) ≡ false = le-ltb _ _ (omega (arith, weighs, few)) in
+    let full : dictionaries_fit s (row ∷ []) ≡ true = unlimited_fit s (row ∷ []) free in
+    rw (value, cells, cells_listed row, light, full) refl
+
+pub lines_more : (s : PlainSchema) (names : List (List ℕ)) (lines : List (Bor (List ℕ))) (n i heavy more : ℕ) (line : Bor (List ℕ)) (bs bs2 : List ColumnBuilder) → drop n lines ≡ line ∷ drop (n + 1) lines
+    → is_blank line.now ≡ false → names_of (columns_of s.columns) ≡ names → more ≤ 16777216 → KeepsLine names line.now more bs bs2
+    → LinesRead s lines (drop n lines) i heavy bs → LinesRead s lines (drop (n + 1) lines) (i + 1) (heavy + more) bs2
+lines_more s names lines n i heavy more line bs bs2 here blank named few keeps h =
+    let v = keeps.keeps s.columns h.rows named h.keeps in
+    let free = unlimited s.columns h.rows bs h.keeps in
+    let row = line_accepted s line.now keeps.data_is v.row more keeps.read v.read v.weighs few free in
+    let given : numbered (i + 1) (line_row s line.now) ≡ Ok v.row = rw row refl in
+    let left = ap filled here ∙ filled_at line (drop (n + 1) lines) blank in
+    let joined = sum_by-append (row_weight s) h.rows (v.row ∷ []) in
+    record {
+      rows = h.rows ++ v.row ∷ [];
+      read = sym (row_more (line_row s) (i + 1) h.rows line.now (filled (drop (n + 1) lines)) v.row given)
+          ∙ ap (λ (xs : List (List ℕ)). behind h.rows (rows_from (line_row s) (i + 1) xs)) (sym left) ∙ h.read;
+      count = length-append h.rows (v.row ∷ []) ∙ ap (λ (m : ℕ). m + 1) h.count;
+      weighs = omega (arith, joined, h.weighs, v.weighs);
+      keeps = v.keeps;
+    }
+
+pub lines_all : (s : PlainSchema) (lines : List (Bor (List ℕ))) (n i heavy : ℕ) (bs : List ColumnBuilder) (read : RowsRead) → drop n lines ≡ [] → heavy ≤ 268435456 → read.rows ≡ i → read.weight ≡ heavy
+    → LinesRead s lines (drop n lines) i heavy bs → HasRows s (rows_from (line_row s) 1 (filled lines)) read bs
+lines_all s lines n i heavy bs read none few rows weight h = record {
+  rows = h.rows;
+  are_read = sym (rw none at h.read) ∙ rows_end (line_row s) (i + 1) h.rows;
+  count = h.count ∙ sym rows;
+  weighs = h.weighs ∙ sym weight;
+  few = rw weight few;
+  keeps = h.keeps;
+}
+
+-- ---- names as the code keeps them
+
+text_at : (keys : List (Bor (List ℕ))) (i : ℕ) (t : Bor (List ℕ)) → slice_get keys i ≡ Some t → slice_get (text_list keys) i ≡ Some t.now
+text_at [] i t e = absurd cc
+text_at (k ∷ keys) zero t e = ap (λ (b : Bor (List ℕ)). Some b.now) (some_same e)
+text_at (k ∷ keys) (suc i) t e = text_at keys i t e
+
+pub stands : (keys : List (Bor (List ℕ))) (i : ℕ) (t : Bor (List ℕ)) (name : List ℕ) → slice_get keys i ≡ Some t → bytes_eq t.now name ≡ true → slice_get (text_list keys) i ≡ Some name
+stands keys i t name e same = text_at keys i t e ∙ ap Some ((bytes_eq-Decides t.now name).0 same)
+
+-- ---- what a call tells, where it appended the row
+
+pub object_step : {E : Type 0} (names : List (List ℕ)) (all inside rest : List Token) (ws ws2 : List (Option ℕ)) (bs bs2 bs3 : List ColumnBuilder) (r : Result (Option ℕ) E) → all ≡ tokens.begin_object ∷ inside
+    → rest ≡ [] → repeats names ≡ false → length ws ≡ length bs → ((j : ℕ) (w : Option ℕ) → slice_get ws j ≡ Some w → w ≡ None) → PushesMembers names inside rest ws ws2 bs bs2
+    → IfOk r (λ taken. IfSome taken (λ heavy. CompletesRow ws2 heavy bs2 bs3)) → IfOk r (λ taken. IfSome taken (λ heavy. KeepsObject names all heavy bs bs3))
+object_step names all inside rest ws ws2 bs bs2 bs3 (Err e) opens ends distinct size none m h = tt
+object_step names all inside rest ws ws2 bs bs2 bs3 (Ok None) opens ends distinct size none m h = tt
+object_step names all inside rest ws ws2 bs bs2 bs3 (Ok (Some heavy)) opens ends distinct size none m h = object_kept names all inside rest heavy ws ws2 bs bs2 bs3 opens ends distinct size none m h
+
+utf8_text : (t line : List ℕ) → Some t ≡ text_where_utf8 line → (is_utf8 line ≡ true) × (t ≡ line)
+utf8_text t line e = by (is_utf8 line) refl e
+  where
+    by : (b : Bool) → is_utf8 line ≡ b → Some t ≡ (if b then Some line else None) → (is_utf8 line ≡ true) × (t ≡ line)
+    by true is h = (is, some_same h)
+    by false is h = absurd cc
+
+line_kept : (names : List (List ℕ)) (t line : List ℕ) (heavy : ℕ) (bs bs2 : List ColumnBuilder) → Some t ≡ text_where_utf8 line → KeepsObject names (tokens_of t) heavy bs bs2 → KeepsLine names line heavy bs bs2
+line_kept names t line heavy bs bs2 text k =
+    let (utf8, same) = utf8_text t line text in
+    let one = text_read t k.data_is k.read in
+    let own : read line ≡ Some k.data_is = subst (λ (x : List ℕ). read x ≡ Some k.data_is) same one in
+    record { data_is = k.data_is; read = rw (utf8, own) refl; keeps = k.keeps }
+
+pub line_step : {E : Type 0} (names : List (List ℕ)) (t line : List ℕ) (bs bs2 : List ColumnBuilder) (r : Result (Option ℕ) E) → Some t ≡ text_where_utf8 line
+    → IfOk r (λ taken. IfSome taken (λ heavy. KeepsObject names (tokens_of t) heavy bs bs2)) → IfOk r (λ taken. IfSome taken (λ heavy. KeepsLine names line heavy bs bs2))
+line_step names t line bs bs2 (Err e) text h = tt
+line_step names t line bs bs2 (Ok None) text h = tt
+line_step names t line bs bs2 (Ok (Some heavy)) text h = line_kept names t line heavy bs bs2 text h
+
+pub free_at : (ws : List (Option ℕ)) (i : ℕ) (d : Option ℕ) → i < length ws → is_some (get_or ws i d) ≡ false → slice_get ws i ≡ Some None
+free_at [] i d lt e = absurd (omega arith)
+free_at (None ∷ ws) zero d lt e = refl
+free_at (Some w ∷ ws) zero d lt e = absurd (false≢true (sym e))
+free_at (w ∷ ws) (suc i) d lt e = free_at ws i d (omega arith) e
+
+pub none_next : {X : Type 0} (o : Option X) (P : Type 0) (Q : X → Type 0) → is_some o ≡ false → MatchOption o P Q → P
+none_next None P Q e h = h
+none_next (Some x) P Q e h = absurd (false≢true (sym e))

@@ -1,0 +1,208 @@
+-- Cells of JSON tokens that come behind others, by the buffers of their column.
+use Rattle.std.specs.Prelude.{ℤ, Option, Some, None, Ok, Err, Result, IfOk, IfSome, option_map, option_and_then}
+use Rattle.std.specs.Global.{Vec}
+use Rattle.std.specs.Str.{is_utf8}
+use Rattle.byteorder.specs.Endian.{little_bytes}
+use Rattle.columns.specs.Offsets.{width_of}
+use Rattle.std.proofs.Common.{◌≡◌, ℕ, ◌+◌, ◌/◌, Bool, true, false, List, [], ◌∷◌, ◌++◌, length, refl, ap, sym, ◌∙◌}
+use Rattle.json.specs.Token.{Token}
+use Rattle.json.specs.Token as tokens
+use Rattle.serde_json.specs.Data.{Data, Num}
+use Rattle.serde_json.specs.Data as json
+use Rattle.serde_json.specs.Find.{as_integer}
+use Rattle.serde_json.specs.Read.{number_of}
+use Rattle.arrow_schema.specs.Column.{Kind, Column, booleans, integers, dates, timestamps, texts, large_texts, column}
+use Rattle.arrow_schema.specs.Parts.{is_nullable_column}
+use Rattle.arrow_schema.specs.View.{bits_of}
+use Rattle.arrow_schema.specs.declared.types.IntegerType.{IntegerType}
+use Rattle.cells.specs.Cell.{Cell, null, boolean, number, text}
+use Rattle.cells.specs.Fit.{date_bits, fits_kind}
+use Rattle.cells.specs.Nulls.{is_there}
+use Rattle.cells.specs.Weight.{kind_weight, weight}
+use Rattle.columns.specs.Built.{integer_bytes, is_set}
+use Rattle.columns.specs.declared.numbers.OffsetWidth.{OffsetWidth}
+use Rattle.text_import.specs.Flat.{number_cell}
+use Rattle.text_import.specs.Objects.{cell_in, kind_in, null_or_in}
+use Rattle.text_import.specs.declared.refusal.Refusal.{Refusal}
+use Rattle.text_columns.specs.declared.column_values.Values.{Values}
+use Rattle.text_columns.specs.declared.column_values.Values.TheVariants.{Booleans, Integers, Texts}
+use Rattle.text_columns.specs.declared.builder.ColumnBuilder.{ColumnBuilder}
+use Rattle.text_columns.specs.inner.Kept.{AppendsInteger, Holds, IsOf, Keeps, TakesNull}
+use Rattle.text_columns.specs.inner.Lines.{AppendsBit, AppendsNumber, AppendsString, Completes, HasMember, HoldsMember, KeepsNull, KeepsToken, KeepsValue, TakesNumber, TakesToken, TakesValue, integer_in, token_data}
+use Rattle.text_columns.proofs.Taken.{dates_read, null_weighs, one_joined, one_mapped, texts_hold, times_read}
+
+-- ---- values of a type
+
+bit_taken : (b : Bool) (old new : Vec Bool) → new.items ≡ old.items ++ b ∷ [] → TakesValue (json.boolean b) 1 (Booleans old) (Booleans new)
+unfolding kind_in kind_weight
+bit_taken b old new e booleans so k = record {
+  taken = boolean b;
+  read = refl;
+  there = refl;
+  weighs = refl;
+  takes = record { kind_is = tt; holds = one_mapped is_set so (boolean b) old.items new.items k.holds e };
+}
+bit_taken b old new e _ so k = absurd k.kind_is
+
+number_holds : (i : IntegerType) (t : List ℕ) (old new : Vec ℕ) (so : List Cell) (a : TakesNumber i t old.items new.items) → Holds (Integers i old) so → Holds (Integers i new) (so ++ number a.spelled ∷ [])
+number_holds i t old new so a h = one_joined (integer_bytes (bits_of i.width / 8)) so (number a.spelled) old.items new.items h a.bytes
+
+number_taken : (i : IntegerType) (t : List ℕ) (old new : Vec ℕ) (a : TakesNumber i t old.items new.items) (n : Num) → as_integer n ≡ Some a.spelled → TakesValue (json.number n) 1 (Integers i old) (Integers i new)
+unfolding kind_in kind_weight
+number_taken i t old new a n e (integers bits signed) so k = record {
+  taken = number a.spelled;
+  read = rw e (rw (k.kind_is.0, k.kind_is.1) at a.fits);
+  there = refl;
+  weighs = refl;
+  takes = record { kind_is = k.kind_is; holds = number_holds i t old new so a k.holds };
+}
+number_taken i t old new a n e (dates unit) so k = record {
+  taken = number a.spelled;
+  read = rw e (dates_read unit (Some a.spelled) (number a.spelled) (rw (k.kind_is.0, k.kind_is.1) at a.fits));
+  there = refl;
+  weighs = refl;
+  takes = record { kind_is = k.kind_is; holds = number_holds i t old new so a k.holds };
+}
+number_taken i t old new a n e (timestamps unit timezone) so k = record {
+  taken = number a.spelled;
+  read = rw e (times_read unit timezone (Some a.spelled) (number a.spelled) (rw (k.kind_is.0, k.kind_is.1) at a.fits));
+  there = refl;
+  weighs = refl;
+  takes = record { kind_is = k.kind_is; holds = number_holds i t old new so a k.holds };
+}
+number_taken i t old new a n e _ so k = absurd k.kind_is
+
+string_taken : (width : OffsetWidth) (token : Token) (heavy : ℕ) (offsets contents newer longer : Vec ℕ) (a : AppendsString width token heavy offsets.items contents.items newer.items longer.items)
+    → TakesValue (json.string a.text) heavy (Texts width offsets contents) (Texts width newer longer)
+unfolding kind_in kind_weight fits_kind
+string_taken width token heavy offsets contents newer longer a texts so k = record {
+  taken = text a.text;
+  read = rw a.utf8 refl;
+  there = refl;
+  weighs = sym a.weighs;
+  takes = record { kind_is = k.kind_is; holds = texts_hold width so (text a.text) offsets contents newer longer k.holds a.more a.end };
+}
+string_taken width token heavy offsets contents newer longer a large_texts so k = record {
+  taken = text a.text;
+  read = rw a.utf8 refl;
+  there = refl;
+  weighs = sym a.weighs;
+  takes = record { kind_is = k.kind_is; holds = texts_hold width so (text a.text) offsets contents newer longer k.holds a.more a.end };
+}
+string_taken width token heavy offsets contents newer longer a _ so k = absurd k.kind_is
+
+-- ---- what a call tells, where it appended the cell
+
+pub bit_step : {E : Type 0} (t : Token) (old new : Vec Bool) (r : Result (Option ℕ) E) → IfOk r (λ taken. IfSome taken (λ heavy. (heavy ≡ 1) × AppendsBit t old.items new.items))
+    → IfOk r (λ taken. IfSome taken (λ heavy. TakesToken t heavy (Booleans old) (Booleans new)))
+bit_step t old new (Err e) h = tt
+bit_step t old new (Ok None) h = tt
+bit_step t old new (Ok (Some heavy)) h =
+    let a = h.1 in
+    rw h.0 (record { data_is = json.boolean a.bit; read = rw a.is refl; there = λ e. cc; takes = bit_taken a.bit old new a.bits })
+
+read_number : (o : Option Num) (z : ℤ) → option_and_then as_integer o ≡ Some z → (n : Num) × (o ≡ Some n) × (as_integer n ≡ Some z)
+read_number None z e = absurd cc
+read_number (Some n) z e = (n, refl, e)
+
+pub number_step : {E : Type 0} (i : IntegerType) (t : Token) (old new : Vec ℕ) (r : Result (Option ℕ) E)
+    → IfOk r (λ taken. IfSome taken (λ heavy. (heavy ≡ 1) × AppendsNumber i t old.items new.items))
+    → IfOk r (λ taken. IfSome taken (λ heavy. TakesToken t heavy (Integers i old) (Integers i new)))
+number_step i t old new (Err e) h = tt
+number_step i t old new (Ok None) h = tt
+number_step i t old new (Ok (Some heavy)) h =
+    let a = h.1 in
+    let (n, is, whole) = read_number (number_of a.text) a.takes.spelled a.takes.read in
+    rw h.0 (record { data_is = json.number n; read = ap token_data a.is ∙ ap (option_map json.number) is; there = λ e. cc; takes = number_taken i a.text old new a.takes n whole })
+
+pub string_appended : {E : Type 0} (width : OffsetWidth) (t : Token) (s offsets contents newer longer : List ℕ) (r : Result (Option ℕ) E) → t ≡ tokens.string s
+    → IfOk r (λ taken. IfSome taken (λ heavy. (heavy ≡ 1 + length s) × (is_utf8 s ≡ true) × (longer ≡ contents ++ s) × (newer ≡ offsets ++ little_bytes (width_of width) (length contents + length s))))
+    → IfOk r (λ taken. IfSome taken (λ heavy. AppendsString width t heavy offsets contents newer longer))
+string_appended width t s offsets contents newer longer (Err e) is h = tt
+string_appended width t s offsets contents newer longer (Ok None) is h = tt
+string_appended width t s offsets contents newer longer (Ok (Some heavy)) is h = record { text = s; is = is; weighs = h.0; utf8 = h.1; more = h.2; end = h.3 }
+
+pub number_appended : {E : Type 0} (i : IntegerType) (t : List ℕ) (n m : ℤ) (old new : List ℕ) (r : Result Bool E) → integer_in t ≡ Some n → m ≡ n
+    → IfOk r (λ pushed. pushed ≡ true → AppendsInteger (bits_of i.width) i.signed m old new) → IfOk r (λ pushed. pushed ≡ true → TakesNumber i t old new)
+unfolding fits_kind
+number_appended i t n m old new (Err e) is again h = tt
+number_appended i t n m old new (Ok pushed) is again h = λ yes. record { spelled = n; read = is; fits = rw (rw again at (h yes).0) refl; bytes = rw again at (h yes).1 }
+
+pub string_step : {E : Type 0} (width : OffsetWidth) (t : Token) (offsets contents newer longer : Vec ℕ) (r : Result (Option ℕ) E)
+    → IfOk r (λ taken. IfSome taken (λ heavy. AppendsString width t heavy offsets.items contents.items newer.items longer.items))
+    → IfOk r (λ taken. IfSome taken (λ heavy. TakesToken t heavy (Texts width offsets contents) (Texts width newer longer)))
+string_step width t offsets contents newer longer (Err e) h = tt
+string_step width t offsets contents newer longer (Ok None) h = tt
+string_step width t offsets contents newer longer (Ok (Some heavy)) h =
+    record { data_is = json.string h.text; read = rw h.is refl; there = λ e. cc; takes = string_taken width t heavy offsets contents newer longer h }
+
+-- ---- cells of a column
+
+pub null_behind : (old new : ColumnBuilder) → old.nullable ≡ true → new.nullable ≡ old.nullable → new.valid.items ≡ old.valid.items ++ false ∷ [] → TakesNull old.values new.values → KeepsNull old new
+unfolding weight
+null_behind old new is same valid takes (column name nullable kind None pairs) so k = (
+  sym k.0 ∙ is,
+  null_weighs kind old.values k.2.kind_is,
+  (same ∙ k.0, one_mapped is_there so null old.valid.items new.valid.items k.1 valid, takes kind so k.2),
+)
+null_behind old new is same valid takes (column name nullable kind (Some index) pairs) so k = absurd k
+
+-- a value that is no null has the cell of its type
+not_null : (nullable : Bool) (f : Data → Result Cell Refusal) (d : Data) → (d ≡ json.null → ⊥) → null_or_in nullable f d ≡ f d
+not_null nullable f json.null other = absurd (other refl)
+not_null nullable f (json.boolean b) other = refl
+not_null nullable f (json.number n) other = refl
+not_null nullable f (json.string t) other = refl
+not_null nullable f (json.array ds) other = refl
+not_null nullable f (json.object ms) other = refl
+
+value_behind : (d : Data) (heavy : ℕ) (old new : ColumnBuilder) → (d ≡ json.null → ⊥) → new.nullable ≡ old.nullable → new.valid.items ≡ old.valid.items ++ true ∷ []
+    → TakesValue d heavy old.values new.values → KeepsValue d heavy old new
+unfolding cell_in weight
+value_behind d heavy old new other same valid takes (column name nullable kind None pairs) so k =
+    let h = takes kind so k.2 in
+    let there : old.valid.items ++ true ∷ [] ≡ old.valid.items ++ is_there h.taken ∷ [] = ap (λ (b : Bool). old.valid.items ++ b ∷ []) (sym h.there) in
+    record {
+      kept = h.taken;
+      read = not_null nullable (kind_in kind) d other ∙ h.read;
+      weighs = h.weighs;
+      keeps = (same ∙ k.0, one_mapped is_there so h.taken old.valid.items new.valid.items k.1 (valid ∙ there), h.takes);
+    }
+value_behind d heavy old new other same valid takes (column name nullable kind (Some index) pairs) so k = absurd k
+
+pub there_behind : (t : Token) (heavy : ℕ) (old new : ColumnBuilder) → new.nullable ≡ old.nullable → new.valid.items ≡ old.valid.items ++ true ∷ []
+    → TakesToken t heavy old.values new.values → KeepsToken t heavy old new
+there_behind t heavy old new same valid takes = record { data_is = takes.data_is; read = takes.read; keeps = value_behind takes.data_is heavy old new takes.there same valid takes.takes }
+
+null_read : (c : Column) → is_nullable_column c ≡ true → cell_in c json.null ≡ Ok null
+unfolding cell_in
+null_read (column name nullable kind dictionary pairs) e = rw e refl
+
+pub null_token : (old new : ColumnBuilder) → KeepsNull old new → KeepsToken tokens.null 1 old new
+null_token old new keeps = record {
+  data_is = json.null;
+  read = refl;
+  keeps = λ c so k. (let h = keeps c so k in record { kept = null; read = null_read c h.0; weighs = h.1; keeps = h.2 });
+}
+
+pub null_step : {E : Type 0} (t : Token) (old new : ColumnBuilder) (r : Result (Option ℕ) E) → t ≡ tokens.null → IfOk r (λ taken. IfSome taken (λ heavy. (heavy ≡ 1) × KeepsNull old new))
+    → IfOk r (λ taken. IfSome taken (λ heavy. KeepsToken t heavy old new))
+null_step t old new (Err e) is h = tt
+null_step t old new (Ok None) is h = tt
+null_step t old new (Ok (Some heavy)) is h = rw (is, h.0) (null_token old new h.1)
+
+-- ---- members
+
+pub member_kept : (heavy : ℕ) (b : ColumnBuilder) → Completes (Some heavy) heavy b b
+member_kept heavy b c so None h = absurd h
+member_kept heavy b c so (Some d) h = record { kept = h.kept; read = h.read; weighs = h.weighs; keeps = h.keeps }
+
+member_absent : (old new : ColumnBuilder) → KeepsNull old new → Completes None 1 old new
+member_absent old new keeps c so None h = (let k = keeps c so h in record { kept = null; read = rw k.0 refl; weighs = k.1; keeps = k.2 })
+member_absent old new keeps c so (Some d) h = absurd h
+
+pub absent_step : {E : Type 0} (old new : ColumnBuilder) (r : Result (Option ℕ) E) → IfOk r (λ taken. IfSome taken (λ heavy. (heavy ≡ 1) × KeepsNull old new))
+    → IfOk r (λ taken. IfSome taken (λ heavy. Completes None heavy old new))
+absent_step old new (Err e) h = tt
+absent_step old new (Ok None) h = tt
+absent_step old new (Ok (Some heavy)) h = rw h.0 (member_absent old new h.1)

@@ -1,0 +1,11 @@
+use Rattle.std.specs.Prelude.{Option, IfOk, IfSome}
+use Rattle.std.proofs.Common.{ℕ, sym, subst}
+use Rattle.text_columns.specs.inner.Lines.{Completes}
+use Rattle.text_columns.proofs.TokenCells.{absent_step, member_kept}
+use Rattle.text_columns.proofs.lines.complete.Goals as goal
+
+pub returns-in-Some : goal.returns-in-Some
+returns-in-Some c = rw c.in-Some.is (member_kept c.in-Some.heavy c.args.builder.now)
+
+pub returns-in-None : goal.returns-in-None
+returns-in-None c = rw c.in-None.is (absent_step c.args.builder.now c.push_null.new.self c.push_null.result c.push_null.ensures)

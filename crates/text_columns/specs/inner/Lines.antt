@@ -1,0 +1,200 @@
+-- What the tokens and lines of JSON leave in the buffers of columns.
+use Rattle.std.specs.Prelude.{◌≡◌, ◌≤◌, ◌+◌, ◌/◌, ◌++◌, ◌^◌, ℕ, ℤ, Bool, true, false, List, [], ◌∷◌, length, set, slice_get, Option, Some, None, option_map, option_and_then, Result, Ok}
+use Rattle.std.specs.Str.{is_utf8}
+use Rattle.byteorder.specs.Endian.{little_bytes}
+use Rattle.fast_float.specs.Text.{Parts}
+use Rattle.json.specs.Token.{Token}
+use Rattle.json.specs.Token as tokens
+use Rattle.json.specs.Json.{members, value}
+use Rattle.json.specs.Lex.{tokens as tokens_of}
+use Rattle.serde_json.specs.Data.{Data, null, boolean, number, string, object, Members, no_members}
+use Rattle.serde_json.specs.Find.{as_integer, get_member}
+use Rattle.serde_json.specs.Read.{converted, number_from, number_of, of_json, of_members}
+use Rattle.arrow_schema.specs.Column.{Kind, Column, column, columns_of, integers}
+use Rattle.arrow_schema.specs.Parts.{is_nullable_column, name_of_column}
+use Rattle.arrow_schema.specs.View.{bits_of}
+use Rattle.arrow_schema.specs.declared.types.IntegerType.{IntegerType}
+use Rattle.cells.specs.Cell as cells
+use Rattle.cells.specs.Cell.{Cell, cells_of}
+use Rattle.cells.specs.Nulls.{is_there}
+use Rattle.cells.specs.Weight.{kind_weight, parts_weight, weight}
+use Rattle.columns.specs.Built.{integer_bytes}
+use Rattle.columns.specs.Offsets.{width_of}
+use Rattle.columns.specs.declared.numbers.OffsetWidth.{OffsetWidth}
+use Rattle.text_import.specs.Flat.{number_cell}
+use Rattle.text_import.specs.Objects.{cell_in, cells_by_name, cells_in, has_unknown, keys_of, kind_in, line_value, member_in, names_of}
+use Rattle.text_columns.specs.declared.column_values.Values.{Values}
+use Rattle.text_columns.specs.declared.builder.ColumnBuilder.{ColumnBuilder}
+use Rattle.text_columns.specs.inner.Kept.{KeepAll, Keeps, Takes, column_at}
+
+-- ---- one value
+
+-- the integer that digits are, behind a sign or not
+abbrev pub integer_after : Bool → Parts → Option ℤ
+integer_after sign p = option_and_then as_integer (number_from sign p)
+
+-- the integer that a number is
+abbrev pub integer_in : List ℕ → Option ℤ
+integer_in t = option_and_then as_integer (number_of t)
+
+-- the value that a token is by itself
+abbrev pub token_data : Token → Option Data
+token_data tokens.begin_object = None
+token_data tokens.end_object = None
+token_data tokens.begin_array = None
+token_data tokens.end_array = None
+token_data (tokens.key s) = None
+token_data (tokens.string s) = Some (string s)
+token_data (tokens.number s) = option_map number (number_of s)
+token_data (tokens.boolean b) = Some (boolean b)
+token_data tokens.null = Some null
+token_data tokens.bad = None
+
+-- a token is a boolean, which comes behind others
+pub record AppendsBit (t : Token) (old new : List Bool) : Type 0 where
+  pub bit : Bool
+  pub is : t ≡ tokens.boolean bit
+  pub bits : new ≡ old ++ bit ∷ []
+
+-- the integer that a number is comes behind others, of a type
+pub record TakesNumber (integer : IntegerType) (text : List ℕ) (old new : List ℕ) : Type 0 where
+  pub spelled : ℤ
+  pub read : integer_in text ≡ Some spelled
+  pub fits : number_cell (integers (bits_of integer.width) integer.signed) (Some spelled) ≡ Ok (cells.number spelled)
+  pub bytes : new ≡ old ++ integer_bytes (bits_of integer.width / 8) (cells.number spelled)
+
+-- a token is such a number
+pub record AppendsNumber (integer : IntegerType) (t : Token) (old new : List ℕ) : Type 0 where
+  pub text : List ℕ
+  pub is : t ≡ tokens.number text
+  pub takes : TakesNumber integer text old new
+
+-- a token is a text, which comes behind others
+pub record AppendsString (width : OffsetWidth) (t : Token) (heavy : ℕ) (offsets contents newer longer : List ℕ) : Type 0 where
+  pub text : List ℕ
+  pub is : t ≡ tokens.string text
+  pub weighs : heavy ≡ 1 + length text
+  pub utf8 : is_utf8 text ≡ true
+  pub more : longer ≡ contents ++ text
+  pub end : newer ≡ offsets ++ little_bytes (width_of width) (length contents + length text)
+
+-- the cell of a value that weighs so much comes behind the cells of a type
+pub record HasTakenValue (kind : Kind) (d : Data) (heavy : ℕ) (so : List Cell) (new : Values) : Type 0 where
+  pub taken : Cell
+  pub read : kind_in kind d ≡ Ok taken
+  pub there : is_there taken ≡ true
+  pub weighs : kind_weight kind taken ≡ heavy
+  pub takes : Takes kind (so ++ taken ∷ []) new
+
+abbrev pub TakesValue : Data → ℕ → Values → Values → Type 0
+TakesValue d heavy old new = (kind : Kind) (so : List Cell) → Takes kind so old → HasTakenValue kind d heavy so new
+
+-- a token that is a value, and no null
+pub record TakesToken (t : Token) (heavy : ℕ) (old new : Values) : Type 0 where
+  pub data_is : Data
+  pub read : token_data t ≡ Some data_is
+  pub there : data_is ≡ null → ⊥
+  pub takes : TakesValue data_is heavy old new
+
+-- the cell of a value that weighs so much comes behind the cells of a column
+pub record HasKeptValue (c : Column) (d : Data) (heavy : ℕ) (so : List Cell) (new : ColumnBuilder) : Type 0 where
+  pub kept : Cell
+  pub read : cell_in c d ≡ Ok kept
+  pub weighs : weight c kept ≡ heavy
+  pub keeps : Keeps c (so ++ kept ∷ []) new
+
+abbrev pub KeepsValue : Data → ℕ → ColumnBuilder → ColumnBuilder → Type 0
+KeepsValue d heavy old new = (c : Column) (so : List Cell) → Keeps c so old → HasKeptValue c d heavy so new
+
+pub record KeepsToken (t : Token) (heavy : ℕ) (old new : ColumnBuilder) : Type 0 where
+  pub data_is : Data
+  pub read : token_data t ≡ Some data_is
+  pub keeps : KeepsValue data_is heavy old new
+
+-- a null comes behind the cells of a column that has nulls
+abbrev pub KeepsNull : ColumnBuilder → ColumnBuilder → Type 0
+KeepsNull old new = (c : Column) (so : List Cell) → Keeps c so old → (is_nullable_column c ≡ true) × (weight c cells.null ≡ 1) × Keeps c (so ++ cells.null ∷ []) new
+
+-- ---- the members of an object
+
+-- the value that a reader stands at comes behind the cells of the column at a place
+pub record PushesMember (place : ℕ) (old new : List Token) (weights weights2 : List (Option ℕ)) (bs bs2 : List ColumnBuilder) : Type 0 where
+  pub token : Token
+  pub heavy : ℕ
+  pub before : ColumnBuilder
+  pub behind : ColumnBuilder
+  pub read : old ≡ token ∷ new
+  pub free : slice_get weights place ≡ Some None
+  pub here : slice_get bs place ≡ Some before
+  pub keeps : KeepsToken token heavy before behind
+  pub kept : weights2 ≡ set weights place (Some heavy)
+  pub pushed : bs2 ≡ set bs place behind
+
+-- what a column holds once some members of an object were read: the cell of its member, where there was one
+abbrev pub HoldsMember : Column → List Cell → Option Data → Option ℕ → ColumnBuilder → Type 0
+HoldsMember c so None None b = Keeps c so b
+HoldsMember c so (Some d) (Some heavy) b = HasKeptValue c d heavy so b
+HoldsMember c so None (Some heavy) b = ⊥
+HoldsMember c so (Some d) None b = ⊥
+
+pub record HoldMembers (cs : List Column) (rows : List (List Cell)) (found : Members) (weights : List (Option ℕ)) (bs : List ColumnBuilder) : Type 0 where
+  pub count : length bs ≡ length cs
+  pub counted : length weights ≡ length cs
+  pub each : (j : ℕ) (c : Column) (b : ColumnBuilder) (w : Option ℕ) → slice_get cs j ≡ Some c → slice_get bs j ≡ Some b → slice_get weights j ≡ Some w
+      → HoldsMember c (column_at j rows) (get_member (name_of_column c) found) w b
+
+-- depth of the values of a line's object
+abbrev pub below : ℕ
+below = 126
+
+-- all members of an object, which end with its brace
+pub record PushesMembers (names : List (List ℕ)) (old new : List Token) (weights weights2 : List (Option ℕ)) (bs bs2 : List ColumnBuilder) : Type 0 where
+  pub found : Members
+  pub read : converted (λ ms. of_members ms no_members) (members (value below) (length old) old) ≡ Some (found, new)
+  pub known : has_unknown names (keys_of found) ≡ false
+  pub each : (cs : List Column) (rows : List (List Cell)) → names_of (columns_of cs) ≡ names → HoldMembers cs rows no_members weights bs → HoldMembers cs rows found weights2 bs2
+
+-- ---- rows
+
+-- the cell of a member that weighs so much is behind the cells of a column, or a null where there is none
+pub record HasMember (c : Column) (o : Option Data) (heavy : ℕ) (so : List Cell) (new : ColumnBuilder) : Type 0 where
+  pub kept : Cell
+  pub read : member_in (is_nullable_column c) (cell_in c) o ≡ Ok kept
+  pub weighs : weight c kept ≡ heavy
+  pub keeps : Keeps c (so ++ kept ∷ []) new
+
+abbrev pub Completes : Option ℕ → ℕ → ColumnBuilder → ColumnBuilder → Type 0
+Completes w heavy old new = (c : Column) (so : List Cell) (o : Option Data) → HoldsMember c so o w old → HasMember c o heavy so new
+
+-- the cells of members come behind the rows: the row weighs so much
+pub record HasNamedRow (cs : List Column) (found : Members) (heavy : ℕ) (rows : List (List Cell)) (new : List ColumnBuilder) : Type 0 where
+  pub row : List Cell
+  pub read : cells_by_name (columns_of cs) found ≡ Ok (cells_of row)
+  pub weighs : 1 + parts_weight (columns_of cs) (cells_of row) ≡ heavy
+  pub keeps : KeepAll cs (rows ++ row ∷ []) new
+
+abbrev pub CompletesRow : List (Option ℕ) → ℕ → List ColumnBuilder → List ColumnBuilder → Type 0
+CompletesRow weights heavy old new =
+    (cs : List Column) (rows : List (List Cell)) (found : Members) → HoldMembers cs rows found weights old → HasNamedRow cs found heavy rows new
+
+-- the cells of a value come behind the rows
+pub record HasValueRow (cs : List Column) (d : Data) (heavy : ℕ) (rows : List (List Cell)) (new : List ColumnBuilder) : Type 0 where
+  pub row : List Cell
+  pub read : cells_in (columns_of cs) d ≡ Ok (cells_of row)
+  pub weighs : 1 + parts_weight (columns_of cs) (cells_of row) ≡ heavy
+  pub keeps : KeepAll cs (rows ++ row ∷ []) new
+
+abbrev pub KeepsRow : List (List ℕ) → Data → ℕ → List ColumnBuilder → List ColumnBuilder → Type 0
+KeepsRow names d heavy old new = (cs : List Column) (rows : List (List Cell)) → names_of (columns_of cs) ≡ names → KeepAll cs rows old → HasValueRow cs d heavy rows new
+
+-- all tokens are one value, whose cells come behind the rows
+pub record KeepsObject (names : List (List ℕ)) (old : List Token) (heavy : ℕ) (bs bs2 : List ColumnBuilder) : Type 0 where
+  pub data_is : Data
+  pub read : converted of_json (value 127 old) ≡ Some (data_is, [])
+  pub keeps : KeepsRow names data_is heavy bs bs2
+
+-- the same of a line
+pub record KeepsLine (names : List (List ℕ)) (line : List ℕ) (heavy : ℕ) (bs bs2 : List ColumnBuilder) : Type 0 where
+  pub data_is : Data
+  pub read : line_value line ≡ Ok data_is
+  pub keeps : KeepsRow names data_is heavy bs bs2

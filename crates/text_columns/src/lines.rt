@@ -1,0 +1,150 @@
+// Lines of JSON, member by member into the buffers of their columns.
+ghost use Rattle.std.specs.Prelude.{◌≡◌, ◌≤◌, ℕ, not, Option, Some, None, [], false, length, slice_get, IfOk, IfSome};
+ghost use Rattle.std.specs.List.{filter};
+ghost use Rattle.arrow_schema.specs.Column.{PlainSchema, columns_of};
+ghost use Rattle.facts.specs.Texts.{text_list};
+ghost use Rattle.text_import.specs.Objects.{is_blank, line_row, names_of, repeats};
+ghost use Rattle.text_import.specs.Rows.{rows_from};
+ghost use Rattle.text_columns.specs.inner.Kept.{HasRows, KeepAll};
+ghost use Rattle.text_columns.specs.inner.Lines.{Completes, CompletesRow, KeepsLine, KeepsObject};
+
+use crate::builder::ColumnBuilder;
+use crate::members::push_members;
+use crate::records::RowsRead;
+use cells::{MAX_ROW_WEIGHT, MAX_TABLE_WEIGHT};
+use indexmap::IndexSet;
+use json::{Reader, Scratch, Token};
+use std::alloc::{AllocError, Global};
+use text_import::{is_blank, text_of};
+
+// What the cell weighs that a column has of a row; where it has none, a null comes behind its cells.
+fn complete(builder: &mut ColumnBuilder, heavy: Option<u64>) -> Result<Option<u64>, AllocError>
+    ensures { IfOk result (λ taken. IfSome taken (λ weighs. Completes heavy weighs builder.old builder.new)) }
+{
+    match heavy {
+        Some(heavy) => Ok(Some(heavy)),
+        None => builder.push_null(),
+    }
+}
+
+// Completes a row of which some columns have a cell, and answers what it weighs; none where it lacks a cell, or is too heavy.
+fn complete_row(
+    builders: &mut [ColumnBuilder],
+    heavies: &[Option<u64>],
+) -> Result<Option<u64>, AllocError>
+    requires { length heavies.now ≡ length builders.old }
+    ensures few { IfOk result (λ taken. IfSome taken (λ heavy. heavy ≤ MAX_ROW_WEIGHT)) }
+    ensures kept { IfOk result (λ taken. IfSome taken (λ heavy. CompletesRow heavies.now heavy builders.old builders.new)) }
+{
+    let mut weight = 1;
+    for i in 0..builders.len() {
+        let builder = &mut builders[i];
+        let Some(heavy) = complete(builder, heavies[i])? else {
+            return Ok(None);
+        };
+        if heavy > MAX_ROW_WEIGHT - weight {
+            return Ok(None);
+        }
+        weight += heavy;
+    }
+    Ok(Some(weight))
+}
+
+// No column has a cell of the next row.
+fn clear(heavies: &mut [Option<u64>])
+    ensures { (j : ℕ) (w : Option ℕ) → slice_get heavies.new j ≡ Some w → w ≡ None }
+{
+    for i in 0..heavies.len() {
+        heavies[i] = None;
+    }
+}
+
+// Appends the cells of the object that a reader stands at, and answers what its row weighs; none where it does not go in.
+fn push_object(
+    names: &IndexSet<&str>,
+    order: &mut [usize],
+    builders: &mut [ColumnBuilder],
+    heavies: &mut [Option<u64>],
+    reader: &mut Reader<'_>,
+) -> Result<Option<u64>, AllocError>
+    requires { repeats (text_list names.now.keys) ≡ false }
+    ensures few { IfOk result (λ taken. IfSome taken (λ heavy. heavy ≤ MAX_ROW_WEIGHT)) }
+    ensures kept { IfOk result (λ taken. IfSome taken (λ heavy. KeepsObject (text_list names.now.keys) reader.old heavy builders.old builders.new)) }
+{
+    if heavies.len() != builders.len() {
+        return Ok(None);
+    }
+    let Some(Token::BeginObject) = reader.next() else {
+        return Ok(None);
+    };
+    clear(heavies);
+    if !push_members(names, order, builders, heavies, reader)? {
+        return Ok(None);
+    }
+    if reader.next().is_some() {
+        return Ok(None);
+    }
+    complete_row(builders, heavies)
+}
+
+// The same of the line that a text is.
+fn push_line(
+    names: &IndexSet<&str>,
+    order: &mut [usize],
+    builders: &mut [ColumnBuilder],
+    heavies: &mut [Option<u64>],
+    scratch: &mut Scratch,
+    line: &[u8],
+) -> Result<Option<u64>, AllocError>
+    requires { repeats (text_list names.now.keys) ≡ false }
+    ensures few { IfOk result (λ taken. IfSome taken (λ heavy. heavy ≤ MAX_ROW_WEIGHT)) }
+    ensures kept { IfOk result (λ taken. IfSome taken (λ heavy. KeepsLine (text_list names.now.keys) line.now heavy builders.old builders.new)) }
+{
+    let Some(text) = text_of(line) else {
+        return Ok(None);
+    };
+    let mut reader = Reader::new(text, scratch)?;
+    push_object(names, order, builders, heavies, &mut reader)
+}
+
+/// Appends the rows of lines, of which those that are blank are skipped; none where a line is no object of members without parts, each of the
+/// name of a column, or the rows are too heavy for a table.
+pub(crate) fn push_lines(
+    alloc: Global,
+    names: &IndexSet<&str>,
+    lines: &[&[u8]],
+    builders: &mut [ColumnBuilder],
+) -> Result<Option<RowsRead>, AllocError>
+    requires { repeats (text_list names.now.keys) ≡ false }
+    ensures { (s : PlainSchema) → names_of (columns_of s.columns) ≡ text_list names.now.keys → KeepAll s.columns [] builders.old
+        → IfOk result (λ read. IfSome read (λ r.
+        HasRows s (rows_from (line_row s) 1 (filter (λ line. not (is_blank line)) (text_list lines.now))) r builders.new)) }
+{
+    let mut scratch = Scratch::new(alloc);
+    let mut heavies = vec![in alloc; None; builders.len()]?;
+    let mut order = vec![in alloc; 0; builders.len()]?;
+    let mut rows = 0;
+    let mut weight = 0;
+    for line in lines {
+        if is_blank(line) {
+            continue;
+        }
+        let Some(heavy) = push_line(
+            names,
+            order.as_mut_slice(),
+            builders,
+            heavies.as_mut_slice(),
+            &mut scratch,
+            line,
+        )?
+        else {
+            return Ok(None);
+        };
+        if heavy > MAX_TABLE_WEIGHT - weight {
+            return Ok(None);
+        }
+        weight += heavy;
+        rows += 1;
+    }
+    Ok(Some(RowsRead { rows, weight }))
+}

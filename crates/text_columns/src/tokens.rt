@@ -1,0 +1,165 @@
+// Cells of JSON tokens.
+ghost use Rattle.std.specs.Prelude.{◌≡◌, ◌==◌, ◌++◌, ◌∷◌, [], true, false, slice_index, IfOk, IfSome, Some};
+ghost use Rattle.fast_float.specs.Text.{Parts};
+ghost use Rattle.json.specs.Reads.{token_of};
+ghost use Rattle.text_columns.specs.inner.Lines.{AppendsBit, AppendsNumber, AppendsString, TakesNumber, TakesToken, integer_after, integer_in};
+
+use crate::builder::ColumnBuilder;
+use crate::column_values::Values;
+use crate::integers::push_number;
+use crate::texts::push_contents;
+use arrow_schema::IntegerType;
+use columns::OffsetWidth;
+use fast_float::Numeral;
+use json::Token;
+use std::alloc::AllocError;
+
+// The integer that digits without a sign are; none where they are none of 64 bits.
+fn unsigned(numeral: &Numeral<'_>) -> Option<i128>
+    ensures { IfSome result (λ n. integer_after false numeral.now ≡ Some n) }
+{
+    match numeral.to_u64() {
+        Some(number) => Some(number as i128),
+        None => None,
+    }
+}
+
+// The same behind a sign; none for `-0` too, which is a float.
+fn negative(numeral: &Numeral<'_>) -> Option<i128>
+    ensures { IfSome result (λ n. integer_after true numeral.now ≡ Some n) }
+{
+    match numeral.to_i64(true) {
+        Some(number) => if number < 0 {
+            Some(number as i128)
+        } else {
+            None
+        },
+        None => None,
+    }
+}
+
+fn has_minus(bytes: &[u8]) -> bool
+    ensures { result ≡ (slice_index bytes.now 0 == 45) }
+{
+    !bytes.is_empty() && bytes[0] == b'-'
+}
+
+// The integer that a number of JSON is.
+fn integer_of(text: &str) -> Option<i128>
+    ensures { IfSome result (λ n. integer_in text.now ≡ Some n) }
+{
+    let bytes = text.as_bytes();
+    if has_minus(bytes) {
+        negative(&Numeral::scan(&bytes[1..]))
+    } else {
+        unsigned(&Numeral::scan(bytes))
+    }
+}
+
+// Appends the bytes of the integer that a number is, where the type holds it.
+fn push_integer_of(
+    values: &mut Vec<u8>,
+    integer: IntegerType,
+    text: &str,
+) -> Result<bool, AllocError>
+    ensures { IfOk result (λ pushed. pushed ≡ true → TakesNumber integer text.now values.old.items values.new.items) }
+{
+    match integer_of(text) {
+        Some(number) => push_number(values, integer, number),
+        None => Ok(false),
+    }
+}
+
+// Appends the integer that a token is, where the type holds it, and answers what it weighs.
+fn push_integer(
+    values: &mut Vec<u8>,
+    integer: IntegerType,
+    token: Token<'_>,
+) -> Result<Option<u64>, AllocError>
+    ensures { IfOk result (λ taken. IfSome taken (λ heavy. (heavy ≡ 1)
+        × AppendsNumber integer (token_of token.entry) values.old.items values.new.items)) }
+{
+    let Token::Number(text) = token else {
+        return Ok(None);
+    };
+    if push_integer_of(values, integer, text)? {
+        Ok(Some(1))
+    } else {
+        Ok(None)
+    }
+}
+
+// Appends the boolean that a token is, and answers what it weighs.
+fn push_boolean(bits: &mut Vec<bool>, token: Token<'_>) -> Result<Option<u64>, AllocError>
+    ensures { IfOk result (λ taken. IfSome taken (λ heavy. (heavy ≡ 1) × AppendsBit (token_of token.entry) bits.old.items bits.new.items)) }
+{
+    let Token::Bool(bit) = token else {
+        return Ok(None);
+    };
+    bits.push(bit)?;
+    Ok(Some(1))
+}
+
+// Appends the text that a token is and where it ends, and answers what it weighs.
+fn push_text(
+    offsets: &mut Vec<u8>,
+    contents: &mut Vec<u8>,
+    width: OffsetWidth,
+    token: Token<'_>,
+) -> Result<Option<u64>, AllocError>
+    ensures { IfOk result (λ taken. IfSome taken (λ heavy.
+        AppendsString width (token_of token.entry) heavy offsets.old.items contents.old.items offsets.new.items contents.new.items)) }
+{
+    let Token::String(text) = token else {
+        return Ok(None);
+    };
+    push_contents(offsets, contents, width, text.as_bytes())
+}
+
+impl Values {
+    /// Appends the cell that a token is, where it is one of the type and no null, and answers what it weighs.
+    pub(crate) fn push_token(&mut self, token: Token<'_>) -> Result<Option<u64>, AllocError>
+        ensures { IfOk result (λ taken. IfSome taken (λ heavy. TakesToken (token_of token.entry) heavy self.old self.new)) }
+    {
+        match self {
+            Values::Booleans(bits) => push_boolean(bits, token),
+            Values::Integers(integer, values) => push_integer(values, *integer, token),
+            Values::Texts(width, offsets, contents) => push_text(offsets, contents, *width, token),
+        }
+    }
+}
+
+impl ColumnBuilder {
+    ghost use Rattle.text_columns.specs.inner.Lines.{KeepsNull, KeepsToken};
+
+    /// Appends a null, where the column is nullable, and answers what it weighs.
+    pub(crate) fn push_null(&mut self) -> Result<Option<u64>, AllocError>
+        ensures { IfOk result (λ taken. IfSome taken (λ heavy. (heavy ≡ 1) × KeepsNull self.old self.new)) }
+    {
+        if !self.nullable {
+            return Ok(None);
+        }
+        self.values.push_null()?;
+        self.valid.push(false)?;
+        Ok(Some(1))
+    }
+
+    // Appends the cell of a token that is no null.
+    fn push_there(&mut self, token: Token<'_>) -> Result<Option<u64>, AllocError>
+        ensures { IfOk result (λ taken. IfSome taken (λ heavy. KeepsToken (token_of token.entry) heavy self.old self.new)) }
+    {
+        let taken = self.values.push_token(token)?;
+        self.valid.push(true)?;
+        Ok(taken)
+    }
+
+    /// Appends the cell that a token is, where it is one of the column, and answers what it weighs.
+    pub(crate) fn push_token(&mut self, token: Token<'_>) -> Result<Option<u64>, AllocError>
+        ensures { IfOk result (λ taken. IfSome taken (λ heavy. KeepsToken (token_of token.entry) heavy self.old self.new)) }
+    {
+        match token {
+            Token::Null => self.push_null(),
+            _ => self.push_there(token),
+        }
+    }
+}
