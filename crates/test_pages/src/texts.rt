@@ -1,5 +1,5 @@
 // The texts of a root and of a page (catalogue). The bytes were written by hand after docs/formats/store.md.
-use arrow_schema::Schema;
+use arrow_schema::{BitWidth, DataType, Schema};
 use catalogue::{DecodeError, RootEntry, Segment, decode_page, decode_root};
 use std::alloc::{AllocError, Global};
 
@@ -35,10 +35,10 @@ const PAGE: [u8; 192] = [
     0x48, 0x01, 0x00, 0x00, 0x00, 0x00, 0x00, 0x00, 0x02, 0x00, 0x00, 0x00, 0x00, 0x00, 0x00, 0x00,
 ];
 
-/// Where a byte of the page may be another one: the letter of the name, the first sector of the segment, and in its bytes
-/// and in its rows the lower two of eight bytes.
+/// Where a byte of the page may be another one: whether the column is nullable, its letter, whether its integers are signed,
+/// the first sector of the segment, and in its bytes and in its rows the lower two of eight bytes.
 const FREE: &[usize] = &[
-    124, 160, 161, 162, 163, 164, 165, 166, 167, 176, 177, 184, 185,
+    108, 124, 148, 160, 161, 162, 163, 164, 165, 166, 167, 176, 177, 184, 185,
 ];
 
 /// Memory was refused.
@@ -90,16 +90,23 @@ fn is_one_segment(segments: &[Segment]) -> bool {
     }
 }
 
-fn is_named_a(schema: &Schema) -> bool {
+fn is_signed(data_type: &DataType) -> bool {
+    match data_type {
+        DataType::Int(integer) => integer.signed && integer.width == BitWidth::ThirtyTwo,
+        _ => false,
+    }
+}
+
+fn is_one_column(schema: &Schema) -> bool {
     match schema.fields.as_slice() {
-        [field] => field.name.as_str() == "a",
+        [field] => { field.name.as_str() == "a" && field.nullable && is_signed(&field.data_type) }
         _ => false,
     }
 }
 
 fn seen_page(alloc: Global, most: u64, bytes: &[u8]) -> Result<Seen, NotMade> {
     match decode_page(alloc, most, bytes) {
-        Ok((schema, segments)) if is_named_a(&schema) && is_one_segment(&segments) => Ok(
+        Ok((schema, segments)) if is_one_column(&schema) && is_one_segment(&segments) => Ok(
             Seen::Same,
         ),
         Ok(_) => Ok(Seen::Other),
