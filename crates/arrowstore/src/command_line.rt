@@ -13,18 +13,18 @@ use store_requests::{ask_help_of_command, help_of_command};
 // What `--help` says beside `recode`. Each line is the first one of the help of its command.
 const OTHER_COMMANDS: &str =
     "Commands of a store, which is a file ('arrowstore COMMAND --help' says how each is called):
-  format  Makes a file of so many sectors, and an empty store in it
-  create  Makes a table without rows
-  import  Reads a stream from standard input, and makes its table, in place of one of this name
-  append  Reads rows from standard input, and appends them to a table
-  query   Prints the rows of a table that meet all conditions, each as a line of JSON
-  export  Writes the stream of a table to standard output
-  rename  Gives a table another name
-  drop    Removes a table with all its rows
-  tables  Prints a line for each table: its name, and how many rows it has
-  schema  Prints a line for each field of a table
-  check   Reads all tables, and prints ok where each can be read
-  compact Joins small segments, moves the last ones forward, and prints how many steps that took
+  format   Makes a file of so many sectors, and an empty store in it
+  create   Makes a table without rows
+  import   Reads a stream from standard input, and makes its table, in place of one of this name
+  append   Reads rows from standard input, and appends them to a table
+  query    Prints the rows of a table that meet all conditions, each as a line of JSON
+  export   Writes the stream of a table to standard output
+  rename   Gives a table another name
+  drop     Removes a table with all its rows
+  tables   Prints a line for each table: its name, and how many rows it has
+  schema   Prints a line for each field of a table
+  check    Reads all tables, and prints ok where each can be read
+  compact  Joins small segments, moves the last ones forward, and prints how many steps that took
 
 What each refusal means, and what to do: arrowstore help refusals
 The version: arrowstore --version";

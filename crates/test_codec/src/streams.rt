@@ -8,9 +8,10 @@ use crate::stream_bytes::{
     batch, joined,
 };
 use arrow_schema::same_shape;
-use canonical_write::encode;
+use canonical_write::{encode, encode_to};
 use ipc_stream::decode;
 use std::alloc::{AllocError, Global};
+use std::io::{self, Write};
 use values::{Row, Table, Value};
 
 const COLUMNS: &[&str] = &["a:int8", "b:uint64?"];
@@ -123,6 +124,36 @@ fn is_written(alloc: Global, made: Made) -> Result<bool, NotMade> {
     is_stream_of(alloc, &table, &bytes_of(alloc, made)?)
 }
 
+// A writer that counts the bytes that it was given, and those of them that were flushed.
+#[derive(Clone, Copy)]
+struct CountingWriter {
+    written: usize,
+    flushed: usize,
+}
+
+impl Write for CountingWriter {
+    fn write(&mut self, buf: &[u8]) -> io::Result<usize> {
+        self.written = self.written.saturating_add(buf.len());
+        Ok(buf.len())
+    }
+
+    fn flush(&mut self) -> io::Result<()> {
+        self.flushed = self.written;
+        Ok(())
+    }
+}
+
+// Whether all bytes of a stream go out.
+fn goes_out(alloc: Global, made: Made) -> Result<bool, NotMade> {
+    let table = table_of(alloc, made)?;
+    let mut writer = CountingWriter {
+        written: 0,
+        flushed: 0,
+    };
+    let well = encode_to(alloc, &table, &mut writer).is_ok();
+    Ok(well && writer.flushed == bytes_of(alloc, made)?.len())
+}
+
 const ALL: &[Made] = &[
     Made::OfRows,
     Made::OfCells,
@@ -132,7 +163,7 @@ const ALL: &[Made] = &[
 
 fn wrongly_written(alloc: Global) -> Result<Option<usize>, NotMade> {
     for (place, made) in ALL.iter().enumerate() {
-        if !is_written(alloc, *made)? {
+        if !is_written(alloc, *made)? || !goes_out(alloc, *made)? {
             return Ok(Some(place));
         }
     }

@@ -13,6 +13,7 @@ use Step::{
 };
 use sector_dev::ModelDevice;
 use std::alloc::Global;
+use std::io::{self, Write};
 use store::{Place, Reply, Store};
 use tables::Refusal;
 
@@ -189,6 +190,39 @@ const ROOMS: &[(usize, Result<(), Refusal>)] = &[
     (328, Ok(())),
 ];
 
+// A writer that counts the bytes that it was given, and those of them that were flushed.
+#[derive(Clone, Copy)]
+struct CountingWriter {
+    written: usize,
+    flushed: usize,
+}
+
+impl Write for CountingWriter {
+    fn write(&mut self, buf: &[u8]) -> io::Result<usize> {
+        self.written = self.written.saturating_add(buf.len());
+        Ok(buf.len())
+    }
+
+    fn flush(&mut self) -> io::Result<()> {
+        self.flushed = self.written;
+        Ok(())
+    }
+}
+
+// Whether all bytes of an export go out.
+fn goes_out(alloc: Global, slot: &mut Slot) -> bool {
+    let mut writer = CountingWriter {
+        written: 0,
+        flushed: 0,
+    };
+    match slot {
+        Some(Place::Open(store)) => {
+            store.export(alloc, "t", &mut writer) == Ok(()) && writer.flushed == 328
+        }
+        _ => false,
+    }
+}
+
 const STILL_THERE: Steps = &[(Read("t"), T)];
 
 fn is_exported(
@@ -236,6 +270,17 @@ fn wrong_writer(alloc: Global) -> Result<Option<usize>, NotMade> {
         }
     }
     Ok(None)
+}
+
+fn wrong_flush(alloc: Global) -> Result<Option<usize>, NotMade> {
+    let mut slot = Some(Place::Shut(device_after(alloc, stored())?));
+    let well = is_played(alloc, &mut slot, OPENING)? && goes_out(alloc, &mut slot);
+    Ok(if well { None } else { Some(0) })
+}
+
+#[test]
+fn an_export_is_flushed(rt: HostRuntime) {
+    assert_no_row(&rt, wrong_flush(rt.alloc()));
 }
 
 #[test]

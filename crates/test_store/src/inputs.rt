@@ -58,6 +58,8 @@ pub enum Input {
     First(u32),
     /// One column of this field text, with these values.
     Column(&'static str, &'static [i32]),
+    /// These columns, with so many rows: the values of each row from this one on.
+    Range(&'static [&'static str], i32, u32),
     /// One column `l:list<utf8>` with a row for each number: so many texts, no two the same.
     Texts(&'static [u32]),
     /// So many rows without a column.
@@ -151,6 +153,16 @@ fn first_cells(alloc: Global, count: u32) -> Result<Vec<Value>, AllocError> {
     Ok(cells)
 }
 
+fn range(alloc: Global, first: i32, count: u32) -> Result<Vec<i32>, AllocError> {
+    let mut values = Vec::with_capacity(alloc, count as usize)?;
+    let mut value = first;
+    for _ in 0..count {
+        values.push(value)?;
+        value = value.wrapping_add(1);
+    }
+    Ok(values)
+}
+
 // A list of so many texts.
 fn list_of(alloc: Global, count: u32) -> Result<Value, NotMade> {
     let mut items = Vec::with_capacity(alloc, count as usize)?;
@@ -194,6 +206,9 @@ pub fn bytes_of(alloc: Global, input: Input) -> Result<Vec<u8>, NotMade> {
         Input::Ints(values) => bytes_of_values(alloc, INT, values),
         Input::First(count) => stream_of(alloc, INT, first_cells(alloc, count)?, count as usize),
         Input::Column(text, values) => bytes_of_values(alloc, &[text], values),
+        Input::Range(columns, first, count) => {
+            bytes_of_values(alloc, columns, &range(alloc, first, count)?)
+        }
         Input::Texts(counts) => stream_of(
             alloc,
             &["l:list<utf8>"],

@@ -9,11 +9,15 @@ mod commands;
 #[cfg(test)]
 mod compactions;
 #[cfg(test)]
+mod disturbed;
+#[cfg(test)]
 mod exports;
 #[cfg(test)]
 mod failing_reads;
 #[cfg(test)]
 mod inputs;
+#[cfg(test)]
+mod interleavings;
 #[cfg(test)]
 mod limits;
 #[cfg(test)]
@@ -23,11 +27,15 @@ mod openings;
 #[cfg(test)]
 mod pieces;
 #[cfg(test)]
+mod plain_tables;
+#[cfg(test)]
 mod playing;
 #[cfg(test)]
 mod selections;
 #[cfg(test)]
 mod shown;
+#[cfg(test)]
+mod snapshot;
 #[cfg(test)]
 mod steps;
 #[cfg(test)]

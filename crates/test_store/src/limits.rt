@@ -4,7 +4,9 @@ use crate::made::{NotMade, assert_no_row};
 use crate::playing::{Slot, Way, answer, is_played, new_slot, play};
 use crate::steps::{Call, Step, Steps, creation, says};
 use Input::{Front, Ints, NoColumns};
-use Step::{Append, Create, Format, Give, Import, Remove, Rename, Save, Tables};
+use Step::{
+    Append, Close, Compact, Create, Format, Give, Import, Open, Remove, Rename, Save, Tables,
+};
 use std::alloc::Global;
 
 // Makes the table `t0`, `t1` or so on.
@@ -78,11 +80,31 @@ const HEAVY: Steps = &[
     (Tables, "u 1"),
 ];
 
-fn wrong_when_heavy(alloc: Global) -> Result<Option<usize>, NotMade> {
-    play(alloc, &mut new_slot(alloc, 80_000)?, HEAVY, Way::EachCall)
+// So many segments of which the last two can be one: the store is opened again, and compacted.
+const AT_THE_LIMIT: Steps = &[
+    (Format, "ok"),
+    (Import("t", NoColumns(268_427_264)), "ok"),
+    (Append("t", NoColumns(1)), "ok"),
+    (Append("t", NoColumns(1)), "ok"),
+    (Append("t", NoColumns(1)), "S7 TooMany Segments"),
+    (Close, "ok"),
+    (Open, "ok"),
+    (Tables, "t 268427266"),
+    (Append("t", NoColumns(1)), "S7 TooMany Segments"),
+    (Compact, "merged"),
+    (Compact, "moved"),
+    (Append("t", NoColumns(1)), "ok"),
+    (Create("u", INT), "ok"),
+    (Open, "ok"),
+    (Tables, "t 268427267, u 0"),
+];
+
+fn wrong_when_heavy(alloc: Global, steps: Steps) -> Result<Option<usize>, NotMade> {
+    play(alloc, &mut new_slot(alloc, 80_000)?, steps, Way::EachCall)
 }
 
 #[test]
 fn a_table_and_a_store_have_their_greatest_size(rt: HostRuntime) {
-    assert_no_row(&rt, wrong_when_heavy(rt.alloc()));
+    assert_no_row(&rt, wrong_when_heavy(rt.alloc(), HEAVY));
+    assert_no_row(&rt, wrong_when_heavy(rt.alloc(), AT_THE_LIMIT));
 }

@@ -210,7 +210,12 @@ fn run_twice(
     }
 }
 
-fn replies_of_run(alloc: Global, slot: &mut Slot, calls: Vec<Call>) -> Result<Vec<Reply>, NotMade> {
+/// The replies to calls that `run` takes as one list.
+pub fn replies_of_run(
+    alloc: Global,
+    slot: &mut Slot,
+    calls: Vec<Call>,
+) -> Result<Vec<Reply>, NotMade> {
     let Some(place) = slot.take() else {
         return Err(NotMade);
     };

@@ -51,8 +51,8 @@ const STATES: &[&str] = &[
 // in a formatting one more sync and one more sector.
 const CALLS: &[u64] = &[6, 11, 15, 20, 25, 30, 34, 38, 43];
 
-// What a stop leaves of the sectors that are not yet synced.
-const CHOICES: &[Choice] = &[
+/// What a stop leaves of the sectors that are not yet synced.
+pub const CHOICES: &[Choice] = &[
     Choice::Old,
     Choice::New,
     Choice::Bits(0),

@@ -1,10 +1,15 @@
 // Scripts of which one allocation at the most is refused, by tests/refused_memory_in_crates.
+use crate::disturbed::{
+    Script, are_told_after_failure, formatted, may_show_after_failure, script_of,
+};
 use crate::inputs::Input;
 use crate::made::NotMade;
 use crate::pieces::Pieces;
-use crate::playing::{Slot, Way, new_slot, replies_of, reply_to, shut, wrong_reply};
-use crate::shown::is_laid_out;
-use crate::steps::{Step, Steps, says};
+use crate::playing::{
+    Slot, Way, new_slot, replies_of, replies_of_run, reply_to, shut, wrong_reply,
+};
+use crate::shown::{contents, is_laid_out};
+use crate::steps::{Call, Step, Steps, call_of, says};
 use crate::stops::{is_whole, script};
 use Step::{
     AppendFrom, Close, CloseExport, Compact, Export, ExportNext, Format, Import, ImportFrom, Open,
@@ -12,7 +17,7 @@ use Step::{
 };
 use sector_dev::{ModelDevice, SectorDevice};
 use std::alloc::Global;
-use store::{OpeningRefusal, Reply};
+use store::{OpeningRefusal, Place, Reply};
 use tables::Refusal;
 
 // Where the store keeps what after the script.
@@ -179,5 +184,87 @@ fn a_run_is_answered_also_without_memory(rt: HostRuntime) {
 fn a_store_is_opened_and_read_also_without_memory(rt: HostRuntime) {
     let first = are_listed(rt.alloc());
     let second = are_listed(rt.alloc());
+    assert!(rt; is_one_well(first, second));
+}
+
+fn one_call(alloc: Global, step: Step) -> Result<Vec<Call>, NotMade> {
+    let mut calls = Vec::new(alloc);
+    calls.push(call_of(alloc, step)?)?;
+    Ok(calls)
+}
+
+// The reply to a step that `run` takes alone.
+fn reply_of_run(alloc: Global, slot: &mut Slot, step: Step) -> Result<Reply, NotMade> {
+    let mut replies = replies_of_run(alloc, slot, one_call(alloc, step)?)?;
+    replies.pop().ok_or(NotMade)
+}
+
+// It, or where memory was refused the reply to the same step once more.
+fn second_of_run(alloc: Global, slot: &mut Slot, step: Step) -> Result<Reply, NotMade> {
+    let first = reply_of_run(alloc, slot, step)?;
+    if wants_memory(&first) {
+        reply_of_run(alloc, slot, step)
+    } else {
+        Ok(first)
+    }
+}
+
+fn replies_again(alloc: Global, slot: &mut Slot, steps: Steps) -> Result<Vec<Reply>, NotMade> {
+    let mut replies = Vec::new(alloc);
+    for (step, _) in steps {
+        replies.push(second_of_run(alloc, slot, *step)?)?;
+    }
+    Ok(replies)
+}
+
+// How many steps of a script are done, if the others are refused as they are where the device failed once; `None`: they are not.
+fn steps_told(alloc: Global, slot: &mut Slot, script: &Script) -> Result<Option<usize>, NotMade> {
+    let replies = replies_again(alloc, slot, script.steps)?;
+    let done = wrong_reply(alloc, &replies, script.steps)?.unwrap_or(script.steps.len());
+    let told = are_told_after_failure(alloc, script, done, &replies)?;
+    Ok(if told { Some(done) } else { None })
+}
+
+// Whether a device holds what is left then: nothing but the device had no memory to keep a call.
+fn is_script_left(
+    alloc: Global,
+    device: &mut ModelDevice,
+    script: &Script,
+    done: usize,
+) -> Result<bool, NotMade> {
+    let all = done == script.steps.len();
+    if device.failures() != u64::from(!all) {
+        return Ok(false);
+    }
+    if all {
+        is_laid_out(alloc, device, script.layout)
+    } else {
+        Ok(may_show_after_failure(script, done, &contents(alloc, device)?))
+    }
+}
+
+fn is_script_done_on(alloc: Global, slot: &mut Slot, script: &Script) -> Result<bool, NotMade> {
+    match steps_told(alloc, slot, script)? {
+        Some(done) => is_script_left(alloc, &mut shut(slot)?, script, done),
+        None => Ok(false),
+    }
+}
+
+fn is_script_done(alloc: Global, number: usize) -> Result<bool, NotMade> {
+    let script = script_of(number).ok_or(NotMade)?;
+    is_script_done_on(alloc, &mut Some(Place::Shut(formatted(alloc)?)), &script)
+}
+
+#[test]
+fn a_compaction_is_done_or_not_also_without_memory(rt: HostRuntime) {
+    let first = is_script_done(rt.alloc(), 0);
+    let second = is_script_done(rt.alloc(), 0);
+    assert!(rt; is_one_well(first, second));
+}
+
+#[test]
+fn an_export_gives_its_pieces_also_without_memory(rt: HostRuntime) {
+    let first = is_script_done(rt.alloc(), 1);
+    let second = is_script_done(rt.alloc(), 1);
     assert!(rt; is_one_well(first, second));
 }

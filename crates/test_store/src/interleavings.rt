@@ -1,0 +1,459 @@
+// Calls in an order drawn by chance, in lists that `run` answers. Beside the store stand plain tables: each reply is theirs, and what a crash leaves are the
+// tables before the command in flight or after it.
+use crate::inputs::Input;
+use crate::made::{NotMade, assert_no_row};
+use crate::plain_tables::{FROM_TWENTY, NAMES, Plain};
+use crate::playing::{Slot, is_played, new_slot, replies_of_run, shut};
+use crate::shown::contents;
+use crate::steps::{Asked, Call, Step, Steps, call_of, says};
+use Step::{
+    Append, Close, CloseExport, Compact, Create, Export, ExportNext, Format, GiveTable, Import,
+    Open, OpenExport, Read, Remove, Rename, Save, Schema, Tables,
+};
+use sector_dev::{Choice, SectorDevice};
+use std::alloc::Global;
+use store::{OpeningRefusal, Place, Reply};
+use tables::Refusal;
+
+const NARROW: &[&str] = &["a:int32?"];
+
+const WIDE: &[&str] = &["a:int64"];
+
+// Numbers drawn by chance: a linear congruential generator, whose upper bits are taken.
+#[derive(Clone, Copy)]
+struct Chance {
+    state: u64,
+    // How many exports were opened, or asked for, since the store was opened.
+    exports: u64,
+}
+
+impl Chance {
+    // A number below this one.
+    fn below(&mut self, count: u64) -> u64 {
+        self.state = self
+            .state
+            .wrapping_mul(6_364_136_223_846_793_005)
+            .wrapping_add(1_442_695_040_888_963_407);
+        (self.state >> 33).checked_rem(count).unwrap_or(0)
+    }
+
+    fn name(&mut self) -> &'static str {
+        match NAMES.get(self.below(4) as usize) {
+            Some(name) => name,
+            None => "",
+        }
+    }
+
+    fn columns(&mut self) -> &'static [&'static str] {
+        if self.below(4) == 0 { WIDE } else { NARROW }
+    }
+
+    // Few rows mostly; now and then more than one sector has.
+    fn input(&mut self) -> Input {
+        let columns = self.columns();
+        let first = match self.below(3) {
+            0 => -4,
+            1 => 18,
+            _ => 2_147_483_600,
+        };
+        let count = match self.below(8) {
+            0 => 0,
+            1..=4 => 2,
+            5 | 6 => 9,
+            _ => 700,
+        };
+        Input::Range(columns, first, count)
+    }
+
+    fn query(&mut self) -> Asked {
+        let conditions: &'static [&'static str] = if self.below(2) == 0 {
+            FROM_TWENTY
+        } else {
+            &[]
+        };
+        let most = self.below(40);
+        (&[], conditions, if most > 9 { Some(most) } else { None })
+    }
+
+    // The id of one of the last exports that were asked for.
+    fn id(&mut self) -> u64 {
+        let back = self.below(4);
+        self.exports.saturating_sub(back)
+    }
+
+    fn change(&mut self) -> Step {
+        match self.below(14) {
+            0 => Create(self.name(), self.columns()),
+            1..=3 => Import(self.name(), self.input()),
+            4..=7 => Append(self.name(), self.input()),
+            8 | 9 => GiveTable(self.name(), self.input()),
+            10 => Save(self.name(), self.name(), self.query()),
+            11 | 12 => Rename(self.name(), self.name()),
+            _ => Remove(self.name()),
+        }
+    }
+
+    fn reading(&mut self) -> Step {
+        match self.below(4) {
+            0 => Tables,
+            1 => Schema(self.name()),
+            2 => Read(self.name()),
+            _ => Export(self.name()),
+        }
+    }
+
+    fn export(&mut self) -> Step {
+        match self.below(8) {
+            0 | 1 => {
+                self.exports = self.exports.saturating_add(1);
+                OpenExport(self.name())
+            }
+            2 => CloseExport(self.id()),
+            _ => ExportNext(self.id()),
+        }
+    }
+
+    // What is asked of an open store.
+    fn of_open(&mut self) -> Step {
+        match self.below(40) {
+            0 => Open,
+            1 => Close,
+            2 => Format,
+            3..=16 => self.change(),
+            17..=22 => self.reading(),
+            23..=33 => self.export(),
+            _ => Compact,
+        }
+    }
+
+    // What is asked next; a store that is shut is opened.
+    fn step(&mut self, open: bool) -> Step {
+        let step = if open { self.of_open() } else { Open };
+        if matches!(step, Open) {
+            self.exports = 0;
+        }
+        step
+    }
+
+    // What a crash leaves.
+    fn choice(&mut self) -> Choice {
+        match self.below(4) {
+            0 => Choice::Old,
+            1 => Choice::New,
+            2 => Choice::Bits(self.state),
+            _ => Choice::Lost(self.state),
+        }
+    }
+}
+
+// So many steps, in a place of which this is known.
+fn drawn(
+    alloc: Global,
+    chance: &mut Chance,
+    open: bool,
+    count: usize,
+) -> Result<Vec<Step>, NotMade> {
+    let mut steps = Vec::new(alloc);
+    let mut open = open;
+    for _ in 0..count {
+        let step = chance.step(open);
+        open = !matches!(step, Close | Format);
+        steps.push(step)?;
+    }
+    Ok(steps)
+}
+
+fn calls_of(alloc: Global, steps: &[Step]) -> Result<Vec<Call>, NotMade> {
+    let mut calls = Vec::new(alloc);
+    for step in steps {
+        calls.push(call_of(alloc, *step)?)?;
+    }
+    Ok(calls)
+}
+
+fn is_failure(reply: &Reply) -> bool {
+    matches!(
+        reply,
+        Reply::Refused(Refusal::Device) | Reply::NotOpened(OpeningRefusal::Device)
+    )
+}
+
+// How often something came.
+#[derive(Clone, Copy)]
+struct Seen {
+    merged: u64,
+    moved: u64,
+    full: u64,
+    // A command in flight was done, or not.
+    kept: u64,
+    lost: u64,
+}
+
+// A store beside plain tables.
+#[derive(Drop)]
+struct Pair {
+    plain: Plain,
+    // A store is open, if its device did not stop.
+    open: bool,
+    stopped: bool,
+    in_flight: Option<Step>,
+    seen: Seen,
+}
+
+impl Seen {
+    fn nothing() -> Seen {
+        Seen {
+            merged: 0,
+            moved: 0,
+            full: 0,
+            kept: 0,
+            lost: 0,
+        }
+    }
+
+    // Whether each of it came.
+    fn is_all(self) -> bool {
+        self.merged > 0 && self.moved > 0 && self.full > 0 && self.kept > 0 && self.lost > 0
+    }
+}
+
+impl Pair {
+    // Beside an empty store that is open, where this came before.
+    fn new(alloc: Global, seen: Seen) -> Result<Pair, NotMade> {
+        Ok(Pair {
+            plain: Plain::new(alloc)?,
+            open: true,
+            stopped: false,
+            in_flight: None,
+            seen,
+        })
+    }
+
+    // Whether a call of a device that stopped is answered well.
+    fn is_refused(&mut self, alloc: Global, step: Step, reply: &Reply) -> Result<bool, NotMade> {
+        let was_open = self.open;
+        match step {
+            Open | Format => {
+                self.open = false;
+                says(alloc, reply, "C4 Device")
+            }
+            Close if was_open => {
+                self.open = false;
+                says(alloc, reply, "ok")
+            }
+            _ => says(alloc, reply, "S10 Halted"),
+        }
+    }
+
+    // The device stopped at a call: whether it made one.
+    fn stops_at(&mut self, step: Step) -> bool {
+        let was_open = self.open;
+        self.stopped = true;
+        match step {
+            Open | Format => {
+                self.open = false;
+                true
+            }
+            step => {
+                self.in_flight = Some(step);
+                was_open
+            }
+        }
+    }
+
+    fn is_stepped(&mut self, reply: &Reply) -> bool {
+        match reply {
+            Reply::Merged => self.seen.merged = self.seen.merged.saturating_add(1),
+            Reply::Moved => self.seen.moved = self.seen.moved.saturating_add(1),
+            Reply::Nothing | Reply::Refused(Refusal::NoRoom(_)) => {}
+            _ => return false,
+        }
+        true
+    }
+
+    // A command for which there is no room changes nothing.
+    fn is_changed(&mut self, alloc: Global, step: Step, reply: &Reply) -> Result<bool, NotMade> {
+        if matches!(reply, Reply::Refused(Refusal::NoRoom(_))) {
+            self.seen.full = self.seen.full.saturating_add(1);
+            return Ok(true);
+        }
+        says(alloc, reply, self.plain.change(alloc, step)?)
+    }
+
+    // Whether an open store answers well.
+    fn is_answered(&mut self, alloc: Global, step: Step, reply: &Reply) -> Result<bool, NotMade> {
+        match step {
+            Compact => Ok(self.is_stepped(reply)),
+            OpenExport(name) => self.plain.opens(alloc, name, reply),
+            ExportNext(id) => self.plain.gives(alloc, id, reply),
+            CloseExport(id) => self.plain.closes(alloc, id, reply),
+            Tables | Schema(_) | Read(_) | Export(_) => {
+                says(alloc, reply, &self.plain.reading(alloc, step)?)
+            }
+            step => self.is_changed(alloc, step, reply),
+        }
+    }
+
+    // Whether a reply is the one to this step.
+    fn is_right(&mut self, alloc: Global, step: Step, reply: &Reply) -> Result<bool, NotMade> {
+        if self.stopped {
+            return self.is_refused(alloc, step, reply);
+        }
+        if is_failure(reply) {
+            return Ok(self.stops_at(step));
+        }
+        match step {
+            Open => {
+                self.open = true;
+                self.plain.is_opened_again();
+                says(alloc, reply, "ok")
+            }
+            Format => {
+                self.open = false;
+                says(alloc, reply, "C2 AlreadyAStore")
+            }
+            Close if self.open => {
+                self.open = false;
+                says(alloc, reply, "ok")
+            }
+            step if self.open => self.is_answered(alloc, step, reply),
+            _ => says(alloc, reply, "S10 Halted"),
+        }
+    }
+
+    // Whether all replies are so.
+    fn are_right(
+        &mut self,
+        alloc: Global,
+        steps: &[Step],
+        replies: &[Reply],
+    ) -> Result<bool, NotMade> {
+        let mut well = steps.len() == replies.len();
+        for (step, reply) in steps.iter().zip(replies) {
+            well = well && self.is_right(alloc, *step, reply)?;
+        }
+        Ok(well)
+    }
+
+    fn shows(&self, alloc: Global, found: &str) -> Result<bool, NotMade> {
+        Ok(self.plain.contents(alloc)?.as_str() == found)
+    }
+
+    // Whether these are the tables after the command in flight.
+    fn shows_next(&mut self, alloc: Global, found: &str) -> Result<bool, NotMade> {
+        let Some(step) = self.in_flight else {
+            return Ok(false);
+        };
+        self.seen.kept = self.seen.kept.saturating_add(1);
+        self.plain.change(alloc, step)?;
+        self.shows(alloc, found)
+    }
+
+    // Whether a crash may leave tables of these values, which then are those that stand.
+    fn is_left(&mut self, alloc: Global, found: &str) -> Result<bool, NotMade> {
+        let well = if self.shows(alloc, found)? {
+            self.seen.lost = self
+                .seen
+                .lost
+                .saturating_add(u64::from(self.in_flight.is_some()));
+            true
+        } else {
+            self.shows_next(alloc, found)?
+        };
+        self.open = false;
+        self.stopped = false;
+        self.in_flight = None;
+        Ok(well)
+    }
+}
+
+const FORMATTED: Steps = &[(Format, "ok")];
+
+// Lets a crash come, and the device that is left stop after some calls.
+fn is_crashed(
+    alloc: Global,
+    slot: &mut Slot,
+    pair: &mut Pair,
+    chance: &mut Chance,
+) -> Result<bool, NotMade> {
+    let mut left = shut(slot)?.crash(chance.choice())?;
+    let well = pair.is_left(alloc, &contents(alloc, &mut left)?)?;
+    left.stop_at(chance.below(150));
+    *slot = Some(Place::Shut(left));
+    Ok(well)
+}
+
+// A list of calls, and now and then a crash behind it.
+fn is_run(
+    alloc: Global,
+    slot: &mut Slot,
+    pair: &mut Pair,
+    chance: &mut Chance,
+) -> Result<bool, NotMade> {
+    chance.exports = pair.plain.exports_opened();
+    let steps = drawn(alloc, chance, pair.open, 40)?;
+    let replies = replies_of_run(alloc, slot, calls_of(alloc, &steps)?)?;
+    if !pair.are_right(alloc, &steps, &replies)? {
+        return Ok(false);
+    }
+    if pair.stopped || chance.below(3) == 0 {
+        return is_crashed(alloc, slot, pair, chance);
+    }
+    Ok(true)
+}
+
+// The first of so many lists that goes wrong.
+fn wrong_list(
+    alloc: Global,
+    slot: &mut Slot,
+    pair: &mut Pair,
+    seed: u64,
+) -> Result<Option<usize>, NotMade> {
+    let mut chance = Chance {
+        state: seed,
+        exports: 0,
+    };
+    for list in 0..LISTS {
+        if !is_run(alloc, slot, pair, &mut chance)? {
+            return Ok(Some(list));
+        }
+    }
+    Ok(None)
+}
+
+const LISTS: usize = 125;
+
+// Of how many sectors a device is, and what is drawn. On the smaller one there is often no room.
+const DEVICES: &[(u64, u64)] = &[(24, 1), (64, 2)];
+
+fn wrong_on(
+    alloc: Global,
+    slot: &mut Slot,
+    pair: &mut Pair,
+    seed: u64,
+) -> Result<Option<usize>, NotMade> {
+    if is_played(alloc, slot, FORMATTED)? {
+        wrong_list(alloc, slot, pair, seed)
+    } else {
+        Err(NotMade)
+    }
+}
+
+// The first list that goes wrong; their number, where not all came that is to come.
+fn wrong_device(alloc: Global) -> Result<Option<usize>, NotMade> {
+    let mut seen = Seen::nothing();
+    for (sectors, seed) in DEVICES {
+        let mut pair = Pair::new(alloc, seen)?;
+        let wrong = wrong_on(alloc, &mut new_slot(alloc, *sectors)?, &mut pair, *seed)?;
+        seen = pair.seen;
+        if wrong.is_some() {
+            return Ok(wrong);
+        }
+    }
+    Ok(if seen.is_all() { None } else { Some(LISTS) })
+}
+
+#[test]
+fn calls_drawn_by_chance_are_answered_as_by_plain_tables(rt: HostRuntime) {
+    assert_no_row(&rt, wrong_device(rt.alloc()));
+}
