@@ -5,10 +5,10 @@ use Rattle.std.proofs.lemmas.Slice.Eq.{bytes_eq-Decides}
 use Rattle.clap.specs.Words.{Text}
 use Rattle.arrowstore.specs.Arguments.{AreRecode, AskForHelp, command}
 use Rattle.program_texts.specs.OwnTexts.{is_own, asks_version, asks_refusals, is_version_word, is_refusals_topic}
-use Rattle.store_requests.specs.StoreWords.{is_of_store, is_store_word, changes_word, reads_word, takes_input_word, reads_table_word, ask_help_of_command}
+use Rattle.store_requests.specs.StoreWords.{is_of_store, is_store_word, changes_word, makes_word, reads_word, takes_input_word, reads_table_word, ask_help_of_command}
 
 recode_of_none : (name : Text) (rest : List Text) → is_of_store (name ∷ codes "recode" ∷ rest) ≡ false
-unfolding is_of_store is_store_word changes_word reads_word takes_input_word reads_table_word
+unfolding is_of_store is_store_word changes_word makes_word reads_word takes_input_word reads_table_word
 recode_of_none name rest = refl
 
 pub recode_of_no_store : (arguments : List Text) → AreRecode arguments → is_of_store arguments ≡ false
@@ -35,7 +35,7 @@ same_of_none other word name rest same none = subst (λ (w : Text). is_of_store 
 
 own_word_of_none : (name word : Text) (rest : List Text) (long short help : Bool) → bytes_eq (codes "--version") word ≡ long → bytes_eq (codes "-V") word ≡ short → bytes_eq (codes "help") word ≡ help
     → is_own (name ∷ word ∷ rest) ≡ true → is_of_store (name ∷ word ∷ rest) ≡ false
-unfolding is_own asks_version asks_refusals is_version_word is_refusals_topic is_of_store is_store_word changes_word reads_word takes_input_word reads_table_word
+unfolding is_own asks_version asks_refusals is_version_word is_refusals_topic is_of_store is_store_word changes_word makes_word reads_word takes_input_word reads_table_word
 own_word_of_none name word rest true short help l s h own = same_of_none (codes "--version") word name rest l refl
 own_word_of_none name word rest false true help l s h own = same_of_none (codes "-V") word name rest s refl
 own_word_of_none name word rest false false true l s h own = same_of_none (codes "help") word name rest h refl

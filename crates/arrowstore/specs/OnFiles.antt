@@ -16,6 +16,8 @@ use Rattle.store.specs.Fits.{device_of, IsNewStore}
 use Rattle.store.specs.Answering.{LeavesUnformatted}
 use Rattle.command_refusals.specs.declared.refusal.Refusal.{Refusal}
 use Rattle.command_refusals.specs.declared.refusal.Refusal.TheVariants as refusals
+use Rattle.tables.specs.declared.refusal.Refusal as tables
+use Rattle.store_commands.specs.Copying.{Copies}
 use Rattle.command_refusals.specs.declared.hint.Hint.{Hint}
 use Rattle.command_refusals.specs.declared.hint.Hint.TheVariants as hints
 use Rattle.program_texts.specs.Reported.{IsWrong}
@@ -32,7 +34,7 @@ use Rattle.store_requests.specs.declared.store_words.StoreRequest.{StoreRequest}
 use Rattle.store_requests.specs.declared.store_words.StoreRequest.TheVariants as requests
 use Rattle.arrowstore.specs.declared.open_command.OpenCommand.{OpenCommand}
 use Rattle.arrowstore.specs.OpenCommands.{States, RefusesStating}
-use Rattle.arrowstore.specs.OnDevice.{ServesDevice}
+use Rattle.arrowstore.specs.OnDevice.{IsOpened, RefusesOpening, ServesDevice}
 use Rattle.arrowstore.specs.Serving.{Channels, channels}
 
 -- a device that was opened over a file: all of the file, of which no write is held back
@@ -96,11 +98,58 @@ abbrev pub Formats : {D : Type 0} → (g : Ghosts D) → {W : Type 0} → (conte
 Formats g contents sectors output output' result =
     IsErrAnd result (λ refusal. RefusesFormat g sectors refusal × (output' ≡ output)) ⊎ MakesStore g contents sectors output output' result
 
+-- ---- a copy of the store of a file, in a new file
+
+-- a store that was opened on the device of a file
+pub record OpensStore {D : Type 0} (g : Ghosts D) (is_opened : D → Type 0) (store : Store D g) : Type 0 where
+  pub device : D
+  pub opened : is_opened device
+  pub stands : IsOpened device store
+
+-- or why none was: its file is not opened, or no store is on the device of it
+abbrev pub FailsToOpen : {D : Type 0} → (g : Ghosts D) → (is_opened : D → Type 0) → Refusal → Type 0
+FailsToOpen {D} g is_opened refusal = IsOfFile refusal ⊎ ((device : D) × is_opened device × ((back : D) × RefusesOpening g device back refusal))
+
+-- a new store of so many sectors was made, and the tables of another one were copied into it, which was answered so
+pub record CopiesInto {D : Type 0} (g : Ghosts D) (sectors : ℕ) (from : Store D g) (answer : Result (Unit {0}) tables.Refusal) : Type 0 where
+  pub made : Store D g
+  pub new : IsNewStore sectors made
+  pub size : g.size (device_of made) ≡ sectors
+  pub after_it : Store D g
+  pub full : Store D g
+  pub copies : Copies from after_it made full answer
+
+-- why no copy is made: no new store is made, or some table is not copied into it
+abbrev pub FailsToCopy : {D : Type 0} → (g : Ghosts D) → (sectors : ℕ) → (from : Store D g) → Refusal → Type 0
+FailsToCopy g sectors from refusal = RefusesFormat g sectors refusal ⊎ ((r : tables.Refusal) × (refusal ≡ refusals.Store r) × CopiesInto g sectors from (Err r))
+
+-- why a store is not copied: it is not opened, or it is and no copy is made
+abbrev pub RefusesCopying : {D : Type 0} → (g : Ghosts D) → (is_opened : D → Type 0) → (sectors : ℕ) → Refusal → Type 0
+RefusesCopying {D} g is_opened sectors refusal =
+    FailsToOpen g is_opened refusal ⊎ ((from : Store D g) × OpensStore g is_opened from × FailsToCopy g sectors from refusal)
+
+-- a store was opened and copied, and `ok` is written
+pub record MakesCopy {D : Type 0} (g : Ghosts D) (is_opened : D → Type 0) {W : Type 0} (contents : W → Option (List ℕ)) (sectors : ℕ) (output output' : W)
+    (result : Result (Unit {0}) Refusal) : Type 0 where
+  pub from : Store D g
+  pub opens : OpensStore g is_opened from
+  pub copies : CopiesInto g sectors from (Ok tt)
+  pub written : OnOk result (Appends (contents output) (contents output') (codes "ok\n"))
+  pub failed : IfErr result (λ refusal. refusal ≡ refusals.Io)
+
+-- or why not, and then nothing is written
+abbrev pub CopiesStore : {D : Type 0} → (g : Ghosts D) → (is_opened : D → Type 0) → {W : Type 0} → (contents : W → Option (List ℕ)) → (sectors : ℕ) → (output output' : W)
+    → Result (Unit {0}) Refusal → Type 0
+CopiesStore g is_opened contents sectors output output' result =
+    IsErrAnd result (λ refusal. RefusesCopying g is_opened sectors refusal × (output' ≡ output)) ⊎ MakesCopy g is_opened contents sectors output output' result
+
 -- what a request comes to
 abbrev pub ServesRequest : {D : Type 0} → (g : Ghosts D) → (is_opened : D → Type 0) → {R W : Type 0} → (remaining : R → Option (List ℕ))
     → (contents : W → Option (List ℕ)) → StoreRequest → (before after : Channels R W) → Result (Unit {0}) Refusal → Type 0
 ServesRequest g is_opened remaining contents (requests.Format path sectors) before after result =
     Formats g contents sectors before.output after.output result × (after.hint ≡ before.hint)
+ServesRequest g is_opened remaining contents (requests.Copy path new sectors) before after result =
+    CopiesStore g is_opened contents sectors before.output after.output result × (after.hint ≡ before.hint)
 ServesRequest g is_opened remaining contents (requests.Command path command) before after result =
     ServesCommand g is_opened remaining contents command before after result
 

@@ -25,6 +25,7 @@ const OTHER_COMMANDS: &str =
   schema   Prints a line for each field of a table
   check    Reads all tables, and prints ok where each can be read
   compact  Joins small segments, moves the last ones forward, and prints how many steps that took
+  copy     Makes a store of so many sectors in a new file, with all tables of another one
 
 What each refusal means, and what to do: arrowstore help refusals
 The version: arrowstore --version";

@@ -12,6 +12,7 @@
 #![tactic(auto)]
 
 mod command_line;
+mod copying_files;
 mod open_command;
 mod running;
 mod serving;
@@ -27,8 +28,8 @@ pub use serving_device::serve_device;
 pub use serving_open::serve_open;
 pub use store_commands::{
     LARGEST_INPUT, append_input, append_text, apply_command, check_tables, compact_tables,
-    export_table, import_input, new_table, print_schema, print_selection, print_tables, query_of,
-    recode,
+    copy_tables, export_table, import_input, new_table, print_schema, print_selection,
+    print_tables, query_of, recode,
 };
 pub use store_requests::{QueryWords, StoreCommand};
 pub use text_import::{RefusedPart, TextForm};

@@ -6,6 +6,7 @@ ghost use Rattle.store_requests.specs.StoreWords.{takes_input_word};
 ghost use Rattle.arrowstore.specs.OnFiles.{IsOpenedFile, FailsToFormat, RefusesFormat, Formats, ServesCommand, ServesRequest};
 ghost use Rattle.arrowstore.specs.Serving.{channels};
 
+use crate::copying_files::serve_copy;
 use crate::open_command::{OpenCommand, stated};
 use crate::serving_device::serve_device;
 use command_refusals::{Refusal, write_whole};
@@ -32,7 +33,7 @@ fn format_on<D: SectorDevice + Drop>(alloc: Global, device: D) -> Result<Store<D
 
 // A program may be started without its standard streams, and the next file that it opens then stands in the place of one: what is printed
 // would go into the store. Folders, which can be neither read nor written, take these places before.
-fn take_places_of_streams<
+pub(crate) fn take_places_of_streams<
     F: Read + Write + Seek + OpenFile + LockFile + Drop,
     H: Files<File = F> + AllocGlobal,
 >(rt: &H) -> Result<(F, F, F), FileError>
@@ -57,7 +58,7 @@ fn device_of<F: Read + Write + Seek + OpenFile + LockFile + Drop, H: Files<File 
 }
 
 // A store in a new file. Where it is not made, no file is left, unless the system refuses to remove it too.
-fn format_file<
+pub(crate) fn format_file<
     F: Read + Write + Seek + OpenFile + LockFile + Drop,
     H: Files<File = F> + AllocGlobal,
 >(rt: &H, path: &str, sectors: u64) -> Result<Store<FileDevice<F>>, Refusal>
@@ -136,6 +137,7 @@ pub(crate) fn serve<
 {
     match request {
         StoreRequest::Format { path, sectors } => serve_format(rt, path, *sectors, output),
+        StoreRequest::Copy { path, new, sectors } => serve_copy(rt, path, new, *sectors, output),
         StoreRequest::Command { path, command } => {
             serve_command(rt, path, command, input, output, hint)
         }

@@ -1,14 +1,14 @@
 -- Tables that are copied one after another.
-use Rattle.std.specs.Prelude.{◌≢◌, ◌++◌, ◌==◌, Bool, Option, Some, None, Result, Ok, Err, IsOk, OnOk, get_or, cond, if◌then◌else◌}
+use Rattle.std.specs.Prelude.{◌≢◌, ◌++◌, Bool, Option, Some, None, Result, Ok, Err, IsOk, OnOk, IfErr, get_or, cond, if◌then◌else◌}
 use Rattle.std.specs.List.{AllByRecursion}
 use Rattle.std.specs.Str.{bytes_eq}
 use Rattle.std.specs.FinMap as maps
 use Rattle.std.specs.Ordering.{nat_cmp}
 use Rattle.std.specs.Cmp.Lexicographic.{slice_cmp}
-use Rattle.std.proofs.Common.{◌≡◌, ◌∙◌, ◌<◌, ◌+◌, ℕ, true, false, List, [], ◌∷◌, map, take, length, refl, ap, sym, subst, true≢false, append-nil, append_assoc}
+use Rattle.std.proofs.Common.{◌≡◌, ◌∙◌, ◌<◌, ◌+◌, ℕ, true, false, List, [], ◌∷◌, map, take, length, inl, inr, refl, ap, sym, subst, true≢false, append-nil, append_assoc}
 use Rattle.std.proofs.lemmas.List.{get_or-map, length-map}
 use Rattle.std.proofs.lemmas.Slice.Eq.{bytes_eq-Decides}
-use Rattle.sector_dev.specs.Disk.{Image, now, synced_image}
+use Rattle.sector_dev.specs.Disk.{Image, now, shown_image, synced_image}
 use Rattle.sector_dev.specs.declared.device.SectorDevice.{Ghosts}
 use Rattle.facts.specs.Checks.{unless}
 use Rattle.facts.specs.laws.Lists.{take-item, all_more}
@@ -18,6 +18,7 @@ use Rattle.ipc_message.specs.Header.{supported_codes}
 use Rattle.ipc_stream.specs.Meaning.{meaning}
 use Rattle.catalogue.specs.Entries.{PlainEntry, PlainCatalogue}
 use Rattle.catalogue.specs.Edits.{entry_of, tables_of}
+use Rattle.canonical_stream.specs.Canonical.{canonical}
 use Rattle.tables.specs.declared.refusal.Refusal.{Refusal}
 use Rattle.tables.specs.Commands.{PlainCommand, import_stream}
 use Rattle.tables.specs.Tables.{Tables, no_tables, table_at, with_table}
@@ -30,12 +31,14 @@ use Rattle.store.specs.Calls.{PlainCall, apply_call, export_call, bytes_are, Pla
 use Rattle.store.specs.Fits.{StoreFits, setting_of, device_of, is_halted, listed_in}
 use Rattle.store.specs.Held.{tables_held}
 use Rattle.store.specs.Machine.{Setting, Machine, running, halted, tables_now, settle}
-use Rattle.store.specs.Reading.{ended}
+use Rattle.store.specs.Reading.{ended, OnlyReadsStore, ReadsTable}
 use Rattle.store.specs.Runs.{Goes, Run}
 use Rattle.store.specs.Steps.{Step}
 use Rattle.store.specs.laws.Going.{runs_joined, no_run, run_of_one}
 use Rattle.store.specs.laws.Named.{entry_lacks}
-use Rattle.store_commands.specs.Copying.{ComesTo, HasAllOf}
+use Rattle.store_commands.specs.Changing.{AnswersCommand}
+use Rattle.store_commands.specs.Copying.{ComesTo, HasAllOf, ImportsTable, ImportsEach, FailsToRead, RefusesTable, StopsCopying, RefusesCopy}
+use Rattle.store_commands.proofs.ReadingLemmas.{read_again}
 use Rattle.store_commands.specs.inner.Copying.{TableCopied, CopiesTable, HasTaken, HasListed}
 
 -- ---- one import
@@ -250,3 +253,50 @@ module _ {D E : Type 0} {g : Ghosts D} {h : Ghosts E} where
   pub copied_all : (listed all : List (List ℕ × ℕ)) (from from' : Store D g) (to to' : Store E h) → listed ≡ all → CopiesSoFar listed from from' to to' → HasListed all from to to'
   copied_all listed all from from' to to' is so = λ from_tells to_tells a b m n from_fits to_fits empty.
       subst (λ (l : List (List ℕ × ℕ)). HasTaken (after a m.settled) b n l to to') is (so from_tells to_tells a b m n from_fits to_fits empty).taken_so
+
+-- ---- on any store and any device
+
+module _ {D E : Type 0} {g : Ghosts D} {h : Ghosts E} where
+  -- what is answered of an import, and why it is refused
+  pub imports_table : (from : Store D g) (name : List ℕ) (to to' : Store E h) (bytes : List ℕ) (command : PlainCommand) (table : PlainTable) (r : Result (Unit {0}) Refusal) → command ≡ import_stream name bytes
+      → bytes ≡ canonical table
+      → ReadsTable (is_halted from) g.tells (shown_image (now (g.story (device_of from)))) (entry_of (listed_in from) name) table
+      → OnlyReadsStore g.size g.story g.failed g.tells done from from → AnswersCommand h.size h.story h.tells command r to to' → ImportsTable from name to r to'
+  imports_table from name to to' bytes command table r is canonical_is shows reads answers = record {
+    source = from;
+    reads = reads;
+    table = table;
+    shows = shows;
+    answers = subst (λ (c : PlainCommand). AnswersCommand h.size h.story h.tells c r to to') (is ∙ ap (import_stream name) canonical_is) answers;
+  }
+
+  pub imports_where_done : (from : Store D g) (name : List ℕ) (to to' : Store E h) (r : Result (Unit {0}) Refusal) → ImportsTable from name to r to' → OnOk r (ImportsTable from name to (Ok tt) to')
+  imports_where_done from name to to' (Ok unit) is = is
+  imports_where_done from name to to' (Err e) is = tt
+
+  pub refuses_where_not : (from : Store D g) (name : List ℕ) (to to' : Store E h) (r : Result (Unit {0}) Refusal) → ImportsTable from name to r to' → IfErr r (λ e. RefusesTable from name to e to')
+  refuses_where_not from name to to' (Ok unit) is = tt
+  refuses_where_not from name to to' (Err e) is = inr is
+
+  -- a store that was only read before
+  pub since : (from mid : Store D g) (name other : List ℕ) (to : Store E h) (r : Result (Unit {0}) Refusal) (to' : Store E h) → name ≡ other → OnlyReadsStore g.size g.story g.failed g.tells done from mid
+      → ImportsTable mid name to r to' → ImportsTable from other to r to'
+  since from mid name other to r to' named reads one =
+      subst (λ (q : List ℕ). ImportsTable from q to r to') named
+      (record { source = one.source; reads = read_again g.story g.size g.failed g.tells done from mid one.source reads one.reads; table = one.table; shows = one.shows; answers = one.answers })
+
+  pub refuses_since : (from mid : Store D g) (name other : List ℕ) (to to' : Store E h) (r : Refusal) → name ≡ other → OnlyReadsStore g.size g.story g.failed g.tells done from mid
+      → RefusesTable mid name to r to' → RefusesTable from other to r to'
+  refuses_since from mid name other to to' r named reads (inr one) = inr (since from mid name other to (Err r) to' named reads one)
+  refuses_since from mid name other to to' r named reads (inl (inl memory, same)) = inl (inl memory, same)
+  refuses_since from mid name other to to' r named reads (inl (inr why, same)) =
+      inl (inr (subst (λ (q : List ℕ). FailsToRead from q r) named (record { source = why.source; reads = read_again g.story g.size g.failed g.tells done from mid why.source reads why.reads; refuses = why.refuses })), same)
+
+  pub imports_more : (from : Store D g) (listed : List (List ℕ × ℕ)) (x : List ℕ × ℕ) (to mid to' : Store E h) → ImportsEach from listed to mid → ImportsTable from x.0 mid (Ok tt) to' → ImportsEach from (listed ++ x ∷ []) to to'
+  imports_more from [] x to mid to' each one = (to', subst (λ (s : Store E h). ImportsTable from x.0 s (Ok tt) to') each one, refl)
+  imports_more from (y ∷ ys) x to mid to' each one = (each.0, each.1, imports_more from ys x each.0 mid to' each.2 one)
+
+  pub stops_or_not : (from : Store D g) (listed : List (List ℕ × ℕ)) (to to' : Store E h) (r : Result (Unit {0}) Refusal) → listed ≡ tables_of (listed_in from)
+      → IfErr r (λ e. StopsCopying from listed to e to') → IfErr r (λ e. RefusesCopy from to e to')
+  stops_or_not from listed to to' (Ok unit) is stops = tt
+  stops_or_not from listed to to' (Err e) is stops = inr (subst (λ (l : List (List ℕ × ℕ)). StopsCopying from l to e to') is stops)

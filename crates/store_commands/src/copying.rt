@@ -1,8 +1,10 @@
 // All tables of a store, copied into another one.
-ghost use Rattle.std.specs.Prelude.{map, string_bytes, OnOk};
+ghost use Rattle.std.specs.Prelude.{map, string_bytes, Ok, IfErr, OnOk};
+ghost use Rattle.catalogue.specs.Edits.{tables_of};
 ghost use Rattle.store.specs.Calls.{done};
+ghost use Rattle.store.specs.Fits.{listed_in};
 ghost use Rattle.store.specs.Reading.{OnlyReadsStore};
-ghost use Rattle.store_commands.specs.Copying.{IsOnlyRead, HasAllOf};
+ghost use Rattle.store_commands.specs.Copying.{IsOnlyRead, HasAllOf, ImportsTable, ImportsEach, RefusesTable, StopsCopying, RefusesCopy};
 ghost use Rattle.store_commands.specs.inner.Copying.{CopiesTable, HasListed};
 
 use sector_dev::SectorDevice;
@@ -18,6 +20,8 @@ fn copy_table<D: SectorDevice, E: SectorDevice>(
     name: &str,
 ) -> Result<(), Refusal>
     ensures copied { OnOk result (CopiesTable name.now from.old from.new to.old to.new) }
+    ensures imports { OnOk result (ImportsTable from.old name.now to.old (Ok tt) to.new) }
+    ensures told { IfErr result (λ r. RefusesTable from.old name.now to.old r to.new) }
     ensures reads { IsOnlyRead from.old from.new }
     ensures only { OnOk result (OnlyReadsStore D.size D.story D.failed D.tells done from.old from.new) }
 {
@@ -34,6 +38,8 @@ fn copy_each<D: SectorDevice, E: SectorDevice>(
     tables: &[(String, u64)],
 ) -> Result<(), Refusal>
     ensures copied { OnOk result (HasListed (map (λ t. (string_bytes t.0, t.1)) tables.now) from.old to.old to.new) }
+    ensures imports { OnOk result (ImportsEach from.old (map (λ t. (string_bytes t.0, t.1)) tables.now) to.old to.new) }
+    ensures told { IfErr result (λ r. StopsCopying from.old (map (λ t. (string_bytes t.0, t.1)) tables.now) to.old r to.new) }
     ensures reads { IsOnlyRead from.old from.new }
 {
     for table in tables {
@@ -55,8 +61,11 @@ pub fn copy_tables<D: SectorDevice, E: SectorDevice>(
     from: &mut Store<D>,
     to: &mut Store<E>,
 ) -> Result<(), Refusal>
-    // The store that has no tables has just those of the other one, and each was acknowledged.
+    // Of stores that stand for machines: the one that has no tables has just those of the other one, and each was acknowledged.
     ensures copied { OnOk result (HasAllOf from.old to.old to.new) }
+    // On any store and any device: the stream of each table that is listed and read was imported; each refusal has its one reason.
+    ensures imports { OnOk result (ImportsEach from.old (tables_of (listed_in from.old)) to.old to.new) }
+    ensures told { IfErr result (λ r. RefusesCopy from.old to.old r to.new) }
     // The store that is copied is only read.
     ensures reads { IsOnlyRead from.old from.new }
 {

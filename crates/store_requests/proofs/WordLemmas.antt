@@ -4,7 +4,7 @@ use Rattle.std.specs.Str.{bytes_eq}
 use Rattle.std.proofs.lemmas.Slice.Eq.{bytes_eq-Decides}
 use Rattle.std.proofs.Math.Bool.{or-false}
 use Rattle.clap.specs.Words.{Text}
-use Rattle.store_requests.specs.StoreWords.{is_of_store, is_store_word, changes_word, reads_word, takes_input_word, reads_table_word, first_word}
+use Rattle.store_requests.specs.StoreWords.{is_of_store, is_store_word, changes_word, makes_word, reads_word, takes_input_word, reads_table_word, first_word}
 
 pub first_of_store : (arguments : List Text) → is_of_store arguments ≡ true → is_store_word (first_word arguments) ≡ true
 unfolding is_of_store first_word
@@ -22,7 +22,7 @@ other_word other word differs = other_false other word (bytes_eq other word) ref
 -- a word that is none of the others
 pub last_word : (word : Text) → is_store_word word ≡ true → bytes_eq (codes "format") word ≡ false → bytes_eq (codes "import") word ≡ false → bytes_eq (codes "append") word ≡ false
     → bytes_eq (codes "create") word ≡ false → bytes_eq (codes "rename") word ≡ false → bytes_eq (codes "drop") word ≡ false → bytes_eq (codes "schema") word ≡ false → bytes_eq (codes "export") word ≡ false
-    → bytes_eq (codes "query") word ≡ false → bytes_eq (codes "check") word ≡ false → bytes_eq (codes "compact") word ≡ false → codes "tables" ≡ word
-unfolding is_store_word changes_word reads_word takes_input_word reads_table_word
-last_word word is format import append create rename drop schema export query check compact =
-    (bytes_eq-Decides (codes "tables") word).0 (sym (rw (import, append, create, rename, drop, compact, format, schema, export, query, check) (or-false (bytes_eq (codes "tables") word))) ∙ is)
+    → bytes_eq (codes "query") word ≡ false → bytes_eq (codes "check") word ≡ false → bytes_eq (codes "compact") word ≡ false → bytes_eq (codes "copy") word ≡ false → codes "tables" ≡ word
+unfolding is_store_word changes_word makes_word reads_word takes_input_word reads_table_word
+last_word word is format import append create rename drop schema export query check compact copy =
+    (bytes_eq-Decides (codes "tables") word).0 (sym (rw (import, append, create, rename, drop, compact, format, copy, schema, export, query, check) (or-false (bytes_eq (codes "tables") word))) ∙ is)

@@ -22,8 +22,12 @@ reads_table_word word = bytes_eq (codes "schema") word || (bytes_eq (codes "expo
 unfoldable pub reads_word : Text → Bool
 reads_word word = reads_table_word word || (bytes_eq (codes "tables") word || bytes_eq (codes "check") word)
 
+-- those that make a store in a new file
+unfoldable pub makes_word : Text → Bool
+makes_word word = bytes_eq (codes "format") word || bytes_eq (codes "copy") word
+
 unfoldable pub is_store_word : Text → Bool
-is_store_word word = changes_word word || (bytes_eq (codes "format") word || reads_word word)
+is_store_word word = changes_word word || (makes_word word || reads_word word)
 
 -- the program's name, and a command of a store
 unfoldable pub is_of_store : List Text → Bool

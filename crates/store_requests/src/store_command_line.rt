@@ -104,6 +104,10 @@ fn words_of<'a>(
     matches.get_strs(id).unwrap_or_default().to_vec(alloc)
 }
 
+fn sectors_of(matches: &ArgMatches<'_>) -> u64 {
+    matches.get_one("SECTORS").unwrap_or_default()
+}
+
 // Rows are appended from a stream, or from a text.
 fn append_command<'a>(name: &'a str, words: &ArgMatches<'a>) -> StoreCommand<'a>
     ensures { command_word result ≡ codes "append" }
@@ -146,7 +150,7 @@ fn command_of<'a>(
     command: &str,
     words: &ArgMatches<'a>,
 ) -> Result<StoreCommand<'a>, AllocError>
-    ensures { is_store_word command.now ≡ true → bytes_eq (codes "format") command.now ≡ false
+    ensures { is_store_word command.now ≡ true → bytes_eq (codes "format") command.now ≡ false → bytes_eq (codes "copy") command.now ≡ false
         → IfOk result (λ asked. command_word asked ≡ command.now) }
 {
     let name = word(words, "NAME");
@@ -171,6 +175,20 @@ fn command_of<'a>(
     }
 }
 
+// A request of a store that is there.
+fn command_request<'a>(
+    alloc: Global,
+    path: &'a str,
+    command: &str,
+    words: &ArgMatches<'a>,
+) -> Result<StoreRequest<'a>, AllocError>
+    ensures { is_store_word command.now ≡ true → bytes_eq (codes "format") command.now ≡ false → bytes_eq (codes "copy") command.now ≡ false
+        → IfOk result (λ request. request_word request ≡ command.now) }
+{
+    let command = command_of(alloc, command, words)?;
+    Ok(StoreRequest::Command { path, command })
+}
+
 fn requested<'a>(
     alloc: Global,
     command: &str,
@@ -179,20 +197,25 @@ fn requested<'a>(
     ensures { is_store_word command.now ≡ true → IfOk result (λ request. request_word request ≡ command.now) }
 {
     let path = word(words, "STORE");
-    if command == "format" {
-        return Ok(StoreRequest::Format {
+    match command {
+        "format" => Ok(StoreRequest::Format {
             path,
-            sectors: words.get_one("SECTORS").unwrap_or_default(),
-        });
+            sectors: sectors_of(words),
+        }),
+        "copy" => Ok(StoreRequest::Copy {
+            path,
+            new: word(words, "NEW"),
+            sectors: sectors_of(words),
+        }),
+        _ => command_request(alloc, path, command, words),
     }
-    let command = command_of(alloc, command, words)?;
-    Ok(StoreRequest::Command { path, command })
 }
 
 // What a command takes behind the file of the store.
 enum Behind {
     Nothing,
     Sectors,
+    NewStore,
     Table,
     TableAndFields,
     TableAndRows,
@@ -209,7 +232,7 @@ struct Usage {
 }
 
 // In the order of the help.
-const COMMANDS: [Usage; 12] = [
+const COMMANDS: [Usage; 13] = [
     Usage {
         name: "format",
         about: "Makes a file of so many sectors, and an empty store in it",
@@ -297,6 +320,12 @@ seconds, .. they are behind 1970-01-01.",
 The tables stay as they are, also where it is stopped. Each append leaves a segment of
 its own, with a bound on how many a store has; what is joined is read faster too.",
         behind: Behind::Nothing,
+    },
+    Usage {
+        name: "copy",
+        about: "Makes a store of so many sectors in a new file, with all tables of another one",
+        example: "Example: arrowstore copy store larger 65536",
+        behind: Behind::NewStore,
     },
 ];
 
@@ -423,6 +452,10 @@ fn command<'a>(alloc: Global, usage: &Usage) -> Result<Command<'a>, AllocError> 
     match usage.behind {
         Behind::Nothing => command,
         Behind::Sectors => with_arg(command, sectors(alloc)),
+        Behind::NewStore => with_arg(
+            with_arg(command, required(alloc, "NEW", "The file of the new store")),
+            sectors(alloc),
+        ),
         _ => with_table(alloc, command, &usage.behind),
     }
 }

@@ -1,6 +1,6 @@
 // What a command line asks of a store.
 ghost use Rattle.std.specs.Prelude.{◌≡◌, map};
-ghost use Rattle.store_requests.specs.StoreWords.{takes_input_word, changes_word, reads_table_word, reads_word, is_store_word, is_of_store, takes_input, is_help_word, ask_for_help, ask_help_of_command};
+ghost use Rattle.store_requests.specs.StoreWords.{takes_input_word, changes_word, makes_word, reads_table_word, reads_word, is_store_word, is_of_store, takes_input, is_help_word, ask_for_help, ask_help_of_command};
 
 use std::convert::AsStr;
 use text_import::TextForm;
@@ -19,6 +19,12 @@ pub enum StoreRequest<'a> {
     /// An empty store of so many sectors, in a new file.
     Format {
         path: &'a str,
+        sectors: u64,
+    },
+    /// A store of so many sectors, in the file at another path, that has the tables of the one that stands there.
+    Copy {
+        path: &'a str,
+        new: &'a str,
         sectors: u64,
     },
     /// A command of the store that stands there.
@@ -99,6 +105,13 @@ fn changes_word(word: &str) -> bool
     takes_input_word(word) || matches!(word, "create" | "rename" | "drop" | "compact")
 }
 
+#[tactic(auto, unfolding(crate::specs::StoreWords::makes_word))]
+fn makes_word(word: &str) -> bool
+    ensures { result ≡ makes_word word.now }
+{
+    matches!(word, "format" | "copy")
+}
+
 #[tactic(auto, unfolding(crate::specs::StoreWords::reads_table_word))]
 fn reads_table_word(word: &str) -> bool
     ensures { result ≡ reads_table_word word.now }
@@ -117,7 +130,7 @@ fn reads_word(word: &str) -> bool
 fn is_store_word(word: &str) -> bool
     ensures { result ≡ is_store_word word.now }
 {
-    changes_word(word) || word == "format" || reads_word(word)
+    changes_word(word) || makes_word(word) || reads_word(word)
 }
 
 /// Whether the arguments, of which the program's name is the first, name a command of a store.
