@@ -62,6 +62,15 @@ def of_a_new_file(path):
     return answer
 
 
+def of_a_copy(path):
+    """Answers of commands that change this file, each of a copy of its own."""
+    def answer(command, given, **extra):
+        with tempfile.TemporaryDirectory() as room:
+            copy = shutil.copy(path, room)
+            return answer_of([copy if word == path else word for word in command], given, **extra)
+    return answer
+
+
 def in_turn(counted, command, given, answer, setting, **extra):
     """The answer undisturbed, and the answers with the first, the second .. of what is counted going wrong."""
     counts = os.path.join(ROOM.name, "counts")
@@ -82,9 +91,9 @@ def each_read_failed(command, given, error, answer=answer_of):
     return in_turn(1, command, given, answer, "FAILED_READ", CALL_ERROR=str(error))
 
 
-def each_write_failed(command, given, error, most):
+def each_write_failed(command, given, error, most, answer=answer_of):
     """With each write to standard output failed, with this error of the system; each of the others takes at most so many bytes."""
-    return in_turn(2, command, given, answer_of, "FAILED_WRITE", CALL_ERROR=str(error), MOST=str(most))
+    return in_turn(2, command, given, answer, "FAILED_WRITE", CALL_ERROR=str(error), MOST=str(most))
 
 
 def each_change_failed(command, given, error, answer=answer_of):

@@ -90,7 +90,7 @@ const EXPORTED: Script = Script {
     ],
     calls: &[1, 6, 6, 11, 11, 16, 20, 25, 25, 25, 25, 25],
     opening: None,
-    layout: "epoch 6, 201 in 6, u: 2+1",
+    layout: "epoch 6, 201 in 5, u: 4+1",
 };
 
 /// The script of a number: there are two.
