@@ -3,7 +3,7 @@ _arrowstore() {
     local word=${COMP_WORDS[COMP_CWORD]} before=${COMP_WORDS[COMP_CWORD-1]} flags=
     COMPREPLY=()
     if [ $COMP_CWORD -eq 1 ]; then
-        COMPREPLY=($(compgen -W 'recode help format create import append query export rename drop tables schema check -h --help --version' -- "$word"))
+        COMPREPLY=($(compgen -W 'recode help format create import append query export rename drop tables schema check compact copy -h --help --version' -- "$word"))
         return
     fi
     case "${COMP_WORDS[1]} $before" in
@@ -26,7 +26,9 @@ _arrowstore() {
     tables) flags='-h --help' ;;
     schema) flags='-h --help' ;;
     check) flags='-h --help' ;;
-    help) [ $COMP_CWORD -eq 2 ] && COMPREPLY=($(compgen -W 'recode format create import append query export rename drop tables schema check refusals' -- "$word")); return ;;
+    compact) flags='-h --help' ;;
+    copy) flags='-h --help' ;;
+    help) [ $COMP_CWORD -eq 2 ] && COMPREPLY=($(compgen -W 'recode format create import append query export rename drop tables schema check compact copy refusals' -- "$word")); return ;;
     esac
     if [ "${word#-}" != "$word" ]; then
         COMPREPLY=($(compgen -W "$flags" -- "$word"))

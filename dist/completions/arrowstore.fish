@@ -15,6 +15,8 @@ complete -c arrowstore -n __fish_use_subcommand -a drop -d 'Removes a table with
 complete -c arrowstore -n __fish_use_subcommand -a tables -d 'Prints a line for each table: its name, and how many rows it has'
 complete -c arrowstore -n __fish_use_subcommand -a schema -d 'Prints a line for each field of a table'
 complete -c arrowstore -n __fish_use_subcommand -a check -d 'Reads all tables, and prints ok where each can be read'
+complete -c arrowstore -n __fish_use_subcommand -a compact -d 'Joins small segments, moves the last ones forward, and prints how many steps that took'
+complete -c arrowstore -n __fish_use_subcommand -a copy -d 'Makes a store of so many sectors in a new file, with all tables of another one'
 complete -c arrowstore -n '__fish_seen_subcommand_from recode' -s h -l help -d 'Print help'
 complete -c arrowstore -n '__fish_seen_subcommand_from format; and test (count (commandline -opc)) -eq 2' -F
 complete -c arrowstore -n '__fish_seen_subcommand_from format' -s h -l help -d 'Print help'
@@ -43,4 +45,8 @@ complete -c arrowstore -n '__fish_seen_subcommand_from schema; and test (count (
 complete -c arrowstore -n '__fish_seen_subcommand_from schema' -s h -l help -d 'Print help'
 complete -c arrowstore -n '__fish_seen_subcommand_from check; and test (count (commandline -opc)) -eq 2' -F
 complete -c arrowstore -n '__fish_seen_subcommand_from check' -s h -l help -d 'Print help'
-complete -c arrowstore -n '__fish_seen_subcommand_from help' -a 'recode format create import append query export rename drop tables schema check refusals'
+complete -c arrowstore -n '__fish_seen_subcommand_from compact; and test (count (commandline -opc)) -eq 2' -F
+complete -c arrowstore -n '__fish_seen_subcommand_from compact' -s h -l help -d 'Print help'
+complete -c arrowstore -n '__fish_seen_subcommand_from copy; and test (count (commandline -opc)) -eq 2' -F
+complete -c arrowstore -n '__fish_seen_subcommand_from copy' -s h -l help -d 'Print help'
+complete -c arrowstore -n '__fish_seen_subcommand_from help' -a 'recode format create import append query export rename drop tables schema check compact copy refusals'
