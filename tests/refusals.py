@@ -62,15 +62,6 @@ def of_a_new_file(path):
     return answer
 
 
-def of_a_copy(path):
-    """Answers of commands that change this file, each of a copy of its own."""
-    def answer(command, given, **extra):
-        with tempfile.TemporaryDirectory() as room:
-            copy = shutil.copy(path, room)
-            return answer_of([copy if word == path else word for word in command], given, **extra)
-    return answer
-
-
 def in_turn(counted, command, given, answer, setting, **extra):
     """The answer undisturbed, and the answers with the first, the second .. of what is counted going wrong."""
     counts = os.path.join(ROOM.name, "counts")
