@@ -5,9 +5,5 @@ pub mod Preorder
 pub mod Limits
 pub mod Shape
 pub mod OneShape
-pub mod Keywords
-pub mod FieldText
-pub mod Typed
-pub mod Reported
 pub mod laws
 pub mod inner

@@ -1,9 +1,3 @@
 -- What only the code's own steps and their proofs speak of.
 pub mod Tally
 pub mod Alike
-pub mod Scan
-pub mod OpeningView
-pub mod Build
-pub mod Standing
-pub mod Tested
-pub mod Printed

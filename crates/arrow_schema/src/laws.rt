@@ -1,11 +1,10 @@
 // Laws of the definitions, for the crates above: each call does nothing, and its contract is the law.
-ghost use Rattle.std.specs.Prelude.{◌≡◌, ◌≤◌, ◌↔◌, ℕ, true, List, length, sum_by};
+ghost use Rattle.std.specs.Prelude.{◌≡◌, ◌≤◌, ◌↔◌, true, length, sum_by};
 ghost use Rattle.std.specs.List.{AllPass};
-ghost use Rattle.arrow_schema.specs.Column.{Column, PlainSchema};
+ghost use Rattle.arrow_schema.specs.Column.{PlainSchema};
 ghost use Rattle.arrow_schema.specs.Limits.{IsWithinLimits, name_len, has_utf8_texts};
 ghost use Rattle.arrow_schema.specs.Shape.{HaveOneShape};
 ghost use Rattle.arrow_schema.specs.OneShape.{have_one_shape};
-ghost use Rattle.arrow_schema.specs.Typed.{IsTextOf};
 
 use crate::limits::{MAX_FIELDS, MAX_TEXT_BYTES};
 
@@ -26,9 +25,4 @@ pub fn one_shape_is_an_equivalence()
 /// The test of one shape is true just where two schemas have one.
 pub fn one_shape_is_decided()
     ensures { (a b : PlainSchema) → (have_one_shape a b ≡ true) ↔ HaveOneShape a b }
-{}
-
-/// One text is that of at most one column.
-pub fn one_column_of_a_text()
-    ensures { (text : List ℕ) (c d : Column) → IsTextOf true text c → IsTextOf true text d → c ≡ d }
 {}

@@ -1,11 +1,11 @@
-//! Arrow schemas: types, fields and their limits, and field texts.
+//! Arrow schemas: types, fields and their limits.
 //!
 //! A [`Schema`] is a list of fields and of key/value pairs. Promised are, exactly: whether it is within the limits and
-//! else the first that it exceeds, whether two schemas have one shape, what a field prints as, and which fields texts
-//! state. Contracts see fields as the plain trees of `specs/Column.antt`, whatever memory they take.
+//! else the first that it exceeds, and whether two schemas have one shape. Contracts see fields as the plain trees of
+//! `specs/Column.antt`, whatever memory they take. The texts of fields stand in `field_texts`.
 //!
 //! ```
-//! let fields = parse_fields(alloc, &["id:uint64", "tags:list<utf8?>?"])?;
+//! let fields = field_texts::parse_fields(alloc, &["id:uint64", "tags:list<utf8?>?"])?;
 //! let schema = Schema { fields, pairs: Vec::new(alloc) };
 //! assert!(schema.check().is_ok() && schema.width() == 2);
 //! ```
@@ -15,13 +15,9 @@ mod compare;
 mod copy;
 mod laws;
 mod limits;
-mod texts;
 mod types;
 
 pub use compare::same_shape;
-pub use laws::{
-    limits_bound_columns, one_column_of_a_text, one_shape_is_an_equivalence, one_shape_is_decided,
-};
+pub use laws::{limits_bound_columns, one_shape_is_an_equivalence, one_shape_is_decided};
 pub use limits::{MAX_DEPTH, MAX_FIELDS, MAX_PAIRS, MAX_TEXT_BYTES, NUMBER_END, SchemaError};
-pub use texts::{ParseError, field_text, parse_fields};
 pub use types::{BitWidth, DataType, DateUnit, DictSpec, Field, IntegerType, Schema, TimeUnit};

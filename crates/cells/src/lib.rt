@@ -4,7 +4,7 @@
 //! values a field takes and [`weight`] how heavy they are; [`accepted_weight`] asks a whole row what a table asks of it.
 //!
 //! ```
-//! let fields = arrow_schema::parse_fields(alloc, &["a:int8?"])?;
+//! let fields = field_texts::parse_fields(alloc, &["a:int8?"])?;
 //! let taken = cells::fits(&fields[0], &Value::Int(128));
 //! ```
 //!

@@ -1,8 +1,8 @@
 -- What the errors of the layers are reported as, and of a refusal its code, its name and what it carries, split by spaces.
 use Rattle.std.specs.Prelude.{ℕ, List, ◌++◌, codes}
 use Rattle.std.specs.Fmt.{decimal}
-use Rattle.arrow_schema.specs.declared.texts.parse.ParseError.{ParseError}
-use Rattle.arrow_schema.specs.declared.texts.parse.ParseError.TheVariants as fields
+use Rattle.field_texts.specs.declared.parse.ParseError.{ParseError}
+use Rattle.field_texts.specs.declared.parse.ParseError.TheVariants as fields
 use Rattle.sector_dev.specs.declared.file.FileError.{FileError}
 use Rattle.sector_dev.specs.declared.file.FileError.TheVariants as files
 use Rattle.ipc_message.specs.FaultText.{fault_text}

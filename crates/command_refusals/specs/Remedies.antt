@@ -1,7 +1,7 @@
 -- What to do about each refusal, in a sentence: the page of refusals and a terminal tell the same ones.
 use Rattle.std.specs.Prelude.{ℕ, List}
-use Rattle.arrow_schema.specs.declared.texts.parse.ParseError.{ParseError}
-use Rattle.arrow_schema.specs.declared.texts.parse.ParseError.TheVariants as fields
+use Rattle.field_texts.specs.declared.parse.ParseError.{ParseError}
+use Rattle.field_texts.specs.declared.parse.ParseError.TheVariants as fields
 use Rattle.ipc_message.specs.declared.fault.Fault as streams
 use Rattle.ipc_message.specs.declared.fault.Fault.TheVariants as faults
 use Rattle.text_import.specs.declared.refusal.Refusal as text_refusals

@@ -4,8 +4,8 @@ ghost use Rattle.command_refusals.specs.declared.refusal.Refusal.TheVariants.{Ou
 ghost use Rattle.command_refusals.specs.declared.refusal.Refusal.TheVariants as refusals;
 ghost use Rattle.command_refusals.specs.Refusals.{refusal_of, file_refusal, text_refusal, query_refusal};
 
-use arrow_schema::ParseError;
 use commit::OpeningRefusal;
+use field_texts::ParseError;
 use ipc_message::{Fault, ImportError};
 use query::QueryError;
 use sector_dev::FileError;

@@ -3,8 +3,8 @@ ghost use Rattle.std.specs.Prelude.{◌≡◌};
 ghost use Rattle.command_refusals.specs.Remedies.{fault_remedy, fields_remedy, text_remedy, query_remedy, opening_remedy, store_remedy, remedy};
 
 use crate::Refusal;
-use arrow_schema::ParseError;
 use commit::OpeningRefusal;
+use field_texts::ParseError;
 use ipc_message::Fault;
 use tables::QueryRefusal;
 

@@ -2,7 +2,7 @@
 use Rattle.std.specs.Prelude.{ℕ, List, [], ◌∷◌, ◌++◌, codes}
 use Rattle.std.specs.Fmt.{decimal}
 use Rattle.arrow_schema.specs.Column.{Column}
-use Rattle.arrow_schema.specs.FieldText.{printed, field_text}
+use Rattle.field_texts.specs.FieldText.{printed, field_text}
 use Rattle.tables.specs.declared.refusal.Refusal as tables
 use Rattle.command_refusals.specs.declared.refusal.Refusal.{Refusal}
 use Rattle.command_refusals.specs.declared.refusal.Refusal.TheVariants.{Io, Store, OutOfMemory}

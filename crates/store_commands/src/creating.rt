@@ -3,8 +3,9 @@ ghost use Rattle.std.specs.Prelude.{◌≡◌, map, string_bytes, IfOk, IfErr};
 ghost use Rattle.arrow_schema.specs.View.{schema_of};
 ghost use Rattle.store_commands.specs.Changing.{StateSchema, RefusesFields};
 
-use arrow_schema::{Schema, parse_fields};
+use arrow_schema::Schema;
 use command_refusals::Refusal;
+use field_texts::parse_fields;
 use std::alloc::Global;
 use tables::NewTable;
 

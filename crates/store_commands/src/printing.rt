@@ -9,8 +9,9 @@ ghost use Rattle.store.specs.Fits.{listed_in, is_halted};
 ghost use Rattle.store.specs.Listing.{RefusesTables, RefusesSchema};
 ghost use Rattle.store_commands.specs.Printed.{tables_text, schema_text, RefusesPrinting};
 
-use arrow_schema::{Field, field_text};
+use arrow_schema::Field;
 use command_refusals::{Refusal, write_whole};
+use field_texts::field_text;
 use sector_dev::SectorDevice;
 use std::alloc::{AllocError, Global};
 use std::fmt::Write as _;

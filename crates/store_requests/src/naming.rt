@@ -1,7 +1,7 @@
 // Which word of a command line a refusal is of.
 use crate::{QueryWords, StoreCommand, StoreRequest};
-use arrow_schema::ParseError;
 use command_refusals::{Refusal, Role, Word};
+use field_texts::ParseError;
 use query::{Condition, QueryError};
 use std::alloc::Global;
 use tables::QueryRefusal;

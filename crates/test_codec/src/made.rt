@@ -1,5 +1,6 @@
 // What the tests have in common: schemas and tables that are made, and values that are compared with texts.
-use arrow_schema::{ParseError, Schema, parse_fields};
+use arrow_schema::Schema;
+use field_texts::{ParseError, parse_fields};
 use std::alloc::{AllocError, AllocFailed, Global};
 use std::process::Abort;
 use values::{Row, Table, Value, ValueRef, Values};

@@ -4,8 +4,9 @@ ghost use Rattle.arrow_schema.specs.View.{schema_of};
 ghost use Rattle.arrow_schema.specs.Limits.{IsWithinLimits};
 
 use crate::made::NotMade;
-use arrow_schema::{Schema, parse_fields};
+use arrow_schema::Schema;
 use canonical_write::encode;
+use field_texts::parse_fields;
 use ipc_write::{BatchContents, write_batch, write_end, write_schema};
 use std::alloc::{AllocError, Global};
 use values::{Row, Table, Value};

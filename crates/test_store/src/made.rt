@@ -1,5 +1,5 @@
 // What the tests have in common.
-use arrow_schema::ParseError;
+use field_texts::ParseError;
 use query::QueryError;
 use std::alloc::{AllocError, AllocFailed};
 use std::process::Abort;

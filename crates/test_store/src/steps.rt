@@ -2,8 +2,9 @@
 use crate::inputs::{Given, Input, bytes_of, new_schema, rows_of};
 use crate::made::NotMade;
 use crate::pieces::{PieceReader, Pieces};
-use arrow_schema::{Schema, field_text};
+use arrow_schema::Schema;
 use canonical_write::encode;
+use field_texts::field_text;
 use ipc_stream::{decode, decode_weighed};
 use query::{Condition, Query};
 use std::alloc::Global;

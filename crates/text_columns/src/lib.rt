@@ -8,7 +8,7 @@
 //! a line which is an array, or an object with a name twice.
 //!
 //! ```
-//! let fields = arrow_schema::parse_fields(alloc, &["a:int32?", "s:utf8"])?;
+//! let fields = field_texts::parse_fields(alloc, &["a:int32?", "s:utf8"])?;
 //! let schema = arrow_schema::Schema { fields, pairs: Vec::new(alloc) };
 //! let read = text_columns::csv_table(alloc, &schema, b"a,s\n1,x\n,\n", "")?;
 //! ```

@@ -6,7 +6,7 @@
 //! of a refused record it is.
 //!
 //! ```
-//! let fields = arrow_schema::parse_fields(alloc, &["a:int32?", "s:utf8"])?;
+//! let fields = field_texts::parse_fields(alloc, &["a:int32?", "s:utf8"])?;
 //! let schema = arrow_schema::Schema { fields, pairs: Vec::new(alloc) };
 //! let rows = text_import::csv_rows(alloc, &schema, b"a,s\n1,x\n,\n", "")?;
 //! ```

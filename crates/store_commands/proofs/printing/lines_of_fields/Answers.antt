@@ -1,7 +1,7 @@
 use Rattle.std.specs.Prelude.{codes}
 use Rattle.std.proofs.Common.{◌≡◌, ◌∙◌, ◌++◌, ℕ, List, append_assoc, string_bytes}
 use Rattle.facts.specs.laws.Lists.{drop-item}
-use Rattle.arrow_schema.specs.FieldText.{printed, field_text}
+use Rattle.field_texts.specs.FieldText.{printed, field_text}
 use Rattle.arrow_schema.specs.View.{column_of}
 use Rattle.store_commands.proofs.printing.lines_of_fields.Goals as goal
 

@@ -1,6 +1,0 @@
-use Rattle.std.proofs.Common.{◌<◌, ℕ, true, [], map, get_or}
-use Rattle.arrow_schema.specs.Typed.{IsFieldText}
-use Rattle.arrow_schema.proofs.texts.parse.test_texts.Given as goal
-
-abbrev pub invariant-loop-index : goal.invariant-loop-index
-invariant-loop-index l = (k : ℕ) → k < l.index → IsFieldText true (get_or (map (λ t. t.now) l.texts) k [])

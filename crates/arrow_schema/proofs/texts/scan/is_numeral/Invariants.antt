@@ -1,7 +1,0 @@
-use Rattle.std.proofs.Common.{◌≡◌, drop}
-use Rattle.std.specs.List.{list_all}
-use Rattle.arrow_schema.specs.inner.Scan.{is_digit}
-use Rattle.arrow_schema.proofs.texts.scan.is_numeral.Given as goal
-
-abbrev pub invariant-loop-digit : goal.invariant-loop-digit
-invariant-loop-digit l = list_all is_digit (drop l.digit-index l.digit-items) ≡ list_all is_digit l.digits

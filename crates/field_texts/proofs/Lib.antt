@@ -1,0 +1,17 @@
+mod Numerals
+mod Printing
+mod Cutting
+mod Digits
+mod Building
+mod Options
+mod KeywordLemmas
+mod Openings
+mod Flats
+mod Steps
+mod Moves
+mod Parts
+mod Shorter
+mod Testing
+mod Again
+mod Parsing
+mod Worked

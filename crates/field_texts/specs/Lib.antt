@@ -1,0 +1,5 @@
+pub mod Keywords
+pub mod FieldText
+pub mod Typed
+pub mod Reported
+pub mod inner

@@ -1,0 +1,23 @@
+//! Field texts: the fields of a schema as they are typed in, and as they are printed.
+//!
+//! Promised are, exactly: what a field prints as, which fields texts state and else why they are refused, and that a
+//! text is that of at most one column. The grammar stands in docs/formats/field_texts.md. Contracts see fields as the
+//! plain trees of `arrow_schema`.
+//!
+//! ```
+//! let fields = parse_fields(alloc, &["id:uint64", "tags:list<utf8?>?"])?;
+//! assert!(field_text(alloc, &fields[0])?.as_str() == "\"id\":uint64");
+//! ```
+#![tactic(auto)]
+
+mod build;
+mod grammar;
+mod keyword;
+mod laws;
+mod parse;
+mod print;
+mod scan;
+
+pub use laws::one_column_of_a_text;
+pub use parse::{ParseError, parse_fields};
+pub use print::field_text;

@@ -1,0 +1,94 @@
+// Fields from the texts that are typed in.
+ghost use Rattle.std.specs.Prelude.{◌≡◌, map};
+ghost use Rattle.std.specs.Result.{result_map_both};
+ghost use Rattle.arrow_schema.specs.View.{column_of};
+ghost use Rattle.field_texts.specs.inner.Build.{Builds, columns_at};
+ghost use Rattle.field_texts.specs.Reported.{IsReported};
+ghost use Rattle.field_texts.specs.inner.Tested.{Tests, TestsOne};
+ghost use Rattle.field_texts.specs.declared.parse.ParseError.TheVariants.{OutOfMemory};
+
+use crate::build::{BuildError, build_field};
+use crate::grammar::is_field_text;
+use arrow_schema::{Field, MAX_DEPTH, Schema};
+use std::alloc::{AllocError, AllocFailed, Global};
+
+/// Why field texts were refused.
+#[derive(Clone, Copy, Debug, PartialEq, Eq)]
+pub enum ParseError {
+    /// The text of this number, counted from 1, is not that of a field.
+    BadText(usize),
+    /// A number past 2,147,483,647, or a schema past its limits.
+    Limit,
+    OutOfMemory,
+}
+
+impl From<AllocError> for ParseError {
+    ghost from_gives = { λ _ e. e ≡ OutOfMemory };
+
+    fn from(_: AllocError) -> ParseError {
+        ParseError::OutOfMemory
+    }
+}
+
+impl<T: Drop> From<AllocFailed<T>> for ParseError {
+    ghost from_gives = { λ _ e. e ≡ OutOfMemory };
+
+    fn from(_: AllocFailed<T>) -> ParseError {
+        ParseError::OutOfMemory
+    }
+}
+
+fn test_text(alloc: Global, number: usize, text: &str) -> Result<(), ParseError>
+    ensures { TestsOne number text.now result }
+{
+    if is_field_text(alloc, text, true)? {
+        Ok(())
+    } else if is_field_text(alloc, text, false)? {
+        Err(ParseError::Limit)
+    } else {
+        Err(ParseError::BadText(number))
+    }
+}
+
+fn test_texts(alloc: Global, texts: &[&str]) -> Result<(), ParseError>
+    ensures { Tests (map (λ t. t.now) texts.now) result }
+{
+    for index in 0..texts.len() {
+        test_text(alloc, index + 1, texts[index])?;
+    }
+    Ok(())
+}
+
+fn build_texts(alloc: Global, texts: &[&str]) -> Result<Vec<Field>, BuildError>
+    ensures { Builds (λ v. map column_of v.items) result (columns_at MAX_DEPTH (map (λ t. t.now) texts.now)) }
+{
+    let mut fields = Vec::new(alloc);
+    for text in texts {
+        let (field, _) = build_field(alloc, MAX_DEPTH, text)?;
+        fields.push(field)?;
+    }
+    Ok(fields)
+}
+
+/// The fields that the texts state, within a schema's limits (docs/formats/field_texts.md).
+///
+/// The first text that is refused is reported: `BadText` where it is not that of a field, else `Limit`. The limits of the
+/// schema come last. Nesting of any depth runs out of no stack.
+pub fn parse_fields(alloc: Global, texts: &[&str]) -> Result<Vec<Field>, ParseError>
+    ensures reported { IsReported (map (λ t. t.now) texts.now) (result_map_both (λ v. map column_of v.items) (λ e. e) result) }
+{
+    test_texts(alloc, texts)?;
+    let fields = match build_texts(alloc, texts) {
+        Ok(fields) => fields,
+        Err(BuildError::Unread) => return Err(ParseError::Limit),
+        Err(BuildError::Memory) => return Err(ParseError::OutOfMemory),
+    };
+    let schema = Schema {
+        fields,
+        pairs: Vec::new(alloc),
+    };
+    match schema.check() {
+        Ok(()) => Ok(schema.fields),
+        Err(_) => Err(ParseError::Limit),
+    }
+}

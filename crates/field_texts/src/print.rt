@@ -1,0 +1,174 @@
+// Field texts, as they are printed.
+ghost use Rattle.std.specs.Prelude.{◌≡◌, ◌++◌, IfOk, OnOk, string_bytes, map, option_map, codes};
+ghost use Rattle.json.specs.Print.{quoted};
+ghost use Rattle.arrow_schema.specs.Column.{columns_of};
+ghost use Rattle.arrow_schema.specs.View.{kind_of, column_of, index_of};
+ghost use Rattle.arrow_schema.specs.declared.types.Field.{out-Field};
+ghost use Rattle.field_texts.specs.Keywords.{number_text, keyword_text};
+ghost use Rattle.field_texts.specs.inner.Printed.{front_text, rest_text};
+ghost use Rattle.field_texts.specs.FieldText.{printed, timezone_text, dictionary_text, with_dictionary, type_text, field_text, fields_text};
+
+use crate::keyword::Keyword;
+use arrow_schema::{DataType, DictSpec, Field};
+use serde_json::Value;
+use std::alloc::{AllocError, Global};
+use std::fmt::Write;
+
+// Appends the JSON text of a part.
+fn push_json(alloc: Global, text: &mut String, part: &str) -> Result<(), AllocError>
+    ensures { OnOk result (string_bytes text.new ≡ string_bytes text.old ++ quoted part.now) }
+{
+    let json = Value::try_from_str(alloc, part)?.to_string(alloc)?;
+    text.push_str(json.as_str())
+}
+
+/// The form that `schema` prints: names, items' names and timezones are JSON texts. Pairs are not printed.
+pub fn field_text(alloc: Global, field: &Field) -> Result<String, AllocError>
+    ensures { IfOk result (λ text. string_bytes text ≡ field_text printed (column_of field.now)) }
+{
+    let mut text = String::new(alloc);
+    push_field(alloc, &mut text, field)?;
+    Ok(text)
+}
+
+#[tactic(auto, using(crate::proofs::Numerals::decimal_is))]
+fn push_number(text: &mut String, number: u32) -> Result<(), AllocError>
+    ensures { OnOk result (string_bytes text.new ≡ string_bytes text.old ++ number_text number) }
+{
+    write!(text, "{number}")
+}
+
+// The keyword that begins a type.
+#[tactic(auto, unfolding(crate::specs::Keywords::keyword_text))]
+fn keyword_of(data_type: &DataType) -> Keyword
+    ensures { keyword_text result ≡ front_text (kind_of data_type.now) }
+{
+    match data_type {
+        DataType::Null => Keyword::Null,
+        DataType::Bool => Keyword::Bool,
+        DataType::Int(integer) => Keyword::Int(*integer),
+        DataType::Date(unit) => Keyword::Date(*unit),
+        DataType::Timestamp(unit, _) => Keyword::Timestamp(*unit),
+        DataType::Utf8 => Keyword::Utf8,
+        DataType::LargeUtf8 => Keyword::LargeUtf8,
+        DataType::Binary => Keyword::Binary,
+        DataType::LargeBinary => Keyword::LargeBinary,
+        DataType::FixedSizeBinary(_) => Keyword::FixedBinary,
+        DataType::List(_) => Keyword::List,
+        DataType::LargeList(_) => Keyword::LargeList,
+        DataType::FixedSizeList(_, _) => Keyword::FixedList,
+        DataType::Struct(_) => Keyword::Struct,
+    }
+}
+
+// What stands before the type of a dictionary's values.
+#[tactic(auto, unfolding(crate::specs::Keywords::keyword_text))]
+fn push_dictionary(text: &mut String, dictionary: DictSpec) -> Result<(), AllocError>
+    ensures { OnOk result (string_bytes text.new ≡ string_bytes text.old ++ dictionary_text (index_of dictionary)) }
+{
+    text.push_str(Keyword::Dictionary.text())?;
+    text.push_str(Keyword::Int(dictionary.index).text())?;
+    text.push_str(",")
+}
+
+// A timezone in parentheses, where there is one.
+fn push_timezone(alloc: Global, text: &mut String, timezone: &str) -> Result<(), AllocError>
+    ensures { OnOk result (string_bytes text.new ≡ string_bytes text.old ++ timezone_text printed timezone.now) }
+{
+    if timezone.is_empty() {
+        return Ok(());
+    }
+    text.push_str("(")?;
+    push_json(alloc, text, timezone)?;
+    text.push_str(")")
+}
+
+// A name, an item's too, and its type.
+#[tactic(auto, unfolding(crate::specs::FieldText::field_text))]
+#[cycle(print)]
+fn push_field(alloc: Global, text: &mut String, field: &Field) -> Result<(), AllocError>
+    ensures { OnOk result (string_bytes text.new ≡ string_bytes text.old ++ field_text printed (column_of field.now)) }
+{
+    push_json(alloc, text, field.name.as_str())?;
+    text.push_str(":")?;
+    push_with_dictionary(alloc, text, field)?;
+    if field.nullable {
+        return text.push_str("?");
+    }
+    Ok(())
+}
+
+#[cycle(print)]
+fn push_with_dictionary(alloc: Global, text: &mut String, field: &Field) -> Result<(), AllocError>
+    ensures { OnOk result (string_bytes text.new ≡ string_bytes text.old
+        ++ with_dictionary (option_map index_of (out-Field field.now).dictionary) (type_text printed (kind_of (out-Field field.now).data_type))) }
+{
+    match field.dictionary {
+        None => push_type(alloc, text, &field.data_type),
+        Some(dictionary) => {
+            push_dictionary(text, dictionary)?;
+            push_type(alloc, text, &field.data_type)?;
+            text.push_str(">")
+        }
+    }
+}
+
+#[cycle(print)]
+fn push_type(alloc: Global, text: &mut String, data_type: &DataType) -> Result<(), AllocError>
+    ensures { OnOk result (string_bytes text.new ≡ string_bytes text.old ++ type_text printed (kind_of data_type.now)) }
+{
+    text.push_str(keyword_of(data_type).text())?;
+    push_rest(alloc, text, data_type)
+}
+
+// What stands behind the keyword of a type.
+#[cycle(print)]
+fn push_rest(alloc: Global, text: &mut String, data_type: &DataType) -> Result<(), AllocError>
+    ensures { OnOk result (string_bytes text.new ≡ string_bytes text.old ++ rest_text (kind_of data_type.now)) }
+{
+    match data_type {
+        DataType::Timestamp(_, timezone) => push_timezone(alloc, text, timezone.as_str()),
+        DataType::FixedSizeBinary(width) => {
+            push_number(text, *width)?;
+            text.push_str(")")
+        }
+        DataType::List(item) => push_item(alloc, text, item),
+        DataType::LargeList(item) => push_item(alloc, text, item),
+        DataType::FixedSizeList(size, item) => {
+            push_number(text, *size)?;
+            text.push_str(",")?;
+            push_field(alloc, text, item)?;
+            text.push_str(")")
+        }
+        DataType::Struct(fields) => {
+            push_fields(alloc, text, fields)?;
+            text.push_str(">")
+        }
+        _ => Ok(()),
+    }
+}
+
+// The item of a list.
+#[cycle(print)]
+fn push_item(alloc: Global, text: &mut String, item: &Field) -> Result<(), AllocError>
+    ensures { OnOk result (string_bytes text.new ≡ string_bytes text.old ++ (field_text printed (column_of item.now) ++ codes ">")) }
+{
+    push_field(alloc, text, item)?;
+    text.push_str(">")
+}
+
+#[tactic(auto, unfolding(crate::specs::FieldText::fields_text, crate::specs::FieldText::more_text))]
+#[cycle(print)]
+fn push_fields(alloc: Global, text: &mut String, fields: &[Field]) -> Result<(), AllocError>
+    ensures { OnOk result (string_bytes text.new ≡ string_bytes text.old ++ fields_text printed (columns_of (map column_of fields.now))) }
+{
+    let Some((first, others)) = fields.split_first() else {
+        return Ok(());
+    };
+    push_field(alloc, text, first)?;
+    for field in others {
+        text.push_str(",")?;
+        push_field(alloc, text, field)?;
+    }
+    Ok(())
+}
