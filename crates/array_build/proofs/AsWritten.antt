@@ -6,9 +6,9 @@ use Rattle.std.proofs.lemmas.Bool.{and_parts, eqb-true, or_left}
 use Rattle.arrow_schema.specs.Column.{Kind, nulls, booleans, integers, dates, timestamps, texts, large_texts, binaries, large_binaries, fixed_binaries, lists, large_lists, fixed_lists, structs}
 use Rattle.array_build.specs.Batch.{plain_column}
 use Rattle.array_build.specs.inner.Runs.{AreAsWritten, AreReady, are_runs_as_written, are_zeros, contents_width, fixed_width, has_nothing_below, is_as_written, is_run_as_written}
-use Rattle.array_runs.specs.Runs.{are_runs_valid, is_run_sound, is_run_valid}
-use Rattle.array_runs.specs.declared.run.SlotRun.{SlotRun}
-use Rattle.array_runs.specs.declared.run.SlotRun.TheVariants.{Slots, Nulls}
+use Rattle.columns.specs.Runs.{are_runs_valid, is_run_sound, is_run_valid}
+use Rattle.columns.specs.declared.slot_runs.SlotRun.{SlotRun}
+use Rattle.columns.specs.declared.slot_runs.SlotRun.TheVariants.{Slots, Nulls}
 use Rattle.cells.specs.Cell.{null}
 use Rattle.columns.specs.Array.{Array, values_in}
 use Rattle.columns.specs.CellAt.{cell_at, is_valid, span_size, value_at}

@@ -12,9 +12,9 @@ use Rattle.array_build.proofs.Repeated.{repeated_map}
 use Rattle.array_build.specs.Batch.{PlainBatch, built_at, plain_column, with_arrays}
 use Rattle.array_build.specs.inner.Nodes.{with_node, with_buffer, with_slots}
 use Rattle.array_build.specs.inner.Runs.{bitmap_of, cell_sizes, contents_width, fixed_value, fixed_width, kind_cells, run_bits, runs_bits, with_run_slots}
-use Rattle.array_runs.specs.Runs.{run_cells}
-use Rattle.array_runs.specs.declared.run.SlotRun.{SlotRun}
-use Rattle.array_runs.specs.declared.run.SlotRun.TheVariants.{Slots, Nulls}
+use Rattle.columns.specs.Runs.{run_cells}
+use Rattle.columns.specs.declared.slot_runs.SlotRun.{SlotRun}
+use Rattle.columns.specs.declared.slot_runs.SlotRun.TheVariants.{Slots, Nulls}
 use Rattle.bitmap.specs.Bits.{packed}
 use Rattle.cells.specs.Cell.{Cell, null}
 use Rattle.cells.specs.Nulls.{is_there}

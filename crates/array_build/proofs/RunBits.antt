@@ -6,9 +6,9 @@ use Rattle.std.proofs.lemmas.Bool.{and_parts, leb-true, ltb-false, not-true}
 use Rattle.arrow_schema.specs.Column.{booleans}
 use Rattle.array_build.proofs.Repeated.{repeated_map}
 use Rattle.array_build.specs.Batch.{plain_column}
-use Rattle.array_runs.specs.Runs.{is_run_sound, is_run_valid, run_cells}
-use Rattle.array_runs.specs.declared.run.SlotRun.{SlotRun}
-use Rattle.array_runs.specs.declared.run.SlotRun.TheVariants.{Slots, Nulls}
+use Rattle.columns.specs.Runs.{is_run_sound, is_run_valid, run_cells}
+use Rattle.columns.specs.declared.slot_runs.SlotRun.{SlotRun}
+use Rattle.columns.specs.declared.slot_runs.SlotRun.TheVariants.{Slots, Nulls}
 use Rattle.bitmap.specs.Bits.{bit, bytes_of}
 use Rattle.cells.specs.Cell.{null}
 use Rattle.columns.specs.Array.{Array, bits_in, slots_in}

@@ -14,10 +14,10 @@ use Rattle.array_build.proofs.Fields.{plain_can_be_built, plain_field}
 use Rattle.array_build.specs.Batch.{PlainBatch, built_at, built_below, plain_column, with_arrays}
 use Rattle.array_build.specs.inner.Runs.{AreReady, built_columns, kind_cells}
 use Rattle.array_build.specs.laws.Joined.{more_arrays, no_arrays}
-use Rattle.array_runs.specs.Runs.{HaveRuns, HaveSameCells, are_columns_sound, are_runs_sound, are_runs_valid, can_build_columns, has_validity, is_run_sound, run_cells, runs_cells}
-use Rattle.array_runs.specs.laws.Readable.{sound_have_validity}
-use Rattle.array_runs.specs.declared.run.SlotRun.{SlotRun}
-use Rattle.array_runs.specs.declared.run.SlotRun.TheVariants.{Slots, Nulls}
+use Rattle.columns.specs.Runs.{HaveRuns, HaveSameCells, are_columns_sound, are_runs_sound, are_runs_valid, can_build_columns, has_validity, is_run_sound, run_cells, runs_cells}
+use Rattle.columns.specs.laws.ReadableRuns.{sound_have_validity}
+use Rattle.columns.specs.declared.slot_runs.SlotRun.{SlotRun}
+use Rattle.columns.specs.declared.slot_runs.SlotRun.TheVariants.{Slots, Nulls}
 use Rattle.cells.specs.Cell.{Cell}
 use Rattle.columns.specs.Buildable.{can_build}
 use Rattle.columns.specs.Built.{built, other_cells}

@@ -13,9 +13,9 @@ use Rattle.array_build.proofs.Premises.{texts_fit, binaries_fit}
 use Rattle.array_build.proofs.Repeated.{none_each}
 use Rattle.array_build.specs.Batch.{plain_column}
 use Rattle.array_build.specs.inner.Runs.{cell_sizes, contents_width, is_as_written, is_run_as_written, kind_cells, slot_sizes, span_contents}
-use Rattle.array_runs.specs.Runs.{is_run_sound, run_cells}
-use Rattle.array_runs.specs.declared.run.SlotRun.{SlotRun}
-use Rattle.array_runs.specs.declared.run.SlotRun.TheVariants.{Slots, Nulls}
+use Rattle.columns.specs.Runs.{is_run_sound, run_cells}
+use Rattle.columns.specs.declared.slot_runs.SlotRun.{SlotRun}
+use Rattle.columns.specs.declared.slot_runs.SlotRun.TheVariants.{Slots, Nulls}
 use Rattle.cells.specs.Cell.{Cell, null}
 use Rattle.columns.specs.Array.{Array, slots_in, offsets_in, contents_in}
 use Rattle.columns.specs.Buildable.{can_build, large_offset}

@@ -11,9 +11,9 @@ use Rattle.array_build.proofs.RunArrays.{kind_slots}
 use Rattle.array_build.specs.Batch.{PlainBatch, built_at, with_arrays}
 use Rattle.array_build.specs.inner.RunItems.{AreItems, HasSlots, fixed_column}
 use Rattle.array_build.specs.inner.Runs.{kind_cells, runs_bits, with_run_slots}
-use Rattle.array_runs.specs.Runs.{run_cells, runs_cells, is_run_sound, is_run_valid}
-use Rattle.array_runs.specs.declared.run.SlotRun.{SlotRun}
-use Rattle.array_runs.specs.declared.run.SlotRun.TheVariants.{Slots, Nulls}
+use Rattle.columns.specs.Runs.{run_cells, runs_cells, is_run_sound, is_run_valid}
+use Rattle.columns.specs.declared.slot_runs.SlotRun.{SlotRun}
+use Rattle.columns.specs.declared.slot_runs.SlotRun.TheVariants.{Slots, Nulls}
 use Rattle.cells.specs.Cell.{Cell, null}
 use Rattle.cells.specs.laws.Cells.{cells_listed}
 use Rattle.columns.specs.Array.{Array, slots_in, items_in}

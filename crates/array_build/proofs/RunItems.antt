@@ -19,9 +19,9 @@ use Rattle.array_build.specs.Batch.{PlainBatch, built_at, with_arrays}
 use Rattle.array_build.specs.inner.Nodes.{list_kind, with_buffer, with_slots}
 use Rattle.array_build.specs.inner.RunItems.{AreItems, HasSlots, list_column, list_sizes, run_lists}
 use Rattle.array_build.specs.inner.Runs.{kind_cells, run_bits, runs_bits, with_run_slots}
-use Rattle.array_runs.specs.Runs.{run_cells, runs_cells, is_run_sound, are_runs_sound, is_run_valid, are_runs_valid}
-use Rattle.array_runs.specs.declared.run.SlotRun.{SlotRun}
-use Rattle.array_runs.specs.declared.run.SlotRun.TheVariants.{Slots, Nulls}
+use Rattle.columns.specs.Runs.{run_cells, runs_cells, is_run_sound, are_runs_sound, is_run_valid, are_runs_valid}
+use Rattle.columns.specs.declared.slot_runs.SlotRun.{SlotRun}
+use Rattle.columns.specs.declared.slot_runs.SlotRun.TheVariants.{Slots, Nulls}
 use Rattle.cells.specs.Cell.{Cell, null}
 use Rattle.cells.specs.Dictionary.{item_list}
 use Rattle.cells.specs.laws.Cells.{cells_listed}

@@ -15,9 +15,9 @@ use Rattle.array_build.specs.Batch.{PlainBatch, built_at, built_below, plain_col
 use Rattle.array_build.specs.inner.RunParts.{arrays_from, children_behind, child_at, parts_behind, part_cells_behind, has_sound_part, IsPartOf, IsPart, IsPartIn}
 use Rattle.array_build.specs.inner.Runs.{AreReady, kind_cells, run_bits, runs_bits, with_run_slots}
 use Rattle.array_build.specs.laws.Joined.{no_arrays, more_arrays}
-use Rattle.array_runs.specs.Runs.{run_cells, runs_cells, is_run_sound, are_runs_sound, is_run_valid, are_runs_valid}
-use Rattle.array_runs.specs.declared.run.SlotRun.{SlotRun}
-use Rattle.array_runs.specs.declared.run.SlotRun.TheVariants.{Slots, Nulls}
+use Rattle.columns.specs.Runs.{run_cells, runs_cells, is_run_sound, are_runs_sound, is_run_valid, are_runs_valid}
+use Rattle.columns.specs.declared.slot_runs.SlotRun.{SlotRun}
+use Rattle.columns.specs.declared.slot_runs.SlotRun.TheVariants.{Slots, Nulls}
 use Rattle.arrow_schema.specs.Column.{Column, Columns, column, nulls, and_column, columns_of, structs}
 use Rattle.arrow_schema.specs.Parts.{kind_of_column, index_of_column}
 use Rattle.arrow_schema.specs.laws.Parts.{kind_of_field, index_of_field}

@@ -11,9 +11,9 @@ use Rattle.array_build.proofs.Numbers.{integer_again}
 use Rattle.array_build.proofs.Repeated.{repeated_each}
 use Rattle.array_build.specs.Batch.{plain_column}
 use Rattle.array_build.specs.inner.Runs.{fixed_value, fixed_width, is_as_written, is_run_as_written}
-use Rattle.array_runs.specs.Runs.{is_run_sound, run_cells}
-use Rattle.array_runs.specs.declared.run.SlotRun.{SlotRun}
-use Rattle.array_runs.specs.declared.run.SlotRun.TheVariants.{Slots, Nulls}
+use Rattle.columns.specs.Runs.{is_run_sound, run_cells}
+use Rattle.columns.specs.declared.slot_runs.SlotRun.{SlotRun}
+use Rattle.columns.specs.declared.slot_runs.SlotRun.TheVariants.{Slots, Nulls}
 use Rattle.cells.specs.Cell.{Cell, null, number}
 use Rattle.cells.specs.Fit.{date_bits}
 use Rattle.columns.specs.Array.{Array, slots_in, values_in}

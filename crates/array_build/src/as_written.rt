@@ -2,8 +2,8 @@
 ghost use Rattle.std.specs.Prelude.{◌≡◌, ℕ, ◌≤◌, ◌<◌, ◌+◌, ◌-◌, ◌*◌, ◌^◌, ◌==◌, ◌||◌, false, true, None, length};
 ghost use Rattle.array_build.specs.Batch.{plain_column};
 ghost use Rattle.array_build.specs.inner.Runs.{are_runs_as_written, are_zeros, is_run_as_written};
-ghost use Rattle.array_runs.specs.Runs.{are_runs_sound, is_run_sound};
-ghost use Rattle.array_runs.specs.declared.run.SlotRun.TheVariants.{Slots};
+ghost use Rattle.columns.specs.Runs.{are_runs_sound, is_run_sound};
+ghost use Rattle.columns.specs.declared.slot_runs.SlotRun.TheVariants.{Slots};
 ghost use Rattle.arrow_schema.specs.View.{kind_of};
 ghost use Rattle.bitmap.specs.Bits.{bit};
 ghost use Rattle.columns.specs.Array.{slots_in, values_in};
@@ -15,11 +15,10 @@ ghost use Rattle.columns.specs.View.{view_array};
 use crate::run_contents::offset_at;
 use crate::run_slots::are_all_valid;
 use crate::widths::{contents_width, value_width};
-use array_runs::SlotRun;
 use arrow_schema::DataType;
 use bitmap::alike_end;
 use byteorder::{ByteOrder, LittleEndian};
-use columns::{ArrayView, OffsetWidth};
+use columns::{ArrayView, OffsetWidth, SlotRun};
 
 fn are_zeros(bytes: &[u8]) -> bool
     ensures { result ≡ are_zeros bytes.now }

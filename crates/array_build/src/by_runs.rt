@@ -5,7 +5,7 @@ ghost use Rattle.arrow_schema.specs.View.{kind_of, column_of};
 ghost use Rattle.array_build.specs.Batch.{batch_in, batch_of, built_at, built_below, plain_column, with_arrays};
 ghost use Rattle.array_build.specs.inner.Nodes.{list_kind};
 ghost use Rattle.array_build.specs.inner.Runs.{AddsRuns, AreAsWritten, AreReady, built_columns, contents_width, fixed_width, kind_cells};
-ghost use Rattle.array_runs.specs.Runs.{HaveRuns, are_columns_sound, are_runs_sound, can_build_columns, runs_cells};
+ghost use Rattle.columns.specs.Runs.{HaveRuns, are_columns_sound, are_runs_sound, can_build_columns, runs_cells};
 ghost use Rattle.cells.specs.Cell.{Cell};
 ghost use Rattle.cells.specs.Dictionary.{part_list};
 ghost use Rattle.columns.specs.Buildable.{can_build};
@@ -20,9 +20,8 @@ use crate::run_items::{item_runs, run_list_offsets};
 use crate::run_parts::field_runs;
 use crate::run_slots::push_run_slots;
 use crate::widths::{contents_width, value_width};
-use array_runs::{SlotRun, valid_runs};
 use arrow_schema::{DataType, DictSpec, Field};
-use columns::OffsetWidth;
+use columns::{OffsetWidth, SlotRun, valid_runs};
 use std::alloc::{AllocError, Global};
 
 // Adds the indices of a column with a dictionary, and its entries.

@@ -10,9 +10,8 @@ use crate::run_bits::run_booleans;
 use crate::run_contents::{run_contents, run_offsets};
 use crate::run_slots::{count_slots, push_run_slots};
 use crate::run_values::run_values;
-use array_runs::SlotRun;
 use arrow_schema::DataType;
-use columns::OffsetWidth;
+use columns::{OffsetWidth, SlotRun};
 use std::alloc::{AllocError, Global};
 
 // Nulls have a node alone.

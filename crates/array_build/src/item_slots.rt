@@ -4,8 +4,7 @@ ghost use Rattle.array_build.specs.inner.RunItems.{HasSlots};
 ghost use Rattle.columns.specs.Array.{items_in, slots_in};
 ghost use Rattle.columns.specs.View.{view_array};
 
-use array_runs::SlotRun;
-use columns::ArrayView;
+use columns::{ArrayView, SlotRun};
 
 /// So many items of lists or fixed lists, from one on: an array that is neither has no item.
 #[tactic(auto, using(crate::proofs::RunItems::item_found, crate::proofs::RunItems::item_absent))]

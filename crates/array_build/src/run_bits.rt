@@ -2,16 +2,16 @@
 ghost use Rattle.std.specs.Prelude.{◌≡◌, ◌++◌, true, OnOk, IfOk, None, map};
 ghost use Rattle.array_build.specs.Batch.{plain_column};
 ghost use Rattle.array_build.specs.inner.Runs.{AreReady, kind_cells};
-ghost use Rattle.array_runs.specs.Runs.{is_run_sound, is_run_valid, run_cells};
+ghost use Rattle.columns.specs.Runs.{is_run_sound, is_run_valid, run_cells};
 ghost use Rattle.arrow_schema.specs.Column.{booleans};
 ghost use Rattle.arrow_schema.specs.View.{kind_of};
 ghost use Rattle.bitmap.specs.Bits.{packed};
 ghost use Rattle.columns.specs.Built.{is_set};
 
 use crate::run_slots::count_slots;
-use array_runs::SlotRun;
 use arrow_schema::DataType;
 use bitmap::MaskBuilder;
+use columns::SlotRun;
 use std::alloc::{AllocError, Global};
 
 // The values of a run of booleans.

@@ -3,8 +3,8 @@ ghost use Rattle.std.specs.Prelude.{◌≡◌, ◌≤◌, ◌+◌, ◌++◌, ◌
 ghost use Rattle.std.specs.List.{flat_map};
 ghost use Rattle.array_build.specs.Batch.{buffer_bytes, plain_column};
 ghost use Rattle.array_build.specs.inner.Runs.{AreAsWritten, AreOffsetsAdded, cell_sizes, contents_width, is_run_as_written, kind_cells, slot_sizes, span_contents};
-ghost use Rattle.array_runs.specs.Runs.{is_run_sound, run_cells};
-ghost use Rattle.array_runs.specs.declared.run.SlotRun.TheVariants.{Slots};
+ghost use Rattle.columns.specs.Runs.{is_run_sound, run_cells};
+ghost use Rattle.columns.specs.declared.slot_runs.SlotRun.TheVariants.{Slots};
 ghost use Rattle.arrow_schema.specs.View.{kind_of};
 ghost use Rattle.columns.specs.Array.{slots_in, contents_in};
 ghost use Rattle.columns.specs.Buildable.{large_offset};
@@ -16,10 +16,9 @@ ghost use Rattle.columns.specs.View.{view_array};
 
 use crate::batch::Buffer;
 use crate::run_slots::{count_slots, only_run};
-use array_runs::SlotRun;
 use arrow_schema::DataType;
 use byteorder::{ByteOrder, LittleEndian};
-use columns::{ArrayView, OffsetWidth, bytes_at, push_offset};
+use columns::{ArrayView, OffsetWidth, SlotRun, bytes_at, push_offset};
 use std::alloc::{AllocError, Global};
 
 // The bytes of some slots' texts or binaries.

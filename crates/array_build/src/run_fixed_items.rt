@@ -3,14 +3,14 @@ ghost use Rattle.std.specs.Prelude.{◌≡◌, true, IfOk, None};
 ghost use Rattle.std.specs.List.{flat_map};
 ghost use Rattle.array_build.specs.inner.RunItems.{AreItems, fixed_column};
 ghost use Rattle.array_build.specs.inner.Runs.{AreReady, kind_cells};
-ghost use Rattle.array_runs.specs.Runs.{are_runs_sound, is_run_sound, is_run_valid, run_cells, runs_cells};
+ghost use Rattle.columns.specs.Runs.{are_runs_sound, is_run_sound, is_run_valid, run_cells, runs_cells};
 ghost use Rattle.arrow_schema.specs.Column.{fixed_lists};
 ghost use Rattle.arrow_schema.specs.View.{column_of};
 ghost use Rattle.columns.specs.Built.{fixed_items};
 
 use crate::item_slots::item_slots;
-use array_runs::SlotRun;
 use arrow_schema::Field;
+use columns::SlotRun;
 use std::alloc::{AllocError, Global};
 
 // The items of a run: as many nulls below a null. More than a number counts have no room in memory.

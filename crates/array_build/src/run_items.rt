@@ -4,7 +4,7 @@ ghost use Rattle.std.specs.List.{flat_map};
 ghost use Rattle.array_build.specs.inner.Nodes.{list_kind};
 ghost use Rattle.array_build.specs.inner.RunItems.{AreItems, list_column, list_sizes, run_lists};
 ghost use Rattle.array_build.specs.inner.Runs.{AreOffsetsAdded, AreReady, kind_cells, run_bits};
-ghost use Rattle.array_runs.specs.Runs.{are_runs_sound, is_run_sound, is_run_valid, runs_cells};
+ghost use Rattle.columns.specs.Runs.{are_runs_sound, is_run_sound, is_run_valid, runs_cells};
 ghost use Rattle.arrow_schema.specs.View.{column_of};
 ghost use Rattle.cells.specs.Cell.{null};
 ghost use Rattle.cells.specs.Dictionary.{item_list};
@@ -14,9 +14,8 @@ ghost use Rattle.columns.specs.Offsets.{width_of};
 
 use crate::item_slots::item_slots;
 use crate::run_slots::{count_slots, run_len};
-use array_runs::SlotRun;
 use arrow_schema::Field;
-use columns::{OffsetWidth, push_offset};
+use columns::{OffsetWidth, SlotRun, push_offset};
 use std::alloc::{AllocError, Global};
 
 // How many items the list at a place of a run has.

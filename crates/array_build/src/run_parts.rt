@@ -2,14 +2,13 @@
 ghost use Rattle.std.specs.Prelude.{◌≡◌, true, [], ◌∷◌, IfOk, None, length};
 ghost use Rattle.array_build.specs.inner.RunParts.{IsPart, IsPartIn, IsPartOf};
 ghost use Rattle.array_build.specs.inner.Runs.{runs_bits};
-ghost use Rattle.array_runs.specs.declared.run.SlotRun.TheVariants.{Nulls};
+ghost use Rattle.columns.specs.declared.slot_runs.SlotRun.TheVariants.{Nulls};
 ghost use Rattle.arrow_schema.specs.Column.{nulls};
 ghost use Rattle.arrow_schema.specs.View.{column_of, kind_of};
 
 use crate::run_slots::count_slots;
-use array_runs::SlotRun;
 use arrow_schema::{DataType, Field};
-use columns::ArrayView;
+use columns::{ArrayView, SlotRun};
 use std::alloc::{AllocError, Global};
 
 // The slots that the field at a place has of some structs: below a null there is a null, and structs without an array for it have no slot.

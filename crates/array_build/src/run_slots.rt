@@ -3,16 +3,15 @@ ghost use Rattle.std.specs.Prelude.{◌≡◌, ◌≤◌, ◌+◌, ◌++◌, ◌
 ghost use Rattle.std.specs.List.{list_all, range_with_len};
 ghost use Rattle.array_build.specs.Batch.{batch_in};
 ghost use Rattle.array_build.specs.inner.Runs.{bitmap_of, run_bits, runs_bits, with_run_slots};
-ghost use Rattle.array_runs.specs.Runs.{has_validity};
+ghost use Rattle.columns.specs.Runs.{has_validity};
 ghost use Rattle.columns.specs.Array.{slots_in};
 ghost use Rattle.columns.specs.CellAt.{is_valid};
 ghost use Rattle.columns.specs.Tests.{has_short_validity};
 ghost use Rattle.columns.specs.View.{view_array};
 
 use crate::batch::{BuiltBatch, push_validity};
-use array_runs::SlotRun;
 use bitmap::{MaskBuilder, get, pack, run_end};
-use columns::ArrayView;
+use columns::{ArrayView, SlotRun};
 use std::alloc::{AllocError, Global};
 
 #[tactic(auto, using(crate::proofs::RunSlots::slots_counted))]

@@ -3,8 +3,8 @@ ghost use Rattle.std.specs.Prelude.{◌≡◌, ◌≤◌, ◌+◌, ◌*◌, ◌+
 ghost use Rattle.std.specs.List.{flat_map};
 ghost use Rattle.array_build.specs.Batch.{buffer_bytes, plain_column};
 ghost use Rattle.array_build.specs.inner.Runs.{AreAsWritten, fixed_value, fixed_width, is_run_as_written, kind_cells};
-ghost use Rattle.array_runs.specs.Runs.{is_run_sound, run_cells};
-ghost use Rattle.array_runs.specs.declared.run.SlotRun.TheVariants.{Slots};
+ghost use Rattle.columns.specs.Runs.{is_run_sound, run_cells};
+ghost use Rattle.columns.specs.declared.slot_runs.SlotRun.TheVariants.{Slots};
 ghost use Rattle.arrow_schema.specs.View.{kind_of};
 ghost use Rattle.columns.specs.Array.{slots_in, values_in};
 ghost use Rattle.columns.specs.View.{view_array};
@@ -12,9 +12,8 @@ ghost use Rattle.facts.specs.Bytes.{AreBytes};
 
 use crate::batch::Buffer;
 use crate::run_slots::{count_slots, only_run};
-use array_runs::SlotRun;
 use arrow_schema::DataType;
-use columns::ArrayView;
+use columns::{ArrayView, SlotRun};
 use std::alloc::{AllocError, Global};
 
 // A byte is below 256: a contract knows it of a slice that it is given.

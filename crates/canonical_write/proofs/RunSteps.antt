@@ -4,9 +4,9 @@ use Rattle.std.proofs.Common.{◌≡◌, ◌≢◌, ◌+◌, ◌<◌, ◌≤◌,
 use Rattle.std.proofs.lemmas.Bool.{and_parts}
 use Rattle.std.proofs.lemmas.List.Folds.{list_all-append}
 use Rattle.std.proofs.lemmas.List.Sums.{list_all-from_AllPass}
-use Rattle.array_runs.specs.Runs.{HaveRuns, are_columns_sound, can_build_columns}
-use Rattle.array_runs.specs.declared.run.SlotRun.{SlotRun}
-use Rattle.array_runs.specs.laws.Rows.{runs_can_be_built}
+use Rattle.columns.specs.Runs.{HaveRuns, are_columns_sound, can_build_columns}
+use Rattle.columns.specs.declared.slot_runs.SlotRun.{SlotRun}
+use Rattle.columns.specs.laws.RunsOfRows.{runs_can_be_built}
 use Rattle.arrow_schema.specs.Column.{PlainSchema, Columns, columns_of}
 use Rattle.arrow_schema.specs.declared.types.Field.{Field}
 use Rattle.canonical_stream.specs.Pieces.{IsPieceOf}

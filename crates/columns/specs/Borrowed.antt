@@ -1,7 +1,7 @@
 -- What a borrowed value is.
 use Rattle.std.specs.Prelude.{List, map, drop}
 use Rattle.arrow_schema.specs.View.{column_of}
-use Rattle.columns.specs.declared.borrowed.SlotRun.{SlotRun}
+use Rattle.columns.specs.declared.borrowed.ArraySlice.{ArraySlice}
 use Rattle.columns.specs.declared.borrowed.PartsAt.{PartsAt}
 use Rattle.columns.specs.declared.borrowed.Form.{Form}
 use Rattle.columns.specs.declared.borrowed.Form.TheVariants as forms
@@ -14,15 +14,15 @@ use Rattle.cells.specs.View as values
 use Rattle.columns.specs.CellAt.{cell_at, cells_from, row_at}
 use Rattle.columns.specs.View.{view_array, placed_arrays, fields_of}
 
-abbrev pub run_cells : SlotRun → List Cell
-run_cells r = cells_from (cell_at (column_of r.field.now) (view_array r.view)) r.start r.count
+abbrev pub slice_cells : ArraySlice → List Cell
+slice_cells r = cells_from (cell_at (column_of r.field.now) (view_array r.view)) r.start r.count
 
 abbrev pub parts_cells : PartsAt → List Cell
 parts_cells p = row_at (fields_of p.fields.now) (placed_arrays p.bytes.now p.dictionaries.now p.arrays.now) p.place
 
 abbrev pub form_cells : Form → List Cell
 form_cells (forms.Cells cells) = map values.cell cells.now
-form_cells (forms.Slots r) = run_cells r
+form_cells (forms.Slots r) = slice_cells r
 form_cells (forms.Parts p) = parts_cells p
 
 -- the cells of a row, the items of a list, or the parts of a struct

@@ -6,6 +6,7 @@ pub mod Sound
 pub mod Buffers
 pub mod Built
 pub mod Buildable
+pub mod Runs
 pub mod Layouts
 pub mod FromBuffers
 pub mod Texts

@@ -10,3 +10,5 @@ pub mod Longer
 pub mod Integers
 pub mod Rows
 pub mod Held
+pub mod ReadableRuns
+pub mod RunsOfRows

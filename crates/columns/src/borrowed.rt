@@ -11,7 +11,7 @@ use cells::Value;
 
 /// Slots of an array that follow one another, as values of a field.
 #[derive(Clone, Copy)]
-pub(crate) struct SlotRun<'a> {
+pub(crate) struct ArraySlice<'a> {
     pub(crate) field: &'a Field,
     pub(crate) view: ArrayView<'a>,
     pub(crate) start: usize,
@@ -35,7 +35,7 @@ pub(crate) struct PartsAt<'a> {
 #[derive(Clone, Copy)]
 pub(crate) enum Form<'a> {
     Cells(&'a [Value]),
-    Slots(SlotRun<'a>),
+    Slots(ArraySlice<'a>),
     Parts(PartsAt<'a>),
 }
 

@@ -1,9 +1,9 @@
 // Values that are borrowed, in order.
 ghost use Rattle.std.specs.Prelude.{◌≡◌, ◌==◌, length, slice_get, option_map};
 ghost use Rattle.cells.specs.View.{cell};
-ghost use Rattle.columns.specs.Borrowed.{borrowed_cell, borrowed_cells, run_cells, parts_cells, values_left};
+ghost use Rattle.columns.specs.Borrowed.{borrowed_cell, borrowed_cells, slice_cells, parts_cells, values_left};
 
-use crate::borrowed::{Form, PartsAt, SlotRun, ValueRef, Values, ValuesIter};
+use crate::borrowed::{ArraySlice, Form, PartsAt, ValueRef, Values, ValuesIter};
 use crate::read::value;
 use crate::view::ArrayView;
 use cells::Value;
@@ -28,14 +28,14 @@ pub fn borrow_value(value: &Value) -> ValueRef<'_>
 }
 
 #[tactic(auto, using(crate::proofs::Runs::count_cells))]
-fn run_len(run: &SlotRun<'_>) -> usize
-    ensures { result ≡ length (run_cells run.now) }
+fn run_len(run: &ArraySlice<'_>) -> usize
+    ensures { result ≡ length (slice_cells run.now) }
 {
     run.count
 }
 
-fn run_get<'a>(run: &SlotRun<'a>, i: usize) -> Option<ValueRef<'a>>
-    ensures { option_map borrowed_cell result ≡ slice_get (run_cells run.now) i }
+fn run_get<'a>(run: &ArraySlice<'a>, i: usize) -> Option<ValueRef<'a>>
+    ensures { option_map borrowed_cell result ≡ slice_get (slice_cells run.now) i }
 {
     // a number of the code is below 2^64, so that the place is too
     let _slots = run.view.slots();

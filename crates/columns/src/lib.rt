@@ -4,6 +4,9 @@
 //! `specs/Array.antt`, and [`value`] is the cell that the format finds at a slot; [`row`] has the cells at a slot of several arrays. Neither takes
 //! memory: a list's items and a struct's parts are found where they are asked for.
 //!
+//! A [`SlotRun`] is slots of an array one after another, or nulls. The cells of a column, from whatever arrays, are a list of runs
+//! (`specs/Runs.antt`), without a value for each and without a copy of their bytes; [`valid_runs`] tells the nulls among slots apart.
+//!
 //! ```ignore
 //! let values = PlacedArray { slots: 2, validity, layout: PlacedLayout::Fixed(numbers) };
 //! let view = ArrayView { array: &values, bytes, dictionaries: &[] };
@@ -21,7 +24,9 @@ mod entry;
 mod laws;
 mod numbers;
 mod read;
+mod slot_runs;
 mod span;
+mod valid_slots;
 mod view;
 
 pub use array::{Dictionary, DictionaryPart, PlacedArray, PlacedLayout};
@@ -38,5 +43,7 @@ pub use laws::{
 };
 pub use numbers::{OffsetWidth, date_integer, least_negative, push_offset, timestamp_integer};
 pub use read::{row, value};
+pub use slot_runs::SlotRun;
 pub use span::{Span, bytes_at};
+pub use valid_slots::valid_runs;
 pub use view::{ArrayView, array_or, known_arrays, no_array};

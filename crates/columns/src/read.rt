@@ -17,7 +17,7 @@ ghost use Rattle.std.specs.List.{list_all};
 ghost use Rattle.std.specs.Str.{is_utf8};
 
 use crate::array::{Dictionary, PlacedArray};
-use crate::borrowed::{Form, PartsAt, SlotRun, ValueRef, Values};
+use crate::borrowed::{ArraySlice, Form, PartsAt, ValueRef, Values};
 use crate::entry::{EntryPlace, indexed_entry};
 use crate::numbers::{OffsetWidth, date_integer, from_place, integer_at, timestamp_integer};
 use crate::span::bytes_at;
@@ -90,7 +90,7 @@ fn items_from<'a>(item: &'a Field, view: ArrayView<'a>, start: usize, count: usi
     ensures { borrowed_cells result ≡ cells_from (item_at (column_of item.now) (view_array view.entry)) start count }
 {
     let form = match view.items() {
-        Some(items) => Form::Slots(SlotRun {
+        Some(items) => Form::Slots(ArraySlice {
             field: item,
             view: items,
             start,

@@ -7,8 +7,8 @@ use Rattle.std.proofs.lemmas.Bool.{and_parts, and_from}
 use Rattle.std.proofs.lemmas.List.{map-append}
 use Rattle.std.proofs.lemmas.List.Folds.{list_all-append}
 use Rattle.facts.specs.laws.Lists.{take-item, flat_map-push, all_with_item}
-use Rattle.array_runs.specs.Runs.{run_cells, runs_cells, is_run_sound, are_runs_sound, HaveRuns, are_columns_sound}
-use Rattle.array_runs.specs.declared.run.SlotRun.{SlotRun}
+use Rattle.columns.specs.Runs.{run_cells, runs_cells, is_run_sound, are_runs_sound, HaveRuns, are_columns_sound}
+use Rattle.columns.specs.declared.slot_runs.SlotRun.{SlotRun}
 use Rattle.arrow_schema.specs.Column.{Column, Columns, and_column, columns_of}
 use Rattle.cells.specs.Cell.{Cell}
 use Rattle.columns.specs.Array.{Arrays, slots_in, other_arrays}

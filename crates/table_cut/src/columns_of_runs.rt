@@ -1,15 +1,14 @@
 // What each column has of some rows.
 ghost use Rattle.std.specs.Prelude.{◌≡◌, true, map, IfOk};
 ghost use Rattle.arrow_schema.specs.Column.{Column};
-ghost use Rattle.array_runs.specs.Runs.{run_cells, is_run_sound, HaveRuns, are_columns_sound};
+ghost use Rattle.columns.specs.Runs.{run_cells, is_run_sound, HaveRuns, are_columns_sound};
 ghost use Rattle.columns.specs.View.{fields_of};
 ghost use Rattle.table_cut.specs.Rows.{runs_rows, are_runs_sound};
 ghost use Rattle.table_cut.specs.inner.Columns.{cells_behind, has_sound_array, IsColumn};
 
 use crate::row_run::RowRun;
-use array_runs::SlotRun;
 use arrow_schema::Field;
-use columns::ArrayView;
+use columns::{ArrayView, SlotRun};
 use std::alloc::{AllocError, Global};
 
 // The slots that the column at a place has in a run of rows: a batch without an array for it has no row.

@@ -1,8 +1,8 @@
 -- Runs of rows, column by column.
 use Rattle.std.specs.Prelude.{◌≡◌, ℕ, ◌+◌, Bool, true, ◌&&◌, nat_le, List, [], ◌∷◌, map, drop}
 use Rattle.std.specs.List.{flat_map, list_all, range_with_len}
-use Rattle.array_runs.specs.Runs.{runs_cells, are_runs_sound}
-use Rattle.array_runs.specs.declared.run.SlotRun.{SlotRun}
+use Rattle.columns.specs.Runs.{runs_cells, are_runs_sound}
+use Rattle.columns.specs.declared.slot_runs.SlotRun.{SlotRun}
 use Rattle.arrow_schema.specs.Column.{Column, Columns}
 use Rattle.cells.specs.Cell.{Cell}
 use Rattle.columns.specs.Array.{Array, Arrays, slots_in, first_array}

@@ -7,8 +7,8 @@ use Rattle.facts.specs.laws.Lists.{drop-item}
 use Rattle.array_build.proofs.as_written.are_as_written.Goals as goal
 use Rattle.array_build.specs.Batch.{plain_column}
 use Rattle.array_build.specs.inner.Runs.{are_runs_as_written, is_run_as_written}
-use Rattle.array_runs.specs.Runs.{are_runs_sound, is_run_sound}
-use Rattle.array_runs.specs.declared.run.SlotRun.{SlotRun}
+use Rattle.columns.specs.Runs.{are_runs_sound, is_run_sound}
+use Rattle.columns.specs.declared.slot_runs.SlotRun.{SlotRun}
 
 pub is_as_written-requires : goal.is_as_written-requires
 is_as_written-requires c =

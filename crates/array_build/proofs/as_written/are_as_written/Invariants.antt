@@ -3,7 +3,7 @@ use Rattle.std.proofs.Common.{◌≡◌, true, drop}
 use Rattle.arrow_schema.specs.View.{kind_of}
 use Rattle.array_build.specs.Batch.{plain_column}
 use Rattle.array_build.specs.inner.Runs.{are_runs_as_written}
-use Rattle.array_runs.specs.Runs.{are_runs_sound}
+use Rattle.columns.specs.Runs.{are_runs_sound}
 use Rattle.array_build.proofs.as_written.are_as_written.Given as goal
 
 -- the runs so far stand as they are written

@@ -12,8 +12,8 @@ use Rattle.array_build.proofs.by_runs.+by_runs.Goals as goal
 use Rattle.array_build.specs.Batch.{batch_in, built_at, built_below, plain_column, with_arrays}
 use Rattle.array_build.specs.inner.Nodes.{list_kind}
 use Rattle.array_build.specs.inner.Runs.{AreAsWritten, contents_width, fixed_width, kind_cells}
-use Rattle.array_runs.specs.Runs.{are_runs_sound, runs_cells}
-use Rattle.array_runs.specs.declared.run.SlotRun.{SlotRun}
+use Rattle.columns.specs.Runs.{are_runs_sound, runs_cells}
+use Rattle.columns.specs.declared.slot_runs.SlotRun.{SlotRun}
 use Rattle.arrow_schema.specs.Column.{Column, Columns, Kind, columns_of, fixed_lists, structs}
 use Rattle.arrow_schema.specs.View.{column_of, kind_of}
 use Rattle.arrow_schema.specs.declared.types.Field.{Field}

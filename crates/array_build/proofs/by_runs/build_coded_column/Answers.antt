@@ -7,7 +7,7 @@ use Rattle.array_build.proofs.CodedRuns.{field_coded}
 use Rattle.array_build.proofs.Fields.{dictionary_can_be_built, dictionary_field}
 use Rattle.array_build.proofs.by_runs.build_coded_column.Goals as goal
 use Rattle.array_build.specs.Batch.{PlainBatch, batch_in, dictionary_in, plain_column}
-use Rattle.array_runs.specs.Runs.{runs_cells}
+use Rattle.columns.specs.Runs.{runs_cells}
 use Rattle.cells.specs.Cell.{Cell}
 use Rattle.columns.specs.Buildable.{can_build}
 use Rattle.values.specs.Borrowed.{borrowed_cell}

@@ -4,8 +4,8 @@ use Rattle.std.proofs.Common.{◌≡◌, true, ◌∙◌, List, drop, ap, subst,
 use Rattle.array_build.proofs.RunColumns.{column_arrays, last_column, next_left, place_left}
 use Rattle.array_build.proofs.by_runs.build_run_parts.Goals as goal
 use Rattle.array_build.specs.Batch.{batch_in, built_at, with_arrays}
-use Rattle.array_runs.specs.Runs.{are_runs_sound, runs_cells}
-use Rattle.array_runs.specs.declared.run.SlotRun.{SlotRun}
+use Rattle.columns.specs.Runs.{are_runs_sound, runs_cells}
+use Rattle.columns.specs.declared.slot_runs.SlotRun.{SlotRun}
 use Rattle.arrow_schema.specs.View.{column_of}
 use Rattle.arrow_schema.specs.declared.types.Field.{Field}
 use Rattle.columns.specs.Buildable.{can_build}

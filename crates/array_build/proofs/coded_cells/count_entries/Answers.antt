@@ -4,7 +4,7 @@ use Rattle.arrow_schema.specs.Column.{Index}
 use Rattle.arrow_schema.specs.View.{column_of, index_of}
 use Rattle.array_build.proofs.coded_cells.count_entries.Goals as goal
 use Rattle.array_build.specs.inner.Codes.{IsWritten}
-use Rattle.array_runs.specs.Runs.{runs_cells}
+use Rattle.columns.specs.Runs.{runs_cells}
 use Rattle.cells.specs.Cell.{Cell}
 use Rattle.cells.specs.Entry.{entry_cell}
 

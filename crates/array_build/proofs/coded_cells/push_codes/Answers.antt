@@ -10,7 +10,7 @@ use Rattle.array_build.specs.Batch.{PlainBatch, batch_in}
 use Rattle.array_build.specs.inner.Codes.{IsWritten}
 use Rattle.array_build.specs.inner.Nodes.{with_buffer}
 use Rattle.array_build.specs.inner.Runs.{with_run_slots}
-use Rattle.array_runs.specs.Runs.{runs_cells}
+use Rattle.columns.specs.Runs.{runs_cells}
 use Rattle.cells.specs.Cell.{Cell}
 use Rattle.cells.specs.Entry.{entry_cell}
 use Rattle.values.specs.Borrowed.{borrowed_cell}

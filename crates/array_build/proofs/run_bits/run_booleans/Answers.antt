@@ -12,8 +12,8 @@ use Rattle.array_build.proofs.Turns.{turned}
 use Rattle.array_build.proofs.run_bits.run_booleans.Goals as goal
 use Rattle.array_build.specs.Batch.{plain_column}
 use Rattle.array_build.specs.inner.Runs.{kind_cells}
-use Rattle.array_runs.specs.Runs.{are_runs_sound, are_runs_valid, is_run_sound, is_run_valid, run_cells}
-use Rattle.array_runs.specs.declared.run.SlotRun.{SlotRun}
+use Rattle.columns.specs.Runs.{are_runs_sound, are_runs_valid, is_run_sound, is_run_valid, run_cells}
+use Rattle.columns.specs.declared.slot_runs.SlotRun.{SlotRun}
 
 pub push_run-requires-clause-sound : goal.push_run-requires-clause-sound
 push_run-requires-clause-sound c =

@@ -3,7 +3,7 @@ use Rattle.std.proofs.Common.{◌≡◌, ◌++◌, true, map, drop}
 use Rattle.arrow_schema.specs.Column.{booleans}
 use Rattle.array_build.specs.Batch.{plain_column}
 use Rattle.array_build.specs.inner.Runs.{kind_cells}
-use Rattle.array_runs.specs.Runs.{are_runs_sound, are_runs_valid}
+use Rattle.columns.specs.Runs.{are_runs_sound, are_runs_valid}
 use Rattle.columns.specs.Built.{is_set}
 use Rattle.array_build.proofs.run_bits.run_booleans.Given as goal
 

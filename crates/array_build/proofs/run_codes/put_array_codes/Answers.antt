@@ -10,8 +10,8 @@ use Rattle.array_build.proofs.CodedRuns.{long_buffers}
 use Rattle.array_build.proofs.run_codes.put_array_codes.Goals as goal
 use Rattle.array_build.specs.inner.Codes.{IsWritten, own_entries}
 use Rattle.array_build.specs.inner.RunCells.{is_coded}
-use Rattle.array_runs.specs.Runs.{run_cells}
-use Rattle.array_runs.specs.declared.run.SlotRun.TheVariants.{Slots}
+use Rattle.columns.specs.Runs.{run_cells}
+use Rattle.columns.specs.declared.slot_runs.SlotRun.TheVariants.{Slots}
 use Rattle.cells.specs.Cell.{Cell}
 use Rattle.cells.specs.Entry.{entry_cell}
 use Rattle.columns.specs.Array.{slots_in}

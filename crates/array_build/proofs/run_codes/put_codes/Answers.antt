@@ -10,8 +10,8 @@ use Rattle.array_build.proofs.Written.{IsPartWritten, all_written, part_size, so
 use Rattle.array_build.proofs.run_codes.put_codes.Goals as goal
 use Rattle.array_build.specs.inner.RunCells.{is_coded}
 use Rattle.array_build.specs.inner.Runs.{run_bits, runs_bits}
-use Rattle.array_runs.specs.Runs.{are_runs_sound, is_run_sound, run_cells, runs_cells}
-use Rattle.array_runs.specs.declared.run.SlotRun.{SlotRun}
+use Rattle.columns.specs.Runs.{are_runs_sound, is_run_sound, run_cells, runs_cells}
+use Rattle.columns.specs.declared.slot_runs.SlotRun.{SlotRun}
 use Rattle.cells.specs.Cell.{Cell}
 use Rattle.cells.specs.Entry.{entry_cell}
 use Rattle.facts.specs.laws.Lists.{drop-item}

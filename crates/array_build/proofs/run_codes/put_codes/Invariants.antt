@@ -4,7 +4,7 @@ use Rattle.arrow_schema.specs.View.{bits_of, column_of}
 use Rattle.array_build.proofs.Written.{IsPartWritten}
 use Rattle.array_build.specs.inner.RunCells.{is_coded}
 use Rattle.array_build.specs.inner.Runs.{runs_bits}
-use Rattle.array_runs.specs.Runs.{are_runs_sound, runs_cells}
+use Rattle.columns.specs.Runs.{are_runs_sound, runs_cells}
 use Rattle.cells.specs.Entry.{entry_cell}
 use Rattle.array_build.proofs.run_codes.put_codes.Given as goal
 

@@ -7,8 +7,8 @@ use Rattle.array_build.proofs.Written.{nulls_written}
 use Rattle.array_build.proofs.run_codes.put_run_codes.Goals as goal
 use Rattle.array_build.specs.inner.Codes.{IsWritten}
 use Rattle.array_build.specs.inner.Runs.{run_bits}
-use Rattle.array_runs.specs.Runs.{run_cells}
-use Rattle.array_runs.specs.declared.run.SlotRun.{SlotRun}
+use Rattle.columns.specs.Runs.{run_cells}
+use Rattle.columns.specs.declared.slot_runs.SlotRun.{SlotRun}
 use Rattle.cells.specs.Cell.{Cell}
 use Rattle.cells.specs.Entry.{entry_cell}
 

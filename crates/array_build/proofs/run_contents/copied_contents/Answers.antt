@@ -8,8 +8,8 @@ use Rattle.array_build.proofs.Turns.{turned}
 use Rattle.array_build.proofs.run_contents.copied_contents.Goals as goal
 use Rattle.array_build.specs.Batch.{plain_column}
 use Rattle.array_build.specs.inner.Runs.{are_runs_as_written, is_run_as_written, kind_cells}
-use Rattle.array_runs.specs.Runs.{are_runs_sound, is_run_sound, run_cells, runs_cells}
-use Rattle.array_runs.specs.declared.run.SlotRun.{SlotRun}
+use Rattle.columns.specs.Runs.{are_runs_sound, is_run_sound, run_cells, runs_cells}
+use Rattle.columns.specs.declared.slot_runs.SlotRun.{SlotRun}
 use Rattle.arrow_schema.specs.Column.{Column, Kind}
 use Rattle.arrow_schema.specs.View.{kind_of}
 use Rattle.columns.specs.Built.{contents_of}

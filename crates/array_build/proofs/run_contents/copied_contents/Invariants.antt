@@ -4,7 +4,7 @@ use Rattle.std.specs.List.{flat_map}
 use Rattle.arrow_schema.specs.View.{kind_of}
 use Rattle.array_build.specs.Batch.{plain_column}
 use Rattle.array_build.specs.inner.Runs.{are_runs_as_written, kind_cells}
-use Rattle.array_runs.specs.Runs.{are_runs_sound}
+use Rattle.columns.specs.Runs.{are_runs_sound}
 use Rattle.columns.specs.Built.{contents_of}
 use Rattle.array_build.proofs.run_contents.copied_contents.Given as goal
 

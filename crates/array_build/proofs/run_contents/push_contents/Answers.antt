@@ -6,8 +6,8 @@ use Rattle.arrow_schema.specs.View.{kind_of}
 use Rattle.array_build.proofs.RunContents.{no_contents}
 use Rattle.array_build.proofs.run_contents.push_contents.Goals as goal
 use Rattle.array_build.specs.Batch.{plain_column}
-use Rattle.array_runs.specs.Runs.{run_cells}
-use Rattle.array_runs.specs.declared.run.SlotRun.{SlotRun}
+use Rattle.columns.specs.Runs.{run_cells}
+use Rattle.columns.specs.declared.slot_runs.SlotRun.{SlotRun}
 use Rattle.arrow_schema.specs.Column.{Kind}
 use Rattle.columns.specs.Built.{contents_of}
 

@@ -12,8 +12,8 @@ use Rattle.array_build.proofs.RunContents.{run_room}
 use Rattle.array_build.proofs.run_contents.run_offsets.Goals as goal
 use Rattle.array_build.specs.Batch.{plain_column}
 use Rattle.array_build.specs.inner.Runs.{are_runs_as_written, cell_sizes, is_run_as_written, kind_cells}
-use Rattle.array_runs.specs.Runs.{are_runs_sound, is_run_sound, run_cells}
-use Rattle.array_runs.specs.declared.run.SlotRun.{SlotRun}
+use Rattle.columns.specs.Runs.{are_runs_sound, is_run_sound, run_cells}
+use Rattle.columns.specs.declared.slot_runs.SlotRun.{SlotRun}
 use Rattle.cells.specs.Cell.{Cell}
 use Rattle.columns.specs.Built.{contents_of, sums_from}
 use Rattle.columns.specs.Offsets.{width_of}

@@ -5,7 +5,7 @@ use Rattle.byteorder.specs.Endian.{little_bytes}
 use Rattle.arrow_schema.specs.View.{kind_of}
 use Rattle.array_build.specs.Batch.{plain_column}
 use Rattle.array_build.specs.inner.Runs.{are_runs_as_written, cell_sizes, kind_cells}
-use Rattle.array_runs.specs.Runs.{are_runs_sound}
+use Rattle.columns.specs.Runs.{are_runs_sound}
 use Rattle.columns.specs.Built.{contents_of, offsets_of, sums_from}
 use Rattle.columns.specs.Offsets.{width_of}
 use Rattle.array_build.proofs.run_contents.run_offsets.Given as goal

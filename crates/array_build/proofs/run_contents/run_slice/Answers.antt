@@ -3,7 +3,7 @@ use Rattle.arrow_schema.specs.View.{kind_of}
 use Rattle.columns.specs.Offsets.{width_of}
 use Rattle.array_build.proofs.RunContents.{run_texts}
 use Rattle.array_build.proofs.run_contents.run_slice.Goals as goal
-use Rattle.array_runs.specs.declared.run.SlotRun.TheVariants.{Slots}
+use Rattle.columns.specs.declared.slot_runs.SlotRun.TheVariants.{Slots}
 
 pub slot_contents-requires-clause-long : goal.slot_contents-requires-clause-long
 slot_contents-requires-clause-long c =

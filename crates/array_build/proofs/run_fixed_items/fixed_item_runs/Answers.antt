@@ -3,7 +3,7 @@ use Rattle.std.proofs.lemmas.List.{drop_all}
 use Rattle.array_build.proofs.RunItems.{AreItemsLeft, no_items_yet, first_is, items_more, all_items}
 use Rattle.array_build.proofs.run_fixed_items.fixed_item_runs.Goals as goal
 use Rattle.array_build.specs.inner.RunItems.{fixed_column}
-use Rattle.array_runs.specs.declared.run.SlotRun.{SlotRun}
+use Rattle.columns.specs.declared.slot_runs.SlotRun.{SlotRun}
 use Rattle.arrow_schema.specs.Column.{Column}
 use Rattle.arrow_schema.specs.View.{column_of}
 use Rattle.columns.specs.Built.{fixed_items}

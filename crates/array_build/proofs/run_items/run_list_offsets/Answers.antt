@@ -5,7 +5,7 @@ use Rattle.array_build.proofs.run_items.run_list_offsets.Goals as goal
 use Rattle.array_build.specs.inner.Nodes.{list_kind}
 use Rattle.array_build.specs.inner.RunItems.{list_sizes}
 use Rattle.array_build.specs.inner.Runs.{kind_cells}
-use Rattle.array_runs.specs.declared.run.SlotRun.{SlotRun}
+use Rattle.columns.specs.declared.slot_runs.SlotRun.{SlotRun}
 use Rattle.arrow_schema.specs.View.{column_of}
 use Rattle.columns.specs.Offsets.{width_of}
 use Rattle.facts.specs.laws.Lists.{drop-item}

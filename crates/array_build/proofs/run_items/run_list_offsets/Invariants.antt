@@ -5,7 +5,7 @@ use Rattle.array_build.proofs.run_items.run_list_offsets.Given as goal
 use Rattle.array_build.specs.inner.Nodes.{list_kind}
 use Rattle.array_build.specs.inner.RunItems.{list_column, list_sizes}
 use Rattle.array_build.specs.inner.Runs.{kind_cells}
-use Rattle.array_runs.specs.Runs.{are_runs_sound, are_runs_valid}
+use Rattle.columns.specs.Runs.{are_runs_sound, are_runs_valid}
 use Rattle.arrow_schema.specs.View.{column_of}
 use Rattle.cells.specs.Dictionary.{item_list}
 use Rattle.columns.specs.Built.{list_offsets, sums_from}

@@ -2,8 +2,8 @@ use Rattle.std.proofs.Common.{sym, subst, refl}
 use Rattle.array_build.proofs.RunParts.{part_found, part_absent}
 use Rattle.array_build.proofs.run_parts.part_run.Goals as goal
 use Rattle.array_build.specs.inner.RunParts.{IsPartOf}
-use Rattle.array_runs.specs.declared.run.SlotRun.{SlotRun}
-use Rattle.array_runs.specs.declared.run.SlotRun.TheVariants.{Slots, Nulls}
+use Rattle.columns.specs.declared.slot_runs.SlotRun.{SlotRun}
+use Rattle.columns.specs.declared.slot_runs.SlotRun.TheVariants.{Slots, Nulls}
 use Rattle.columns.specs.declared.view.ArrayView.{ArrayView}
 
 pub returns-in-Some : goal.returns-in-Some

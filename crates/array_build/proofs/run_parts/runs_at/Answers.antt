@@ -2,7 +2,7 @@ use Rattle.std.proofs.Common.{List, arith, drop, subst, sym}
 use Rattle.std.proofs.lemmas.List.{drop_all}
 use Rattle.array_build.proofs.RunParts.{ArePartsLeft, no_part_yet, part_more, is_part}
 use Rattle.array_build.proofs.run_parts.runs_at.Goals as goal
-use Rattle.array_runs.specs.declared.run.SlotRun.{SlotRun}
+use Rattle.columns.specs.declared.slot_runs.SlotRun.{SlotRun}
 use Rattle.facts.specs.laws.Lists.{drop-item}
 
 pub loop-run-init : goal.loop-run-init

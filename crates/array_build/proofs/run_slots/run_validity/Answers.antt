@@ -8,8 +8,8 @@ use Rattle.array_build.proofs.Ended.{ended}
 use Rattle.array_build.proofs.Turns.{turned}
 use Rattle.array_build.proofs.run_slots.run_validity.Goals as goal
 use Rattle.array_build.specs.inner.Runs.{bitmap_of, run_bits, runs_bits}
-use Rattle.array_runs.specs.Runs.{has_validity}
-use Rattle.array_runs.specs.declared.run.SlotRun.{SlotRun}
+use Rattle.columns.specs.Runs.{has_validity}
+use Rattle.columns.specs.declared.slot_runs.SlotRun.{SlotRun}
 
 pub push_run_bits-requires : goal.push_run_bits-requires
 push_run_bits-requires c =

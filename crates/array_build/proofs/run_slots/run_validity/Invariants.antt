@@ -1,7 +1,7 @@
 use Rattle.std.proofs.Common.{◌≡◌, ◌++◌, true, drop}
 use Rattle.std.specs.List.{list_all}
 use Rattle.array_build.specs.inner.Runs.{runs_bits}
-use Rattle.array_runs.specs.Runs.{has_validity}
+use Rattle.columns.specs.Runs.{has_validity}
 use Rattle.array_build.proofs.run_slots.run_validity.Given as goal
 
 abbrev pub invariant-loop-run : goal.invariant-loop-run

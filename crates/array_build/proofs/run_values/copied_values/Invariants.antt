@@ -4,7 +4,7 @@ use Rattle.std.specs.List.{flat_map}
 use Rattle.arrow_schema.specs.View.{kind_of}
 use Rattle.array_build.specs.Batch.{plain_column}
 use Rattle.array_build.specs.inner.Runs.{are_runs_as_written, fixed_value, kind_cells}
-use Rattle.array_runs.specs.Runs.{are_runs_sound}
+use Rattle.columns.specs.Runs.{are_runs_sound}
 use Rattle.array_build.proofs.run_values.copied_values.Given as goal
 
 -- the values so far and the others

@@ -5,8 +5,8 @@ use Rattle.arrow_schema.specs.View.{kind_of}
 use Rattle.array_build.proofs.run_values.push_run.Goals as goal
 use Rattle.array_build.specs.Batch.{plain_column}
 use Rattle.array_build.specs.inner.Runs.{fixed_value}
-use Rattle.array_runs.specs.Runs.{run_cells}
-use Rattle.array_runs.specs.declared.run.SlotRun.{SlotRun}
+use Rattle.columns.specs.Runs.{run_cells}
+use Rattle.columns.specs.declared.slot_runs.SlotRun.{SlotRun}
 use Rattle.arrow_schema.specs.Column.{Kind}
 
 pub returns-in_ok-extend_from_slice-in-Slots : goal.returns-in_ok-extend_from_slice-in-Slots

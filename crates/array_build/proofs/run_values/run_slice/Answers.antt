@@ -2,7 +2,7 @@ use Rattle.std.proofs.Common.{refl, sym, ◌∙◌}
 use Rattle.arrow_schema.specs.View.{kind_of}
 use Rattle.array_build.proofs.RunValues.{run_values}
 use Rattle.array_build.proofs.run_values.run_slice.Goals as goal
-use Rattle.array_runs.specs.declared.run.SlotRun.TheVariants.{Slots}
+use Rattle.columns.specs.declared.slot_runs.SlotRun.TheVariants.{Slots}
 
 pub slot_values-requires-clause-long : goal.slot_values-requires-clause-long
 slot_values-requires-clause-long c =

@@ -2,8 +2,8 @@ use Rattle.std.proofs.Common.{◌≡◌, true, List, map, ap, sym, subst, ◌∙
 use Rattle.std.specs.Prelude.{IfOk}
 use Rattle.std.proofs.lemmas.Result.{IfOk-weaker}
 use Rattle.array_build.specs.Batch.{batch_of, built_below}
-use Rattle.array_runs.specs.Runs.{HaveRuns, can_build_columns}
-use Rattle.array_runs.specs.declared.run.SlotRun.{SlotRun}
+use Rattle.columns.specs.Runs.{HaveRuns, can_build_columns}
+use Rattle.columns.specs.declared.slot_runs.SlotRun.{SlotRun}
 use Rattle.arrow_schema.specs.Column.{PlainSchema, columns_of}
 use Rattle.arrow_schema.specs.View.{column_of, schema_of}
 use Rattle.arrow_schema.specs.declared.types.Field.{Field}

@@ -1,8 +1,8 @@
 use Rattle.std.specs.Prelude.{Option, ◌&&◌}
 use Rattle.std.specs.List.{flat_map, list_all}
 use Rattle.std.proofs.Common.{◌≡◌, ℕ, true, List, length, ap, sym, subst, ◌∙◌}
-use Rattle.array_runs.specs.Runs.{runs_cells, are_runs_sound}
-use Rattle.array_runs.specs.declared.run.SlotRun.{SlotRun}
+use Rattle.columns.specs.Runs.{runs_cells, are_runs_sound}
+use Rattle.columns.specs.declared.slot_runs.SlotRun.{SlotRun}
 use Rattle.arrow_schema.specs.Column.{Column}
 use Rattle.arrow_schema.specs.View.{column_of, index_of}
 use Rattle.cells.specs.Cell.{Cell}

@@ -1,6 +1,6 @@
 use Rattle.std.proofs.Common.{List, [], subst, sym, arith}
 use Rattle.std.proofs.lemmas.List.{take_all}
-use Rattle.array_runs.specs.declared.run.SlotRun.{SlotRun}
+use Rattle.columns.specs.declared.slot_runs.SlotRun.{SlotRun}
 use Rattle.table_cut.specs.declared.row_run.RowRun.{RowRun}
 use Rattle.table_cut.specs.inner.Columns.{IsColumn}
 use Rattle.table_cut.proofs.ColumnLemmas.{no_column_runs, column_more}

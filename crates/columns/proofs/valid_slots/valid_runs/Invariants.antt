@@ -1,7 +1,7 @@
 use Rattle.std.proofs.Common.{◌≡◌, ◌++◌, true, drop}
-use Rattle.array_runs.specs.Runs.{are_runs_valid, HaveSameCells, has_validity}
+use Rattle.columns.specs.Runs.{are_runs_valid, HaveSameCells, has_validity}
 use Rattle.std.specs.List.{list_all}
-use Rattle.array_runs.proofs.valid.valid_runs.Given as goal
+use Rattle.columns.proofs.valid_slots.valid_runs.Given as goal
 
 -- the runs so far and those that are left
 abbrev pub invariant-loop-run : goal.invariant-loop-run

@@ -1,5 +1,5 @@
 // Runs of slots.
-use columns::ArrayView;
+use crate::view::ArrayView;
 
 /// Slots of an array one after another, or so many nulls.
 #[derive(Clone, Copy)]

@@ -2,8 +2,8 @@
 use Rattle.std.specs.Prelude.{◌≡◌, ◌+◌, Bool, true, false, not, ◌&&◌, nat_le, List, [], ◌∷◌, map, replicate}
 use Rattle.std.specs.List.{flat_map, list_all, range_with_len}
 use Rattle.arrow_schema.specs.Column.{Column, Columns, no_column, and_column}
-use Rattle.array_runs.specs.declared.run.SlotRun.{SlotRun}
-use Rattle.array_runs.specs.declared.run.SlotRun.TheVariants.{Slots, Nulls}
+use Rattle.columns.specs.declared.slot_runs.SlotRun.{SlotRun}
+use Rattle.columns.specs.declared.slot_runs.SlotRun.TheVariants.{Slots, Nulls}
 use Rattle.cells.specs.Cell.{Cell, null}
 use Rattle.columns.specs.Array.{slots_in}
 use Rattle.columns.specs.Buildable.{can_build}

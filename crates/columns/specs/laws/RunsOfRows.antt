@@ -2,8 +2,8 @@
 use Rattle.std.proofs.Common.{◌≡◌, true, List, [], ◌∷◌, map, refl}
 use Rattle.std.proofs.lemmas.Bool.{and_parts}
 use Rattle.arrow_schema.specs.Column.{Columns, no_column, and_column}
-use Rattle.array_runs.specs.Runs.{HaveRuns, can_build_columns, runs_cells}
-use Rattle.array_runs.specs.declared.run.SlotRun.{SlotRun}
+use Rattle.columns.specs.Runs.{HaveRuns, can_build_columns, runs_cells}
+use Rattle.columns.specs.declared.slot_runs.SlotRun.{SlotRun}
 use Rattle.cells.specs.Cell.{Cell}
 use Rattle.columns.specs.Buildable.{can_build, can_build_parts}
 use Rattle.columns.specs.Built.{first_cell, other_cells}

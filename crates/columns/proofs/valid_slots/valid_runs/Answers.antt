@@ -1,9 +1,9 @@
 use Rattle.std.proofs.Common.{◌+◌, drop, subst, List, ◌++◌}
 use Rattle.facts.specs.laws.Lists.{drop-item}
-use Rattle.array_runs.specs.Runs.{HaveSameCells, has_validity}
-use Rattle.array_runs.specs.declared.run.SlotRun.{SlotRun}
-use Rattle.array_runs.proofs.Split.{replaced, all_replaced, left_pass}
-use Rattle.array_runs.proofs.valid.valid_runs.Goals as goal
+use Rattle.columns.specs.Runs.{HaveSameCells, has_validity}
+use Rattle.columns.specs.declared.slot_runs.SlotRun.{SlotRun}
+use Rattle.columns.proofs.Split.{replaced, all_replaced, left_pass}
+use Rattle.columns.proofs.valid_slots.valid_runs.Goals as goal
 
 pub loop-run-preserved : goal.loop-run-preserved
 loop-run-preserved c =

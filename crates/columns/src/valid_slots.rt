@@ -1,16 +1,16 @@
 // Runs without a null among their slots.
 ghost use Rattle.std.specs.Prelude.{◌≡◌, ◌≤◌, ◌+◌, true, false, OnOk, IfOk};
 ghost use Rattle.std.specs.List.{list_all};
-ghost use Rattle.array_runs.specs.Runs.{has_validity, are_runs_valid, HaveSameCells};
-ghost use Rattle.array_runs.specs.inner.Split.{AreAlike, IsAdded};
-ghost use Rattle.array_runs.specs.declared.run.SlotRun.TheVariants.{Slots};
+ghost use Rattle.columns.specs.Runs.{has_validity, are_runs_valid, HaveSameCells};
+ghost use Rattle.columns.specs.inner.Split.{AreAlike, IsAdded};
+ghost use Rattle.columns.specs.declared.slot_runs.SlotRun.TheVariants.{Slots};
 ghost use Rattle.columns.specs.Array.{slots_in};
 ghost use Rattle.columns.specs.Tests.{has_short_validity};
 ghost use Rattle.columns.specs.View.{view_array};
 
-use crate::run::SlotRun;
+use crate::slot_runs::SlotRun;
+use crate::view::ArrayView;
 use bitmap::{get, run_end};
-use columns::ArrayView;
 use std::alloc::{AllocError, Global};
 
 // Adds slots that are all valid, or all null.

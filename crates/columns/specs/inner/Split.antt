@@ -1,8 +1,8 @@
 -- Runs as those of one more run are added, with no null among their slots.
 use Rattle.std.specs.Prelude.{◌≡◌, ◌≤◌, ◌<◌, ◌++◌, ℕ, Bool, true, List}
 use Rattle.arrow_schema.specs.Column.{Column}
-use Rattle.array_runs.specs.Runs.{run_cells, runs_cells, is_run_sound, are_runs_sound, are_runs_valid}
-use Rattle.array_runs.specs.declared.run.SlotRun.{SlotRun}
+use Rattle.columns.specs.Runs.{run_cells, runs_cells, is_run_sound, are_runs_sound, are_runs_valid}
+use Rattle.columns.specs.declared.slot_runs.SlotRun.{SlotRun}
 use Rattle.columns.specs.Array.{Array}
 use Rattle.columns.specs.CellAt.{is_valid}
 

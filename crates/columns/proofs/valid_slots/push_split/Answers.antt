@@ -1,6 +1,6 @@
 use Rattle.std.proofs.Common.{arith}
-use Rattle.array_runs.proofs.Split.{next_added}
-use Rattle.array_runs.proofs.valid.push_split.Goals as goal
+use Rattle.columns.proofs.Split.{next_added}
+use Rattle.columns.proofs.valid_slots.push_split.Goals as goal
 
 pub loop-next-preserved : goal.loop-next-preserved
 loop-next-preserved c =

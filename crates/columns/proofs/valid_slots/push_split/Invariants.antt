@@ -1,7 +1,7 @@
 use Rattle.std.proofs.Common.{◌≤◌, ◌-◌}
-use Rattle.array_runs.specs.inner.Split.{IsAdded}
-use Rattle.array_runs.specs.declared.run.SlotRun.TheVariants.{Slots}
-use Rattle.array_runs.proofs.valid.push_split.Given as goal
+use Rattle.columns.specs.inner.Split.{IsAdded}
+use Rattle.columns.specs.declared.slot_runs.SlotRun.TheVariants.{Slots}
+use Rattle.columns.proofs.valid_slots.push_split.Given as goal
 
 abbrev pub decreases-loop-next : goal.decreases-loop-next
 decreases-loop-next l = l.end - l.next

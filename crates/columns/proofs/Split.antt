@@ -9,11 +9,11 @@ use Rattle.std.proofs.lemmas.List.Concat.{flat_map-append}
 use Rattle.std.proofs.lemmas.List.Folds.{list_all-append}
 use Rattle.facts.specs.laws.Lists.{all_pushed}
 use Rattle.arrow_schema.specs.Column.{Column}
-use Rattle.array_runs.specs.Runs.{run_cells, runs_cells, is_run_sound, are_runs_sound, is_run_valid, HaveSameCells}
-use Rattle.array_runs.specs.inner.Split.{AreAlike, IsAdded}
-use Rattle.array_runs.specs.declared.run.SlotRun.{SlotRun}
-use Rattle.array_runs.specs.declared.run.SlotRun.TheVariants.{Slots, Nulls}
-use Rattle.array_runs.proofs.Cells.{invalid_cells, valid_slots}
+use Rattle.columns.specs.Runs.{run_cells, runs_cells, is_run_sound, are_runs_sound, is_run_valid, HaveSameCells}
+use Rattle.columns.specs.inner.Split.{AreAlike, IsAdded}
+use Rattle.columns.specs.declared.slot_runs.SlotRun.{SlotRun}
+use Rattle.columns.specs.declared.slot_runs.SlotRun.TheVariants.{Slots, Nulls}
+use Rattle.columns.proofs.SlotCells.{invalid_cells, valid_slots}
 use Rattle.columns.specs.Array.{slots_in}
 use Rattle.columns.specs.CellAt.{cell_at, cells_from}
 use Rattle.columns.specs.Sound.{is_sound}
