@@ -70,6 +70,9 @@ fn copy_values(alloc: Global, values: Values<'_>) -> Result<Vec<Value>, AllocErr
 }
 
 /// A row of a table, as one in memory of its own.
+///
+/// # Errors
+/// `AllocError` where memory was refused.
 pub fn copy_row(alloc: Global, row: Values<'_>) -> Result<Row, AllocError>
     ensures { IfOk result (λ copy. row_of copy ≡ borrowed_cells row.entry) }
 {

@@ -8,7 +8,7 @@ pub enum QueryError {
     /// No column has this name, or more than one has, or it is asked for twice.
     #[error("Q1 UnknownColumn")]
     UnknownColumn,
-    /// The text of a condition has another shape, or its literal is none of the column's type.
+    /// The string of a condition has another shape, or its literal is none of the column's type.
     #[error("Q2 BadCondition")]
     BadCondition,
     /// Values of the column's type are not compared.

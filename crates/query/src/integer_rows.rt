@@ -155,7 +155,7 @@ fn keep_part(
     Ok(next)
 }
 
-/// Of so many rows of record batches those whose bits are set, up to the most, of columns of integers.
+/// Of a number of rows of record batches those whose bits are set, up to the most, of columns of integers.
 pub(crate) fn keep_integers(
     alloc: Global,
     columns: &[IntegerColumn],

@@ -11,7 +11,7 @@ pub fn selection_is_a_table()
     ensures { (t : PlainTable) (q : PlainQuery) (s : PlainTable) → IsTable t → selection t q ≡ Ok s → IsTable s }
 {}
 
-/// Why a query is refused is told by the schema alone: tables of one schema refuse it alike, whatever their rows.
+/// Why a query is refused follows from the schema alone: tables of one schema refuse it alike, whatever their rows.
 pub fn rows_refuse_no_query()
     ensures { (t u : PlainTable) (q : PlainQuery) (r : Refusal) → t.schema ≡ u.schema → selection t q ≡ Err r → selection u q ≡ Err r }
 {}

@@ -1,8 +1,8 @@
 //! Queries: which rows and columns of a table, and a row as a line of JSON.
 //!
 //! A [`Query`] names columns, conditions that each row must meet, and how many rows at most. Promised are, exactly: which
-//! condition a text states, which columns and rows of a table a query chooses, or why there are none, the table of these with its values copied, and the line of a
-//! row. Contracts see tables, rows and queries as the plain trees of `specs/`, however they are kept.
+//! condition a string states, which columns and rows of a table a query chooses, or why there are none, the table of these with its
+//! values copied, and the line of a row. Contracts see tables, rows and queries as the plain trees of `specs/`, however they are kept.
 //!
 //! ```
 //! let condition = Condition::parse(alloc, "a >= 1")?;

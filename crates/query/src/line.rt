@@ -12,8 +12,11 @@ use std::alloc::{AllocError, Global};
 use std::mem;
 use values::{ValueRef, Values};
 
-/// The line of a row without its end: a JSON array of its values, without spaces. Bytes are texts of hexadecimal digits in
+/// The line of a row without its end: a JSON array of its values, without spaces. Bytes are strings of hexadecimal digits in
 /// lower case; lists and structs are arrays. No value takes memory of its own.
+///
+/// # Errors
+/// `AllocError` where memory was refused.
 pub fn json_line(alloc: Global, row: Values<'_>) -> Result<Vec<u8>, AllocError>
     ensures { IfOk result (λ text. text.items ≡ line (borrowed_cells row.entry)) }
 {
@@ -64,7 +67,7 @@ fn push_hex(out: &mut Vec<u8>, bytes: &[u8]) -> Result<(), AllocError>
     Ok(())
 }
 
-// The text of hexadecimal digits that bytes are.
+// The string of hexadecimal digits that bytes are.
 fn push_quoted_hex(out: &mut Vec<u8>, bytes: &[u8]) -> Result<(), AllocError>
     ensures { OnOk result (out.new.items ≡ out.old.items ++ (codes "\"" ++ encode_lower bytes.now ++ codes "\"")) }
 {

@@ -38,7 +38,7 @@ fn operator_text(operator: Operator) -> &'static str
     }
 }
 
-// The operator that has this text.
+// The operator that is written so.
 #[tactic(auto, using(crate::proofs::Naming::skip_one), unfolding(crate::specs::ConditionText::operator_of))]
 pub(crate) fn operator_of(text: &str) -> Option<Operator>
     ensures { result ≡ operator_of text.now }

@@ -92,7 +92,7 @@ fn mask_of_rows(alloc: Global, table: &Table, bound: &Bound) -> Result<Vec<u8>, 
     bitmap::pack(alloc, &flags)
 }
 
-// The same, from the bytes of arrays where these tell.
+// The same, from the bytes of arrays where these suffice.
 fn mask_of(alloc: Global, table: &Table, bound: &Bound) -> Result<Vec<u8>, AllocError>
     ensures { IfOk result (λ mask. IsMask mask.items (map (holds (bound_in bound.now)) (table_of table.now).rows)) }
 {
@@ -164,7 +164,7 @@ fn push_row_at(
     }
 }
 
-// Of rows of which a mask tells those that are kept, the values at these places, up to so many rows.
+// Of rows of which a mask says which are kept, the values at these places, up to a number of rows.
 fn keep_each(
     alloc: Global,
     table: &Table,
@@ -220,6 +220,9 @@ fn pick_fields(alloc: Global, fields: &[Field], places: &[usize]) -> Result<Vec<
 }
 
 /// A schema of the columns at some places.
+///
+/// # Errors
+/// `AllocError` where memory was refused.
 pub fn pick_schema(alloc: Global, schema: &Schema, places: &[usize]) -> Result<Schema, AllocError>
     ensures { IfOk result (λ s. schema_of s ≡ record { columns = pick places.now (schema_of schema.now).columns; pairs = (schema_of schema.now).pairs }) }
 {
@@ -244,8 +247,11 @@ fn table_of_kept(alloc: Global, schema: Schema, kept: Kept) -> Result<Table, Que
     }
 }
 
-/// The table of the columns and rows that are chosen of another, each value copied. Refused only where a growth was. It takes time linear in the values, and
-/// for a table that is not kept in record batches, or has another type than integers, dates and timestamps, in the rows that are passed over by bytes of the mask.
+/// The table of the columns and rows that are chosen of another, each value copied. It takes time linear in the values, and for a table that is
+/// not kept in record batches, or has another type than integers, dates and timestamps, in the rows that are passed over by bytes of the mask.
+///
+/// # Errors
+/// `OutOfMemory` alone, where memory was refused.
 pub fn chosen_cells(alloc: Global, table: &Table, choice: &Choice) -> Result<Table, QueryError>
     requires mask { length (table_of table.now).rows ≤ 8 * length choice.now.mask.items }
     requires table { IsTable (chosen_table choice.now (table_of table.now)) }
@@ -278,8 +284,16 @@ fn choose_bound(
     })
 }
 
-/// Which columns and rows of a table a query selects; or the first reason why it is refused: the columns asked for are looked at first, and then the conditions
-/// in order. Beside where it is refused, growths alone are.
+/// Which columns and rows of a table a query selects. The columns asked for are tested first, and then the conditions in order.
+///
+/// ```
+/// let query = Query { columns: Vec::new(alloc), conditions: vec![in alloc; Condition::parse(alloc, "a >= 1")?]?, limit: Some(10) };
+/// let choice = choose(alloc, &table, &query)?;
+/// ```
+///
+/// # Errors
+/// `UnknownColumn`, `BadCondition` or `NotComparable`, by the first test that fails.
+/// `OutOfMemory` where memory was refused.
 pub fn choose(alloc: Global, table: &Table, query: &Query) -> Result<Choice, QueryError>
     ensures ok { IfOk result (λ c. selection (table_of table.now) (query_in query.now) ≡ Ok (chosen_table c (table_of table.now))) }
     ensures mask { IfOk result (λ c. length (table_of table.now).rows ≤ 8 * length c.mask.items) }

@@ -11,7 +11,7 @@ use columns::{OffsetWidth, push_offset};
 use std::alloc::AllocError;
 use text_import::spelled_boolean;
 
-/// What the cells of a column are written as, but for where nulls stand: bits, the bytes of integers, or where texts end and their bytes.
+/// What the cells of a column are written as, but for where nulls stand: bits, the bytes of integers, or where strings end and their bytes.
 #[derive(Drop)]
 pub(crate) enum Values {
     Booleans(Vec<bool>),
@@ -31,7 +31,7 @@ fn push_zeros(values: &mut Vec<u8>, width: BitWidth) -> Result<(), AllocError>
     }
 }
 
-// Appends the boolean that a text spells, and answers what it weighs.
+// Appends the boolean that a field spells, and answers what it weighs.
 fn push_boolean(bits: &mut Vec<bool>, text: &[u8]) -> Result<Option<u64>, AllocError>
     ensures { IfOk result (λ taken. IfSome taken (λ heavy. (heavy ≡ 1) × AppendsBoolean text.now bits.old.items bits.new.items)) }
 {
@@ -59,7 +59,7 @@ impl Values {
         Ok(())
     }
 
-    /// Appends the cell that a text is, where it is one of the type, and answers what it weighs.
+    /// Appends the cell that a field is, where it is one of the type, and answers what it weighs.
     pub(crate) fn push_text(&mut self, text: &[u8]) -> Result<Option<u64>, AllocError>
         ensures { IfOk result (λ taken. IfSome taken (λ heavy. TakesText text.now heavy self.old self.new)) }
     {

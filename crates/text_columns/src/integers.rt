@@ -74,7 +74,7 @@ pub(crate) fn push_number(
     }
 }
 
-/// Appends the bytes of the integer that a text spells, where the type holds it, and answers what that weighs.
+/// Appends the bytes of the integer that a field spells, where the type holds it, and answers what that weighs.
 pub(crate) fn push_integer(
     values: &mut Vec<u8>,
     integer: IntegerType,

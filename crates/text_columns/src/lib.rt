@@ -1,4 +1,4 @@
-//! A text as the arrays of one record batch, under a schema of columns of integers, dates, timestamps, booleans and texts.
+//! A text as the arrays of one record batch, under a schema of columns of integers, dates, timestamps, booleans and strings.
 //!
 //! [`csv_table`] answers the table of just the rows that `text_import::csv_rows` gives of the same text, and what they weigh, or the same
 //! refusal. No value is made of a cell and no row is: each field goes into the buffers of its column where it is read. For other schemas,

@@ -17,7 +17,7 @@ use json::{Reader, Scratch, Token};
 use std::alloc::{AllocError, Global};
 use text_import::{is_blank, text_of};
 
-// What the cell weighs that a column has of a row; where it has none, a null comes behind its cells.
+// What the cell weighs that a column has of a row; where it has none, a null comes after its cells.
 fn complete(builder: &mut ColumnBuilder, heavy: Option<u64>) -> Result<Option<u64>, AllocError>
     ensures { IfOk result (λ taken. IfSome taken (λ weighs. Completes heavy weighs builder.old builder.new)) }
 {

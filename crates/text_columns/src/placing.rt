@@ -1,4 +1,4 @@
-// The arrays of columns, one behind another in the same bytes.
+// The arrays of columns, one after another in the same bytes.
 ghost use Rattle.std.specs.Prelude.{◌≡◌, ◌≤◌, ◌++◌, true, [], ◌∷◌, List, length, IfOk};
 ghost use Rattle.std.specs.List.{list_all};
 ghost use Rattle.bitmap.specs.Bits.{packed};

@@ -103,7 +103,7 @@ fn is_quoted(text: &[u8], at: usize) -> bool
     at < text.len() && text[at] == b'"'
 }
 
-// Whether another field stands behind one that ends there.
+// Whether another field stands after one that ends there.
 fn goes_on(text: &[u8], end: usize) -> bool
     requires { end ≤ length text.now }
     ensures { result ≡ begins_with 44 (drop end text.now) }
@@ -111,7 +111,7 @@ fn goes_on(text: &[u8], end: usize) -> bool
     end < text.len() && text[end] == b','
 }
 
-// Where the next record begins behind the last field of one.
+// Where the next record begins after the last field of one.
 fn behind_line(text: &[u8], end: usize) -> usize
     requires { end ≤ length text.now }
     ensures within { result ≤ length text.now }

@@ -10,7 +10,7 @@ use arrow_schema::{DataType, Field};
 use columns::{OffsetWidth, date_integer, push_offset, timestamp_integer};
 use std::alloc::{AllocError, Global};
 
-// Before the first text stands the offset 0.
+// Before the first string stands the offset 0.
 fn no_texts(alloc: Global, width: OffsetWidth) -> Result<Values, AllocError>
     ensures { IfOk result (λ values. StartsTexts width values) }
 {

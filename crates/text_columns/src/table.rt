@@ -25,7 +25,7 @@ use std::alloc::{AllocError, Global};
 use text_import::{TextError, rows_of_texts_are_rows};
 use values::{Batch, Part, Table, Weighed};
 
-// The one record batch that the buffers of columns are, with so many rows.
+// The one record batch that the buffers of columns are, with a number of rows.
 fn build_part(alloc: Global, columns: Vec<ColumnBuilder>, rows: usize) -> Result<Part, AllocError>
     ensures { IfOk result (λ part. IsPartOf columns.items rows part) }
 {
@@ -96,6 +96,9 @@ pub fn csv_table(
 /// The table of the rows of a text of JSON Lines, kept in one record batch, and what its rows weigh; none where a line is refused, is an array or has
 /// a member with parts or twice, where a column has a type that is not read into arrays, or a dictionary, or where the rows are too heavy for a table:
 /// the rows are then those of `text_import::jsonl_rows`, or its refusal.
+///
+/// # Errors
+/// `AllocError` where memory was refused. A text that is refused is answered as none.
 pub fn jsonl_table(
     alloc: Global,
     schema: &Schema,

@@ -8,7 +8,7 @@ use columns::{OffsetWidth, push_offset};
 use std::alloc::AllocError;
 use text_import::text_of;
 
-/// Appends a text that is UTF-8 and where it ends, and answers what it weighs.
+/// Appends a string that is UTF-8 and where it ends, and answers what it weighs.
 pub(crate) fn push_contents(
     offsets: &mut Vec<u8>,
     contents: &mut Vec<u8>,

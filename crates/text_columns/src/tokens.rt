@@ -24,7 +24,7 @@ fn unsigned(numeral: &Numeral<'_>) -> Option<i128>
     }
 }
 
-// The same behind a sign; none for `-0` too, which is a float.
+// The same after a sign; none for `-0` too, which is a float.
 fn negative(numeral: &Numeral<'_>) -> Option<i128>
     ensures { IfSome result (λ n. integer_after true numeral.now ≡ Some n) }
 {
@@ -100,7 +100,7 @@ fn push_boolean(bits: &mut Vec<bool>, token: Token<'_>) -> Result<Option<u64>, A
     Ok(Some(1))
 }
 
-// Appends the text that a token is and where it ends, and answers what it weighs.
+// Appends the string that a token is and where it ends, and answers what it weighs.
 fn push_text(
     offsets: &mut Vec<u8>,
     contents: &mut Vec<u8>,

@@ -24,10 +24,10 @@ use std::alloc::{AllocError, Global};
 // No integer type holds a number of this size.
 const TOO_LARGE: u128 = 1 << 64;
 
-// 64 bits hold any number of so many digits.
+// The most digits of which 64 bits hold any number.
 const SHORT: usize = 19;
 
-// The number that at most so many digits spell.
+// The number that at most 19 digits spell.
 fn short_digits(text: &[u8]) -> Option<u128>
     requires { length text.now ≤ 19 }
     ensures { result ≡ option_map capped (number_behind 0 text.now) }
@@ -80,7 +80,7 @@ fn positive(text: &[u8]) -> Option<i128>
     }
 }
 
-// The integer that a text spells, where one does.
+// The integer that a string spells, where one does.
 fn integer(text: &[u8]) -> Option<i128>
     ensures { result ≡ capped_integer text.now }
 {
@@ -91,7 +91,7 @@ fn integer(text: &[u8]) -> Option<i128>
     }
 }
 
-/// The integer that a text spells, where one does. One that no type holds is told as some integer that no type holds.
+/// The integer that a string spells, where one does. One that no type holds is answered as some integer that no type holds.
 #[tactic(auto, using(crate::proofs::NumberLemmas::integers_capped))]
 pub fn spelled_integer(text: &[u8]) -> Option<i128>
     ensures { (bits : ℕ) (signed : Bool) → bits ≤ 64 → number_cell (integers bits signed) result
@@ -128,7 +128,7 @@ fn integer_cell(field: &Field, text: &[u8]) -> Result<Value, CellError>
     number_cell(field, integer(text))
 }
 
-/// The boolean that a text spells, where one does.
+/// The boolean that a string spells, where one does.
 pub fn spelled_boolean(text: &[u8]) -> Option<bool>
     ensures { result ≡ typed_boolean text.now }
 {
@@ -156,7 +156,7 @@ fn copy_text(alloc: Global, text: &str) -> Result<Value, AllocError>
     Ok(Value::Text(String::from_str(alloc, text)?))
 }
 
-// A text is UTF-8 by its type.
+// A string is UTF-8 by its type.
 pub(crate) fn own_text(alloc: Global, text: &str) -> Result<Value, CellError>
     ensures { Gives refusal_of cell result (fitting kinds.texts NotUtf8 (plain.text text.now)) }
 {

@@ -21,6 +21,9 @@ pub enum TextForm<'a> {
 }
 
 /// The rows that a text of this form has for a schema, or its first refusal, with the number of its record.
+///
+/// # Errors
+/// `Refused`: the first refusal, with the number of its record; `OutOfMemory`.
 pub fn rows_of_text(
     alloc: Global,
     form: &TextForm<'_>,

@@ -21,7 +21,10 @@ use cells::{Row, has_limits};
 use serde_json::Value;
 use std::alloc::{AllocError, Global};
 
-/// The lines of a text: its parts before, between and behind its line feeds. The last one is empty where the text ends with a line feed.
+/// The lines of a text: its parts before, between and after its line feeds. The last one is empty where the text ends with a line feed.
+///
+/// # Errors
+/// `AllocError` where memory was refused.
 pub fn split_lines(alloc: Global, text: &[u8]) -> Result<Vec<&[u8]>, AllocError>
     ensures { IfOk result (λ v. text_list v.items ≡ slice_split (λ b. b == 10) text.now) }
 {
@@ -108,8 +111,7 @@ fn line_rows(alloc: Global, schema: &Schema, lines: &[&[u8]]) -> Result<Vec<Row>
 /// skipped and not counted.
 ///
 /// # Errors
-///
-/// The first line that is refused, with its number.
+/// `Refused`: the first line that is refused, with its number; `OutOfMemory`.
 pub fn jsonl_rows(alloc: Global, schema: &Schema, text: &[u8]) -> Result<Vec<Row>, TextError>
     ensures exact { Gives refused_by (λ v. map row_of v.items) result (jsonl_rows_of (schema_of schema.now) text.now) }
 {

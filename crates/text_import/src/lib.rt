@@ -1,9 +1,8 @@
 //! Rows of texts: CSV and JSON Lines, under a schema.
 //!
-//! [`csv_rows`] and [`jsonl_rows`] (or [`rows_of_text`], of either form) answer the rows of a text, or the first refusal with the number of its record. Which
-//! records a text has is the word of the crate `csv`, and which values its lines have that of `serde_json`; what becomes
-//! of them, cell by cell, is stated in `specs/` and promised exactly, for every text. [`refused_part`] answers which field or line
-//! of a refused record it is.
+//! [`csv_rows`] and [`jsonl_rows`] (or [`rows_of_text`], of either form) answer the rows of a text, or the first refusal with the number of its
+//! record. The crate `csv` decides which records a text has, and `serde_json` which values its lines have; what becomes of them, cell by cell, is
+//! stated in `specs/` and promised exactly, for every text. [`refused_part`] answers which field or line of a refused record it is.
 //!
 //! ```
 //! let fields = field_texts::parse_fields(alloc, &["a:int32?", "s:utf8"])?;

@@ -89,6 +89,9 @@ fn add_names<'a>(names: &mut IndexSet<&'a str>, fields: &'a [Field]) -> Result<b
 }
 
 /// The names of columns, where no two have the same.
+///
+/// # Errors
+/// `AllocError` where memory was refused.
 pub fn distinct_names(alloc: Global, fields: &[Field]) -> Result<Option<IndexSet<&str>>, AllocError>
     ensures { IfOk result (λ found. IfSome found (λ names. (text_list names.keys ≡ names_of (columns_of (map column_of fields.now)))
         × (repeats (text_list names.keys) ≡ false))) }
@@ -164,7 +167,7 @@ fn test_few_names(fields: &[Field], members: &Map<String, Json>) -> Result<(), C
     }
 }
 
-// The same with the set of the names, which is lent empty.
+// The same with the set of the names, which is borrowed empty.
 fn test_many_names<'a>(
     names: &mut IndexSet<&'a str>,
     fields: &'a [Field],

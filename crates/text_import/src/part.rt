@@ -233,10 +233,13 @@ fn part_of_line(
     }
 }
 
-/// The part of a record that is refused, of the number that a refusal of these rows tells.
+/// The part of a record that is refused, of the number that a refusal of these rows reports.
 ///
 /// Of CSV it is the first field whose text is refused for its column; none where all of them are cells, or there is another
 /// number of fields. Of JSON Lines it is the line, with the first field whose cell is refused where it has one for each.
+///
+/// # Errors
+/// `AllocError` where memory was refused.
 pub fn refused_part(
     alloc: Global,
     form: &TextForm<'_>,

@@ -56,6 +56,9 @@ fn read_record(reader: &mut Reader<&[u8]>, row: &mut ByteRecord) -> Result<bool,
 }
 
 /// Reads the next record, where there is one.
+///
+/// # Errors
+/// `AllocError` where memory was refused; then nothing is promised of the reader and the record.
 #[tactic(auto, using(crate::proofs::RecordLemmas::taken))]
 pub fn read_next(reader: &mut Reader<&[u8]>, row: &mut ByteRecord) -> Result<bool, AllocError>
     ensures { IfOk result (λ found. (records : List (List (List ℕ))) → HasLeft reader.old records
@@ -165,7 +168,10 @@ fn record_row(
     accepted(alloc, schema, limited, cells)
 }
 
-/// Why a record is refused, or the row that it is. `limited` is what `cells::has_limits` tells of the schema, and `number` the record's.
+/// Why a record is refused, or the row that it is. `limited` is what `cells::has_limits` answers of the schema, and `number` the record's.
+///
+/// # Errors
+/// `Refused`: why the record is refused, with this number; `OutOfMemory`.
 pub fn numbered_row(
     alloc: Global,
     schema: &Schema,
@@ -180,7 +186,7 @@ pub fn numbered_row(
     numbered(number, record_row(alloc, schema, limited, null_text, row))
 }
 
-// The rows of the records that a reader has left, of which there are at most so many. They are read into a record that is lent.
+// The rows of the records that a reader has left, of which there are at most n. They are read into a record that is borrowed.
 fn record_rows(
     alloc: Global,
     schema: &Schema,
@@ -231,11 +237,11 @@ fn pass_header(
     }
 }
 
-/// A reader of the records of a text that stands behind the header, the names of the columns. Behind it a text has no more records than bytes.
+/// A reader of the records of a text that stands after the header, the names of the columns. After it a text has no more records than bytes.
 ///
 /// # Errors
-///
-/// The refusal of a schema with lists or structs, or of the header: whatever the null text, the rows of the text are refused so.
+/// `Refused`: the refusal of a schema with lists or structs, or of the header; whatever the null text, the rows of the text are refused so.
+/// `OutOfMemory`.
 pub fn csv_records<'a>(
     alloc: Global,
     schema: &Schema,
@@ -286,12 +292,15 @@ pub(crate) fn record_at(
     read_at(&mut reader, row, place)
 }
 
-/// The rows of a CSV text: the records behind the header, which is the names of the columns. A field that is the null
+/// The rows of a CSV text: the records after the header, which is the names of the columns. A field that is the null
 /// text is a null where the column is nullable.
 ///
-/// # Errors
+/// ```
+/// let rows = csv_rows(alloc, &schema, b"a,s\n1,x\n,\n", "")?;
+/// ```
 ///
-/// The first refusal: of a schema with lists or structs, of the header, or of a record, with its number.
+/// # Errors
+/// `Refused`: the first refusal, of a schema with lists or structs, of the header, or of a record, with its number. `OutOfMemory`.
 pub fn csv_rows(
     alloc: Global,
     schema: &Schema,

@@ -14,7 +14,7 @@ pub enum Refusal {
     Header,
     /// X2: another number of fields or items than of columns, or than a fixed list has.
     Width,
-    /// X3: a text is not UTF-8.
+    /// X3: a string is not UTF-8.
     NotUtf8,
     /// X4: not an integer.
     NotANumber,
@@ -46,7 +46,7 @@ pub enum Refusal {
     WrongKind,
 }
 
-/// A refusal, and the number of its record: counted from 1 behind the header, and 0 where it is of no record.
+/// A refusal, and the number of its record: counted from 1 after the header, and 0 where it is of no record.
 #[derive(Clone, Copy, Debug, PartialEq, Eq)]
 pub struct Refused {
     pub refusal: Refusal,

@@ -16,7 +16,7 @@ use arrow_schema::Schema;
 use cells::{MAX_ROW_WEIGHT, Row, Value, dictionaries_fit, row_weight};
 use std::alloc::Global;
 
-// The row of cells that were read. `limited` is what `cells::has_limits` tells of the schema.
+// The row of cells that were read. `limited` is what `cells::has_limits` answers of the schema.
 pub(crate) fn accepted(
     alloc: Global,
     schema: &Schema,
