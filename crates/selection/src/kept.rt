@@ -19,7 +19,7 @@ pub(crate) struct KeptRuns<'a> {
     pub(crate) rows: usize,
 }
 
-// Keeps the first rows of a run, as many as there is room for, and says how many.
+// Keeps the first rows of a run, up to the room that is left, and says how many.
 fn keep_front<'a>(kept: &mut KeptRuns<'a>, run: RowRun<'a>, most: u64) -> Result<usize, AllocError>
     requires room { kept.old.rows < most }
     ensures within { IfOk result (λ n. n ≤ run.entry.len) }

@@ -98,12 +98,20 @@ fn select_chosen(alloc: Global, table: &Table, choice: &Choice) -> Result<Table,
     chosen_cells(alloc, table, choice)
 }
 
-/// The rows of a table of which all conditions hold, then the columns asked for, then the first rows; or the first reason
-/// why the query is refused: the columns asked for are looked at first, and then the conditions in order.
+/// The rows of a table of which all conditions hold, then the columns asked for, then the first rows. The columns asked for are tested first, and
+/// then the conditions in order.
 ///
 /// Of a table that is kept in record batches the result is kept so too, in the memory of its stream, unless all columns asked for have integers, dates or
 /// timestamps: its rows are runs of slots, and it takes time linear in the mask, the runs and the bytes of the result; and in the cells of pieces of 4,096
 /// rows that have rows under several dictionaries of 8 or 16 bit indices. Else its cells are copied.
+///
+/// ```
+/// let cold = Query { columns: Vec::new(alloc), conditions: vec![in alloc; Condition::parse(alloc, "millidegrees < 0")?]?, limit: None };
+/// let found = select(alloc, &table, &cold)?;
+/// ```
+///
+/// # Errors
+/// `UnknownColumn`, `BadCondition` or `NotComparable`, by the first test that fails; `OutOfMemory` where memory was refused.
 pub fn select(alloc: Global, table: &Table, query: &Query) -> Result<Table, QueryError>
     ensures ok { IfOk result (λ t. selection (table_of table.now) (query_in query.now) ≡ Ok (table_of t)) }
     ensures refused { IfErr result (λ e. Reports e (selection (table_of table.now) (query_in query.now))) }

@@ -21,7 +21,11 @@ use std::io::{Read, Write};
 use store::Store;
 use tables::Command;
 
-/// Carries out a command, and writes `ok` once it is done. Where the output fails the command is done all the same.
+/// Carries out a command, and writes `ok` once it is done.
+///
+/// # Errors
+/// `Store` where the store refuses: then nothing is written, and the tables are as they were; after `Store(Device)` the store is halted, and it is
+/// open whether the command is done. `Io` where the output fails: the command is done all the same.
 pub fn apply_command<D: SectorDevice, W: Write>(
     alloc: Global,
     store: &mut Store<D>,
@@ -31,7 +35,7 @@ pub fn apply_command<D: SectorDevice, W: Write>(
     // The answer is the store's: done only where it has the command done, and else its refusal.
     ensures goes { D.tells ≡ true → (base : Tables) (m : Machine) → StoreFits D.size D.story base m store.old
         → Answered (λ answer. GoesOn D.size D.story D.failed base m (apply_call (command_of command)) (ended answer) store.old store.new) result }
-    // On every store and every device: the store was given the command, and what it answered is told.
+    // On every store and every device: the store was given the command, and what it answered is reported.
     ensures told { Answered (λ answer. AnswersCommand D.size D.story D.tells (command_of command) answer store.old store.new) result }
     ensures written { OnOk result (Appends (W.contents output.old) (W.contents output.new) (codes "ok\n")) }
     ensures silent { IfErr result (λ refusal. refusal ≢ Refusal.Io → output.new ≡ output.old) }
@@ -42,7 +46,11 @@ pub fn apply_command<D: SectorDevice, W: Write>(
 
 /// Makes the table that all of the input means as a stream, in place of one of this name, and writes `ok`.
 ///
-/// That the store is halted, and then a bad name, is told before anything is read.
+/// That the store is halted, and then a bad name, is reported before anything is read.
+///
+/// # Errors
+/// `Store`, as [`Store::import_from`] refuses: then nothing is written, and the tables are as they were; after `Store(Device)` the store is halted,
+/// and it is open whether the command is done. `Io` where the output fails: the command is done all the same.
 pub fn import_input<D: SectorDevice, R: Read, W: Write>(
     alloc: Global,
     store: &mut Store<D>,
@@ -62,7 +70,11 @@ pub fn import_input<D: SectorDevice, R: Read, W: Write>(
 
 /// Appends the rows that all of the input means as a stream to a table, and writes `ok`.
 ///
-/// That the store is halted, and then that there is no such table, is told before anything is read.
+/// That the store is halted, and then that there is no such table, is reported before anything is read.
+///
+/// # Errors
+/// `Store`, as [`Store::append_from`] refuses: then nothing is written, and the tables are as they were; after `Store(Device)` the store is halted,
+/// and it is open whether the command is done. `Io` where the output fails: the command is done all the same.
 pub fn append_input<D: SectorDevice, R: Read, W: Write>(
     alloc: Global,
     store: &mut Store<D>,

@@ -27,7 +27,7 @@ fn take_steps<D: SectorDevice>(alloc: Global, store: &mut Store<D>) -> Result<u6
     unreachable!()
 }
 
-// No memory is taken: what was done is told also where there is none.
+// No memory is taken: what was done is reported also where there is none.
 fn write_steps<W: Write>(output: &mut W, count: u64) -> Result<(), Refusal>
     ensures written { OnOk result (Appends (W.contents output.old) (W.contents output.new) (steps_text count)) }
     ensures io { IfErr result (λ e. e ≡ Refusal.Io) }
@@ -39,7 +39,10 @@ fn write_steps<W: Write>(output: &mut W, count: u64) -> Result<(), Refusal>
 /// Joins neighbouring segments that can be one, and moves the last ones forward, step by step until there is nothing to do, and writes
 /// `steps` and how many steps did something.
 ///
-/// The tables stay as they are at each moment. Where a step is refused, those before it are done, and nothing is written.
+/// The tables stay as they are at each moment.
+///
+/// # Errors
+/// `Store` where the store refuses a step: those before it are done, and nothing is written. `Io` where the output fails: the compaction is done.
 pub fn compact_tables<D: SectorDevice, W: Write>(
     alloc: Global,
     store: &mut Store<D>,

@@ -1,4 +1,4 @@
-// Reading all of an input, which may be too long, as the program tells it.
+// Reading all of an input, which may be too long, as the program reports it.
 ghost use Rattle.std.specs.Prelude.{◌≡◌, ◌+◌, ◌≤◌, IfSome, IfOk, IfErr, OnOk, IsErrOf, vec_len};
 ghost use Rattle.std.specs.Io.KnownBytes.{IsAtEnd};
 ghost use Rattle.store.specs.Input.{HasGiven, HasGivenAtMost};
@@ -10,7 +10,7 @@ use std::io::Read;
 use store::read_at_most;
 use tables::{Limit, MAX_IMPORT_BYTES};
 
-/// The most bytes that an input may have: as many as a stream that is imported.
+/// The most bytes that an input may have: those of the longest stream that is imported.
 pub const LARGEST_INPUT: usize = MAX_IMPORT_BYTES;
 
 // Reads to the end, at most as many bytes as an input may have and one more.

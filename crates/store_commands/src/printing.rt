@@ -49,6 +49,9 @@ fn lines_of_fields(alloc: Global, fields: &[Field]) -> Result<String, AllocError
 }
 
 /// Prints a line for each table, in byte order of the names: the name, and how many rows the table has.
+///
+/// # Errors
+/// `Store` with `Halted` or `OutOfMemory`, and `OutOfMemory`: then nothing is written. `Io` where a write fails: some lines may be written.
 pub fn print_tables<D: SectorDevice, W: Write>(
     alloc: Global,
     store: &Store<D>,
@@ -65,7 +68,10 @@ pub fn print_tables<D: SectorDevice, W: Write>(
     write_whole(output, text.as_bytes())
 }
 
-/// Prints a line for each field of a table, as a field text whose names are JSON texts.
+/// Prints a line for each field of a table, as a field text whose names are JSON strings.
+///
+/// # Errors
+/// `Store` with `Halted`, `NoTable` or `OutOfMemory`, and `OutOfMemory`: then nothing is written. `Io` where a write fails: some may be written.
 pub fn print_schema<D: SectorDevice, W: Write>(
     alloc: Global,
     store: &Store<D>,

@@ -17,6 +17,9 @@ use std::io::Write;
 use store::Store;
 
 /// Writes the canonical stream of the table of a name. Its parts are made before the first byte is written.
+///
+/// # Errors
+/// `Store`, as [`Store::read`] refuses: then nothing is written. `Io` where a write fails: some of the stream may be written.
 pub fn export_table<D: SectorDevice, W: Write>(
     alloc: Global,
     store: &mut Store<D>,
@@ -66,7 +69,10 @@ fn read_each<D: SectorDevice>(
 
 /// Reads each table, in byte order of the names, and writes `ok` where all can be read.
 ///
-/// The first table that can't be read is told as `Store::read` tells it, and none behind it is read.
+/// The first table that can't be read is reported as [`Store::read`] reports it, and none after it is read.
+///
+/// # Errors
+/// `Store` where the tables are not listed or one can't be read: then nothing is written. `Io` where a write fails: all tables can be read.
 pub fn check_tables<D: SectorDevice, W: Write>(
     alloc: Global,
     store: &mut Store<D>,

@@ -60,10 +60,10 @@ fn conditions_of(alloc: Global, texts: &[&str]) -> Result<Vec<Condition>, Refusa
     Ok(conditions)
 }
 
-/// The query that words state: texts of conditions, names of columns split by commas, and how many rows at most.
+/// The query that words state: conditions, names of columns split by commas, and how many rows at most.
 ///
 /// # Errors
-/// `Query` with `BadCondition` where a text has not the shape of a condition; `OutOfMemory`.
+/// `Query` with `BadCondition` where a string has not the shape of a condition; `OutOfMemory`.
 pub fn query_of(
     alloc: Global,
     conditions: &[&str],

@@ -19,9 +19,10 @@ use values::Table;
 
 /// Reads a stream to its end, and writes the canonical stream of its table and nothing else.
 ///
-/// Refused by `TooManyBytes` where the input has more than `LARGEST_INPUT` bytes, and else by the fault of a stream
-/// without a meaning; then nothing is written. `OutOfMemory` comes only where a growth was refused, before anything is
-/// written and before the byte that is one too many was read, and `Io` where a read or a write fails.
+/// # Errors
+/// `TooManyBytes` where the input has more than `LARGEST_INPUT` bytes, and `Fault` where the stream has no meaning; then nothing is written.
+/// `OutOfMemory` only where memory was refused, before anything is written and before the byte that is one too many was read. `Io` where a read or a
+/// write fails: some may be written then, but nothing of an input without a meaning.
 pub fn recode<R: Read, W: Write>(
     alloc: Global,
     reader: &mut R,

@@ -32,7 +32,7 @@ use text_columns::{csv_table, jsonl_table};
 use text_import::{RefusedPart, TextError, TextForm, refused_part, rows_of_text};
 use values::Weighed;
 
-// The part of the first refused record that is refused. Where memory is refused for it, no part is told.
+// The part of the first refused record that is refused. Where memory is refused for it, no part is answered.
 #[tactic(auto, using(crate::proofs::TextLemmas::hints_at))]
 fn refused_in(
     alloc: Global,
@@ -93,7 +93,7 @@ fn read_command(
     Ok(Command::AppendRows { name, rows })
 }
 
-// The same; where the text is refused, `hint` is the part that is. The text's bytes are let go.
+// The same; where the text is refused, `hint` is the part that is. The text's bytes are freed.
 fn take_command(
     alloc: Global,
     form: &TextForm<'_>,
@@ -118,8 +118,13 @@ fn take_command(
 
 /// Appends the rows that all of the input has, as a text for the table's schema, and writes `ok`.
 ///
-/// That there is no such table is told before anything is read. Where a record of the text is refused, `hint` is left with the part of it
+/// That there is no such table is reported before anything is read. Where a record of the text is refused, `hint` is left with the part of it
 /// that is, if memory suffices, and else with none.
+///
+/// # Errors
+/// `Text` where the text is refused, after all of it was read; `TooManyBytes` where it is longer than `LARGEST_INPUT`; `OutOfMemory`; `Store` where
+/// the store refuses: the tables are then as they were, and nothing is written; after `Store(Device)` the store is halted, and it is open whether the
+/// rows are appended. `Io` where the input can't be read, and then nothing has changed, or where the output fails, and then the rows are appended.
 #[tactic(auto, using(crate::proofs::TextLemmas::no_hint))]
 pub fn append_text<D: SectorDevice, R: Read, W: Write>(
     alloc: Global,
@@ -135,7 +140,7 @@ pub fn append_text<D: SectorDevice, R: Read, W: Write>(
         → HandsRows form.now (entry_of (listed_in store.old) name.now) (R.remaining input.old)
         (λ rows answer. GoesOn D.size D.story D.failed base m (apply_call (append_rows name.now rows)) (ended answer) store.old store.new)
         (λ refusal. store.new ≡ store.old) result }
-    // On any store: it was given these rows, and what it answered is told; or there was a reason before, and nothing is changed or written.
+    // On any store: it was given these rows, and what it answered is reported; or there was a reason before, and nothing is changed or written.
     ensures told { HandsRows form.now (entry_of (listed_in store.old) name.now) (R.remaining input.old)
         (λ rows answer. AnswersCommand D.size D.story D.tells (append_rows name.now rows) answer store.old store.new)
         (λ refusal. RefusesText R.remaining form.now (is_halted store.old) (entry_of (listed_in store.old) name.now) input.old input.new refusal

@@ -25,17 +25,17 @@ pub enum Command {
         name: String,
         bytes: Vec<u8>,
     },
-    /// The rows that a stream means, behind those of the table. S1, S7 Bytes, S5, S4, S6; then the table is read, and S7 Weight.
+    /// The rows that a stream means, after those of the table. S1, S7 Bytes, S5, S4, S6; then the table is read, and S7 Weight.
     AppendStream {
         name: String,
         bytes: Vec<u8>,
     },
-    /// Rows behind those of the table. S1, S6; then the table is read, and S7 Weight.
+    /// Rows after those of the table. S1, S6; then the table is read, and S7 Weight.
     AppendRows {
         name: String,
         rows: Vec<Row>,
     },
-    /// The same of the rows of a table of any schema. Where that is the schema of the table that stands, they are not looked at one by one.
+    /// The same of the rows of a table of any schema. Where that is the schema of the table that stands, they are not tested one by one.
     AppendTable {
         name: String,
         new: Weighed,

@@ -33,12 +33,12 @@ pub fn a_command_changes_its_names_alone()
     ensures { (t : Tables) (c : PlainCommand) (name : List ℕ) → ¬ Contains (changed_names c) name → table_at (step t c) name ≡ table_at t name }
 {}
 
-/// Commands one after another: those in front, and then the others.
+/// Commands one after another: the first ones, and then the others.
 pub fn commands_in_turn()
     ensures { (t : Tables) (cs ds : List PlainCommand) → after t (cs ++ ds) ≡ after (after t cs) ds }
 {}
 
-/// A command whose refusal the tables decide is never told one that they don't.
+/// A command whose refusal the tables decide is never answered one that they don't.
 pub fn refusals_of_the_tables()
     ensures { (t : Tables) (c : PlainCommand) (r : Refusal) → verdict t c ≡ Err r → origin_of r ≡ by_tables }
 {}
@@ -74,8 +74,8 @@ pub fn commands_bring_tables(command: &Command)
     }
 }
 
-/// Rows that are appended, given or as a stream, stand behind those of the table, all of them; a query that is saved is the table at its name; and a table
-/// is found at the name that it was given.
+/// Rows that are appended, given or as a stream, stand after those of the table, all of them; a query that is saved is the table at its name; and a
+/// table is found at the name that it was given.
 pub fn worked_commands()
     ensures appended { (t u : Tables) (name : List ℕ) (table : PlainTable) (rows : List (List Cell)) → table_at t name ≡ Some table
         → verdict t (append_rows name rows) ≡ Ok u → u ≡ with_table t name (joined table rows) }

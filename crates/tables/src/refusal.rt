@@ -48,7 +48,7 @@ pub enum Refusal {
     RowUnfit(usize),
     /// S7: a limit would be passed.
     TooMany(Limit),
-    /// S8: so many sectors in a row are nowhere free.
+    /// S8: this number of sectors in a row is nowhere free.
     NoRoom(u64),
     /// S9: the device failed. Whether the command is done is known once the store was opened again.
     Device,
