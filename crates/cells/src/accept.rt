@@ -16,8 +16,11 @@ use crate::weigh::row_weight;
 use arrow_schema::Schema;
 use std::alloc::{AllocError, Global};
 
-/// Whether a row leaves each dictionary within its index type. `limited` is what [`crate::has_limits`] tells of the schema: it
+/// Whether a row leaves each dictionary within its index type. `limited` is what [`crate::has_limits`] answers of the schema: it
 /// is asked once for many rows.
+///
+/// # Errors
+/// `AllocError` where memory was refused.
 #[tactic(auto, using(crate::specs::laws::Unlimited::from_unlimited))]
 pub fn dictionaries_fit(
     schema: &Schema,
@@ -48,7 +51,10 @@ fn fitting_weight(schema: &Schema, row: &[Value]) -> Option<u64>
     Some(row_weight(schema, row))
 }
 
-/// The weight of a row, where a table takes it. `limited` is what [`crate::has_limits`] tells of the schema: it is asked once for many rows.
+/// The weight of a row, where a table takes it. `limited` is what [`crate::has_limits`] answers of the schema: it is asked once for many rows.
+///
+/// # Errors
+/// `AllocError` where memory was refused.
 #[tactic(auto, using(crate::specs::laws::Unlimited::from_unlimited), unfolding(crate::specs::Row::is_row))]
 pub fn accepted_weight(
     schema: &Schema,

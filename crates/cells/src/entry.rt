@@ -8,7 +8,7 @@ use crate::value::Value;
 use indexmap::IndexSet;
 use std::alloc::AllocError;
 
-/// An entry of a dictionary: a value that is not null, and neither a list nor a struct. It borrows texts and bytes.
+/// An entry of a dictionary: a value that is not null, and neither a list nor a struct. It borrows strings and bytes.
 #[derive(Clone, Copy, Debug, PartialEq, Eq, Hash)]
 pub enum Entry<'a> {
     Bool(bool),
@@ -32,7 +32,10 @@ pub fn entry_of(value: &Value) -> Option<Entry<'_>>
     }
 }
 
-/// Adds an entry to those of a dictionary, where there is one and it is not among them. Where memory is refused they stay as they were.
+/// Adds an entry to those of a dictionary, where there is one and it is not among them.
+///
+/// # Errors
+/// `AllocError` where memory was refused: the entries are as they were.
 pub fn note<'a>(
     entries: &mut IndexSet<Entry<'a>>,
     entry: Option<Entry<'a>>,

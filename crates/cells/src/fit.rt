@@ -46,7 +46,7 @@ pub(crate) fn date_fits(unit: DateUnit, n: i128) -> bool
     }
 }
 
-// A text is UTF-8 by its type.
+// A string is UTF-8 by its type.
 pub(crate) fn is_utf8(text: &str) -> bool
     ensures { result ≡ is_utf8 text.now }
 {

@@ -1,4 +1,4 @@
-// What a table asks of the cells of most rows, in one pass: of integers, texts and nulls.
+// What a table asks of the cells of most rows, in one pass: of integers, strings and nulls.
 ghost use Rattle.std.specs.Prelude.{◌≡◌, ◌+◌, true, map, IfSome};
 ghost use Rattle.arrow_schema.specs.Column.{columns_of};
 ghost use Rattle.arrow_schema.specs.View.{kind_of, column_of};
@@ -28,7 +28,7 @@ fn number_weight(data_type: &DataType, n: i128) -> Option<u64>
     if fits { Some(1) } else { None }
 }
 
-// What a text weighs that is one of a type's.
+// What a string weighs that is one of a type's.
 #[inline(always)]
 #[tactic(auto, unfolding(crate::specs::Fit::fits_kind, crate::specs::Weight::kind_weight))]
 fn text_weight(data_type: &DataType, value: &str) -> Option<u64>
@@ -66,7 +66,7 @@ fn null_weight(data_type: &DataType) -> Option<u64>
     }
 }
 
-// What a value weighs that is one of a field's, where it is an integer, a text or such a null.
+// What a value weighs that is one of a field's, where it is an integer, a string or such a null.
 #[inline(always)]
 #[tactic(auto, unfolding(crate::specs::Fit::fits, crate::specs::Weight::weight))]
 fn flat_weight(field: &Field, value: &Value) -> Option<u64>

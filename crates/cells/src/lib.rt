@@ -1,6 +1,6 @@
 //! Values and rows: what fits a field, what it weighs, and what a dictionary may hold.
 //!
-//! A [`Value`] is one cell of a table. Contracts see values as the plain trees of `specs/Cell.antt`. [`fits`] tells which
+//! A [`Value`] is one cell of a table. Contracts see values as the plain trees of `specs/Cell.antt`. [`fits`] says which
 //! values a field takes and [`weight`] how heavy they are; [`accepted_weight`] asks a whole row what a table asks of it.
 //!
 //! ```

@@ -1,6 +1,6 @@
 // One cell of a table.
 
-/// A value. Integers, dates and timestamps are `Int`; texts and binaries of either width are `Text` and `Bytes`;
+/// A value. Integers, dates and timestamps are `Int`; strings and binaries of either width are `Text` and `Bytes`;
 /// a null of any type is `Null`.
 #[derive(Debug, Drop)]
 pub enum Value {

@@ -17,7 +17,7 @@ pub fn add_weights(a: u64, b: u64) -> u64
     a.saturating_add(b).min(TOO_HEAVY)
 }
 
-/// A weight so many times, as weights are reported.
+/// A multiple of a weight, as weights are reported.
 pub fn multiply_weight(count: u64, weight: u64) -> u64
     ensures { result ≡ capped_weight (count * weight) }
 {

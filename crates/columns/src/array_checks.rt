@@ -102,7 +102,7 @@ pub fn counts_wrong(null_count: u64, field: &Field, view: ArrayView<'_>) -> bool
     }
 }
 
-// Whether a number of so many bytes is negative in two's complement.
+// Whether an offset of this width is negative in two's complement.
 fn is_negative(width: OffsetWidth, number: usize) -> bool
     ensures { result ≡ is_negative (width_of width) number }
 {

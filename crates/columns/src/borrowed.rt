@@ -45,7 +45,7 @@ pub struct Values<'a> {
     pub(crate) form: Form<'a>,
 }
 
-/// A value that is borrowed. Integers, dates and timestamps are `Int`; texts and binaries of either width are `Text` and
+/// A value that is borrowed. Integers, dates and timestamps are `Int`; strings and binaries of either width are `Text` and
 /// `Bytes`; a null of any type is `Null`.
 #[derive(Clone, Copy)]
 pub enum ValueRef<'a> {

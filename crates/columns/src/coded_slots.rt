@@ -57,7 +57,7 @@ impl<'a> CodedSlots<'a> {
         named_at(self.spec.index, self.indices, self.view.slots(), i)
     }
 
-    /// The same, of indices that have so many bytes, with a sign or without: a loop for each kind, which names it here, does not ask for it at each slot.
+    /// The same, of indices of this size in bytes, with a sign or without: a loop for each kind, which names it here, does not test it at each slot.
     #[inline]
     pub fn sized_number<const SIZE: usize, const SIGNED: bool>(self, i: usize) -> Option<u64>
         requires size { SIZE ≡ (index_of self.spec).bits / 8 }
@@ -72,7 +72,7 @@ impl<'a> CodedSlots<'a> {
         named_at(integer, self.indices, self.view.slots(), i)
     }
 
-    /// The same, if it is below a limit: a loop that asks for no more has one test for both.
+    /// The same, if it is below a limit: a loop that needs no more has one test for both.
     #[inline]
     pub fn number_below<const SIZE: usize, const SIGNED: bool>(
         self,

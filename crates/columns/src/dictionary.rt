@@ -42,6 +42,9 @@ impl Dictionary {
     }
 
     /// Appends an array.
+    ///
+    /// # Errors
+    /// `AllocError` where memory was refused: the arrays are as they were.
     pub fn push(&mut self, array: PlacedArray) -> Result<(), AllocError>
         ensures longer { OnOk result (self.new.arrays.items ≡ self.old.arrays.items ++ array ∷ []) }
         ensures unchanged { OnErr result (self.new.arrays.items ≡ self.old.arrays.items) }

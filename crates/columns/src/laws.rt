@@ -102,7 +102,7 @@ pub fn written_arrays_pass()
 /// How many slots, nodes, buffers and bytes written arrays have. `slots`: each array of a batch has a slot for each row; `children`: no child is
 /// too short; `nodes`, `buffers`: how many there are is said by the columns alone; `few_nodes`, `few_buffers`: a node at most for each column at any
 /// level, and three buffers for each node; `weight`: the cells weigh no more than their table; `few_slots`, `few_bytes`: no array has more slots than
-/// the cells weigh, nor ten times as many bytes and 8.
+/// the cells weigh, nor more bytes than ten times that and 8.
 pub fn written_arrays_have_their_shape()
     ensures slots { (columns : Columns) (rows : List (List Cell))
         → list_any (λ a. not (slots_in a == length rows)) (array_list (built_parts columns rows)) ≡ false }
@@ -132,8 +132,8 @@ pub fn dictionaries_are_written_alone()
         → AllByRecursion (λ t. dictionary_arrays (own_column t) (own_array t) ≡ []) (dictionaries_of columns (built_parts columns rows)) }
 {}
 
-/// And of the visible slots of arrays of rows that fit none is refused: each valid index names an entry, each text is UTF-8, and no null stands where
-/// none is taken.
+/// And of the visible slots of arrays of rows that fit none is refused: each valid index names an entry, each string is UTF-8, and no null stands
+/// where none is taken.
 pub fn written_slots_pass()
     ensures indices { (columns : Columns) (rows : List (List Cell)) → can_build_rows columns rows ≡ true
         → list_all (λ row. each_fits columns (cells_of row)) rows ≡ true

@@ -32,7 +32,7 @@ impl OffsetWidth {
     }
 }
 
-// From a place of values of one width on, of which there are as many as slots.
+// From a place of values of one width on, of which there is one for each slot.
 pub(crate) fn from_place(values: &[u8], width: usize, slots: usize, i: usize) -> &[u8]
     requires long { nat_lt (length values.now) (slots * width) ≡ false }
     requires within { i < slots }
@@ -54,6 +54,9 @@ fn first_number(width: OffsetWidth, bytes: &[u8]) -> u64
 }
 
 /// Appends an offset.
+///
+/// # Errors
+/// `AllocError` where memory was refused; then nothing is promised of `offsets`.
 pub fn push_offset(offsets: &mut Vec<u8>, width: OffsetWidth, offset: u64) -> Result<(), AllocError>
     ensures { OnOk result (offsets.new.items ≡ offsets.old.items ++ little_bytes (width_of width) offset) }
 {
@@ -113,7 +116,7 @@ fn first_integer(integer: IntegerType, bytes: &[u8]) -> i128
     }
 }
 
-// An integer, of which there are as many as slots.
+// An integer, of which there is one for each slot.
 pub(crate) fn integer_at(integer: IntegerType, values: &[u8], slots: usize, i: usize) -> i128
     requires long { nat_lt (length values.now) (slots * (bits_of integer.width / 8)) ≡ false }
     requires within { i < slots }
@@ -138,7 +141,7 @@ pub fn least_negative(width: BitWidth) -> u64
     }
 }
 
-// The width of integers that have so many bytes.
+// The width of integers of this size in bytes.
 #[inline]
 pub(crate) fn width_of_bytes(size: usize) -> BitWidth
     ensures { (width : BitWidth) → size ≡ bits_of width / 8 → result ≡ width }
@@ -151,7 +154,7 @@ pub(crate) fn width_of_bytes(size: usize) -> BitWidth
     }
 }
 
-// The number that an integer is, of which there are as many as slots: none where it is negative.
+// The number that an integer is, of which there is one for each slot: none where it is negative.
 #[inline]
 pub(crate) fn named_at(integer: IntegerType, values: &[u8], slots: usize, i: usize) -> Option<u64>
     requires long { nat_lt (length values.now) (slots * (bits_of integer.width / 8)) ≡ false }

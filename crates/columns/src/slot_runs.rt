@@ -1,7 +1,7 @@
 // Runs of slots.
 use crate::view::ArrayView;
 
-/// Slots of an array one after another, or so many nulls.
+/// Slots of an array one after another, or a number of nulls.
 #[derive(Clone, Copy)]
 pub enum SlotRun<'a> {
     Slots {

@@ -77,6 +77,9 @@ fn push_valid<'a>(valid: &mut Vec<SlotRun<'a>>, run: SlotRun<'a>) -> Result<(), 
 }
 
 /// The same cells, in runs of slots that are all valid and runs of nulls.
+///
+/// # Errors
+/// `AllocError` where memory was refused.
 pub fn valid_runs<'a>(alloc: Global, runs: &[SlotRun<'a>]) -> Result<Vec<SlotRun<'a>>, AllocError>
     requires { list_all has_validity runs.now ≡ true }
     ensures valid { IfOk result (λ valid. are_runs_valid valid.items ≡ true) }

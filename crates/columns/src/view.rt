@@ -98,7 +98,7 @@ impl<'a> ArrayView<'a> {
         }
     }
 
-    /// The offsets of binaries, texts or lists.
+    /// The offsets of binaries, strings or lists.
     pub fn offsets(self) -> &'a [u8]
         ensures { result.now ≡ offsets_in (view_array self.entry) }
     {
@@ -109,7 +109,7 @@ impl<'a> ArrayView<'a> {
         }
     }
 
-    /// The bytes of all binaries or texts.
+    /// The bytes of all binaries or strings.
     pub fn contents(self) -> &'a [u8]
         ensures { result.now ≡ contents_in (view_array self.entry) }
     {

@@ -8,6 +8,9 @@ use crate::borrowed::{ValueRef, Values};
 use std::alloc::{AllocError, Global};
 
 /// Appends values that are borrowed, in order.
+///
+/// # Errors
+/// `AllocError` where memory was refused; then nothing is promised of `cells`.
 pub fn push_all<'a>(cells: &mut Vec<ValueRef<'a>>, values: Values<'a>) -> Result<(), AllocError>
     ensures { OnOk result (map borrowed_cell cells.new.items ≡ map borrowed_cell cells.old.items ++ borrowed_cells values.entry) }
 {
@@ -26,6 +29,9 @@ fn push_items<'a>(items: &mut Vec<ValueRef<'a>>, cell: ValueRef<'a>) -> Result<(
 }
 
 /// The items of lists, one after another: another value has none.
+///
+/// # Errors
+/// `AllocError` where memory was refused.
 pub fn items<'a>(alloc: Global, cells: &[ValueRef<'a>]) -> Result<Vec<ValueRef<'a>>, AllocError>
     ensures { IfOk result (λ items. map borrowed_cell items.items ≡ flat_map item_list (map borrowed_cell cells.now)) }
 {

@@ -39,9 +39,16 @@ impl Table {
     ghost use Rattle.cells.specs.Weight.{table_weight};
     ghost use Rattle.values.specs.TableView.{table_of, rows_left, is_in_parts, Reports};
 
-    /// The table of these rows. It refuses the first row, counted from 0, that does not fit, weighs more than
-    /// `MAX_ROW_WEIGHT` or fills a dictionary (`Unfit`), or else rows that weigh more than `MAX_TABLE_WEIGHT` together
-    /// (`Weight`).
+    /// The table of these rows.
+    ///
+    /// ```
+    /// let row = Row { cells: vec![in alloc; Value::Int(7)]? };
+    /// let table = Table::new(alloc, schema, vec![in alloc; row]?)?;
+    /// ```
+    ///
+    /// # Errors
+    /// `Unfit` with the first row, counted from 0, that does not fit, weighs more than `MAX_ROW_WEIGHT` or fills a dictionary; `Weight` where there
+    /// is none, and the rows weigh more than `MAX_TABLE_WEIGHT` together; `OutOfMemory`.
     pub fn new(alloc: Global, schema: Schema, rows: Vec<Row>) -> Result<Table, TableError>
         requires { IsWithinLimits (schema_of schema) }
         ensures made { IfOk result (λ t. table_of t ≡ record { schema = schema_of schema; rows = map row_of rows.items }) }
@@ -53,6 +60,9 @@ impl Table {
     }
 
     /// The same, and what its rows weigh.
+    ///
+    /// # Errors
+    /// Those of [`Table::new`].
     pub fn weighed(
         alloc: Global,
         schema: Schema,
@@ -77,7 +87,10 @@ impl Table {
         Ok((table, weight))
     }
 
-    /// The same of so many rows whose cells stand one after another: no row takes memory of its own.
+    /// The same of n rows whose cells stand one after another: no row takes memory of its own.
+    ///
+    /// # Errors
+    /// Those of [`Table::new`].
     pub fn from_cells(
         alloc: Global,
         schema: Schema,
@@ -102,6 +115,9 @@ impl Table {
     }
 
     /// The table of the rows of some record batches, in order. No cell is copied.
+    ///
+    /// # Errors
+    /// `AllocError` where memory was refused.
     pub fn from_parts(alloc: Global, schema: Schema, parts: Vec<Part>) -> Result<Table, AllocError>
         requires sound { are_parts_sound (columns_of (schema_of schema).columns) parts.items ≡ true }
         requires table { IsTable (parts_table (schema_of schema) parts.items) }
@@ -115,6 +131,9 @@ impl Table {
     }
 
     /// The same, and the parts are given back where memory is refused.
+    ///
+    /// # Errors
+    /// The parts, where memory was refused.
     pub fn from_parts_or_back(
         alloc: Global,
         schema: Schema,
@@ -196,7 +215,7 @@ impl Table {
         self.row_near(i, &mut near)
     }
 
-    // The same, and the batch that the row is in, which is looked for near the one given.
+    // The same, and the batch that the row is in, which is searched near the one given.
     pub(crate) fn row_near<'a>(&'a self, i: usize, near: &mut BatchPlace) -> Option<Values<'a>>
         ensures { option_map borrowed_cells result ≡ slice_get (table_of self.now).rows i }
     {
