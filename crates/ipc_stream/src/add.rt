@@ -149,7 +149,7 @@ fn keep_array(
     }
 }
 
-// There are dictionaries of which these lists are kept: a contract knows it of what is lent.
+// There are dictionaries of which these lists are kept: a contract knows it of what is borrowed.
 fn lists_are_kept(dictionaries: &Dictionaries)
     ensures { (lists : List DictionaryList) × (lists_of lists ≡ dictionaries.now.lists) }
 {
@@ -239,7 +239,10 @@ fn add_first(alloc: Global, message: &Message) -> Result<Front, ImportError>
     }
 }
 
-/// What is known after one message more, whose body stands in the bytes, or the first fault of its checks.
+/// What is known after one message more, whose body stands in the bytes.
+///
+/// # Errors
+/// `Fault` with the first of its checks that fails; `OutOfMemory`.
 pub fn add_message(
     alloc: Global,
     front: Option<Front>,

@@ -81,7 +81,7 @@ fn failed(error: ImportError, bytes: Vec<u8>, held: usize) -> FinishError
     }
 }
 
-// Reads on with a piece behind the bytes. Where memory is refused they are as they were, and will be read again.
+// Reads on with a piece after the bytes. Where memory is refused they are as they were, and will be read again.
 fn feed_bytes(
     alloc: Global,
     bytes: &mut Vec<u8>,
@@ -122,8 +122,11 @@ impl Decoder {
         decoder_of(Vec::new(alloc), 0)
     }
 
-    /// Reads on with the next bytes of the stream. It tells the first fault of the bytes so far as soon as no bytes behind them can take it away, and tells it
-    /// again whatever comes then. Where memory is refused nothing has changed, and the piece may be fed again.
+    /// Reads on with the next bytes of the stream.
+    ///
+    /// # Errors
+    /// `Fault` with the first fault of the bytes so far, as soon as no bytes after them can take it away, and again whatever comes then.
+    /// `OutOfMemory`: then nothing has changed, and the piece may be fed again.
     pub fn feed(&mut self, alloc: Global, piece: &[u8]) -> Result<(), ImportError>
         ensures told { (bytes : List ℕ) → self.old ≡ fed supported_codes bytes → Tells result (settled_fault supported_codes (bytes ++ piece.now)) }
         ensures fed { (bytes : List ℕ) → self.old ≡ fed supported_codes bytes
@@ -151,8 +154,10 @@ impl Decoder {
         self.reading.held
     }
 
-    /// The table that the bytes mean, or their first fault, as [`crate::decode`] gives it of all of them. Where memory is refused the decoder is given back as
-    /// it was.
+    /// The table that the bytes mean, as [`crate::decode`] gives it of all of them.
+    ///
+    /// # Errors
+    /// `Fault` with the first fault of the bytes. `OutOfMemory` with the decoder as it was.
     pub fn finish(self, alloc: Global) -> Result<Table, FinishError>
         ensures exact { (bytes : List ℕ) → self ≡ fed supported_codes bytes → Finishes result (meaning supported_codes bytes) }
         ensures back { GivesBack result self }

@@ -36,7 +36,7 @@ pub fn meaning_is_framed()
     next_message_is_framed();
 }
 
-/// A fault stands behind the messages that its place counts, at the byte where they end; no place is told of a stream that means a table.
+/// A fault stands after the messages that its place counts, at the byte where they end; a stream that means a table has no such place.
 pub fn faults_stand_at_their_place()
     ensures placed { (supported : ℕ → Bool) (bytes : List ℕ) (fault : Fault) → (stands : FaultStands supported bytes fault)
         → place_of supported bytes ≡ Some (length stands.messages, bytes_taken stands.messages) }
@@ -58,7 +58,7 @@ pub fn meaning_is_a_table()
     read_rows_are_rows();
 }
 
-/// A fault that a decoder has reported stays: it is the first fault of the bytes so far, and of these with any bytes behind them.
+/// A fault that a decoder has reported stays: it is the first fault of the bytes so far, and of these with any bytes after them.
 pub fn settled_faults_stay()
     ensures stays { (bytes more : List ℕ) (fault : Fault) → settled_fault supported_codes bytes ≡ Some fault
         → settled_fault supported_codes (bytes ++ more) ≡ Some fault }

@@ -23,6 +23,9 @@ fn place_at_end(reading: &Reading) -> Option<(usize, usize)>
 
 /// The number of the first faulty message of a stream, counted from 0, and its first byte; the end of stream counts as a message. There is none where the
 /// stream means a table.
+///
+/// # Errors
+/// `AllocError` where memory was refused.
 pub fn place(alloc: Global, bytes: &[u8]) -> Result<Option<(usize, usize)>, AllocError>
     ensures { IfOk result (λ place. place ≡ place_of supported_codes bytes.now) }
 {

@@ -31,7 +31,7 @@ pub(crate) struct Stopped {
     pub(crate) start: usize,
 }
 
-// What stands at the front of the bytes, and how many bytes it takes. There is none where they are cut off.
+// What stands at the start of the bytes, and how many bytes it takes. There is none where they are cut off.
 fn find_next(bytes: &[u8]) -> Result<Option<(NextMessage<'_>, usize)>, Fault>
     ensures { FindsNext bytes.now result }
 {
@@ -42,7 +42,7 @@ fn find_next(bytes: &[u8]) -> Result<Option<(NextMessage<'_>, usize)>, Fault>
     }
 }
 
-// Where the body of a message stands that takes so many bytes.
+// Where the body of a message of this size in bytes stands.
 fn body_at(bytes: &[u8], start: usize, size: usize, message: &Message) -> Span
     requires fits { start + size ≤ length bytes.now }
     requires next { next_message (drop start bytes.now) ≡ Ok (framed_message (envelope_of message.now)) }
@@ -58,7 +58,7 @@ fn body_at(bytes: &[u8], start: usize, size: usize, message: &Message) -> Span
     }
 }
 
-// The end of stream, behind which stand so many bytes.
+// The end of stream, and how many bytes stand after it.
 fn end_of_stream(
     front: Option<Front>,
     number: usize,
@@ -168,7 +168,10 @@ pub(crate) fn read_to_end(
     }
 }
 
-/// What is known at the end of a stream, or its first fault.
+/// What is known at the end of a stream.
+///
+/// # Errors
+/// `Fault` with the first fault of the stream; `OutOfMemory`.
 pub fn read_front(alloc: Global, bytes: &[u8]) -> Result<Front, ImportError>
     ensures { GivesFront bytes.now result (read_from supported_codes (suc (length bytes.now)) None bytes.now) }
 {

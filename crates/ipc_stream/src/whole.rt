@@ -51,7 +51,10 @@ pub(crate) fn table_of_front(alloc: Global, front: Front, bytes: Vec<u8>) -> Res
     }
 }
 
-/// The table that a stream means with the weight of its rows, or the first fault. It keeps the bytes as one part, so that no cell is copied.
+/// The table that a stream means with the weight of its rows. It keeps the bytes as one part, so that no cell is copied.
+///
+/// # Errors
+/// `Fault` with the first fault of the stream; `OutOfMemory`. The bytes are freed.
 pub fn decode_weighed(alloc: Global, bytes: Vec<u8>) -> Result<Weighed, ImportError>
     ensures exact { Gives (λ w. table_of w.table) result (meaning supported_codes bytes.items) }
     ensures weight { IfOk result (λ w. w.weight ≡ table_weight (table_of w.table).schema (table_of w.table).rows) }
@@ -65,8 +68,15 @@ pub fn decode_weighed(alloc: Global, bytes: Vec<u8>) -> Result<Weighed, ImportEr
     }
 }
 
-/// The table that a stream means, or its first fault, as [`decode_weighed`] gives it. Streams that name none of the types that were supported last have the meaning
+/// The table that a stream means, as [`decode_weighed`] gives it. Streams that name none of the types that were supported last have the meaning
 /// that they had before ([`crate::older_streams_keep_their_meaning`]).
+///
+/// ```
+/// let table = decode(alloc, bytes)?;
+/// ```
+///
+/// # Errors
+/// `Fault` with the first fault of the stream; `OutOfMemory`. The bytes are freed.
 pub fn decode(alloc: Global, bytes: Vec<u8>) -> Result<Table, ImportError>
     ensures exact { Gives table_of result (meaning supported_codes bytes.items) }
     ensures in_parts { IfOk result (λ table. is_in_parts table ≡ true) }

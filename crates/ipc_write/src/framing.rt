@@ -30,7 +30,10 @@ fn put_metadata(out: &mut Vec<u8>, metadata: &[u8]) -> Result<(), AllocError>
     out.extend_from_slice(metadata)
 }
 
-/// Appends the zeros that fill a buffer of so many bytes to a multiple of 8, or nothing where memory is refused.
+/// Appends the zeros that fill a buffer of n bytes to a multiple of 8.
+///
+/// # Errors
+/// `AllocError` where memory was refused: then nothing is appended.
 pub fn write_padding(out: &mut Vec<u8>, length: usize) -> Result<(), AllocError>
     ensures appended { OnOk result (out.new.items ≡ out.old.items ++ replicate ((8 - length % 8) % 8) 0) }
     ensures kept { OnErr result (out.new.items ≡ out.old.items) }
@@ -58,7 +61,7 @@ fn put_body(out: &mut Vec<u8>, buffers: &[&[u8]]) -> Result<(), AllocError>
     Ok(())
 }
 
-/// Appends the body of a message. Where memory is refused, all that stands behind the place `before` goes.
+/// Appends the body of a message. Where memory is refused, all that stands after the place `before` is removed.
 fn put_body_or_cut(out: &mut Vec<u8>, buffers: &[&[u8]], before: usize) -> Result<(), AllocError>
     requires { before ≤ length out.old.items }
     ensures appended { OnOk result (out.new.items ≡ out.old.items ++ body (map (λ b. b.now) buffers.now)) }
@@ -86,7 +89,7 @@ fn put_front(out: &mut Vec<u8>, metadata: &[u8]) -> Result<(), AllocError>
     front
 }
 
-/// Appends all but the body of a message with a header of this type and a body of so many bytes, or nothing where memory is refused.
+/// Appends all but the body of a message with a header of this type and a body of this length in bytes, or nothing where memory is refused.
 fn write_front(
     alloc: Global,
     out: &mut Vec<u8>,
@@ -105,7 +108,10 @@ fn write_front(
     put_front(out, &metadata)
 }
 
-/// Appends the message of a schema (docs/formats/writing.md), or nothing where memory is refused.
+/// Appends the message of a schema (docs/formats/writing.md).
+///
+/// # Errors
+/// `AllocError` where memory was refused: then nothing is appended.
 pub fn write_schema(alloc: Global, out: &mut Vec<u8>, schema: &Schema) -> Result<(), AllocError>
     requires { IsWithinLimits (schema_of schema.now) }
     ensures appended { OnOk result (out.new.items ≡ out.old.items ++ schema_message (schema_of schema.now)) }
@@ -161,8 +167,11 @@ fn batch_header(alloc: Global, contents: BatchContents<'_>) -> Result<(Node, u64
     Ok((header, body_length))
 }
 
-/// Appends all but the body of the message that [`write_dictionary`] appends, or nothing where memory is refused. The body is each buffer, filled to a
-/// multiple of 8 as [`write_padding`] does.
+/// Appends all but the body of the message that [`write_dictionary`] appends. The body is each buffer, filled to a multiple of 8 as
+/// [`write_padding`] does.
+///
+/// # Errors
+/// `AllocError` where memory was refused: then nothing is appended.
 pub fn write_dictionary_front(
     alloc: Global,
     out: &mut Vec<u8>,
@@ -182,7 +191,10 @@ pub fn write_dictionary_front(
     write_front(alloc, out, DICTIONARY_BATCH, header, body_length)
 }
 
-/// Appends a dictionary batch of these contents, or nothing where memory is refused: they replace the entries of this id, or a delta is appended to them.
+/// Appends a dictionary batch of these contents: they replace the entries of this id, or a delta is appended to them.
+///
+/// # Errors
+/// `AllocError` where memory was refused: then nothing is appended.
 pub fn write_dictionary(
     alloc: Global,
     out: &mut Vec<u8>,
@@ -201,8 +213,11 @@ pub fn write_dictionary(
     put_body_or_cut(out, buffers, before)
 }
 
-/// Appends all but the body of the message that [`write_batch`] appends, or nothing where memory is refused. The body is each buffer, filled to a
-/// multiple of 8 as [`write_padding`] does.
+/// Appends all but the body of the message that [`write_batch`] appends. The body is each buffer, filled to a multiple of 8 as
+/// [`write_padding`] does.
+///
+/// # Errors
+/// `AllocError` where memory was refused: then nothing is appended.
 pub fn write_batch_front(
     alloc: Global,
     out: &mut Vec<u8>,
@@ -219,7 +234,10 @@ pub fn write_batch_front(
     write_front(alloc, out, RECORD_BATCH, header, body_length)
 }
 
-/// Appends a record batch of these contents, or nothing where memory is refused.
+/// Appends a record batch of these contents.
+///
+/// # Errors
+/// `AllocError` where memory was refused: then nothing is appended.
 pub fn write_batch(
     alloc: Global,
     out: &mut Vec<u8>,
@@ -236,7 +254,10 @@ pub fn write_batch(
     put_body_or_cut(out, buffers, before)
 }
 
-/// Appends the end of stream, the continuation marker and a size of 0, or nothing where memory is refused.
+/// Appends the end of stream, the continuation marker and a size of 0.
+///
+/// # Errors
+/// `AllocError` where memory was refused: then nothing is appended.
 pub fn write_end(out: &mut Vec<u8>) -> Result<(), AllocError>
     ensures appended { OnOk result (out.new.items ≡ out.old.items ++ end_of_stream) }
     ensures kept { OnErr result (out.new.items ≡ out.old.items) }

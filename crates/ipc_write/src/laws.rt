@@ -31,7 +31,7 @@ pub fn field_is_read_again()
         → run bytes (field_things supported left bytes at) n ≡ Ok (n + tables_of c) }
 {}
 
-/// A message that was framed stands at the front of whatever follows it.
+/// A message that was framed stands at the start of whatever follows it.
 pub fn message_is_read_again()
     ensures { (metadata body rest : List ℕ) (type : ℕ) (header : Tree) → IsHeaderType type → 4 ≤ length metadata
         → length metadata ≤ MAX_BUFFER_BYTES
@@ -78,7 +78,7 @@ pub fn metadata_is_within_its_limit()
     flatbuf::written_is_read();
 }
 
-/// The message of a schema within the limits is read again. `next_message`: it stands at the front of whatever follows it;
+/// The message of a schema within the limits is read again. `next_message`: it stands at the start of whatever follows it;
 /// `kind`: its header is a schema; `header`: what that header holds; `decoded`: that is the schema that was written;
 /// `checked`: no check refuses it; `after`: past it stands what follows it.
 pub fn schema_message_is_read_again()

@@ -214,6 +214,9 @@ pub(crate) fn field_table(
 const LITTLE: u16 = 0;
 
 /// The Schema.
+///
+/// # Errors
+/// `AllocError` where memory was refused.
 pub fn schema_node(alloc: Global, schema: &Schema) -> Result<Node, AllocError>
     requires { IsWithinLimits (schema_of schema.now) }
     ensures { IfOk result (λ n. node_of n ≡ schema_tree (schema_of schema.now)) }
@@ -225,6 +228,9 @@ pub fn schema_node(alloc: Global, schema: &Schema) -> Result<Node, AllocError>
 }
 
 /// A Message with a header of this type.
+///
+/// # Errors
+/// `AllocError` where memory was refused.
 pub fn message_node(
     alloc: Global,
     header_type: u8,
@@ -243,6 +249,9 @@ pub fn message_node(
 }
 
 /// A DictionaryBatch: the id, the batch of the entries, and whether they are appended to those that there are.
+///
+/// # Errors
+/// `AllocError` where memory was refused.
 pub fn dictionary_node(
     alloc: Global,
     id: u64,
@@ -259,7 +268,10 @@ pub fn dictionary_node(
     Ok(Node::Table(slots))
 }
 
-/// A RecordBatch of so many rows, with these field nodes and buffers.
+/// A RecordBatch of n rows, with these field nodes and buffers.
+///
+/// # Errors
+/// `AllocError` where memory was refused.
 pub fn batch_node(
     alloc: Global,
     rows: u64,
