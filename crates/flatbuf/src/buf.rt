@@ -63,6 +63,9 @@ impl<'a> Buf<'a> {
     }
 
     /// The root table: the first four bytes say where it stands.
+    ///
+    /// # Errors
+    /// The first bad thing: `Bounds`, `VtableSize` or `Budget`. How many tables `budget` has counted then is not promised.
     #[tactic(auto, using(crate::specs::laws::Walk::run_append), unfolding(crate::specs::Walk::run, crate::specs::Walk::root_things, crate::specs::Lookup::target))]
     pub fn root(&self, budget: &mut Budget) -> Result<Table<'a>, FlatError>
         ensures walked { Walks (buffer_bytes self.now) (root_things (buffer_bytes self.now)) budget.old budget.new result }

@@ -23,7 +23,7 @@ pub(crate) fn pad(out: &mut Vec<u8>, from: usize, multiple: u8) -> Result<(), Al
     out.resize(out.len() + missing, 0)
 }
 
-/// A text.
+/// A string.
 #[tactic(auto, unfolding(crate::specs::Laid::laid))]
 fn put_text(out: &mut Vec<u8>, bytes: &[u8]) -> Result<(), AllocError>
     requires small { end_at (length out.old.items) (text bytes.now) < 2 ^ 31 }

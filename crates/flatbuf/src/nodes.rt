@@ -1,6 +1,6 @@
-// A tree of tables, texts and vectors, as it is to be written (FlatBuffers internals).
+// A tree of tables, strings and vectors, as it is to be written (FlatBuffers internals).
 
-/// A table by its slots from 0 on, a text, a vector of references, or a vector of structs of two numbers of 64 bits each.
+/// A table by its slots from 0 on, a string, a vector of references, or a vector of structs of two numbers of 64 bits each.
 #[derive(Drop)]
 #[cycle(tree)]
 pub enum Node {

@@ -53,7 +53,7 @@ pub(crate) fn u64_at(bytes: &[u8], at: usize) -> Result<u64, FlatError>
     Ok(LittleEndian::read_u64(&bytes[at..]))
 }
 
-/// Where the vector behind the reference at a position begins, and how many elements of `width` bytes it has.
+/// Where the vector begins that the reference at a position leads to, and how many elements of `width` bytes it has.
 #[tactic(auto, using(crate::proofs::FirstThing::first_err, crate::proofs::FirstThing::first_ok), unfolding(crate::specs::Walk::run, crate::specs::Lookup::target))]
 pub(crate) fn vector_from(bytes: &[u8], at: usize, width: u8) -> Result<(usize, usize), FlatError>
     requires small { length bytes.now < 2 ^ 32 }

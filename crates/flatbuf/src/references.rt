@@ -40,7 +40,7 @@ impl<'a> References<'a> {
         }
     }
 
-    /// The vector behind the reference at a position.
+    /// The vector that the reference at a position leads to.
     #[tactic(auto, unfolding(crate::specs::Lookup::elements))]
     pub(crate) fn from(bytes: &'a [u8], at: usize, left: u8) -> Result<References<'a>, FlatError>
         requires small { length bytes.now ≤ MAX_BUFFER_BYTES }
@@ -67,6 +67,9 @@ impl<'a> References<'a> {
     }
 
     /// The table that reference `i` leads to.
+    ///
+    /// # Errors
+    /// The first bad thing: `Bounds`, `VtableSize` or `Budget`. How many tables `budget` has counted then is not promised.
     #[tactic(auto, using(crate::proofs::Elements::length_targets, crate::proofs::Elements::target_at))]
     pub fn table(&self, i: usize, budget: &mut Budget) -> Result<Table<'a>, FlatError>
         requires { i < length (places_in self.now) }

@@ -73,7 +73,7 @@ pub(crate) fn start_of(cursor: usize, node: &Node) -> usize
     }
 }
 
-/// Where a text ends that is written at a cursor.
+/// Where a string ends that is written at a cursor.
 fn text_end(cursor: usize, bytes: &[u8]) -> usize
     requires small { end_at cursor (text bytes.now) < 2 ^ 31 }
     ensures { result ≡ end_at cursor (text bytes.now) }

@@ -36,7 +36,7 @@ impl<'a> Table<'a> {
     ghost use Rattle.flatbuf.specs.Walked.{Walks, slot_things};
     ghost use Rattle.flatbuf.specs.Walk.{run, reported, table_things, union_things, spans, vector_at};
 
-    /// The table at a position, with so many levels left.
+    /// The table at a position, with a number of levels left.
     #[tactic(auto, unfolding(crate::specs::Walk::run, crate::specs::Walk::table_things, crate::specs::Walk::head_things))]
     pub(crate) fn enter(
         bytes: &'a [u8],
@@ -94,7 +94,7 @@ impl<'a> Table<'a> {
         }
     }
 
-    /// Whether slot `k` is present. Its content is not looked at.
+    /// Whether slot `k` is present. Its content is not tested.
     pub fn has(&self, k: u16) -> bool
         ensures { result ≡ is_some (slot_of self.now k) }
     {
@@ -102,6 +102,9 @@ impl<'a> Table<'a> {
     }
 
     /// The byte of slot `k`, or the default where it is absent.
+    ///
+    /// # Errors
+    /// `Bounds` where it lies out of the bytes.
     #[tactic(auto, unfolding(crate::specs::Walk::run))]
     pub fn scalar_u8(&self, k: u16, default: u8) -> Result<u8, FlatError>
         ensures walked { (n : ℕ) → run (bytes_of self.now) (spans 1 (slot_of self.now k)) n ≡ reported n result }
@@ -114,6 +117,9 @@ impl<'a> Table<'a> {
     }
 
     /// The number of 16 bits of slot `k`, or the default where it is absent.
+    ///
+    /// # Errors
+    /// `Bounds` where it lies out of the bytes.
     #[tactic(auto, unfolding(crate::specs::Walk::run))]
     pub fn scalar_u16(&self, k: u16, default: u16) -> Result<u16, FlatError>
         ensures walked { (n : ℕ) → run (bytes_of self.now) (spans 2 (slot_of self.now k)) n ≡ reported n result }
@@ -126,6 +132,9 @@ impl<'a> Table<'a> {
     }
 
     /// The number of 32 bits of slot `k`, or the default where it is absent.
+    ///
+    /// # Errors
+    /// `Bounds` where it lies out of the bytes.
     #[tactic(auto, unfolding(crate::specs::Walk::run))]
     pub fn scalar_u32(&self, k: u16, default: u32) -> Result<u32, FlatError>
         ensures walked { (n : ℕ) → run (bytes_of self.now) (spans 4 (slot_of self.now k)) n ≡ reported n result }
@@ -138,6 +147,9 @@ impl<'a> Table<'a> {
     }
 
     /// The number of 64 bits of slot `k`, or the default where it is absent.
+    ///
+    /// # Errors
+    /// `Bounds` where it lies out of the bytes.
     #[tactic(auto, unfolding(crate::specs::Walk::run))]
     pub fn scalar_u64(&self, k: u16, default: u64) -> Result<u64, FlatError>
         ensures walked { (n : ℕ) → run (bytes_of self.now) (spans 8 (slot_of self.now k)) n ≡ reported n result }
@@ -150,6 +162,9 @@ impl<'a> Table<'a> {
     }
 
     /// The bool of slot `k`, false where it is absent.
+    ///
+    /// # Errors
+    /// `Bounds` where it lies out of the bytes.
     pub fn flag(&self, k: u16) -> Result<bool, FlatError>
         ensures walked { (n : ℕ) → run (bytes_of self.now) (spans 1 (slot_of self.now k)) n ≡ reported n result }
         ensures value { IfOk result (λ x. x ≡ is_set (scalar_of 1 0 (bytes_of self.now) (slot_of self.now k))) }
@@ -157,7 +172,10 @@ impl<'a> Table<'a> {
         Ok(self.scalar_u8(k, 0)? != 0)
     }
 
-    /// The bytes of the text of slot `k`, empty where it is absent.
+    /// The bytes of the string of slot `k`, empty where it is absent.
+    ///
+    /// # Errors
+    /// `Bounds` where the reference to it or the string lies out of the bytes.
     #[tactic(auto, unfolding(crate::specs::Walk::run))]
     pub fn text(&self, k: u16) -> Result<&'a [u8], FlatError>
         ensures walked { (n : ℕ) → run (bytes_of self.now) (vector_at 1 (bytes_of self.now) (slot_of self.now k)) n ≡ reported n result }
@@ -173,6 +191,9 @@ impl<'a> Table<'a> {
     }
 
     /// The elements, of `width` bytes each, of the vector of structs of slot `k`, one after another; none where it is absent.
+    ///
+    /// # Errors
+    /// `Bounds` where the reference to it or the vector lies out of the bytes.
     #[tactic(auto, unfolding(crate::specs::Walk::run))]
     pub fn vector(&self, k: u16, width: u8) -> Result<&'a [u8], FlatError>
         ensures walked { (n : ℕ) → run (bytes_of self.now) (vector_at width (bytes_of self.now) (slot_of self.now k)) n ≡ reported n result }
@@ -188,6 +209,9 @@ impl<'a> Table<'a> {
     }
 
     /// The vector of references to tables of slot `k`, empty where it is absent.
+    ///
+    /// # Errors
+    /// `Bounds` where the reference to it or the vector lies out of the bytes.
     #[tactic(auto, unfolding(crate::specs::Walk::run, crate::specs::Lookup::elements))]
     pub fn references(&self, k: u16) -> Result<References<'a>, FlatError>
         ensures walked { (n : ℕ) → run (bytes_of self.now) (vector_at 4 (bytes_of self.now) (slot_of self.now k)) n ≡ reported n result }
@@ -202,6 +226,9 @@ impl<'a> Table<'a> {
     }
 
     /// The table that the reference of slot `k` leads to, unless it is absent.
+    ///
+    /// # Errors
+    /// The first bad thing: `Bounds`, `VtableSize` or `Budget`. How many tables `budget` has counted then is not promised.
     #[tactic(auto, using(crate::proofs::FirstThing::first_err, crate::proofs::FirstThing::first_ok), unfolding(crate::specs::Walk::run, crate::specs::Lookup::target))]
     pub fn reference(&self, k: u16, budget: &mut Budget) -> Result<Option<Table<'a>>, FlatError>
         ensures walked { Walks (bytes_of self.now) (slot_things self.now k) budget.old budget.new result }
@@ -221,6 +248,9 @@ impl<'a> Table<'a> {
     }
 
     /// The union whose kind stands in slot `k` and whose reference in the next: nothing is entered where the kind is 0.
+    ///
+    /// # Errors
+    /// The first bad thing: `Bounds`, `VtableSize` or `Budget`. How many tables `budget` has counted then is not promised.
     #[tactic(auto, using(crate::specs::laws::Walk::run_append), unfolding(crate::specs::Walk::run))]
     pub fn union(&self, k: u16, budget: &mut Budget) -> Result<Union<'a>, FlatError>
         requires { k + 1 < 2 ^ 16 }

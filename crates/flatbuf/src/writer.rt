@@ -26,6 +26,9 @@ impl Writer {
     ///
     /// The caller sees to it that it is shorter than 2 GiB, that each number fits its slot, and that each table fits
     /// the 16 bits of its vtable.
+    ///
+    /// # Errors
+    /// `AllocError` where memory was refused.
     #[tactic(auto, using(crate::proofs::Ends::metadata_len))]
     pub fn write(&self, root: &Node) -> Result<Vec<u8>, AllocError>
         requires fits { Fits (node_of root.now) }

@@ -232,8 +232,10 @@ fn copy_schema(alloc: Global, raw: &RawSchema) -> Result<Schema, AllocError>
     Ok(Schema { fields, pairs })
 }
 
-/// The schema that a header decodes to, or the fault of the first of its tests that finds something. Texts are copied once all
-/// tests have passed.
+/// The schema that a header decodes to. Strings are copied once all tests have passed.
+///
+/// # Errors
+/// `Fault` with that of the first test that fails; `OutOfMemory`.
 #[tactic(auto, using(crate::specs::laws::Accepted::accepted_outcome, crate::proofs::Columns::accepted_within), unfolding(crate::specs::Checks::checked_schema))]
 pub fn read_schema(alloc: Global, raw: &RawSchema) -> Result<Schema, ImportError>
     ensures exact { Gives schema_of result (checked_schema supported_codes (raw_schema_of raw.now)) }

@@ -60,7 +60,10 @@ fn list_fields(
     Ok(())
 }
 
-/// The dictionaries of a schema, in preorder: the id of each, and the type of its values. All fields decode to types, and all texts are UTF-8.
+/// The dictionaries of a schema, in preorder: the id of each, and the type of its values. All fields decode to types, and all strings are UTF-8.
+///
+/// # Errors
+/// `AllocError` where memory was refused.
 pub fn read_dictionary_types(
     alloc: Global,
     raw: &RawSchema,

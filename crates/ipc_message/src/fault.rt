@@ -63,7 +63,7 @@ pub enum Fault {
     BadParameter,
     /// F14: a limit of the schema is passed.
     SchemaLimit,
-    /// F15: a name, key, value, timezone or visible text is not UTF-8.
+    /// F15: a name, key, value, timezone or visible string is not UTF-8.
     NotUtf8,
     /// F16: the body is compressed.
     Compressed,

@@ -9,7 +9,7 @@ ghost use Rattle.ipc_message.specs.Framing.{Envelope, Framed, IsMessage, next_me
 ghost use Rattle.ipc_message.specs.Header.{supported_codes, header, header_of};
 ghost use Rattle.ipc_message.specs.Raw.{RawSchema, schema_header};
 
-/// A message stands at the front exactly where the bytes are that message, framed, and then others; the end of stream exactly
+/// A message stands at the start exactly where the bytes are that message, framed, and then others; the end of stream exactly
 /// where they are the continuation marker, a size of 0, and then others.
 pub fn next_message_is_framed()
     ensures framed { (bytes : List ℕ) (m : Envelope) → next_message bytes ≡ Ok (message m)

@@ -1,7 +1,7 @@
 //! Arrow IPC messages: framing, and what the metadata of a message decodes to.
 //!
 //! A message is read without memory up to its header, and refused by the first test that fails; its header is
-//! a tree that borrows its texts, so that hostile metadata cannot make a reader copy more than it was given.
+//! a tree that borrows its strings, so that hostile metadata cannot make a reader copy more than it was given.
 //!
 //! ```
 //! // The schema of a stream, where a schema stands first.

@@ -1,4 +1,4 @@
-// The front of a stream of messages: one message, or the end of stream.
+// The start of a stream of messages: one message, or the end of stream.
 
 ghost use Rattle.std.specs.Prelude.{◌≡◌, ◌-◌, Some};
 ghost use Rattle.flatbuf.specs.declared.limits.TheConstants.{MAX_LEVELS};
@@ -15,7 +15,7 @@ use std::alloc::Global;
 /// The version of the metadata that is read and written (Message.fbs, `MetadataVersion`).
 pub const V5: u16 = 4;
 
-/// A message whose Message table was read: its header is not, and its body is as many bytes as it says.
+/// A message whose Message table was read: its header is not, and its body has the length that it says.
 #[derive(Clone, Copy)]
 pub struct Message<'a> {
     kind: HeaderType,
@@ -28,7 +28,7 @@ pub struct Message<'a> {
     ghost type_is: { header_type (type_of (bytes_of table)) ≡ Some kind },
 }
 
-/// What stands at the front of a stream.
+/// What stands at the start of a stream.
 #[derive(Clone, Copy)]
 pub enum NextMessage<'a> {
     Message(Message<'a>),
@@ -99,9 +99,11 @@ impl<'a> Message<'a> {
         self.body
     }
 
-    /// What its header decodes to, with texts that borrow from the metadata, or the fault of the first bad thing in it:
-    /// F4 where something lies out of bounds, a vtable is bad, or the header or the data of a dictionary batch is
-    /// absent; F5 where more tables would be entered than a message may have, or one deeper.
+    /// What its header decodes to, with strings that borrow from the metadata.
+    ///
+    /// # Errors
+    /// `Fault` with that of the first bad thing in it: F4 where something lies out of bounds, a vtable is bad, or the header or the data of a
+    /// dictionary batch is absent; F5 where more tables would be entered than a message may have, or one deeper. `OutOfMemory`.
     pub fn header(&self, alloc: Global) -> Result<Header<'a>, ImportError>
         ensures exact { Gives raw_header_of result (header supported_codes (envelope_of self.now).metadata) }
     {
@@ -127,7 +129,7 @@ impl<'a> MessageHead<'a> {
     ghost use Rattle.flatbuf.specs.Walk.{run, reported};
     ghost use Rattle.ipc_message.specs.Framing.{message_things, version_of, body_length};
 
-    /// The Message table, and the content of its slots 0 to 3: where the header's reference leads is not looked at.
+    /// The Message table, and the content of its slots 0 to 3: where the header's reference leads is not tested.
     #[tactic(auto, using(flatbuf::specs::laws::Walk::run_append), unfolding(crate::specs::Framing::message_things, crate::specs::Framing::version_of, crate::specs::Framing::type_of, crate::specs::Framing::body_length))]
     fn read(metadata: &'a [u8]) -> Result<MessageHead<'a>, FlatError>
         requires small { length metadata.now ≤ MAX_BUFFER_BYTES }

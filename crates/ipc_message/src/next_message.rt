@@ -1,4 +1,4 @@
-// What stands at the front of a stream of messages.
+// What stands at the start of a stream of messages.
 
 ghost use Rattle.std.specs.Prelude.{◌≡◌, ◌≤◌, ◌+◌, length, IfOk, OnOk};
 ghost use Rattle.ipc_message.specs.Framing.{next_message, taken, first_some, marker_faults, size_faults, metadata_size, fault_of};
@@ -11,12 +11,13 @@ use flatbuf::MAX_BUFFER_BYTES;
 /// What every message begins with.
 pub const CONTINUATION_MARKER: [u8; 4] = [0xff; 4];
 
-/// What stands at the front of the bytes, a message or the end of stream, and how many bytes it takes; or the first fault:
-/// F1 where the bytes end within it, F2 where they do not begin with the continuation marker, F3 where the size of the metadata is
+/// What stands at the start of the bytes, a message or the end of stream, and how many bytes it takes. It takes no memory. Nothing is asked of what
+/// follows the end of stream.
+///
+/// # Errors
+/// The first fault: F1 where the bytes end within it, F2 where they do not begin with the continuation marker, F3 where the size of the metadata is
 /// negative or over its limit, F4 where the Message table or its first four slots are out of bounds, F6 a version that
 /// is not V5, F7 a header that is none of the three, F8 a negative length of the body.
-///
-/// It takes no memory. Nothing is asked of what follows the end of stream.
 #[tactic(auto, unfolding(crate::specs::Framing::next_message))]
 pub fn read_message(bytes: &[u8]) -> Result<(NextMessage<'_>, usize), Fault>
     ensures exact { seen_by (λ r. next_message_of r.0) result ≡ next_message bytes.now }

@@ -1,4 +1,4 @@
-// The header of a message as its metadata decodes to it, before any test. Texts are borrowed; numbers are unsigned.
+// The header of a message as its metadata decodes to it, before any test. Strings are borrowed; numbers are unsigned.
 
 /// What stands in the table of a field's type.
 #[derive(Clone, Copy)]

@@ -1,4 +1,4 @@
-// The fields of a schema and the pairs of key and value, as they stand: what is read is kept, and texts are borrowed.
+// The fields of a schema and the pairs of key and value, as they stand: what is read is kept, and strings are borrowed.
 
 ghost use Rattle.std.specs.Prelude.{◌≡◌, ◌<◌, ◌++◌, length, map, IfOk, slice_index};
 ghost use Rattle.std.specs.List.{flat_map};

@@ -33,7 +33,7 @@ pub(crate) fn header_table<'a>(
     }
 }
 
-/// The table behind slot `k`, which must be there.
+/// The table that slot `k` refers to, which must be there.
 #[tactic(auto, unfolding(flatbuf::specs::Walk::run))]
 fn needed<'a>(table: &Table<'a>, k: u16, budget: &mut Budget) -> Result<Table<'a>, FlatError>
     ensures walked { Walks (bytes_of table.now) (in_slot needed_things table.now k) budget.old budget.new result }

@@ -194,7 +194,7 @@ fn check_fields<'a>(
     }
 }
 
-/// Whether a schema passes its tests, and else the fault of the first that it fails. It copies no text.
+/// Whether a schema passes its tests, and else the fault of the first that it fails. It copies no string.
 pub(crate) fn check_schema(alloc: Global, schema: &RawSchema) -> Result<(), ImportError>
     ensures { Gives (λ x. x) result (unless (first_some (schema_checks supported_codes (raw_schema_of schema.now))) (Ok tt)) }
 {

@@ -1,4 +1,4 @@
-// The texts of a schema: names, timezones, keys and values.
+// The strings of a schema: names, timezones, keys and values.
 ghost use Rattle.std.specs.Prelude.{◌≡◌, ◌++◌, ◌+◌, map, flat_map, length, sum_by, nat_lt, IfOk, OnOk};
 ghost use Rattle.std.specs.List.{list_all};
 ghost use Rattle.std.specs.Str.{is_utf8};
@@ -40,7 +40,7 @@ fn list_field<'a>(texts: &mut Vec<&'a [u8]>, field: &RawField<'a>) -> Result<(),
     list_pairs(texts, &field.pairs)
 }
 
-/// The texts of a schema with these pairs and fields.
+/// The strings of a schema with these pairs and fields.
 pub(crate) fn list_texts<'a>(
     alloc: Global,
     pairs: &[KeyValue<'a>],
@@ -56,7 +56,7 @@ pub(crate) fn list_texts<'a>(
     Ok(texts)
 }
 
-/// Whether all texts together are longer than a limit.
+/// Whether all strings together are longer than a limit.
 pub(crate) fn are_longer(texts: &[&[u8]], limit: u64) -> bool
     ensures { result ≡ nat_lt limit (sum_by length (text_list texts.now)) }
 {
@@ -78,7 +78,7 @@ pub fn is_utf8(text: &[u8]) -> bool
     simdutf8::basic::from_utf8(text).is_ok()
 }
 
-/// Whether each text is UTF-8.
+/// Whether each string is UTF-8.
 pub(crate) fn are_utf8(texts: &[&[u8]]) -> bool
     ensures { result ≡ list_all is_utf8 (text_list texts.now) }
 {
