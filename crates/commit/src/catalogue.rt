@@ -42,6 +42,9 @@ pub trait ReadCatalogue: Drop {
         ensures a_store { IfErr result (λ e. e ≢ OpenError.NotAStore) };
 
     /// The runs that it names.
+    ///
+    /// # Errors
+    /// `AllocError` where memory was refused.
     fn runs(&self, alloc: Global) -> Result<Vec<Run>, AllocError>
         ensures { IfOk result (λ runs. runs.items ≡ reading.runs (plain_of self.now)) };
 

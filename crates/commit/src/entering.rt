@@ -34,7 +34,7 @@ fn map_of(alloc: Global, sectors: u64, text: Run) -> Result<FreeMap, OpenError>
     }
 }
 
-// The runs by their starts, so that each comes into use behind those before it.
+// The runs by their starts, so that each comes into use after those before it.
 fn by_start(alloc: Global, runs: &[Run]) -> Result<Vec<Run>, AllocError>
     ensures { IfOk result (λ sorted. IsPermutation runs.now sorted.items) }
 {
@@ -64,7 +64,7 @@ fn occupy_each(alloc: Global, sectors: u64, text: Run, runs: &[Run]) -> Result<F
 /// doesn't depend on the order of the runs.
 ///
 /// # Errors
-/// `Damaged(RunRange)` where one lies outside the device, then `Damaged(RunOverlap)` where two share a sector.
+/// `Damaged(RunRange)` where one lies outside the device, then `Damaged(RunOverlap)` where two share a sector; `OutOfMemory`.
 pub fn occupy_runs(
     alloc: Global,
     sectors: u64,

@@ -124,8 +124,8 @@ fn first_map(alloc: Global, sectors: u64) -> Result<FreeMap, FormatError>
 /// At each moment a stop leaves the disk as it was, or no store, or the empty one.
 ///
 /// # Errors
-/// `Damaged(DeviceSize)` without a read; `AlreadyAStore` where a commit rules; `Device` where the device failed. After any
-/// other error nothing has changed.
+/// `Damaged(DeviceSize)` without a read; `AlreadyAStore` where a commit rules; `Device` where the device failed; `OutOfMemory`. After any
+/// error but `Device` nothing has changed.
 pub fn format<D: SectorDevice>(
     alloc: Global,
     device: &mut D,

@@ -1,4 +1,4 @@
-// Why a device is not opened or formatted, as it is told.
+// Why a device is not opened or formatted, as it is reported.
 ghost use Rattle.std.specs.Prelude.{◌≡◌};
 ghost use Rattle.commit.specs.Told.{cause_text};
 

@@ -22,8 +22,8 @@ pub struct Places<'a> {
 /// Takes runs of these numbers of sectors in order, each the lowest one that is free then.
 ///
 /// # Errors
-/// `NoRoom(n)` where n sectors in a row are nowhere free when they are asked for. After an error each run is used for what
-/// it was: those that were taken are given back.
+/// `NoRoom(n)` where n sectors in a row are nowhere free when they are asked for; `OutOfMemory`. After an error each run is used
+/// for what it was: those that were taken are given back.
 pub fn take_runs(alloc: Global, map: &mut FreeMap, counts: &[u64]) -> Result<Vec<Run>, TakeError>
     requires some { (i : ℕ) → i < length counts.now → 1 ≤ slice_index counts.now i }
     ensures ok { IfOk result (λ runs. Takes map.old.size (IsUsedIn map.old.entries) counts.now (Ok runs.items)) }
@@ -46,7 +46,7 @@ pub fn take_runs(alloc: Global, map: &mut FreeMap, counts: &[u64]) -> Result<Vec
     Ok(runs)
 }
 
-// How many sectors each of these contents takes, each of these pages, and then a text of so many bytes.
+// How many sectors each of these contents takes, each of these pages, and then a text of this number of bytes.
 fn counts_for(
     alloc: Global,
     contents: &[Vec<Part<'_>>],
@@ -68,7 +68,7 @@ fn counts_for(
     Ok(counts)
 }
 
-// Each of these contents goes into the run in its place, behind those of the pieces so far.
+// Each of these contents goes into the run in its place, after those of the pieces so far.
 pub(crate) fn pieces_of<'a>(
     contents: Vec<Vec<Part<'a>>>,
     runs: &[Run],
@@ -90,7 +90,7 @@ pub(crate) fn pieces_of<'a>(
     pieces
 }
 
-/// Takes a run for each of these contents in order, then one for each page of so many bytes, and then one for a text of so many,
+/// Takes a run for each of these contents in order, then one for each of these pages, whose bytes are given, and then one for a text of `text_bytes`,
 /// each the lowest one that is free then. The contents are given as their parts.
 ///
 /// # Errors

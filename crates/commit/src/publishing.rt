@@ -23,7 +23,7 @@ pub struct Plan<'a, C> {
     pub runs: Vec<Run>,
 }
 
-/// The plan of the next commit: what was placed, behind it the texts of pages, and then the one of its catalogue, which has so many
+/// The plan of the next commit: what was placed, after it the texts of pages, and then the one of its catalogue, which has `text_bytes`
 /// bytes. It takes no memory.
 pub fn plan_next<'a, C>(
     old: Commit,

@@ -27,14 +27,14 @@ pub enum OpenError {
     OutOfMemory,
 }
 
-// Whether the run has a sector, begins behind the commit sectors and ends on the device.
+// Whether the run has a sector, begins after the commit sectors and ends on the device.
 pub(crate) fn is_on_device(size: u64, run: Run) -> bool
     ensures { result ≡ is_on_device size run }
 {
     run.start >= 2 && run.count >= 1 && run.start <= size && run.count <= size - run.start
 }
 
-// Whether it lies on the device with at least so many bytes, and has just the sectors that they need.
+// Whether it lies on the device with at least this number of bytes, and has just the sectors that they need.
 fn is_extent(size: u64, least: u64, extent: Extent) -> bool
     requires { size ≤ MOST_SECTORS }
     ensures { result ≡ is_extent size least extent }
@@ -44,10 +44,10 @@ fn is_extent(size: u64, least: u64, extent: Extent) -> bool
         && is_on_device(size, extent.run)
 }
 
-/// The bytes of an extent with at least so many. Nothing changes.
+/// The bytes of an extent with at least `least` bytes. Nothing changes.
 ///
 /// # Errors
-/// `Damaged` where no text can lie there, or a sector of it can't be read.
+/// `Damaged` where no text can lie there, or a sector of it can't be read; `Device`; `OutOfMemory`.
 pub fn read_extent<D: SectorDevice>(
     alloc: Global,
     device: &mut D,
@@ -78,7 +78,8 @@ pub fn read_extent<D: SectorDevice>(
 /// The text of the catalogue that a commit names. Nothing changes.
 ///
 /// # Errors
-/// `Damaged` where the commit is of another device, its run can't be a catalogue's, or a sector of it can't be read.
+/// `Damaged` where the commit is of another device, its run can't be a catalogue's, or a sector of it can't be read; `Device`;
+/// `OutOfMemory`.
 pub fn read_text<D: SectorDevice>(
     alloc: Global,
     device: &mut D,

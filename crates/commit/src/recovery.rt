@@ -111,8 +111,8 @@ fn make_safe<C: ReadCatalogue, D: SectorDevice>(
 /// Opens a store: reads both commit sectors, the catalogue that the ruling one names, and makes safe what was read.
 ///
 /// # Errors
-/// `NotAStore` where no commit rules; `Damaged` with the first cause; `Device` where the device failed. A device of a size
-/// that no store has is told without a read. After any error but `Device` nothing has changed.
+/// `NotAStore` where no commit rules; `Damaged` with the first cause; `Device` where the device failed; `OutOfMemory`. A device of a size
+/// that no store has is reported without a read. After any error but `Device` nothing has changed.
 pub fn recover<C: ReadCatalogue, D: SectorDevice>(
     alloc: Global,
     device: &mut D,

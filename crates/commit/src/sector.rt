@@ -139,7 +139,7 @@ pub(crate) fn commit_in(n: u64, sector: &[u8; 512]) -> Option<Commit>
 }
 
 /// One text for each commit, and one commit for each text. A commit is found only in a sector whose 512 bytes are its text, so
-/// the version, the kind and the zeros behind them are tested too; none is found in a sector that can't be read.
+/// the version, the kind and the zeros after them are tested too; none is found in a sector that can't be read.
 #[tactic(auto, using(crate::specs::laws::Sectors::found_again, crate::specs::laws::Sectors::found_is))]
 pub fn one_text_each()
     ensures again { (c : Commit) → IsCommit c → commit_at (c.epoch % 2) (Some (commit_text c)) ≡ Some c }

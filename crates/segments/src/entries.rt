@@ -7,7 +7,7 @@ ghost use Rattle.segments.specs.inner.Places.{place_of, end_before, without, wit
 use crate::gap_buffer::GapBuffer;
 use crate::{Run, Searched};
 
-/// What a run is used for: the catalogue that rules (`taken`), and so many snapshots (`pins`).
+/// What a run is used for: the catalogue that rules (`taken`), and how many snapshots (`pins`).
 #[derive(Clone, Copy, PartialEq, Eq)]
 pub struct Usage {
     pub taken: bool,

@@ -5,7 +5,7 @@ use thiserror::Error;
 /// Why no run was taken.
 #[derive(Clone, Copy, Debug, PartialEq, Eq, Error)]
 pub enum TakeError {
-    /// So many sectors in a row are nowhere free.
+    /// This number of sectors in a row is nowhere free.
     #[error("no room for {0} sectors")]
     NoRoom(u64),
     #[error("out of memory")]

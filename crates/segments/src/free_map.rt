@@ -12,7 +12,7 @@ use std::alloc::{AllocError, Global};
 use std::marker::Model;
 
 /// The runs in use on a device: those taken by the catalogue that rules, and those pinned by snapshots.
-/// All others behind the two commit sectors are free.
+/// All others after the two commit sectors are free.
 #[derive(Drop)]
 pub struct FreeMap {
     size: u64,
@@ -30,7 +30,7 @@ impl Model for FreeMap {
 }
 
 impl FreeMap {
-    /// A device of so many sectors on which no run is in use.
+    /// A device of `size` sectors on which no run is in use.
     pub fn new(alloc: Global, size: u64) -> Self
         ensures { result ≡ record { size = size; entries = [] } }
     {
@@ -54,7 +54,7 @@ impl FreeMap {
         }
     }
 
-    /// The lowest free run of so many sectors. It takes no memory.
+    /// The lowest free run of `count` sectors. It takes no memory.
     pub fn find(&self, count: u64) -> Option<Run>
         requires { 1 ≤ count }
         ensures { IsLowest self.now.size (IsUsedIn self.now.entries) count result }
@@ -62,7 +62,10 @@ impl FreeMap {
         lowest(self.size, &self.entries, count, &mut Searched::nothing())
     }
 
-    /// Takes the lowest free run of so many sectors.
+    /// Takes the lowest free run of `count` sectors.
+    ///
+    /// # Errors
+    /// `NoRoom(count)` exactly where there is no such run; `OutOfMemory`. Then nothing has changed.
     pub fn take(&mut self, count: u64) -> Result<Run, TakeError>
         requires { 1 ≤ count }
         ensures lowest { IfOk result (λ run. IsLowest self.old.size (IsUsedIn self.old.entries) count (Some run)) }
@@ -75,9 +78,12 @@ impl FreeMap {
         self.take_onward(count, &mut Searched::nothing())
     }
 
-    /// Takes the lowest free run of so many sectors, as `take` does, and looks only where no earlier search has found too
+    /// Takes the lowest free run of `count` sectors, as `take` does, and searches only where no earlier search has found too
     /// little room. Where `searched` goes from one call to the next, the runs in use are gone through once in all, and moved
     /// once, as long as no call asks for so few sectors that a gap which was passed may hold them; then the search begins anew.
+    ///
+    /// # Errors
+    /// Those of [`FreeMap::take`].
     pub fn take_onward(&mut self, count: u64, searched: &mut Searched) -> Result<Run, TakeError>
         requires some { 1 ≤ count }
         requires searched { IsSearched self.old searched.old }
@@ -102,6 +108,9 @@ impl FreeMap {
     }
 
     /// Takes this run, as one that a catalogue names.
+    ///
+    /// # Errors
+    /// `Range` exactly where it is not on the device; `Overlap` where it is not free; `OutOfMemory`. Then nothing has changed.
     pub fn occupy(&mut self, run: Run) -> Result<(), EnterError>
         ensures fits { OnOk result (IsOnDevice self.old.size run × IsFree self.old.size (IsUsedIn self.old.entries) run) }
         ensures taken { OnOk result (self.new ≡ with_run self.old run TAKEN) }
@@ -139,6 +148,10 @@ impl FreeMap {
 
     /// Pins the run once more. It stays in use until it is unpinned as often.
     /// It takes memory only where the run wasn't in use.
+    ///
+    /// # Errors
+    /// `Range` exactly where it is not on the device; `Overlap` where it meets another run in use; `TooManyPins` where it has `u32::MAX` pins;
+    /// `OutOfMemory`. Then nothing has changed.
     pub fn pin(&mut self, run: Run) -> Result<(), EnterError>
         ensures fits { OnOk result (IsUsedIn self.old.entries run ⊎ IsFree self.old.size (IsUsedIn self.old.entries) run) }
         ensures pinned { OnOk result (self.new ≡ with_run self.old run (pinned (usage_of self.old.entries run))) }
@@ -244,7 +257,7 @@ impl FreeMap {
     }
 }
 
-// Whether the run lies on a device of this size, behind the commit sectors.
+// Whether the run lies on a device of this size, after the commit sectors.
 fn is_on_device(run: Run, size: u64) -> bool
     ensures { IsTrue result ↔ IsOnDevice size run }
 {

@@ -1,4 +1,4 @@
-// A list of entries into which many are put one behind another without moving the others each time.
+// A list of entries into which many are put one after another without moving the others each time.
 ghost use Rattle.std.specs.Prelude.{◌≡◌, ◌≤◌, ◌<◌, ◌+◌, ◌++◌, ◌∷◌, [], OnOk, OnErr, filter, insert, length, remove, reverse, slice_index_or, slice_set, vec_capacity, vec_len};
 ghost use Rattle.segments.specs.Usages.{is_used};
 
@@ -6,7 +6,7 @@ use crate::UsageEntry;
 use std::alloc::{AllocError, Global};
 use std::marker::Model;
 
-/// Entries with a gap among them, where the next one goes in: those before it, and those behind it, of which the first
+/// Entries with a gap among them, where the next one goes in: those before it, and those after it, of which the first
 /// stands last.
 #[derive(Drop)]
 pub(crate) struct GapBuffer {
@@ -53,7 +53,7 @@ impl GapBuffer {
         }
     }
 
-    /// Puts an entry in at a place. The gap goes there, over the entries on its way, and stays behind the new one.
+    /// Puts an entry in at a place. The gap goes there, over the entries on its way, and stays after the new one.
     pub(crate) fn insert(&mut self, place: usize, entry: UsageEntry) -> Result<(), AllocError>
         requires { place ≤ length self.old }
         ensures ok { OnOk result (self.new ≡ insert self.old place entry) }

@@ -22,7 +22,7 @@ impl Part<'_> {
     }
 }
 
-/// Bytes to be written into a run: those of its parts behind one another.
+/// Bytes to be written into a run: those of its parts one after another.
 #[derive(Drop)]
 pub struct Piece<'a> {
     pub run: Run,

@@ -22,10 +22,10 @@ pub enum ReadError {
     OutOfMemory,
 }
 
-/// Reads so many bytes from this sector on. Nothing changes.
+/// Reads `byte_count` bytes from this sector on. Nothing changes.
 ///
 /// # Errors
-/// `OutOfMemory` before the first read; else that of the first sector that fails, behind which none is read.
+/// `OutOfMemory` before the first read; else that of the first sector that fails, after which none is read.
 pub fn read_run<D: SectorDevice>(
     alloc: Global,
     device: &mut D,

@@ -1,7 +1,7 @@
 // Runs of sectors.
 ghost use Rattle.std.specs.Prelude.{◌≡◌, ◌+◌, ◌≤◌, ◌<◌, ◌^◌, ◌↔◌, IsTrue};
 
-/// Sectors in a row: so many, from this one on.
+/// Sectors in a row: the first, and how many.
 #[derive(Clone, Copy, Debug, PartialEq, Eq)]
 pub struct Run {
     pub start: u64,
@@ -9,7 +9,7 @@ pub struct Run {
 }
 
 impl Run {
-    /// The sector behind its last one.
+    /// The sector after its last one.
     pub fn end(self) -> u64
         requires { self.start + self.count < 2 ^ 64 }
         ensures { result ≡ self.start + self.count }

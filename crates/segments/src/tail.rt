@@ -1,7 +1,7 @@
 // The bytes of a run that don't fill a sector yet.
 ghost use Rattle.std.specs.Prelude.{◌≤◌};
 
-// The bytes behind the last whole sector, and the sector that they go into.
+// The bytes after the last whole sector, and the sector that they go into.
 #[derive(Drop)]
 pub(crate) struct Tail {
     pub(crate) start: u64,
@@ -57,7 +57,7 @@ impl Tail {
         }
     }
 
-    // Begins anew so many sectors further on, with these bytes.
+    // Begins anew `count` sectors further on, with these bytes.
     pub(crate) fn restart(&mut self, count: u64, bytes: &[u8])
         requires count { self.old.start + count < 2 ^ 64 }
         requires bytes { length bytes.now ≤ 512 }

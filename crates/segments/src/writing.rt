@@ -12,7 +12,7 @@ use crate::tail::Tail;
 use crate::{Part, Piece};
 use sector_dev::{DevError, SECTOR_BYTES, SectorDevice};
 
-// The sector that begins with these bytes, and is zero behind them.
+// The sector that begins with these bytes, and is zero after them.
 fn filled_sector(bytes: &[u8]) -> [u8; 512]
     requires { length bytes.now ≤ 512 }
     ensures { result ≡ filled bytes.now }
@@ -22,7 +22,7 @@ fn filled_sector(bytes: &[u8]) -> [u8; 512]
     sector
 }
 
-// Writes the whole sectors of a tail and the bytes behind it. What is left stays in the tail: the bytes of a part are copied only where
+// Writes the whole sectors of a tail and the bytes after it. What is left stays in the tail: the bytes of a part are copied only where
 // they share a sector with those of another one.
 fn write_part<D: SectorDevice>(
     device: &mut D,
@@ -71,7 +71,7 @@ fn write_tail<D: SectorDevice>(device: &mut D, tail: &Tail) -> Result<(), DevErr
     device.write(tail.start, &filled_sector(tail.bytes()))
 }
 
-// Writes the bytes of parts behind one another, from this sector on.
+// Writes the bytes of parts one after another, from this sector on.
 fn write_parts<D: SectorDevice>(
     device: &mut D,
     start: u64,
