@@ -143,7 +143,7 @@ fn struct_at<'a>(fields: &'a [Field], view: ArrayView<'a>, i: usize) -> Values<'
     )
 }
 
-/// A row of arrays that have n slots, as values of these fields.
+/// A row of arrays that have `slots` slots, as values of these fields.
 pub fn row<'a>(
     fields: &'a [Field],
     arrays: &'a [PlacedArray],

@@ -30,7 +30,7 @@ fn put_metadata(out: &mut Vec<u8>, metadata: &[u8]) -> Result<(), AllocError>
     out.extend_from_slice(metadata)
 }
 
-/// Appends the zeros that fill a buffer of n bytes to a multiple of 8.
+/// Appends the zeros that fill a buffer of `length` bytes to a multiple of 8.
 ///
 /// # Errors
 /// `AllocError` where memory was refused: then nothing is appended.

@@ -268,7 +268,7 @@ pub fn dictionary_node(
     Ok(Node::Table(slots))
 }
 
-/// A RecordBatch of n rows, with these field nodes and buffers.
+/// A RecordBatch of `rows` rows, with these field nodes and buffers.
 ///
 /// # Errors
 /// `AllocError` where memory was refused.

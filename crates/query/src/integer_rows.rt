@@ -155,7 +155,7 @@ fn keep_part(
     Ok(next)
 }
 
-/// Of a number of rows of record batches those whose bits are set, up to the most, of columns of integers.
+/// Of these rows of record batches those whose bits are set, up to the most, of columns of integers.
 pub(crate) fn keep_integers(
     alloc: Global,
     columns: &[IntegerColumn],

@@ -87,7 +87,7 @@ impl Table {
         Ok((table, weight))
     }
 
-    /// The same of n rows whose cells stand one after another: no row takes memory of its own.
+    /// The same of `rows` rows whose cells stand one after another: no row takes memory of its own.
     ///
     /// # Errors
     /// Those of [`Table::new`].
