@@ -107,7 +107,7 @@ impl DataType {
         )
     }
 
-    /// The timezone of a timestamp, and no text at other types.
+    /// The timezone of a timestamp, and the empty string at other types.
     pub fn timezone(&self) -> &str
         ensures { result.now ≡ timezone_of (kind_of self.now) }
     {
@@ -222,7 +222,10 @@ fn first_exceeded(schema: &Schema) -> Result<(), SchemaError>
 }
 
 impl Schema {
-    /// Whether it is within the limits, and else the first that it passes.
+    /// Whether it is within the limits.
+    ///
+    /// # Errors
+    /// The first limit that it exceeds, in the order of [`SchemaError`].
     pub fn check(&self) -> Result<(), SchemaError>
         ensures reported { result ≡ first_exceeded (schema_of self.now) }
         ensures within { IsOk result ↔ IsWithinLimits (schema_of self.now) }

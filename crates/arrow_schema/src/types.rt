@@ -69,7 +69,7 @@ pub enum TimeUnit {
     Nanosecond,
 }
 
-/// The logical type of a field. Widths and sizes are 0 to 2,147,483,647; a timestamp without a timezone has the empty text.
+/// The logical type of a field. Widths and sizes are 0 to 2,147,483,647; a timestamp without a timezone has the empty string.
 #[derive(Debug, Drop)]
 #[cycle(schema)]
 pub enum DataType {
@@ -89,7 +89,7 @@ pub enum DataType {
     Struct(Vec<Field>),
 }
 
-/// A column, or a part of one: any text may be its name.
+/// A column, or a part of one: any string may be its name.
 #[derive(Debug, Drop)]
 #[cycle(schema)]
 pub struct Field {

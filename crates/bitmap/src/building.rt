@@ -29,7 +29,10 @@ impl Model for MaskBuilder {
 }
 
 impl MaskBuilder {
-    /// No bits, with room for so many.
+    /// No bits, with room for `bits` bits.
+    ///
+    /// # Errors
+    /// `AllocError` where memory was refused.
     pub fn with_capacity(alloc: Global, bits: usize) -> Result<Self, AllocError>
         ensures { IfOk result (λ b. b ≡ []) }
     {
@@ -38,6 +41,9 @@ impl MaskBuilder {
     }
 
     /// Adds the lowest bits of a word, the lowest first.
+    ///
+    /// # Errors
+    /// `AllocError` where memory was refused: no bit is added.
     pub fn push_word(&mut self, word: u64, count: usize) -> Result<(), AllocError>
         requires count { count ≤ 64 }
         requires word { word < 2 ^ count }
@@ -49,7 +55,10 @@ impl MaskBuilder {
         Ok(())
     }
 
-    /// Adds the same bit so many times.
+    /// Adds the same bit `count` times.
+    ///
+    /// # Errors
+    /// `AllocError` where memory was refused; then nothing is promised of the bits.
     pub fn push_alike(&mut self, count: usize, set: bool) -> Result<(), AllocError>
         ensures { OnOk result (self.new ≡ self.old ++ replicate count set) }
     {
@@ -62,6 +71,9 @@ impl MaskBuilder {
     }
 
     /// Adds bits of a mask, from one on up to another: of whole bytes a byte at a time, or all at once.
+    ///
+    /// # Errors
+    /// `AllocError` where memory was refused; then nothing is promised of the bits.
     pub fn push_bits(&mut self, mask: &[u8], from: usize, to: usize) -> Result<(), AllocError>
         requires within { to ≤ 8 * length mask.now }
         requires order { from ≤ to }
@@ -117,7 +129,7 @@ impl MaskBuilder {
     }
 }
 
-// Adds bits to bytes of whose last so many bits are free.
+// Adds bits to bytes of whose last one `free` bits are free.
 fn add_bits(bytes: &mut Vec<u8>, free: usize, word: u64, count: usize) -> Result<(), AllocError>
     requires built { IsBuilt bytes.old.items free }
     requires count { count ≤ 64 }

@@ -9,7 +9,7 @@ use crate::scan::{Flat, Opening, name_of, nullable_suffix_of, opening_of, strip}
 use arrow_schema::{DataType, DictSpec, Field};
 use std::alloc::{AllocError, AllocFailed, Global};
 
-/// Why a field was not built: its text is not one of so many levels, or there was no memory.
+/// Why a field was not built: it is no text of a field, or of one that is too deep, or there was no memory.
 #[derive(Drop)]
 pub(crate) enum BuildError {
     Unread,
@@ -60,7 +60,7 @@ pub(crate) enum Listing {
 }
 
 impl Listing {
-    // The bracket behind the item.
+    // The bracket after the item.
     fn close(self) -> &'static str
         ensures { result.now ≡ close_of self }
     {
@@ -115,7 +115,7 @@ pub(crate) fn build_field(
     build_column(alloc, levels, name, rest)
 }
 
-// Further fields, at most so many, and what follows the bracket after them.
+// Further fields, at most `turns`, and what follows the bracket after them.
 #[tactic(auto, unfolding(crate::specs::inner::Build::more_from))]
 #[cycle(build)]
 fn build_more(
@@ -180,7 +180,7 @@ fn build_parts<'a>(
     }
 }
 
-// The column of a name whose parts have at most so many levels, and what follows it.
+// The column of a name whose parts have at most `levels` levels, and what follows it.
 #[tactic(auto, unfolding(crate::specs::inner::Build::column_from))]
 #[cycle(build)]
 fn build_above<'a>(
@@ -206,7 +206,7 @@ fn build_above<'a>(
     Ok((field, rest))
 }
 
-/// The column of a name, at most so many levels deep, from the text after its colon, and what follows it.
+/// The column of a name, at most `levels` levels deep, from the text after its colon, and what follows it.
 #[cycle(build)]
 fn build_column<'a>(
     alloc: Global,

@@ -70,10 +70,15 @@ fn build_texts(alloc: Global, texts: &[&str]) -> Result<Vec<Field>, BuildError>
     Ok(fields)
 }
 
-/// The fields that the texts state, within a schema's limits (docs/formats/field_texts.md).
+/// The fields that the texts state, within a schema's limits (docs/formats/field_texts.md). Nesting of any depth runs out of no stack.
 ///
-/// The first text that is refused is reported: `BadText` where it is not that of a field, else `Limit`. The limits of the
-/// schema come last. Nesting of any depth runs out of no stack.
+/// ```
+/// let fields = parse_fields(alloc, &["day:int32", "millidegrees:int32?"])?;
+/// ```
+///
+/// # Errors
+/// `BadText` where the first text that is refused, counted from 1, is not that of a field; `Limit` where that text has a number past 2,147,483,647,
+/// or where no text is refused and the schema passes its limits; `OutOfMemory`.
 pub fn parse_fields(alloc: Global, texts: &[&str]) -> Result<Vec<Field>, ParseError>
     ensures reported { IsReported (map (λ t. t.now) texts.now) (result_map_both (λ v. map column_of v.items) (λ e. e) result) }
 {

@@ -14,7 +14,7 @@ use serde_json::Value;
 use std::alloc::{AllocError, Global};
 use std::fmt::Write;
 
-// Appends the JSON text of a part.
+// Appends the JSON string of a part.
 fn push_json(alloc: Global, text: &mut String, part: &str) -> Result<(), AllocError>
     ensures { OnOk result (string_bytes text.new ≡ string_bytes text.old ++ quoted part.now) }
 {
@@ -22,7 +22,10 @@ fn push_json(alloc: Global, text: &mut String, part: &str) -> Result<(), AllocEr
     text.push_str(json.as_str())
 }
 
-/// The form that `schema` prints: names, items' names and timezones are JSON texts. Pairs are not printed.
+/// The form that `schema` prints: names, items' names and timezones are JSON strings. Pairs are not printed.
+///
+/// # Errors
+/// `AllocError` where memory was refused.
 pub fn field_text(alloc: Global, field: &Field) -> Result<String, AllocError>
     ensures { IfOk result (λ text. string_bytes text ≡ field_text printed (column_of field.now)) }
 {
@@ -121,7 +124,7 @@ fn push_type(alloc: Global, text: &mut String, data_type: &DataType) -> Result<(
     push_rest(alloc, text, data_type)
 }
 
-// What stands behind the keyword of a type.
+// What stands after the keyword of a type.
 #[cycle(print)]
 fn push_rest(alloc: Global, text: &mut String, data_type: &DataType) -> Result<(), AllocError>
     ensures { OnOk result (string_bytes text.new ≡ string_bytes text.old ++ rest_text (kind_of data_type.now)) }

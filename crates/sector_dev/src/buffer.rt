@@ -20,7 +20,7 @@ const MOST: usize = 512;
 // how many sectors a read that follows no other takes from the file
 const FIRST_READ: usize = 8;
 
-// to copy more than so many takes longer than a call of the system that writes them from where they stand
+// to copy more sectors than these takes longer than a call of the system that writes them from where they stand
 const LONGEST_ADDED: usize = 128;
 
 impl Buffer {

@@ -66,10 +66,10 @@ pub trait SectorDevice {
         ensures ok { OnOk result (tells ≡ true → Puts (story self.old) n from.now (Some from.now) (story self.new)) }
         ensures err { OnErr result (tells ≡ true → FailsToPut (story self.old) n from.now (story self.new)) };
 
-    /// Writes neighbouring sectors from one on, ascending, as so many calls of `write`.
+    /// Writes neighbouring sectors from one on, ascending, as a call of `write` for each.
     ///
     /// # Errors
-    /// `Failed` alone: the sectors before one of them were written, that one failed as a write does, and nothing was done to those behind it.
+    /// `Failed` alone: the sectors before one of them were written, that one failed as a write does, and nothing was done to those after it.
     fn write_sectors(&mut self, start: u64, contents: &[[u8; 512]]) -> Result<(), DevError>
         requires within { start + length contents.now ≤ size self.old }
         requires countable { start + length contents.now < 2 ^ 64 }

@@ -32,7 +32,7 @@ pub const MOST_SECTORS: u64 = 4_194_304;
 /// A device that is a file, sector after sector.
 ///
 /// A run of neighbouring sectors is written in pieces of 256 KiB, and read ahead in growing ones; more than 128 that come in one
-/// call are written at once, behind what came before. What was written is in the file after the next sync that succeeds. Where a
+/// call are written at once, after what came before. What was written is in the file after the next sync that succeeds. Where a
 /// delayed write fails, the call that noticed it fails, and what was written stays in memory: it is read from there, and each
 /// later call that would write it tries again.
 /// docs/definitions/device.md says what a file is trusted for.

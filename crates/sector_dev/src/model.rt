@@ -13,10 +13,10 @@ mod calls;
 mod crash;
 mod made;
 
-/// A device in memory, for tests. It can be told to fail, to stop and to crash.
+/// A device in memory, for tests. It can be made to fail, to stop and to crash.
 ///
 /// After a failed write a read gives the new content. Where there is no memory to record a call, the call fails before it
-/// began, is counted, and `is_recorded` tells so. Each call stays in memory, and the sectors up to the highest that was written.
+/// began, is counted, and `is_recorded` says so. Each call stays in memory, and the sectors up to the highest that was written.
 #[derive(Drop)]
 pub struct ModelDevice {
     sectors: u64,

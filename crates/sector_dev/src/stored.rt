@@ -20,7 +20,7 @@ fn fresh() -> StoredSector
     }
 }
 
-// Makes room for the first so many sectors. `false`: there was no memory for them.
+// Makes room for the first `count` sectors. `false`: there was no memory for them.
 pub(crate) fn reach(stored: &mut Vec<StoredSector>, count: usize) -> bool
     ensures same { (n : ℕ) → stored_at stored.new.items n ≡ stored_at stored.old.items n }
     ensures reached { OnTrue result (count ≤ length stored.new.items) }

@@ -5,9 +5,15 @@ use std::io;
 /// A file that can be locked until it is closed. A lock that another program holds against it is an error.
 pub trait LockFile {
     /// Locks it alone: nobody else has a lock on it.
+    ///
+    /// # Errors
+    /// An error where another program holds a lock against it, or the system refuses.
     fn lock_to_write(&self) -> io::Result<()>;
 
     /// Locks it beside others that only read.
+    ///
+    /// # Errors
+    /// An error where another program holds a lock against it, or the system refuses.
     fn lock_to_read(&self) -> io::Result<()>;
 }
 

@@ -11,14 +11,14 @@ use std::io::{self, ErrorKind, Read, Seek, SeekFrom, Write};
 use std::path::Path;
 use std::rt::Files;
 
-// Whether a device can have so many sectors.
+// Whether a device can have this number of sectors.
 fn is_size(sectors: u64) -> bool
     ensures { IsTrue result ↔ ((LEAST_SECTORS ≤ sectors) × (sectors ≤ MOST_SECTORS)) }
 {
     (LEAST_SECTORS..=MOST_SECTORS).contains(&sectors)
 }
 
-// Whether a file of so many bytes is a device.
+// Whether a file of this length in bytes is a device.
 fn is_length(bytes: u64) -> bool
     ensures { IsTrue result ↔ IsDeviceLength bytes }
 {
@@ -64,7 +64,7 @@ fn prepare<F: OpenFile + LockFile, R: Files<File = F>>(
     sync_name(rt, path)
 }
 
-// A new file of so many sectors, which nobody else has open meanwhile. Where the system refuses, none is left, unless it
+// A new file of `sectors` sectors, which nobody else has open meanwhile. Where the system refuses, none is left, unless it
 // refuses to remove it too.
 fn new_file<F: OpenFile + LockFile + Drop, R: Files<File = F>>(
     rt: &R,
@@ -84,6 +84,10 @@ fn new_file<F: OpenFile + LockFile + Drop, R: Files<File = F>>(
 
 impl<F: Read + Write + Seek + OpenFile + LockFile + Drop> FileDevice<F> {
     /// Opens a file as a device, which nobody else has open meanwhile.
+    ///
+    /// ```
+    /// let device = FileDevice::open(&rt, "sensors.store")?;
+    /// ```
     ///
     /// # Errors
     /// `Io` where the system refuses, or another has the file open; `BadSize` where its length is no multiple of 512, or is
@@ -129,7 +133,13 @@ impl<F: Read + Write + Seek + OpenFile + LockFile + Drop> FileDevice<F> {
         FileDevice::from_file(rt.alloc(), file)
     }
 
-    /// Makes a file of so many sectors of zeros, and opens it as a device, which nobody else has open meanwhile.
+    /// Makes a file of `sectors` sectors of zeros, and opens it as a device, which nobody else has open meanwhile.
+    ///
+    /// ```
+    /// let mut device = FileDevice::create(&rt, "sensors.store", 4096)?;
+    /// device.write(7, &[1; 512])?;
+    /// device.sync()?; // only now it is safe from a crash
+    /// ```
     ///
     /// # Errors
     /// `BadSize` where that is outside 16 to 4,194,304, reported first; `Io` where something is at the path already, or the

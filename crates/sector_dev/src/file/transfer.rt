@@ -48,7 +48,7 @@ fn write_buffer<F: Write + Seek>(file: &mut F, buffer: &mut Buffer) -> io::Resul
     }
 }
 
-// Reads this sector and some after it, at most so many, if there is memory for them and the file gives them.
+// Reads this sector and some after it, at most `most`, if there is memory for them and the file gives them.
 fn read_ahead<F: Read + Seek>(file: &mut F, ahead: &mut Buffer, n: u64, most: u64)
     requires { n < MOST_SECTORS }
 {
@@ -99,7 +99,7 @@ impl<F: Read + Write + Seek + OpenFile + Drop> FileDevice<F> {
         write_buffer(&mut self.file, &mut self.writes)
     }
 
-    // Buffers these sectors, or writes them behind what is buffered.
+    // Buffers these sectors, or writes them after what is buffered.
     pub(super) fn put(&mut self, start: u64, contents: &[[u8; 512]]) -> io::Result<()>
         requires { start + length contents.now ≤ self.old.sectors }
         ensures sectors { self.new.sectors ≡ self.old.sectors }

@@ -20,7 +20,7 @@ fn has_bit(bits: u64, i: usize) -> bool
     bits >> (i % 64) & 1 == 1
 }
 
-// What the choice leaves in a sector, where so many below it are not yet synced.
+// What the choice leaves in a sector, where `below` sectors before it are not yet synced.
 fn left(choice: Choice, below: usize, sector: &StoredSector) -> Option<[u8; 512]>
     ensures { result ≡ left_in choice below sector.now }
 {
@@ -82,7 +82,7 @@ impl ModelDevice {
     /// none has failed. Its unreadable sectors stay so until they are written.
     ///
     /// # Errors
-    /// There is no memory for it.
+    /// `AllocError` where memory was refused.
     pub fn crash(&self, choice: Choice) -> Result<ModelDevice, AllocError>
         ensures size { IfOk result (λ d. size_of d ≡ size_of self.now) }
         ensures synced { IfOk result (λ d. history_of d ≡ all_synced (shown_image (now (history_of d))) ∷ []) }

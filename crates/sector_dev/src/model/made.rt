@@ -11,8 +11,13 @@ use std::alloc::{AllocError, Global};
 impl ModelDevice {
     /// A device of this many sectors: zeros, all synced. No call is to fail.
     ///
+    /// ```
+    /// let mut device = ModelDevice::new(alloc, 64)?;
+    /// device.fail_at(3); // the third write or sync from now
+    /// ```
+    ///
     /// # Errors
-    /// There is no memory for it.
+    /// `AllocError` where memory was refused.
     pub fn new(alloc: Global, sectors: u64) -> Result<ModelDevice, AllocError>
         ensures size { IfOk result (λ d. size_of d ≡ sectors) }
         ensures zeros { IfOk result (λ d. history_of d ≡ all_synced (λ _. Some zeros) ∷ []) }
