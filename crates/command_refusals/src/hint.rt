@@ -10,7 +10,7 @@ use crate::Word;
 use std::fmt;
 use text_import::RefusedPart;
 
-/// The most bytes that are shown of a text of the input.
+/// The most bytes that are shown of a string of the input.
 pub const MOST_SHOWN: usize = 100;
 
 /// What is said to be refused on a terminal.
@@ -18,7 +18,7 @@ pub const MOST_SHOWN: usize = 100;
 pub enum Hint<'a> {
     /// A word of the command line.
     Word(Word<'a>),
-    /// A part of the input. Of its texts those are told that a terminal may be shown.
+    /// A part of the input. Those of its strings are printed that a terminal may be shown.
     Part(&'a RefusedPart),
 }
 
@@ -29,7 +29,7 @@ fn has_control(text: &str) -> bool
     text.chars().any(|c| c.is_control())
 }
 
-// The text that bytes are, where a terminal may be shown it.
+// The string that bytes are, where a terminal may be shown it.
 #[tactic(auto, using(crate::proofs::HintLemmas::shown_rules))]
 fn shown(bytes: &[u8]) -> Option<&str>
     ensures { option_map (λ t. t.now) result ≡ shown bytes.now }
@@ -101,7 +101,7 @@ impl fmt::Display for LineShown<'_> {
     }
 }
 
-/// A sentence for each thing that is refused, and a space behind it; or nothing, where none of it can be shown.
+/// A sentence for each thing that is refused, and a space after it; or nothing, where none of it can be shown.
 impl fmt::Display for Hint<'_> {
     ghost use Rattle.std.specs.Prelude.{Some};
     ghost use Rattle.command_refusals.specs.Hint.{hint_text};

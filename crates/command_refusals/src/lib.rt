@@ -1,4 +1,4 @@
-//! Why a command of the program was refused, as it is told: its text, what to do about it, and the word or the part of the
+//! Why a command of the program was refused, as it is reported: its text, what to do about it, and the word or the part of the
 //! input that is meant.
 //!
 //! A [`Refusal`] holds those of the layers below, which become one by `?`. Promised are its text (`specs/Refusals.antt`) and

@@ -12,7 +12,7 @@ use crate::remedies::{
 };
 use std::alloc::{AllocError, Global};
 
-/// What each refusal means, and what to do: texts one behind another, among them the sentences of `remedies`. The file
+/// What each refusal means, and what to do: strings one after another, among them the sentences of `remedies`. The file
 /// `docs/refusals.md` has the same bytes.
 pub const REFUSALS: [&str; 77] = [
     "# What each refusal means
@@ -246,7 +246,10 @@ appended. A refusal without a remedy of its own lies with that record.
 ",
 ];
 
-/// The texts one behind another.
+/// The strings one after another.
+///
+/// # Errors
+/// `AllocError` where memory was refused.
 #[tactic(auto, unfolding(crate::specs::Page::refusals_page))]
 pub fn refusals_page(alloc: Global) -> Result<String, AllocError>
     ensures { IfOk result (λ text. string_bytes text ≡ refusals_page) }

@@ -1,4 +1,4 @@
-// What to do about each refusal: a sentence, which the page of refusals and a terminal tell.
+// What to do about each refusal: a sentence, which the page of refusals and a terminal show.
 ghost use Rattle.std.specs.Prelude.{◌≡◌};
 ghost use Rattle.command_refusals.specs.Remedies.{fault_remedy, fields_remedy, text_remedy, query_remedy, opening_remedy, store_remedy, remedy};
 

@@ -135,6 +135,9 @@ impl Dictionaries {
     }
 
     /// The parts of the dictionaries of some ids, in their order: those that the columns of a record batch take.
+    ///
+    /// # Errors
+    /// `AllocError` where memory was refused.
     pub fn parts(&self, alloc: Global, ids: &[u64]) -> Result<Vec<DictionaryPart>, AllocError>
         ensures stand { IfOk result (λ parts. AllByRecursion (IsPart self.now.lists) parts.items) }
         ensures effect { IfOk result (λ parts. AreInEffect self.now ids.now parts.items) }
@@ -159,6 +162,9 @@ impl Dictionaries {
     }
 
     /// Begins the dictionary of an id anew, with one array. Arrays that were read before keep theirs.
+    ///
+    /// # Errors
+    /// `AllocError` where memory was refused: the dictionaries are as they were.
     pub fn replace(&mut self, alloc: Global, id: u64, array: PlacedArray) -> Result<(), AllocError>
         ensures effect { OnOk result ((bytes : List ℕ) (before : List DictionaryBatch) → HasInEffect bytes self.old before
             → HasInEffect bytes self.new (before ++ batch_of id false (array_in bytes no_dictionary array) ∷ [])) }
@@ -171,6 +177,9 @@ impl Dictionaries {
     }
 
     /// Appends an array to the dictionary of an id. Arrays that were read before keep theirs.
+    ///
+    /// # Errors
+    /// `AllocError` where memory was refused: the dictionaries are as they were.
     pub fn append(&mut self, alloc: Global, id: u64, array: PlacedArray) -> Result<(), AllocError>
         ensures effect { OnOk result ((bytes : List ℕ) (before : List DictionaryBatch) → HasInEffect bytes self.old before
             → HasInEffect bytes self.new (before ++ batch_of id true (array_in bytes no_dictionary array) ∷ [])) }

@@ -69,6 +69,9 @@ impl ExportBook {
     }
 
     /// Opens an export of these segments, which are of this schema, and gives its id.
+    ///
+    /// # Errors
+    /// `AllocError` where memory was refused: the book is as it was.
     pub fn open(&mut self, schema: Schema, segments: Vec<Segment>) -> Result<u64, AllocError>
         requires room { is_full (book_of self.old) ≡ false }
         requires short { length segments.items ≤ MAX_SEGMENTS }
