@@ -26,7 +26,7 @@ pub fn entry_limit(index: IntegerType) -> Option<usize>
     }
 }
 
-// Whether entries, which are no more than the most, stay so with those of cells.
+// Whether entries, which are at most `most`, stay so with those of cells.
 #[tactic(auto, using(crate::proofs::HoldingLemmas::entries_rules), unfolding(crate::specs::Dictionary::with_entries))]
 fn stay_few<'a>(
     most: usize,
@@ -45,7 +45,7 @@ fn stay_few<'a>(
     Ok(true)
 }
 
-// Whether cells have no more entries than the most.
+// Whether cells have at most `most` entries.
 fn are_few(most: usize, cells: &[&Value], alloc: Global) -> Result<bool, AllocError>
     ensures { IfOk result (λ b. b ≡ nat_le (length (entries_of (map cell_behind cells.now))) most) }
 {

@@ -2,7 +2,7 @@
 ghost use Rattle.std.specs.Prelude.{◌≡◌};
 ghost use Rattle.columns.specs.Places.{within};
 
-/// Where a buffer stands in some bytes: from a place on, and how many.
+/// Where a buffer stands in some bytes: from a place on, and how long it is.
 #[derive(Clone, Copy, Debug)]
 pub struct Span {
     pub start: usize,

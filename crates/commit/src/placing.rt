@@ -46,7 +46,7 @@ pub fn take_runs(alloc: Global, map: &mut FreeMap, counts: &[u64]) -> Result<Vec
     Ok(runs)
 }
 
-// How many sectors each of these contents takes, each of these pages, and then a text of this number of bytes.
+// How many sectors each of these contents takes, each of these pages, and then a text of `text_bytes` bytes.
 fn counts_for(
     alloc: Global,
     contents: &[Vec<Part<'_>>],

@@ -34,7 +34,7 @@ pub(crate) fn is_on_device(size: u64, run: Run) -> bool
     run.start >= 2 && run.count >= 1 && run.start <= size && run.count <= size - run.start
 }
 
-// Whether it lies on the device with at least this number of bytes, and has just the sectors that they need.
+// Whether it lies on the device with at least `least` bytes, and has just the sectors that they need.
 fn is_extent(size: u64, least: u64, extent: Extent) -> bool
     requires { size ≤ MOST_SECTORS }
     ensures { result ≡ is_extent size least extent }

@@ -36,7 +36,7 @@ impl<'a> Table<'a> {
     ghost use Rattle.flatbuf.specs.Walked.{Walks, slot_things};
     ghost use Rattle.flatbuf.specs.Walk.{run, reported, table_things, union_things, spans, vector_at};
 
-    /// The table at a position, with a number of levels left.
+    /// The table at a position, with `left` levels left.
     #[tactic(auto, unfolding(crate::specs::Walk::run, crate::specs::Walk::table_things, crate::specs::Walk::head_things))]
     pub(crate) fn enter(
         bytes: &'a [u8],

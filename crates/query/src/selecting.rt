@@ -164,7 +164,7 @@ fn push_row_at(
     }
 }
 
-// Of rows of which a mask says which are kept, the values at these places, up to a number of rows.
+// Of rows of which a mask says which are kept, the values at these places, at most `most` rows.
 fn keep_each(
     alloc: Global,
     table: &Table,

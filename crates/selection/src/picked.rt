@@ -35,7 +35,7 @@ fn copy_at(alloc: Global, arrays: &[PlacedArray], place: usize) -> Result<Placed
     copy_array(alloc, array_or(arrays, place, &none))
 }
 
-// Of the arrays of n columns those at some places.
+// Of the arrays of `columns` columns those at some places.
 fn pick_arrays(
     alloc: Global,
     arrays: &[PlacedArray],
@@ -114,7 +114,7 @@ pub(crate) fn pick_batches<'a>(
     Ok(picked)
 }
 
-/// All rows of a batch, which has this number of them.
+/// All rows of a batch, which has `rows`.
 pub(crate) fn whole_run<'a>(batch: &'a PickedBatch<'a>, rows: usize) -> RowRun<'a>
     requires { rows ≡ batch.now.rows }
     ensures rows { (columns : Columns) → run_rows columns result ≡ picked_rows columns batch.now }

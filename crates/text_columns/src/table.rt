@@ -25,7 +25,7 @@ use std::alloc::{AllocError, Global};
 use text_import::{TextError, rows_of_texts_are_rows};
 use values::{Batch, Part, Table, Weighed};
 
-// The one record batch that the buffers of columns are, with a number of rows.
+// The one record batch that the buffers of columns are, with `rows` rows.
 fn build_part(alloc: Global, columns: Vec<ColumnBuilder>, rows: usize) -> Result<Part, AllocError>
     ensures { IfOk result (λ part. IsPartOf columns.items rows part) }
 {
