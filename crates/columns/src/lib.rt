@@ -5,7 +5,7 @@
 //! memory: a list's items and a struct's parts are found where they are asked for.
 //!
 //! A [`SlotRun`] is slots of an array one after another, or nulls. The cells of a column, from whatever arrays, are a list of runs
-//! (`specs/Runs.antt`), without a value for each and without a copy of their bytes; [`valid_runs`] tells the nulls among slots apart.
+//! (`specs/Runs.antt`), without a value for each and without a copy of their bytes; [`valid_runs`] separates the nulls among slots.
 //!
 //! ```ignore
 //! let values = PlacedArray { slots: 2, validity, layout: PlacedLayout::Fixed(numbers) };

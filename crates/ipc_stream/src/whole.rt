@@ -72,7 +72,7 @@ pub fn decode_weighed(alloc: Global, bytes: Vec<u8>) -> Result<Weighed, ImportEr
 /// that they had before ([`crate::older_streams_keep_their_meaning`]).
 ///
 /// ```
-/// let table = decode(alloc, bytes)?;
+/// let rows = decode(alloc, bytes)?.len();
 /// ```
 ///
 /// # Errors

@@ -21,7 +21,7 @@ pub struct UsageEntry {
     pub usage: Usage,
 }
 
-// Who lets a run go: the catalogue that rules, or one of its snapshots.
+// Who releases a run: the catalogue that rules, or one of its snapshots.
 #[derive(Clone, Copy)]
 pub(crate) enum Holder {
     Catalogue,
@@ -35,7 +35,7 @@ impl Usage {
         self.taken || self.pins > 0
     }
 
-    // What is left of it where this holder lets go.
+    // What is left of it where this holder releases it.
     fn without(self, holder: Holder) -> Usage
         ensures { result ≡ without holder self }
     {
@@ -164,7 +164,7 @@ pub(crate) fn change(entries: &mut GapBuffer, run: Run, place: usize, usage: Usa
     }
 }
 
-// Each of these runs that has an entry is let go. An entry that is not used any more stays where it is.
+// Each of these runs that has an entry is released. An entry that is not used any more stays where it is.
 fn let_go_among(entries: &mut GapBuffer, runs: &[Run], holder: Holder)
     requires { Ascending 2 entries.old }
     ensures { LetGoAmong holder entries.old entries.new runs.now }
@@ -179,7 +179,7 @@ fn let_go_among(entries: &mut GapBuffer, runs: &[Run], holder: Holder)
     }
 }
 
-// Lets these runs go. What stays is moved twice at the most, however many they are.
+// Releases these runs. What stays is moved twice at the most, however many they are.
 pub(crate) fn let_go_each(entries: &mut GapBuffer, runs: &[Run], holder: Holder)
     requires { Ordered 2 entries.old }
     ensures ordered { Ordered 2 entries.new }

@@ -12,7 +12,7 @@ use std::alloc::Global;
 use store::Store;
 use tables::{Command, Refusal};
 
-// One table, as the stream that it is exported as. It is let go before the next one.
+// One table, as the stream that it is exported as. It is freed before the next one.
 fn copy_table<D: SectorDevice, E: SectorDevice>(
     alloc: Global,
     from: &mut Store<D>,

@@ -78,7 +78,7 @@ fn refuse(
     Ok(None)
 }
 
-// Appends the rows of the records that a reader has left, of which there are at most n; none where they are too heavy for a table.
+// Appends the rows of the records that a reader has left, of which there are at most `most`; none where they are too heavy for a table.
 // They are read into a record that is borrowed.
 fn push_records(
     alloc: Global,

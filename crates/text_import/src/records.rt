@@ -186,7 +186,7 @@ pub fn numbered_row(
     numbered(number, record_row(alloc, schema, limited, null_text, row))
 }
 
-// The rows of the records that a reader has left, of which there are at most n. They are read into a record that is borrowed.
+// The rows of the records that a reader has left, of which there are at most `most`. They are read into a record that is borrowed.
 fn record_rows(
     alloc: Global,
     schema: &Schema,
