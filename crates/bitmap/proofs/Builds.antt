@@ -98,7 +98,7 @@ mask_joined xs ys =
     ∙ ap (λ (bits : List Bool). mask_l xs + 2 ^ length xs * mask_l bits) (drop-append_seam xs ys)
 
 -- the last byte, of which r bits are used
-last_byte : (m r : ℕ) (xs : List Bool) → length xs ≡ 8 * m + r → 0 < r → r ≤ 8 → packed xs ≡ packed_in m xs ++ mask_l (drop (8 * m) xs) ∷ []
+pub last_byte : (m r : ℕ) (xs : List Bool) → length xs ≡ 8 * m + r → 0 < r → r ≤ 8 → packed xs ≡ packed_in m xs ++ mask_l (drop (8 * m) xs) ∷ []
 last_byte m r xs size some few =
     let count : bytes_of (length xs) ≡ m + 1 = omega (arith, size, some, few) in
     ap (λ k. packed_in k xs) count

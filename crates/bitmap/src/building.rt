@@ -1,5 +1,5 @@
 // Making a mask of words and of bits of other masks, which come one after another.
-ghost use Rattle.std.specs.Prelude.{◌≡◌, ℕ, ◌≤◌, ◌<◌, ◌+◌, ◌*◌, ◌^◌, ◌%◌, ◌-◌, Bool, List, [], ◌++◌, length, map, replicate, IfOk, OnOk, OnErr, slice_index, slice_index_or, set, bit_or, false};
+ghost use Rattle.std.specs.Prelude.{◌≡◌, ℕ, ◌≤◌, ◌<◌, ◌+◌, ◌*◌, ◌^◌, ◌%◌, ◌-◌, Bool, List, [], ◌++◌, length, map, replicate, IfOk, OnOk, OnErr, slice_index, slice_index_or, set, take, bit_or, false};
 ghost use Rattle.std.specs.List.{range_with_len};
 ghost use Rattle.std.specs.Simd.Lanes.{mask_l};
 ghost use Rattle.bitmap.specs.Bits.{bit, bytes_of, packed};
@@ -58,9 +58,26 @@ impl MaskBuilder {
     /// Adds the same bit `count` times.
     ///
     /// # Errors
-    /// `AllocError` where memory was refused; then nothing is promised of the bits.
+    /// `AllocError` where memory was refused: no bit is added.
     pub fn push_alike(&mut self, count: usize, set: bool) -> Result<(), AllocError>
-        ensures { OnOk result (self.new ≡ self.old ++ replicate count set) }
+        ensures ok { OnOk result (self.new ≡ self.old ++ replicate count set) }
+        ensures err { OnErr result (self.new ≡ self.old) }
+    {
+        let size = self.bytes.len();
+        let free = self.free;
+        match self.add_alike(count, set) {
+            Ok(()) => Ok(()),
+            Err(error) => {
+                self.cut_back(size, free);
+                Err(error)
+            }
+        }
+    }
+
+    // The same, where some bits may have been added before memory was refused.
+    fn add_alike(&mut self, count: usize, set: bool) -> Result<(), AllocError>
+        ensures ok { OnOk result (self.new ≡ self.old ++ replicate count set) }
+        ensures err { OnErr result (take (length self.old) self.new ≡ self.old) }
     {
         let word = if set { u64::MAX } else { 0 };
         for _ in 0..count / 64 {
@@ -73,11 +90,30 @@ impl MaskBuilder {
     /// Adds bits of a mask, from one on up to another: of whole bytes a byte at a time, or all at once.
     ///
     /// # Errors
-    /// `AllocError` where memory was refused; then nothing is promised of the bits.
+    /// `AllocError` where memory was refused: no bit is added.
     pub fn push_bits(&mut self, mask: &[u8], from: usize, to: usize) -> Result<(), AllocError>
         requires within { to ≤ 8 * length mask.now }
         requires order { from ≤ to }
-        ensures { OnOk result (self.new ≡ self.old ++ map (bit mask.now) (range_with_len from (to - from))) }
+        ensures ok { OnOk result (self.new ≡ self.old ++ map (bit mask.now) (range_with_len from (to - from))) }
+        ensures err { OnErr result (self.new ≡ self.old) }
+    {
+        let size = self.bytes.len();
+        let free = self.free;
+        match self.add_bits_of(mask, from, to) {
+            Ok(()) => Ok(()),
+            Err(error) => {
+                self.cut_back(size, free);
+                Err(error)
+            }
+        }
+    }
+
+    // The same, where some bits may have been added before memory was refused.
+    fn add_bits_of(&mut self, mask: &[u8], from: usize, to: usize) -> Result<(), AllocError>
+        requires within { to ≤ 8 * length mask.now }
+        requires order { from ≤ to }
+        ensures ok { OnOk result (self.new ≡ self.old ++ map (bit mask.now) (range_with_len from (to - from))) }
+        ensures err { OnErr result (take (length self.old) self.new ≡ self.old) }
     {
         let first = from.div_ceil(8);
         let end = to / 8;
@@ -89,11 +125,23 @@ impl MaskBuilder {
         self.push_in_byte(mask, 8 * end, to % 8)
     }
 
+    // Takes back all bits but those of so many bytes, in the last of which `free` bits were free.
+    fn cut_back(&mut self, size: usize, free: usize)
+        requires few { free < 8 }
+        requires within { free ≤ 8 * size }
+        requires shorter { 8 * size - free ≤ length self.old }
+        ensures { self.new ≡ take (8 * size - free) self.old }
+    {
+        cut(&mut self.bytes, size, free);
+        self.free = free;
+    }
+
     // Some bits of one byte of a mask.
     fn push_in_byte(&mut self, mask: &[u8], from: usize, count: usize) -> Result<(), AllocError>
         requires within { from + count ≤ 8 * length mask.now }
         requires of_one_byte { from % 8 + count ≤ 8 }
-        ensures { OnOk result (self.new ≡ self.old ++ map (bit mask.now) (range_with_len from count)) }
+        ensures ok { OnOk result (self.new ≡ self.old ++ map (bit mask.now) (range_with_len from count)) }
+        ensures err { OnErr result (take (length self.old) self.new ≡ self.old) }
     {
         if count == 0 {
             return Ok(());
@@ -106,7 +154,8 @@ impl MaskBuilder {
     fn push_bytes(&mut self, mask: &[u8], from: usize, to: usize) -> Result<(), AllocError>
         requires within { to ≤ length mask.now }
         requires order { from ≤ to }
-        ensures { OnOk result (self.new ≡ self.old ++ map (bit mask.now) (range_with_len (8 * from) (8 * (to - from)))) }
+        ensures ok { OnOk result (self.new ≡ self.old ++ map (bit mask.now) (range_with_len (8 * from) (8 * (to - from)))) }
+        ensures err { OnErr result (take (length self.old) self.new ≡ self.old) }
     {
         if self.free == 0 {
             self.bytes.extend_from_slice(&mask[from..to])?;
@@ -165,4 +214,28 @@ fn fill(bytes: &mut [u8], at: usize, free: usize, word: u64)
     ensures { bytes.new ≡ set bytes.old at (bit_or (slice_index bytes.old at) (word % 256 * 2 ^ (8 - free) % 256)) }
 {
     bytes[at] |= ((word % 256) as u8) << (8 - free);
+}
+
+// Leaves so many bytes, and of the last of them all but the `free` highest bits.
+fn cut(bytes: &mut Vec<u8>, size: usize, free: usize)
+    requires few { free < 8 }
+    requires within { free ≤ 8 * size }
+    requires shorter { size ≤ length bytes.old.items }
+    ensures { (bits : List Bool) → bytes.old.items ≡ packed bits → 8 * size - free ≤ length bits
+        → bytes.new.items ≡ packed (take (8 * size - free) bits) }
+{
+    bytes.truncate(size);
+    if free > 0 {
+        clear(bytes.as_mut_slice(), size - 1, free);
+    }
+}
+
+// Clears the highest bits of a byte.
+fn clear(bytes: &mut [u8], at: usize, free: usize)
+    requires at { at < length bytes.old }
+    requires some { 0 < free }
+    requires few { free < 8 }
+    ensures { bytes.new ≡ set bytes.old at (slice_index bytes.old at % 2 ^ (8 - free)) }
+{
+    bytes[at] %= 1 << (8 - free);
 }

@@ -13,6 +13,6 @@ pub returns-in_ok-push_bits-in-Slots : goal.returns-in_ok-push_bits-in-Slots
 returns-in_ok-push_bits-in-Slots c =
     let from : ℕ = c.in-Slots.from in
     let known = run_booleans c.in-Slots.array from c.in-Slots.len c.args.run.now c.in-Slots.is c.requires.sound c.requires.valid in
-    c.in_ok-push_bits-in-Slots.ensures
+    c.in_ok-push_bits-in-Slots.ensures.ok
     ∙ ap (λ (bytes : List ℕ). c.args.bits.now ++ map (bit bytes) (range_with_len from (from + c.in-Slots.len - from))) c.bits.ensures
     ∙ ap (λ (bits : List Bool). c.args.bits.now ++ bits) (sym known.bits)

@@ -11,4 +11,4 @@ returns-then-is_empty c =
     let none : length (validity_in (view_array c.args.array)) ≡ 0 = sym (ap length c.validity-validity.ensures) ∙ eqb-true _ 0 (sym c.is_empty.ensures ∙ c.if-is_empty.true) in
     on_ok_weaker c.push_alike.result
     (λ h. h ∙ ap (λ (bits : List Bool). c.args.bits.now ++ bits) (sym (bits_without (view_array c.args.array) c.args.from c.args.len none)))
-    c.push_alike.ensures
+    c.push_alike.ensures.ok

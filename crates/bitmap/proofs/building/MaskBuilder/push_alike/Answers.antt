@@ -1,35 +1,14 @@
-use Rattle.std.specs.Simd.Lanes.{mask_l}
-use Rattle.std.proofs.Common.{◌≡◌, ℕ, ◌+◌, ◌*◌, ◌%◌, ◌^◌, ◌++◌, Bool, List, cond, replicate, sym, ap, ◌∙◌, arith}
-use Rattle.std.proofs.lemmas.List.{length-replicate}
-use Rattle.std.proofs.lemmas.Result.{on_ok_weaker}
-use Rattle.bitmap.proofs.Parts.{alike_word, alike_rest, alike_more, shifted}
+use Rattle.std.proofs.Common.{◌≡◌, ℕ, ◌-◌, ◌*◌, length, take, ap, ◌∙◌, arith}
+use Rattle.bitmap.proofs.Builds.{length_within}
+use Rattle.bitmap.proofs.Cuts.{begins_length}
 use Rattle.bitmap.proofs.building.MaskBuilder.push_alike.Goals as goal
-use Rattle.bitmap.proofs.building.MaskBuilder.push_alike.Goals.{then-set, else-set}
 
-pub loop-preserved : goal.loop-preserved
-loop-preserved c =
-    let old : List Bool = c.args.self.now in
-    let set : Bool = c.args.set in
-    let k : ℕ = c.loop.counter in
-    let word : c.if-set.word ≡ cond set 18446744073709551615 0 = elim c.if-set.branch [ then-set w ↦ rw w.if-set.true w.word-is | else-set w ↦ rw w.if-set.false w.word-is ] in
-    let size : 64 * k + 64 ≡ 64 * (k + 1) = omega arith in
-    c.in_ok-push_word.ensures.ok (replicate 64 set) (length-replicate 64 set) (alike_word set c.if-set.word word)
-    ∙ ap (λ (bits : List Bool). bits ++ replicate 64 set) c.loop.invariant
-    ∙ alike_more old set (64 * k) 64
-    ∙ ap (λ (n : ℕ). old ++ replicate n set) size
+pub cut_back-requires-clause-shorter : goal.cut_back-requires-clause-shorter
+cut_back-requires-clause-shorter c =
+    omega (arith, length_within c.self.inside.bytes.items c.self.inside.free, ap length c.self.view_is, c.len-size.ensures, begins_length c.args.self.now c.add_alike.new.self c.in-Err.ensures.err)
 
-pub returns : goal.returns
-returns c =
-    let old : List Bool = c.args.self.now in
-    let set : Bool = c.args.set in
-    let k : ℕ = c.loop.counter in
-    let left : ℕ = c.args.count % 64 in
-    let word : c.if-set.word ≡ cond set 18446744073709551615 0 = elim c.if-set.branch [ then-set w ↦ rw w.if-set.true w.word-is | else-set w ↦ rw w.if-set.false w.word-is ] in
-    let number : mask_l (replicate left set) ≡ c.if-set.word % 2 ^ left = alike_rest set c.if-set.word left (omega arith) (alike_word set c.if-set.word word) in
-    let size : 64 * k + left ≡ c.args.count = omega (arith, c.loop-test.false) in
-    on_ok_weaker c.push_word-2.result
-    (λ last. last
-    ∙ ap (λ (bits : List Bool). bits ++ replicate left set) c.loop.invariant
-    ∙ alike_more old set (64 * k) left
-    ∙ ap (λ (n : ℕ). old ++ replicate n set) size)
-    (c.push_word-2.ensures.ok (replicate left set) (length-replicate left set) (number ∙ ap (λ (n : ℕ). c.if-set.word % n) (sym (shifted left (omega arith)))))
+pub returns-in-Err-clause-err : goal.returns-in-Err-clause-err
+returns-in-Err-clause-err c =
+    let size : 8 * c.len-size.result - c.self.inside.free ≡ length c.args.self.now =
+    omega (arith, length_within c.self.inside.bytes.items c.self.inside.free, ap length c.self.view_is, c.len-size.ensures) in
+    c.cut_back.ensures ∙ ap (λ (n : ℕ). take n c.add_alike.new.self) size ∙ c.in-Err.ensures.err

@@ -1,31 +1,14 @@
-use Rattle.std.specs.List.{range_with_len}
-use Rattle.std.proofs.Common.{◌≡◌, ℕ, ◌-◌, ◌*◌, ◌/◌, ◌%◌, ◌++◌, ◌≤◌, Bool, List, map, ap, ◌∙◌, arith}
-use Rattle.std.proofs.lemmas.Result.{on_ok_weaker}
-use Rattle.bitmap.specs.Bits.{bit}
-use Rattle.bitmap.proofs.Parts.{joined}
+use Rattle.std.proofs.Common.{◌≡◌, ℕ, ◌-◌, ◌*◌, length, take, ap, ◌∙◌, arith}
+use Rattle.bitmap.proofs.Builds.{length_within}
+use Rattle.bitmap.proofs.Cuts.{begins_length}
 use Rattle.bitmap.proofs.building.MaskBuilder.push_bits.Goals as goal
 
-pub returns : goal.returns
-returns c =
-    let f : ℕ → Bool = bit c.args.mask.now in
-    let old : List Bool = c.args.self.now in
-    let from : ℕ = c.args.from in
-    let to : ℕ = c.args.to in
-    let first : ℕ = c.div_ceil-first.result in
-    let end : ℕ = to / 8 in
-    let before : from ≤ 8 * first = omega (arith, c.div_ceil-first.ensures) in
-    let order : 8 * first ≤ 8 * end = omega (arith, c.if-end-first.false) in
-    let through : from ≤ 8 * end = omega (arith, before, order) in
-    let after : 8 * end ≤ to = omega arith in
-    let size : 8 * (end - first) ≡ 8 * end - 8 * first = omega (arith, c.if-end-first.false) in
-    let left : to % 8 ≡ to - 8 * end = omega arith in
-    on_ok_weaker c.push_in_byte-3.result
-    (λ last. last
-    ∙ ap (λ (n : ℕ). c.push_bytes.new.self ++ map f (range_with_len (8 * end) n)) left
-    ∙ ap (λ (bits : List Bool). bits ++ map f (range_with_len (8 * end) (to - 8 * end)))
-    (c.in_ok-push_bytes.ensures
-    ∙ ap (λ (n : ℕ). c.push_in_byte-2.new.self ++ map f (range_with_len (8 * first) n)) size
-    ∙ ap (λ (bits : List Bool). bits ++ map f (range_with_len (8 * first) (8 * end - 8 * first))) c.in_ok-push_in_byte.ensures
-    ∙ joined f old from (8 * first) (8 * end) before order)
-    ∙ joined f old from (8 * end) to through after)
-    c.push_in_byte-3.ensures
+pub cut_back-requires-clause-shorter : goal.cut_back-requires-clause-shorter
+cut_back-requires-clause-shorter c =
+    omega (arith, length_within c.self.inside.bytes.items c.self.inside.free, ap length c.self.view_is, c.len-size.ensures, begins_length c.args.self.now c.add_bits_of.new.self c.in-Err.ensures.err)
+
+pub returns-in-Err-clause-err : goal.returns-in-Err-clause-err
+returns-in-Err-clause-err c =
+    let size : 8 * c.len-size.result - c.self.inside.free ≡ length c.args.self.now =
+    omega (arith, length_within c.self.inside.bytes.items c.self.inside.free, ap length c.self.view_is, c.len-size.ensures) in
+    c.cut_back.ensures ∙ ap (λ (n : ℕ). take n c.add_bits_of.new.self) size ∙ c.in-Err.ensures.err

@@ -42,8 +42,8 @@ invariant_of-self-then-self-eq0 c =
     still_built c.self.inside.bytes.items c.extend_from_slice.new.self.items c.args.mask.now c.self.inside.free c.args.from c.args.to c.self.invariant c.if-self-eq0.true
     (λ i. (c.type_inv.mask i).fits) c.requires.order c.requires.within c.in_ok-extend_from_slice.ensures.items
 
-pub returns-then-self-eq0 : goal.returns-then-self-eq0
-returns-then-self-eq0 c =
+pub returns-then-self-eq0-clause-ok : goal.returns-then-self-eq0-clause-ok
+returns-then-self-eq0-clause-ok c =
     more_within c.self.inside.bytes.items c.extend_from_slice.new.self.items c.args.mask.now c.self.inside.free c.args.from c.args.to c.self.invariant c.if-self-eq0.true
     (λ i. (c.type_inv.mask i).fits) c.requires.order c.requires.within c.in_ok-extend_from_slice.ensures.items
     ∙ ap (λ (bits : List Bool). bits ++ map (bit c.args.mask.now) (range_with_len (8 * c.args.from) (8 * (c.args.to - c.args.from)))) c.self.view_is

@@ -6,8 +6,8 @@ use Rattle.bitmap.specs.Bits.{bit}
 use Rattle.bitmap.proofs.Parts.{bits_of_byte, shifted}
 use Rattle.bitmap.proofs.building.MaskBuilder.push_in_byte.Goals as goal
 
-pub returns : goal.returns
-returns c =
+pub returns-clause-ok : goal.returns-clause-ok
+returns-clause-ok c =
     let mask : List ℕ = c.args.mask.now in
     let from : ℕ = c.args.from in
     let count : ℕ = c.args.count in
