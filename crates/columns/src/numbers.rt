@@ -1,5 +1,5 @@
 // Little-endian numbers one after another.
-ghost use Rattle.std.specs.Prelude.{◌≡◌, ◌≤◌, ◌<◌, ◌+◌, ◌-◌, ◌*◌, ◌/◌, ◌^◌, ◌++◌, ℕ, OnOk, IfSome, Some, None, min, true, false, length, drop, nat_lt};
+ghost use Rattle.std.specs.Prelude.{◌≡◌, ◌≤◌, ◌<◌, ◌+◌, ◌-◌, ◌*◌, ◌/◌, ◌^◌, ◌++◌, ℕ, OnOk, OnErr, IfSome, Some, None, min, true, false, length, drop, nat_lt};
 ghost use Rattle.byteorder.specs.Endian.{little_bytes, little_number};
 ghost use Rattle.arrow_schema.specs.View.{bits_of, date_kind};
 ghost use Rattle.arrow_schema.specs.declared.types.BitWidth.{BitWidth};
@@ -56,9 +56,10 @@ fn first_number(width: OffsetWidth, bytes: &[u8]) -> u64
 /// Appends an offset.
 ///
 /// # Errors
-/// `AllocError` where memory was refused; then nothing is promised of `offsets`.
+/// `AllocError` where memory was refused: nothing is appended.
 pub fn push_offset(offsets: &mut Vec<u8>, width: OffsetWidth, offset: u64) -> Result<(), AllocError>
-    ensures { OnOk result (offsets.new.items ≡ offsets.old.items ++ little_bytes (width_of width) offset) }
+    ensures ok { OnOk result (offsets.new.items ≡ offsets.old.items ++ little_bytes (width_of width) offset) }
+    ensures err { OnErr result (offsets.new.items ≡ offsets.old.items) }
 {
     let bytes = offset.to_le_bytes();
     match width {

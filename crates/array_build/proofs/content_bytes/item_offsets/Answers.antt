@@ -22,7 +22,7 @@ loop-cell-preserved c =
     let offsets = rw item at c.loop-cell.invariant.offsets in
     let ends = rw item at c.loop-cell.invariant.end in
     record {
-      offsets = rw (c.in_ok-push_offset.ensures, c.item_count.ensures) (append_assoc c.loop-cell.offsets.items (bytes end) (flat_map bytes (sums_from (end + length own) (map (λ other. length (item_list other)) others))) ∙ offsets);
+      offsets = rw (c.in_ok-push_offset.ensures.ok, c.item_count.ensures) (append_assoc c.loop-cell.offsets.items (bytes end) (flat_map bytes (sums_from (end + length own) (map (λ other. length (item_list other)) others))) ∙ offsets);
       end = rw c.item_count.ensures (omega (arith, length-append own (flat_map item_list others), ends));
     }
 
@@ -37,4 +37,4 @@ overflow_add-end c =
 pub returns : goal.returns
 returns c =
     last_offset (width_of c.args.width) (λ (cells : List ValueRef). map (λ cell. length (item_list cell)) (map borrowed_cell cells)) c.loop-cell.offsets.items _ _ c.loop-cell.end c.args.cells.now
-    c.loop-cell.cell-index refl c.loop-cell-test.false c.in_ok-push_offset-2.ensures c.loop-cell.invariant.offsets
+    c.loop-cell.cell-index refl c.loop-cell-test.false c.in_ok-push_offset-2.ensures.ok c.loop-cell.invariant.offsets

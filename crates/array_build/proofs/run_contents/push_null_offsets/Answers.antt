@@ -7,5 +7,5 @@ use Rattle.array_build.proofs.run_contents.push_null_offsets.Goals as goal
 pub loop-preserved : goal.loop-preserved
 loop-preserved c = λ rest.
     let w : ℕ = width_of c.args.width in
-    ap (λ (written : List ℕ). offsets_with w written c.args.start (replicate (c.args.count - (c.loop.counter + 1)) 0) rest) c.in_ok-push_offset.ensures
+    ap (λ (written : List ℕ). offsets_with w written c.args.start (replicate (c.args.count - (c.loop.counter + 1)) 0) rest) c.in_ok-push_offset.ensures.ok
     ∙ null_offset w c.loop.offsets.items c.args.start c.args.count c.loop.counter rest c.loop-test.true ∙ c.loop.invariant rest

@@ -55,7 +55,7 @@ loop-i-preserved c =
       next = ap (λ (n : ℕ). c.loop-i.next + n + length (span_contents w a (i + 1) (to - (i + 1)))) size
           ∙ next_end w a c.requires.ordered c.args.from c.args.len i c.loop-i.next c.args.start c.requires.within c.loop-i-test.true c.loop-i.invariant.next;
       offsets = λ rest.
-          ap₂ (λ (written : List ℕ) (n : ℕ). offsets_with w written (c.loop-i.next + n) (slot_sizes w a (i + 1) (to - (i + 1))) rest) c.in_ok-push_offset.ensures size
+          ap₂ (λ (written : List ℕ) (n : ℕ). offsets_with w written (c.loop-i.next + n) (slot_sizes w a (i + 1) (to - (i + 1))) rest) c.in_ok-push_offset.ensures.ok size
           ∙ slot_offset w a c.loop-i.offsets.items c.loop-i.next i to rest c.loop-i-test.true ∙ c.loop-i.invariant.offsets rest;
     }
 

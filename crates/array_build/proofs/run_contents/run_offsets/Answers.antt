@@ -64,4 +64,4 @@ loop-run-preserved c =
 pub returns : goal.returns
 returns c =
     last_offset (width_of c.args.width) (λ (rs : List SlotRun). cell_sizes (kind_cells (kind_of c.args.data_type.now) rs)) c.loop-run.offsets.items _ _ c.loop-run.next c.args.runs.now
-    c.loop-run.run-index refl c.loop-run-test.false c.in_ok-push_offset.ensures c.loop-run.invariant.offsets
+    c.loop-run.run-index refl c.loop-run-test.false c.in_ok-push_offset.ensures.ok c.loop-run.invariant.offsets

@@ -33,7 +33,7 @@ loop-i-preserved c =
     record {
       next = omega (arith, end, so_far);
       offsets = λ rest.
-          ap (λ (written : List ℕ). offsets_with w written (c.loop-i.next + size) (list_sizes (drop (i + 1) cells)) rest) c.in_ok-push_offset.ensures
+          ap (λ (written : List ℕ). offsets_with w written (c.loop-i.next + size) (list_sizes (drop (i + 1) cells)) rest) c.in_ok-push_offset.ensures.ok
           ∙ list_offset w c.loop-i.offsets.items c.loop-i.next cells i size rest lt c.list_size.ensures ∙ c.loop-i.invariant.offsets rest;
     }
 

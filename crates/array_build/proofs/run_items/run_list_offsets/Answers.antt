@@ -18,4 +18,4 @@ push_list_offsets-requires-clause-room c =
 pub returns : goal.returns
 returns c =
     last_offset (width_of c.args.width) (λ (rs : List SlotRun). list_sizes (kind_cells (list_kind c.args.width (column_of c.args.item.now)) rs)) c.loop-run.offsets.items _ _ c.loop-run.next
-    c.args.runs.now c.loop-run.run-index refl c.loop-run-test.false c.in_ok-push_offset.ensures c.loop-run.invariant.offsets
+    c.args.runs.now c.loop-run.run-index refl c.loop-run-test.false c.in_ok-push_offset.ensures.ok c.loop-run.invariant.offsets
