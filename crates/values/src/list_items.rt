@@ -1,5 +1,5 @@
 // The items of lists that are borrowed.
-ghost use Rattle.std.specs.Prelude.{◌≡◌, ◌++◌, OnOk, IfOk, map};
+ghost use Rattle.std.specs.Prelude.{◌≡◌, ◌++◌, OnOk, OnErr, IfOk, map};
 ghost use Rattle.std.specs.List.{flat_map};
 ghost use Rattle.cells.specs.Dictionary.{item_list};
 ghost use Rattle.values.specs.Borrowed.{borrowed_cell, borrowed_cells};
@@ -10,11 +10,19 @@ use std::alloc::{AllocError, Global};
 /// Appends values that are borrowed, in order.
 ///
 /// # Errors
-/// `AllocError` where memory was refused; then nothing is promised of `cells`.
+/// `AllocError` where memory was refused: nothing is appended.
 pub fn push_all<'a>(cells: &mut Vec<ValueRef<'a>>, values: Values<'a>) -> Result<(), AllocError>
-    ensures { OnOk result (map borrowed_cell cells.new.items ≡ map borrowed_cell cells.old.items ++ borrowed_cells values.entry) }
+    ensures ok { OnOk result (map borrowed_cell cells.new.items ≡ map borrowed_cell cells.old.items ++ borrowed_cells values.entry) }
+    ensures err { OnErr result (cells.new.items ≡ cells.old.items) }
 {
-    cells.extend(values.iter())
+    let before = cells.len();
+    match cells.extend(values.iter()) {
+        Ok(()) => Ok(()),
+        Err(error) => {
+            cells.truncate(before);
+            Err(error)
+        }
+    }
 }
 
 // The items of a list: none of another value.
