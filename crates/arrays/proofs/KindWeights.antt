@@ -16,7 +16,7 @@ use Rattle.arrays.proofs.SpanWeights.{each_same, each_both, each_more, each_span
 
 -- ---- texts and binaries
 
-size_taken : (n k : ℕ) (xs : List ℕ) → k + n ≤ length xs → length (take n (drop k xs)) ≡ n
+pub size_taken : (n k : ℕ) (xs : List ℕ) → k + n ≤ length xs → length (take n (drop k xs)) ≡ n
 size_taken n k xs le = simp (length-take, length-drop) (omega arith)
 
 contents_weigh : (width : ℕ) (a : Array) (w : Cell → ℕ) (f : ℕ → Cell) (start n : ℕ) → ((i : ℕ) → w (f i) ≡ 1 + length (contents_at width a i))

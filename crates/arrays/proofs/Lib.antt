@@ -13,6 +13,7 @@ pub mod Ends
 pub mod Answered
 pub mod SpanWeights
 pub mod KindWeights
+pub mod MaskedWeights
 pub mod RowWeights
 pub mod VisibleSpans
 pub mod SpanLists

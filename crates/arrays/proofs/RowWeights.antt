@@ -61,6 +61,10 @@ heavy_alone s before arrays rows h =
     let within : nat_lt MAX_TABLE_WEIGHT (before + table_weight s (rows_in (columns_of s.columns) arrays rows)) ≡ false = rw whole (le-ltb MAX_TABLE_WEIGHT (before + rows_weight (columns_of s.columns) arrays 0 rows) h) in
     rw within (or-false (list_any (heavy s) (rows_in (columns_of s.columns) arrays rows)) ∙ rows_heavy s arrays rows)
 
+pub heavy_found : (s : PlainSchema) (before : ℕ) (arrays : Arrays) (rows : ℕ) → list_any (is_heavy (columns_of s.columns) arrays) (range_with_len 0 rows) ≡ true
+    → are_too_heavy s before (rows_in (columns_of s.columns) arrays rows) ≡ true
+heavy_found s before arrays rows h = rw (rows_heavy s arrays rows ∙ h) refl
+
 -- ---- what is answered of them
 
 pub none_within : (s : PlainSchema) (before : ℕ) (rows : List (List Cell)) → are_too_heavy s before rows ≡ true → None ≡ weight_within s before rows
@@ -102,7 +106,7 @@ none_heavy cs arrays start (suc n) le =
     let here : is_heavy cs arrays start ≡ false = le-ltb MAX_ROW_WEIGHT (rows_weight cs arrays start 1) (omega (arith, parts, all)) in
     rw here (none_heavy cs arrays (start + 1) n (omega (arith, parts, all)))
 
-no_rows : (cs : Columns) (arrays : Arrays) (start : ℕ) → rows_weight cs arrays start 0 ≡ 0
+pub no_rows : (cs : Columns) (arrays : Arrays) (start : ℕ) → rows_weight cs arrays start 0 ≡ 0
 no_rows cs arrays start =
     let e : start + 0 ≡ start = omega arith in
     let both : rows_weight cs arrays start (0 + 0) ≡ rows_weight cs arrays start 0 + rows_weight cs arrays (start + 0) 0 = rows_halved cs arrays start 0 0 in
@@ -143,3 +147,20 @@ pub found_behind : (p : ℕ → Bool) (start n m : ℕ) (found : Bool) → m ≤
 found_behind p start n m found le front behind =
     let all : list_any p (range_with_len start n) ≡ list_any p (range_with_len (start + m) (n - m)) = any_cut p start n m le ∙ rw (← front) refl in
     behind ∙ sym all
+
+-- ---- some rows more
+
+pub rows_after : (cs : Columns) (arrays : Arrays) (start n : ℕ) → rows_weight cs arrays 0 (start + n) ≡ rows_weight cs arrays 0 start + rows_weight cs arrays start n
+rows_after cs arrays start n = let z : 0 + start ≡ start = omega arith in rw z at (rows_halved cs arrays 0 start n)
+
+pub any_after : (p : ℕ → Bool) (start n : ℕ) → list_any p (range_with_len 0 (start + n)) ≡ (list_any p (range_with_len 0 start) || list_any p (range_with_len start n))
+any_after p start n = let z : 0 + start ≡ start = omega arith in rw z at (any_halved p 0 start n)
+
+-- they weigh no more than all
+pub rows_within : (cs : Columns) (arrays : Arrays) (start n rows : ℕ) → start + n ≤ rows → rows_weight cs arrays 0 start + rows_weight cs arrays start n ≤ rows_weight cs arrays 0 rows
+rows_within cs arrays start n rows le = omega (arith, rows_cut cs arrays 0 rows (start + n) le, rows_after cs arrays start n)
+
+pub any_within : (p : ℕ → Bool) (start n rows : ℕ) → start + n ≤ rows → list_any p (range_with_len start n) ≡ true → list_any p (range_with_len 0 rows) ≡ true
+any_within p start n rows le h =
+    let front : list_any p (range_with_len 0 (start + n)) ≡ true = any_after p start n ∙ or_right (list_any p (range_with_len 0 start)) _ h in
+    any_cut p 0 rows (start + n) le ∙ rw front refl

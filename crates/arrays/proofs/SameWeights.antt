@@ -5,14 +5,15 @@ use Rattle.std.proofs.lemmas.List.{drop_all}
 use Rattle.facts.specs.laws.Lists.{drop-item}
 use Rattle.arrow_schema.specs.declared.types.Field.{Field}
 use Rattle.arrow_schema.specs.Column.{Kind, Column, Columns, nulls, booleans, integers, dates, timestamps, texts, large_texts, binaries, large_binaries, fixed_binaries, lists, large_lists, fixed_lists, structs, column, no_column, and_column}
-use Rattle.arrow_schema.specs.View.{column_of}
+use Rattle.arrow_schema.specs.View.{column_of, kind_of}
+use Rattle.arrow_schema.specs.Parts.{kind_of_column}
+use Rattle.arrow_schema.specs.laws.Parts.{kind_of_field}
 use Rattle.cells.specs.Cell.{Cell, Cells, null}
 use Rattle.cells.specs.Weight.{weight, kind_weight, parts_weight, first_part, other_parts, parts_in}
 use Rattle.columns.specs.Array.{Array}
-use Rattle.columns.specs.CellAt.{kind_cell, unless_null}
 use Rattle.columns.specs.View.{fields_of}
 use Rattle.arrays.specs.inner.Varying.{may_vary_in, may_vary, any_may_vary}
-use Rattle.arrays.specs.inner.Weights.{plain_weight}
+use Rattle.arrays.specs.inner.Weights.{masked_cell, masked_weight}
 use Rattle.arrays.proofs.SpanWeights.{each_same}
 
 mutual
@@ -45,9 +46,17 @@ mutual
       let others : parts_weight cs (other_parts xs) ≡ parts_weight cs (other_parts ys) = same_parts cs (other_parts xs) (other_parts ys) both.1 in
       omega (arith, first, others)
 
--- so many slots of it are so many nulls
-pub alike_weigh : (k : Kind) (a : Array) (start n : ℕ) → may_vary k ≡ false → plain_weight k a start n ≡ n * kind_weight k null
-alike_weigh k a start n h = each_same (kind_weight k) (unless_null (kind_cell k) a) (kind_weight k null) start n (λ i le lt. same_weight k (unless_null (kind_cell k) a i) null h)
+column_varies : (c : Column) → may_vary_in c ≡ may_vary (kind_of_column c)
+unfolding may_vary_in
+column_varies (column name nullable kind dictionary pairs) = refl
+
+-- so many slots of such a field are so many nulls, also where they are null because others are
+pub alike_masked : (field : Field) (mask a : Array) (start n : ℕ) → may_vary (kind_of field.data_type) ≡ false
+    → masked_weight (column_of field) mask a start n ≡ n * weight (column_of field) null
+alike_masked field mask a start n h =
+    let same : may_vary_in (column_of field) ≡ false = column_varies (column_of field) ∙ ap may_vary (kind_of_field field) ∙ h in
+    each_same (weight (column_of field)) (masked_cell (column_of field) mask a) (weight (column_of field) null) start n
+    (λ i le lt. same_cell (column_of field) (masked_cell (column_of field) mask a i) null same)
 
 -- ---- field by field
 

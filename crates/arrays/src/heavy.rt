@@ -16,6 +16,9 @@ use arrow_schema::Field;
 use cells::{MAX_ROW_WEIGHT, MAX_TABLE_WEIGHT, TOO_HEAVY, add_weights};
 use columns::{Dictionary, PlacedArray, no_array};
 
+// How many rows are weighed at once. Of as many columns as there may be, whose cells have no bytes, so many rows weigh no more than one may.
+const ROWS_AT_ONCE: usize = 8192;
+
 // So many rows, from one on.
 fn rows_weight(placed: Placed<'_>, from: usize, count: usize, none: &PlacedArray) -> u64
     requires empty { IsNoArray none.now }
@@ -62,18 +65,29 @@ fn has_heavy_row(
         || has_heavy_row(placed, from + half, count - half, total - front, none)
 }
 
+// Some rows after others: where they weigh no more than one may, as most do, they are gone through once.
 fn weigh(before: u64, placed: Placed<'_>, rows: usize, none: &PlacedArray) -> Option<u64>
     requires empty { IsNoArray none.now }
     requires sound { are_sound (columns_of (map column_of placed.fields.now)) rows (placed_in placed) ≡ true }
     ensures { (s : PlainSchema) → s.columns ≡ map column_of placed.entry.fields.now
         → result ≡ weight_within s before (rows_in (columns_of s.columns) (placed_in placed.entry) rows) }
 {
-    let total = rows_weight(placed, 0, rows, none);
-    if add_weights(before, total) > MAX_TABLE_WEIGHT {
+    if before > MAX_TABLE_WEIGHT {
         return None;
     }
-    if has_heavy_row(placed, 0, rows, total, none) {
-        return None;
+    let mut total = 0;
+    let mut start = 0;
+    while start < rows {
+        let count = (rows - start).min(ROWS_AT_ONCE);
+        let part = rows_weight(placed, start, count, none);
+        if add_weights(before + total, part) > MAX_TABLE_WEIGHT {
+            return None;
+        }
+        if has_heavy_row(placed, start, count, part, none) {
+            return None;
+        }
+        total += part;
+        start += count;
     }
     Some(total)
 }

@@ -23,6 +23,7 @@ mod heavy;
 mod laws;
 mod lengths;
 mod limits;
+mod masked;
 mod null_type;
 mod place;
 mod raw;

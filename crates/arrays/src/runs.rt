@@ -23,11 +23,14 @@ pub(crate) fn run_to(view: ArrayView<'_>, from: usize, to: usize) -> usize
     bitmap::run_end(validity, from, to)
 }
 
-/// Whether slots from one on up to another have more than one run.
-pub(crate) fn are_split(view: ArrayView<'_>, from: usize, to: usize) -> bool
+/// Whether slots from one on up to another are one run, or less.
+pub(crate) fn are_alike(view: ArrayView<'_>, from: usize, to: usize) -> bool
     requires long { has_short_validity (view_array view) ≡ false }
     requires within { to ≤ slots_in (view_array view) }
-    ensures { result ≡ true → from < to }
+    ensures { result ≡ true → (i : ℕ) → from ≤ i → i < to → is_valid (view_array view.entry) i ≡ is_valid (view_array view.entry) from }
 {
-    from < to && from + 1 < to && run_to(view, from, to) < to
+    if to <= from || to - from == 1 {
+        return true;
+    }
+    run_to(view, from, to) == to
 }

@@ -12,9 +12,10 @@ ghost use Rattle.columns.specs.Offsets.{width_of};
 ghost use Rattle.columns.specs.Sound.{is_sound, is_kind_sound, are_sound};
 ghost use Rattle.columns.specs.Tests.{are_few, are_few_offsets, are_unordered, has_short_validity};
 ghost use Rattle.columns.specs.View.{view_array, placed_arrays, IsNoArray};
-ghost use Rattle.arrays.specs.inner.Weights.{AreEntryWeights, IsKnownTotal, IsKnownWeight, sum_from, span_weight, plain_weight, valid_weight, parts_span_weight, has_one_weight};
+ghost use Rattle.arrays.specs.inner.Weights.{AreEntryWeights, IsKnownTotal, IsKnownWeight, sum_from, span_weight, plain_weight, valid_weight, masked_weight, parts_span_weight, has_one_weight};
 
-use crate::runs::{are_split, run_to};
+use crate::masked::{contents_width, masked_contents_weight};
+use crate::runs::{are_alike, run_to};
 use crate::varying::may_vary;
 use arrow_schema::{BitWidth, DataType, DictSpec, Field};
 use cells::{TOO_HEAVY, Value, add_weights, multiply_weight, weight};
@@ -93,9 +94,59 @@ fn span_weight(
     }
 }
 
-// Without a dictionary: run by run, unless all cells weigh the same. That is asked only where there are more runs than one, so that it costs no more than they do.
+// Without a dictionary. Where some of the slots are null they are not gone through run by run, unless what is below them has to be.
 #[cycle(weights)]
 fn plain_weight(
+    field: &Field,
+    view: ArrayView<'_>,
+    from: usize,
+    count: usize,
+    none: &PlacedArray,
+) -> u64
+    requires empty { IsNoArray none.now }
+    requires varied { has_one_weight (kind_of field.now.data_type) ≡ false }
+    requires sound { is_kind_sound (kind_of field.now.data_type) (view_array view) ≡ true }
+    requires within { from + count ≤ slots_in (view_array view) }
+    ensures { result ≡ capped_weight (plain_weight (kind_of field.now.data_type) (view_array view.entry) from count) }
+{
+    if count == 0 {
+        return 0;
+    }
+    // a number of the code is below 2^64, so that the sum is too
+    let _slots = view.slots();
+    if are_alike(view, from, from + count) {
+        return run_weight(field, view, from, count, none);
+    }
+    match contents_width(&field.data_type) {
+        Some(width) => masked_contents_weight(width, view, view, from, count),
+        None => mixed_weight(field, view, from, count, none),
+    }
+}
+
+// Of a type that has cells below it.
+#[cycle(weights)]
+fn mixed_weight(
+    field: &Field,
+    view: ArrayView<'_>,
+    from: usize,
+    count: usize,
+    none: &PlacedArray,
+) -> u64
+    requires empty { IsNoArray none.now }
+    requires varied { has_one_weight (kind_of field.now.data_type) ≡ false }
+    requires sound { is_kind_sound (kind_of field.now.data_type) (view_array view) ≡ true }
+    requires within { from + count ≤ slots_in (view_array view) }
+    ensures { result ≡ capped_weight (plain_weight (kind_of field.now.data_type) (view_array view.entry) from count) }
+{
+    match &field.data_type {
+        DataType::Struct(fields) => masked_fields_weight(fields, view, from, count, none),
+        _ => runs_weight(field, view, from, count, none),
+    }
+}
+
+// Run by run; nulls are counted, and weighed once.
+#[cycle(weights)]
+fn runs_weight(
     field: &Field,
     view: ArrayView<'_>,
     from: usize,
@@ -111,21 +162,116 @@ fn plain_weight(
     // a number of the code is below 2^64, so that the sum is too
     let _slots = view.slots();
     let end = from + count;
-    if are_split(view, from, end) && !may_vary(&field.data_type) {
-        return nulls_weight(field, count);
-    }
     let mut total = 0;
+    let mut nulls = 0;
     let mut start = from;
     while start < end {
         if total == TOO_HEAVY {
             return TOO_HEAVY;
         }
         let next = run_to(view, start, end);
-        let run = run_weight(field, view, start, next - start, none);
-        total = add_weights(total, run);
+        if view.is_valid(start) {
+            let run = valid_weight(&field.data_type, view, start, next - start, none);
+            total = add_weights(total, run);
+        } else {
+            nulls += next - start;
+        }
         start = next;
     }
-    total
+    add_weights(total, nulls_weight(field, nulls))
+}
+
+// Structs of which some are null: each field is gone through once for all of them. A null struct weighs as if its fields were null.
+#[cycle(weights)]
+fn masked_fields_weight(
+    fields: &[Field],
+    view: ArrayView<'_>,
+    from: usize,
+    count: usize,
+    none: &PlacedArray,
+) -> u64
+    requires empty { IsNoArray none.now }
+    requires sound { is_kind_sound (structs (columns_of (map column_of fields.now))) (view_array view) ≡ true }
+    requires within { from + count ≤ slots_in (view_array view) }
+    ensures { result ≡ capped_weight (plain_weight (structs (columns_of (map column_of fields.now))) (view_array view.entry) from count) }
+{
+    let children = view.children();
+    let mut total = 0;
+    for (i, field) in fields.iter().enumerate() {
+        let child = ArrayView {
+            array: array_or(children, i, none),
+            bytes: view.bytes,
+            dictionaries: view.dictionaries,
+        };
+        let part = masked_weight(field, child, view, from, count, none);
+        total = add_weights(total, part);
+    }
+    add_weights(count as u64, total)
+}
+
+// The cells of a field at slots, which are null where those of another array are.
+#[cycle(weights)]
+fn masked_weight(
+    field: &Field,
+    view: ArrayView<'_>,
+    mask: ArrayView<'_>,
+    from: usize,
+    count: usize,
+    none: &PlacedArray,
+) -> u64
+    requires empty { IsNoArray none.now }
+    requires sound { is_sound (column_of field.now) (view_array view) ≡ true }
+    requires within { from + count ≤ slots_in (view_array view) }
+    requires long { has_short_validity (view_array mask) ≡ false }
+    requires below { from + count ≤ slots_in (view_array mask) }
+    ensures { result ≡ capped_weight (masked_weight (column_of field.now) (view_array mask.entry) (view_array view.entry) from count) }
+{
+    if !may_vary(&field.data_type) {
+        return nulls_weight(field, count);
+    }
+    match (&field.dictionary, contents_width(&field.data_type)) {
+        (None, Some(width)) => masked_contents_weight(width, view, mask, from, count),
+        _ => masked_runs_weight(field, view, mask, from, count, none),
+    }
+}
+
+// The same by the runs of the other array.
+#[cycle(weights)]
+fn masked_runs_weight(
+    field: &Field,
+    view: ArrayView<'_>,
+    mask: ArrayView<'_>,
+    from: usize,
+    count: usize,
+    none: &PlacedArray,
+) -> u64
+    requires empty { IsNoArray none.now }
+    requires sound { is_sound (column_of field.now) (view_array view) ≡ true }
+    requires within { from + count ≤ slots_in (view_array view) }
+    requires long { has_short_validity (view_array mask) ≡ false }
+    requires below { from + count ≤ slots_in (view_array mask) }
+    ensures { result ≡ capped_weight (masked_weight (column_of field.now) (view_array mask.entry) (view_array view.entry) from count) }
+{
+    // a number of the code is below 2^64, so that the sum is too
+    let _slots = view.slots();
+    let end = from + count;
+    let mut total = 0;
+    let mut nulls = 0;
+    let mut start = from;
+    while start < end {
+        if total == TOO_HEAVY {
+            return TOO_HEAVY;
+        }
+        let next = run_to(mask, start, end);
+        if mask.is_valid(start) {
+            let run = span_weight(field, view, start, next - start, none);
+            total = add_weights(total, run);
+        } else {
+            nulls += next - start;
+        }
+        start = next;
+    }
+    add_weights(total, nulls_weight(field, nulls))
 }
 
 // Slots that are all valid, or all not.

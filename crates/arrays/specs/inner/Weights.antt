@@ -1,5 +1,5 @@
 -- What spans of slots weigh.
-use Rattle.std.specs.Prelude.{◌≡◌, ◌<◌, get_or, length, ℕ, ◌+◌, Bool, true, false, List, map, sum_by, Option, Some, None, IfSome, if◌then◌else◌}
+use Rattle.std.specs.Prelude.{◌≡◌, ◌<◌, get_or, length, ℕ, ◌+◌, Bool, true, false, ◌&&◌, List, map, sum_by, Option, Some, None, IfSome, if◌then◌else◌}
 use Rattle.std.specs.List.{range_with_len}
 use Rattle.arrow_schema.specs.Column.{PlainSchema, Kind, Column, Columns, nulls, booleans, integers, dates, timestamps, texts, large_texts, binaries, large_binaries, fixed_binaries, lists, large_lists, fixed_lists, structs, no_column, and_column}
 use Rattle.cells.specs.Cell.{Cell, null}
@@ -7,7 +7,7 @@ use Rattle.cells.specs.Weight.{capped_weight, weight, kind_weight, table_weight}
 use Rattle.arrow_schema.specs.View.{index_of}
 use Rattle.arrow_schema.specs.declared.types.DictSpec.{DictSpec}
 use Rattle.columns.specs.Array.{Array, Arrays, dictionary_in, first_array, other_arrays}
-use Rattle.columns.specs.CellAt.{cell_at, entries_of_kind, indexed_cell, kind_cell, unless_null}
+use Rattle.columns.specs.CellAt.{cell_at, entries_of_kind, indexed_cell, is_valid, kind_cell, span_size, unless_null}
 use Rattle.columns.specs.View.{view_array}
 use Rattle.columns.specs.declared.view.ArrayView.{ArrayView}
 use Rattle.arrays.specs.Checks.{are_too_heavy}
@@ -32,6 +32,30 @@ valid_weight k a start n = sum_from (kind_weight k) (kind_cell k a) start n
 unfoldable pub parts_span_weight : Columns → Arrays → (start n : ℕ) → ℕ
 parts_span_weight no_column arrays start n = 0
 parts_span_weight (and_column c cs) arrays start n = span_weight c (first_array arrays) start n + parts_span_weight cs (other_arrays arrays) start n
+
+-- the cells of a column at some slots, which are nulls where those of another array are not valid
+abbrev pub masked_cell : Column → (mask a : Array) → ℕ → Cell
+masked_cell c mask a i = if is_valid mask i then cell_at c a i else null
+
+abbrev pub masked_weight : Column → (mask a : Array) → (start n : ℕ) → ℕ
+masked_weight c mask a start n = sum_from (weight c) (masked_cell c mask a) start n
+
+-- the same of each of some columns
+unfoldable pub masked_parts_weight : Columns → (mask : Array) → Arrays → (start n : ℕ) → ℕ
+masked_parts_weight no_column mask arrays start n = 0
+masked_parts_weight (and_column c cs) mask arrays start n = masked_weight c mask (first_array arrays) start n + masked_parts_weight cs mask (other_arrays arrays) start n
+
+-- how wide the offsets of texts and binaries are
+abbrev pub contents_width : Kind → Option ℕ
+contents_width texts = Some 4
+contents_width large_texts = Some 8
+contents_width binaries = Some 4
+contents_width large_binaries = Some 8
+contents_width _ = None
+
+-- what some slots have by their offsets, of those that are valid and are so in another array too
+abbrev pub masked_sizes : (width : ℕ) → (mask a : Array) → (start n : ℕ) → ℕ
+masked_sizes width mask a start n = sum_from (λ (size : ℕ). size) (λ i. if is_valid mask i && is_valid a i then span_size width a i else 0) start n
 
 -- each cell of the type has the same weight
 abbrev pub has_one_weight : Kind → Bool

@@ -1,8 +1,8 @@
-use Rattle.std.specs.Prelude.{Option, Some, nat_le}
+use Rattle.std.specs.Prelude.{Option, Some, nat_le, option_map}
 use Rattle.std.specs.List.{list_all}
 use Rattle.std.proofs.Common.{◌≡◌, ◌+◌, ◌-◌, ◌*◌, ℕ, ◌<◌, ◌≤◌, List, get_or, inl, inr, length, set, subst, take, true, false, map, drop, refl, sym, ap, arith, rules, ◌∙◌}
 use Rattle.arrow_schema.specs.declared.types.Field.{the_lemmas as field_lemmas}
-use Rattle.arrow_schema.specs.Column.{Kind, columns_of, texts, large_texts, binaries, large_binaries, lists, large_lists, fixed_lists, structs}
+use Rattle.arrow_schema.specs.Column.{Kind, Column, Columns, columns_of, texts, large_texts, binaries, large_binaries, lists, large_lists, fixed_lists, structs}
 use Rattle.arrow_schema.specs.View.{kind_of, column_of, index_of}
 use Rattle.arrow_schema.specs.Parts.{kind_of_column}
 use Rattle.std.proofs.lemmas.Bool.{and_parts, cases_lt}
@@ -22,9 +22,10 @@ use Rattle.columns.specs.laws.Offsets.{spans_fit}
 use Rattle.columns.specs.laws.Rows.{fewer_sound}
 use Rattle.facts.specs.laws.Lists.{drop-item}
 use Rattle.arrays.specs.inner.Varying.{may_vary}
-use Rattle.arrays.specs.inner.Weights.{AreEntryWeights, has_one_weight, sum_from, valid_weight}
+use Rattle.arrays.specs.inner.Weights.{AreEntryWeights, contents_width, has_one_weight, masked_parts_weight, masked_weight, plain_weight, sum_from, valid_weight}
 use Rattle.arrays.proofs.SpanWeights.{plain_sound, plain_spanned, coded_sound, coded_spanned, known_weight, one_slot, valid_weighs, column_one_weight, valid_run, null_run, run_more, slot_more, next_total, parts_next, parts_end, sound_next}
-use Rattle.arrays.proofs.SameWeights.{alike_weigh}
+use Rattle.arrays.proofs.SameWeights.{alike_masked}
+use Rattle.arrays.proofs.MaskedWeights.{contents_sound, field_null, masked_contents, masked_end, masked_more, masked_next, masked_null_run, masked_valid_run, nulls_more, plain_contents, structs_masked, valid_more}
 use Rattle.columns.specs.laws.SoundParts.{sound_parts, sound_validity}
 use Rattle.arrays.proofs.KindWeights.{items_total, fixed_total, fields_total, fixed_within}
 use Rattle.arrays.proofs.weights.+weights.Goals as goal
@@ -61,45 +62,152 @@ pub span_weight-returns-in-Some : goal.span_weight-returns-in-Some
 span_weight-returns-in-Some t c =
     c.entries_weight.ensures ∙ ap capped_weight (coded_spanned c.args.field.now c.in-Some.spec (view_array c.args.view) c.args.from c.args.count c.in-Some.is)
 
-pub plain_weight-are_split-requires-clause-long : goal.plain_weight-are_split-requires-clause-long
-plain_weight-are_split-requires-clause-long t c = sound_validity (kind_of c.args.field.now.data_type) (view_array c.args.view) c.requires.sound
+pub plain_weight-returns-in-Some : goal.plain_weight-returns-in-Some
+plain_weight-returns-in-Some t c =
+    let kind : Kind = kind_of c.args.field.now.data_type in
+    let a : Array = view_array c.args.view in
+    let width : contents_width kind ≡ Some (width_of c.in-Some.width) = sym c.contents_width.ensures ∙ ap (option_map width_of) c.in-Some.is in
+    let tests = contents_sound kind (width_of c.in-Some.width) a width c.requires.sound in
+    c.masked_contents_weight.ensures ∙ ap capped_weight (sym (plain_contents kind (width_of c.in-Some.width) a c.args.from c.args.count width tests.1 c.requires.within))
 
-pub plain_weight-returns-then-not-may_vary : goal.plain_weight-returns-then-not-may_vary
-plain_weight-returns-then-not-may_vary t c =
-    let same : may_vary (kind_of c.args.field.now.data_type) ≡ false = sym c.may_vary.ensures ∙ c.if-not-may_vary.true in
-    c.nulls_weight.ensures ∙ ap capped_weight (sym (alike_weigh (kind_of c.args.field.now.data_type) (view_array c.args.view) c.args.from c.args.count same))
+pub runs_weight-loop-start-preserved-then-is_valid : goal.runs_weight-loop-start-preserved-then-is_valid
+runs_weight-loop-start-preserved-then-is_valid t c =
+    let kind : Kind = kind_of c.args.field.now.data_type in
+    let a : Array = view_array c.args.view in
+    let start : ℕ = c.loop-start.start in
+    let next : ℕ = c.run_to-next.result in
+    let seam = c.run_to-next.ensures in
+    let more = run_more kind a start next (c.args.from + c.args.count) (omega (arith, seam.begins)) seam.ends in
+    let valid = valid_run kind a start (next - start) (sym c.if-is_valid.ensures) (λ i from to. seam.alike i from (omega arith)) in
+    let total = valid_more _ _ _ _ _ _ _ _ _ c.loop-start.invariant.sums more (c.valid_weight-run.ensures ∙ ap capped_weight (sym valid)) c.add_weights-total.ensures in
+    record { low = omega (arith, seam.begins, c.loop-start.invariant.low); within = seam.ends; few = omega (arith, seam.begins, c.loop-start.invariant.few); sums = total.0; capped = total.1 }
 
-pub plain_weight-run_to-next-requires-clause-long : goal.plain_weight-run_to-next-requires-clause-long
-plain_weight-run_to-next-requires-clause-long t c = sound_validity (kind_of c.args.field.now.data_type) (view_array c.args.view) c.requires.sound
+pub runs_weight-loop-start-preserved : goal.runs_weight-loop-start-preserved
+runs_weight-loop-start-preserved t c =
+    let kind : Kind = kind_of c.args.field.now.data_type in
+    let a : Array = view_array c.args.view in
+    let start : ℕ = c.loop-start.start in
+    let next : ℕ = c.run_to-next.result in
+    let seam = c.run_to-next.ensures in
+    let more = run_more kind a start next (c.args.from + c.args.count) (omega (arith, seam.begins)) seam.ends in
+    let hidden = null_run kind a start (next - start) (sym c.if-is_valid.ensures) (λ i from to. seam.alike i from (omega arith)) in
+    let sums = nulls_more _ _ _ _ _ (next - start) _ c.loop-start.invariant.sums (more ∙ ap (λ (n : ℕ). n + plain_weight kind a next (c.args.from + c.args.count - next)) hidden) in
+    record {
+      low = omega (arith, seam.begins, c.loop-start.invariant.low);
+      within = seam.ends;
+      few = omega (arith, seam.begins, c.loop-start.invariant.low, c.loop-start.invariant.few);
+      sums = sums;
+      capped = c.loop-start.invariant.capped;
+    }
 
-pub plain_weight-run_weight-run-requires : goal.plain_weight-run_weight-run-requires
-plain_weight-run_weight-run-requires t c = (
-  search (rules, field_lemmas),
-  (
-    c.requires.empty,
-    (
-      c.requires.varied,
+pub masked_fields_weight-loop-i-init : goal.masked_fields_weight-loop-i-init
+unfolding has_sound_children
+masked_fields_weight-loop-i-init t c =
+    let a : Array = view_array c.args.view in
+    let columns : Columns = columns_of (map column_of c.args.fields.now) in
+    let same = ap (λ (arrays : Arrays). masked_parts_weight columns a arrays c.args.from c.args.count) c.children-children.ensures in
+    let parts = sound_parts _ (structs columns) a refl c.requires.sound in
+    record {
+      sums = omega (arith, same);
+      capped = refl;
+      sound = rw c.children-children.ensures (fewer_sound columns (children_in a) (slots_in a) (c.args.from + c.args.count) parts.2 c.requires.within);
+    }
+
+pub masked_fields_weight-masked_weight-part-requires : goal.masked_fields_weight-masked_weight-part-requires
+masked_fields_weight-masked_weight-part-requires t c =
+    let part = sound_next c.args.view.bytes.now c.args.view.dictionaries.now c.args.fields.now c.children-children.result.now c.loop-i.i c.index-fields-i.result _ (c.args.from + c.args.count)
+    (drop-item c.args.fields.now c.loop-i.i c.index-fields-i.result c.loop-i-test.true c.index-fields-i.is) (c.array_or.ensures c.args.view.bytes.now c.args.view.dictionaries.now) c.loop-i.invariant.sound in (
+      search (rules, field_lemmas),
       (
-        c.requires.sound,
-        (
-          omega (arith, c.run_to-next.ensures.begins),
-          (omega (arith, c.run_to-next.ensures.begins, c.run_to-next.ensures.ends, c.requires.within), λ i from to. c.run_to-next.ensures.alike i from (omega arith)),
-        ),
+        c.requires.empty,
+        (part.1, (part.0, (sound_validity (structs (columns_of (map column_of c.args.fields.now))) (view_array c.args.view) c.requires.sound, c.requires.within))),
       ),
-    ),
-  ),
-)
+    )
 
-pub plain_weight-loop-start-preserved : goal.plain_weight-loop-start-preserved
-plain_weight-loop-start-preserved t c =
-    let more = run_more (kind_of c.args.field.now.data_type) (view_array c.args.view) c.loop-start.start c.run_to-next.result (c.args.from + c.args.count) (omega arith) c.run_to-next.ensures.ends in
-    let total = next_total _ _ _ _ _ _ _ c.loop-start.invariant.sums more c.run_weight-run.ensures c.add_weights-total.ensures in
-    record { within = c.run_to-next.ensures.ends; sums = total.0; capped = total.1 }
+pub masked_fields_weight-loop-i-preserved : goal.masked_fields_weight-loop-i-preserved
+masked_fields_weight-loop-i-preserved t c =
+    let bytes : List ℕ = c.args.view.bytes.now in
+    let all = c.args.view.dictionaries.now in
+    let fields = c.args.fields.now in
+    let arrays = c.children-children.result.now in
+    let item = drop-item fields c.loop-i.i c.index-fields-i.result c.loop-i-test.true c.index-fields-i.is in
+    let array = c.array_or.ensures bytes all in
+    let more = masked_next bytes all fields arrays c.loop-i.i c.index-fields-i.result (view_array c.args.view) _ c.args.from c.args.count item array in
+    let total = next_total _ _ _ _ _ _ _ c.loop-i.invariant.sums more c.masked_weight-part.ensures c.add_weights-total.ensures in
+    let others = sound_next bytes all fields arrays c.loop-i.i c.index-fields-i.result _ (c.args.from + c.args.count) item array c.loop-i.invariant.sound in
+    record { sums = total.0; capped = total.1; sound = others.2 }
 
-pub plain_weight-returns : goal.plain_weight-returns
-plain_weight-returns t c =
+pub masked_fields_weight-returns : goal.masked_fields_weight-returns
+masked_fields_weight-returns t c =
+    let a : Array = view_array c.args.view in
+    let none = masked_end c.args.fields.now c.loop-i.i a (placed_arrays c.args.view.bytes.now c.args.view.dictionaries.now (drop c.loop-i.i c.children-children.result.now)) c.args.from c.args.count
+    c.loop-i-test.false in
+    let whole = structs_masked (columns_of (map column_of c.args.fields.now)) a c.args.from c.args.count in
+    omega (arith, none, whole, c.loop-i.invariant.sums, c.loop-i.invariant.capped, c.add_weights.ensures)
+
+pub masked_weight-returns-then-not-may_vary : goal.masked_weight-returns-then-not-may_vary
+masked_weight-returns-then-not-may_vary t c =
+    let same : may_vary (kind_of c.args.field.now.data_type) ≡ false = sym c.may_vary.ensures ∙ c.if-not-may_vary.true in
+    c.nulls_weight.ensures
+    ∙ ap capped_weight (ap (λ (n : ℕ). c.args.count * n) (field_null c.args.field.now) ∙ sym (alike_masked c.args.field.now (view_array c.args.mask) (view_array c.args.view) c.args.from c.args.count same))
+
+pub masked_weight-masked_contents_weight-requires-clause-short : goal.masked_weight-masked_contents_weight-requires-clause-short
+masked_weight-masked_contents_weight-requires-clause-short t c =
+    sound_validity (kind_of c.args.field.now.data_type) (view_array c.args.view) (plain_sound c.args.field.now (view_array c.args.view) c.in-None-Some.is-0 c.requires.sound)
+
+pub masked_weight-masked_contents_weight-requires-clause-few : goal.masked_weight-masked_contents_weight-requires-clause-few
+masked_weight-masked_contents_weight-requires-clause-few t c =
+    let kind : Kind = kind_of c.args.field.now.data_type in
+    let a : Array = view_array c.args.view in
+    let width : contents_width kind ≡ Some (width_of c.in-None-Some.width) = sym c.contents_width.ensures ∙ ap (option_map width_of) c.in-None-Some.is-1 in
+    (contents_sound kind (width_of c.in-None-Some.width) a width (plain_sound c.args.field.now a c.in-None-Some.is-0 c.requires.sound)).0
+
+pub masked_weight-returns-in-None-Some : goal.masked_weight-returns-in-None-Some
+masked_weight-returns-in-None-Some t c =
+    let kind : Kind = kind_of c.args.field.now.data_type in
+    let a : Array = view_array c.args.view in
+    let width : contents_width kind ≡ Some (width_of c.in-None-Some.width) = sym c.contents_width.ensures ∙ ap (option_map width_of) c.in-None-Some.is-1 in
+    let tests = contents_sound kind (width_of c.in-None-Some.width) a width (plain_sound c.args.field.now a c.in-None-Some.is-0 c.requires.sound) in
+    c.masked_contents_weight.ensures
+    ∙ ap capped_weight (sym (masked_contents c.args.field.now (width_of c.in-None-Some.width) (view_array c.args.mask) a c.args.from c.args.count c.in-None-Some.is-0 width tests.1 c.requires.within))
+
+pub masked_runs_weight-loop-start-preserved-then-is_valid : goal.masked_runs_weight-loop-start-preserved-then-is_valid
+masked_runs_weight-loop-start-preserved-then-is_valid t c =
+    let column : Column = column_of c.args.field.now in
+    let mask : Array = view_array c.args.mask in
+    let a : Array = view_array c.args.view in
+    let start : ℕ = c.loop-start.start in
+    let next : ℕ = c.run_to-next.result in
+    let seam = c.run_to-next.ensures in
+    let more = masked_more column mask a start next (c.args.from + c.args.count) (omega (arith, seam.begins)) seam.ends in
+    let valid = masked_valid_run column mask a start (next - start) (sym c.if-is_valid.ensures) (λ i from to. seam.alike i from (omega arith)) in
+    let total = valid_more _ _ _ _ _ _ _ _ _ c.loop-start.invariant.sums more (c.span_weight-run.ensures ∙ ap capped_weight (sym valid)) c.add_weights-total.ensures in
+    record { low = omega (arith, seam.begins, c.loop-start.invariant.low); within = seam.ends; few = omega (arith, seam.begins, c.loop-start.invariant.few); sums = total.0; capped = total.1 }
+
+pub masked_runs_weight-loop-start-preserved : goal.masked_runs_weight-loop-start-preserved
+masked_runs_weight-loop-start-preserved t c =
+    let column : Column = column_of c.args.field.now in
+    let mask : Array = view_array c.args.mask in
+    let a : Array = view_array c.args.view in
+    let start : ℕ = c.loop-start.start in
+    let next : ℕ = c.run_to-next.result in
+    let seam = c.run_to-next.ensures in
+    let more = masked_more column mask a start next (c.args.from + c.args.count) (omega (arith, seam.begins)) seam.ends in
+    let hidden = masked_null_run column mask a start (next - start) (sym c.if-is_valid.ensures) (λ i from to. seam.alike i from (omega arith)) in
+    let sums = nulls_more _ _ _ _ _ (next - start) _ c.loop-start.invariant.sums (more ∙ ap (λ (n : ℕ). n + masked_weight column mask a next (c.args.from + c.args.count - next)) hidden) in
+    record {
+      low = omega (arith, seam.begins, c.loop-start.invariant.low);
+      within = seam.ends;
+      few = omega (arith, seam.begins, c.loop-start.invariant.low, c.loop-start.invariant.few);
+      sums = sums;
+      capped = c.loop-start.invariant.capped;
+    }
+
+pub masked_runs_weight-returns : goal.masked_runs_weight-returns
+masked_runs_weight-returns t c =
     let none : c.args.from + c.args.count - c.loop-start.start ≡ 0 = omega (arith, c.loop-start-test.false) in
-    omega (arith, rw none at c.loop-start.invariant.sums, c.loop-start.invariant.capped)
+    let of_nulls = ap (λ (n : ℕ). c.loop-start.nulls * n) (field_null c.args.field.now) in
+    omega (arith, rw none at c.loop-start.invariant.sums, c.loop-start.invariant.capped, of_nulls, c.nulls_weight.ensures, c.add_weights.ensures)
 
 pub run_weight-is_valid-requires-clause-long : goal.run_weight-is_valid-requires-clause-long
 run_weight-is_valid-requires-clause-long t c = sound_validity (kind_of c.args.field.now.data_type) (view_array c.args.view) c.requires.sound

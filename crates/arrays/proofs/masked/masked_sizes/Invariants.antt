@@ -1,0 +1,14 @@
+use Rattle.std.proofs.Common.{◌≡◌, ◌+◌, ◌-◌}
+use Rattle.cells.specs.Weight.{capped_weight}
+use Rattle.columns.specs.Offsets.{width_of}
+use Rattle.columns.specs.View.{view_array}
+use Rattle.arrays.specs.inner.Weights.{masked_sizes}
+use Rattle.arrays.proofs.masked.masked_sizes.Given as goal
+
+-- the sizes so far, and those that are left
+abbrev pub invariant-loop-i : goal.invariant-loop-i
+invariant-loop-i l = record {
+  sums : capped_weight (l.total + masked_sizes (width_of l.width) (view_array l.mask) (view_array l.view) l.i (l.i-end - l.i))
+      ≡ capped_weight (masked_sizes (width_of l.width) (view_array l.mask) (view_array l.view) l.from l.count);
+  capped : capped_weight l.total ≡ l.total;
+}
