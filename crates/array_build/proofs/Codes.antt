@@ -1,18 +1,19 @@
 -- The places of cells among the entries of a dictionary, as entries are added one by one.
 use Rattle.std.specs.Prelude.{Option, Some, None, IfSome, position, ℤ, pos, negsuc, not, set, is_some, replicate, ◌/◌, ◌||◌, if◌then◌else◌, get_or}
 use Rattle.std.specs.List.{flat_map, list_all, list_any, position_from, position_or_len}
-use Rattle.std.proofs.Common.{◌≡◌, ℕ, zero, suc, ◌+◌, ◌++◌, Bool, true, false, List, [], ◌∷◌, map, length, length-append, append_assoc, append-nil, inl, inr, refl, ap, ap₂, sym, ◌∙◌, subst, arith}
+use Rattle.std.proofs.Common.{◌≡◌, ◌≤◌, ◌<◌, ℕ, zero, suc, ◌+◌, ◌++◌, Bool, true, false, List, [], ◌∷◌, map, length, length-append, append_assoc, append-nil, inl, inr, refl, ap, ap₂, sym, ◌∙◌, subst, arith}
 use Rattle.std.proofs.lemmas.Bool.{and_parts, cases_lt}
 use Rattle.std.proofs.lemmas.Bool.Decides.{Decides-int_eq}
 use Rattle.std.proofs.lemmas.Iterator.Adapters.{position_from-zero}
-use Rattle.std.proofs.lemmas.List.{get_or-set_other, get_or-set_same, map-append, set_past}
+use Rattle.std.proofs.lemmas.List.{get_or-set_other, get_or-set_same, get_or_append_left, map-append, set_past}
 use Rattle.std.proofs.lemmas.List.Folds.{list_any-append}
 use Rattle.std.proofs.lemmas.Slice.Eq.{bytes_eq-Decides}
 use Rattle.arrow_schema.specs.Column.{Index}
 use Rattle.array_build.proofs.Entries.{nowhere_from}
 use Rattle.array_build.proofs.RunArrays.{slots_are}
 use Rattle.array_build.specs.Batch.{PlainBatch}
-use Rattle.array_build.specs.inner.Codes.{AreKnown, IsCoded, IsKnown, IsWritten, code_in, known_at, noted, sized_code}
+use Rattle.array_build.proofs.Known.{is_within}
+use Rattle.array_build.specs.inner.Codes.{AreKnown, IsCoded, IsNumber, IsWritten, code_in, known_at, noted, sized_code}
 use Rattle.array_build.specs.inner.Coded.{with_indices}
 use Rattle.array_build.specs.inner.Nodes.{with_buffer, with_slots}
 use Rattle.array_build.specs.inner.RunCells.{is_coded}
@@ -249,30 +250,43 @@ null_code es c is = (ap (with_entry es) (sym is), no_code (is_entry null) es (λ
 
 -- ---- what is known of the entries of an array's own dictionary
 
-pub known_more : (es : List Cell) (c d : Cell) (k : ℕ) → IsKnown es c k → IsKnown (with_entry es d) c k
-known_more es c d k h =
-    let more : Adds es (with_entry es d) = option_adds es (entry_in d) in
-    let stays = cell_stays es more.0 c h.stays in
-    record {
-      stays = ap (λ (xs : List Cell). with_entry xs c) more.1 ∙ stays.0 ∙ sym more.1;
-      code = h.code ∙ sym stays.1 ∙ ap (λ (xs : List Cell). code_in xs c) (sym more.1);
-    }
+-- what was seen under a number stays
+entry_stays : (seen : List Cell) (d c : Cell) (k : ℕ) → is_entry c (get_or seen k null) ≡ true → is_entry c (get_or (with_entry seen d) k null) ≡ true
+entry_stays seen d c k is =
+    let more : Adds seen (with_entry seen d) = option_adds seen (entry_in d) in
+    ap (λ (xs : List Cell). is_entry c (get_or xs k null)) more.1 ∙ ap (is_entry c) (get_or_append_left seen more.0 null k (is_within seen c k is)) ∙ is
 
-pub is_known : (es own : List Cell) (known : List (Option ℕ)) (z : ℤ) (k : ℕ) → AreKnown es own known → Some k ≡ known_at known (named_number z) → IsKnown es (entry_at own z) k
-is_known es own known (pos n) k h is = h n k is
-is_known es own known (negsuc n) k h is = cc
+pub numbers_stay : (seen : List Cell) (d : Cell) (n : ℕ) → n < length seen → get_or (with_entry seen d) n null ≡ get_or seen n null
+numbers_stay seen d n within =
+    let more : Adds seen (with_entry seen d) = option_adds seen (entry_in d) in
+    ap (λ (xs : List Cell). get_or xs n null) more.1 ∙ get_or_append_left seen more.0 null n within
+
+pub seen_grows : (seen : List Cell) (d : Cell) → length seen ≤ length (with_entry seen d)
+seen_grows seen d =
+    let more : Adds seen (with_entry seen d) = option_adds seen (entry_in d) in
+    let count : length (with_entry seen d) ≡ length seen + length more.0 = ap length more.1 ∙ length-append seen more.0 in
+    omega (arith, count)
+
+pub known_more : (seen own : List Cell) (known : List (Option ℕ)) (d : Cell) → AreKnown seen own known → AreKnown (with_entry seen d) own known
+known_more seen own known d h n k some = entry_stays seen d (get_or own n null) k (h n k some)
+
+pub is_known : (seen own : List Cell) (known : List (Option ℕ)) (z : ℤ) (k : ℕ) → AreKnown seen own known → Some k ≡ known_at known (named_number z)
+    → is_entry (entry_at own z) (get_or seen k null) ≡ true
+is_known seen own known (pos n) k h is = h n k is
+is_known seen own known (negsuc n) k h is = cc
 
 -- a number that was told only if it is small is the one that an index names
 pub known_named : (known : List (Option ℕ)) (named number : Option ℕ) (k : ℕ) → IfSome number (λ n. named ≡ Some n) → Some k ≡ known_at known number → Some k ≡ known_at known named
 known_named known named None k h is = cc
 known_named known named (Some n) k h is = rw h is
 
-set_known : (es own : List Cell) (known : List (Option ℕ)) (n : ℕ) (code : Option ℕ) → AreKnown es own known
-    → code ≡ code_in (with_entry es (get_or own n null)) (get_or own n null) → AreKnown (with_entry es (get_or own n null)) own (set known n code)
-set_known es own known n code h is m k some =
+set_known : (seen own : List Cell) (known : List (Option ℕ)) (n : ℕ) (code : Option ℕ) → AreKnown seen own known
+    → IsNumber (with_entry seen (get_or own n null)) code (get_or own n null) → AreKnown (with_entry seen (get_or own n null)) own (set known n code)
+set_known seen own known n code h is m k some =
     let c : Cell = get_or own n null in
-    let other : get_or (set known n code) m None ≡ get_or known m None → IsKnown (with_entry es c) (get_or own m null) k =
-    λ e. known_more es (get_or own m null) c k (h m k (some ∙ e)) in
+    let after : List Cell = with_entry seen c in
+    let other : get_or (set known n code) m None ≡ get_or known m None → is_entry (get_or own m null) (get_or after k null) ≡ true =
+    λ e. entry_stays seen c (get_or own m null) k (h m k (some ∙ e)) in
     elim (cases_lt n (length known)) [
       | inl within ↦ elim (cases_lt m n) [
         | inl below ↦ other (get_or-set_other known n m code None (omega arith))
@@ -281,16 +295,17 @@ set_known es own known n code h is m k some =
           | inr ge ↦
               let e : m ≡ n = omega arith in
               let here : Some k ≡ code = some ∙ ap (λ (j : ℕ). get_or (set known n code) j None) e ∙ get_or-set_same known n code None within in
-              subst (λ (j : ℕ). IsKnown (with_entry es c) (get_or own j null) k) (sym e) (record { stays = twice es c; code = here ∙ is })
+              let own_is : is_entry c (get_or after k null) ≡ true = subst (λ (o : Option ℕ). IsNumber after o c) (sym here) is in
+              ap (λ (j : ℕ). is_entry (get_or own j null) (get_or after k null)) e ∙ own_is
         ]
       ]
       | inr past ↦ other (ap (λ (ks : List (Option ℕ)). get_or ks m None) (set_past known n code past))
     ]
 
-pub noted_known : (es own : List Cell) (known : List (Option ℕ)) (z : ℤ) (code : Option ℕ) → AreKnown es own known
-    → code ≡ code_in (with_entry es (entry_at own z)) (entry_at own z) → AreKnown (with_entry es (entry_at own z)) own (noted known (named_number z) code)
-noted_known es own known (pos n) code h is = set_known es own known n code h is
-noted_known es own known (negsuc n) code h is = λ m k some. known_more es (get_or own m null) null k (h m k some)
+pub noted_known : (seen own : List Cell) (known : List (Option ℕ)) (z : ℤ) (code : Option ℕ) → AreKnown seen own known
+    → IsNumber (with_entry seen (entry_at own z)) code (entry_at own z) → AreKnown (with_entry seen (entry_at own z)) own (noted known (named_number z) code)
+noted_known seen own known (pos n) code h is = set_known seen own known n code h is
+noted_known seen own known (negsuc n) code h is = known_more seen own known null h
 
 -- ---- the node and the buffers of codes
 

@@ -8,6 +8,7 @@ mod Entries
 mod Equals
 mod Fields
 mod FirstCells
+mod Known
 mod Low
 mod Numbers
 mod Offsets

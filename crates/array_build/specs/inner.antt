@@ -1,8 +1,12 @@
 pub mod Coded
 pub mod Codes
+pub mod Known
+pub mod Named
 pub mod Nodes
 pub mod RunCells
 pub mod RunItems
 pub mod RunParts
 pub mod Runs
+pub mod Same
+pub mod Seen
 pub mod Stored

@@ -15,6 +15,7 @@ use crate::batch::{BuiltBatch, empty_batch, push_buffer};
 use crate::building::build_values;
 use crate::coded_cells::{push_dictionary, push_run_indices};
 use crate::flat_runs::{build_run_bits, build_run_contents, build_run_nulls, build_run_values};
+use crate::known_entries::KnownEntries;
 use crate::run_fixed_items::fixed_item_runs;
 use crate::run_items::{item_runs, run_list_offsets};
 use crate::run_parts::field_runs;
@@ -25,12 +26,13 @@ use columns::{OffsetWidth, SlotRun, valid_runs};
 use std::alloc::{AllocError, Global};
 
 // Adds the indices of a column with a dictionary, and its entries.
-fn build_coded_column(
+fn build_coded_column<'k, 'a: 'k>(
     alloc: Global,
     batch: &mut BuiltBatch<'_>,
-    field: &Field,
+    entries: &mut KnownEntries<'k>,
+    field: &'k Field,
     spec: DictSpec,
-    runs: &[SlotRun<'_>],
+    runs: &[SlotRun<'a>],
 ) -> Result<(), AllocError>
     requires spec { field.now.dictionary ≡ Some spec }
     requires sound { are_runs_sound (column_of field.now) runs.now ≡ true }
@@ -38,17 +40,18 @@ fn build_coded_column(
     ensures { OnOk result (batch_in batch.new ≡ with_arrays (batch_in batch.old)
         (built_at (column_of field.now) (runs_cells (column_of field.now) runs.now))) }
 {
-    let entries = push_run_indices(alloc, batch, field, spec, runs)?;
-    let values = build_values(alloc, &field.data_type, &entries)?;
+    let cells = push_run_indices(alloc, batch, entries, field, spec, runs)?;
+    let values = build_values(alloc, &field.data_type, &cells)?;
     push_dictionary(batch, values)
 }
 
 // Adds the array of runs that have no null among their slots, and all below it, of a type that has no values or offsets of texts.
 #[cycle(by_runs)]
-fn build_valid_kind<'a>(
+fn build_valid_kind<'k, 'a: 'k>(
     alloc: Global,
     batch: &mut BuiltBatch<'a>,
-    data_type: &DataType,
+    entries: &mut KnownEntries<'k>,
+    data_type: &'k DataType,
     runs: &[SlotRun<'a>],
 ) -> Result<(), AllocError>
     requires values { fixed_width (kind_of data_type.now) ≡ None }
@@ -59,22 +62,37 @@ fn build_valid_kind<'a>(
     match data_type {
         DataType::Null => build_run_nulls(batch, data_type, runs),
         DataType::Bool => build_run_bits(alloc, batch, data_type, runs),
-        DataType::List(item) => build_run_lists(alloc, batch, OffsetWidth::Four, item, runs),
-        DataType::LargeList(item) => build_run_lists(alloc, batch, OffsetWidth::Eight, item, runs),
+        DataType::List(item) => build_run_lists(
+            alloc,
+            batch,
+            entries,
+            OffsetWidth::Four,
+            item,
+            runs,
+        ),
+        DataType::LargeList(item) => build_run_lists(
+            alloc,
+            batch,
+            entries,
+            OffsetWidth::Eight,
+            item,
+            runs,
+        ),
         DataType::FixedSizeList(size, item) => {
-            build_run_fixed_lists(alloc, batch, *size as usize, item, runs)
+            build_run_fixed_lists(alloc, batch, entries, *size as usize, item, runs)
         }
-        DataType::Struct(fields) => build_run_structs(alloc, batch, fields, runs),
+        DataType::Struct(fields) => build_run_structs(alloc, batch, entries, fields, runs),
         _ => unreachable!(),
     }
 }
 
 // The same of runs that stand as they are written.
 #[cycle(by_runs)]
-fn build_written_kind<'a>(
+fn build_written_kind<'k, 'a: 'k>(
     alloc: Global,
     batch: &mut BuiltBatch<'a>,
-    data_type: &DataType,
+    entries: &mut KnownEntries<'k>,
+    data_type: &'k DataType,
     runs: &[SlotRun<'a>],
 ) -> Result<(), AllocError>
     requires ready { AreAsWritten (kind_of data_type.now) runs.now }
@@ -83,17 +101,18 @@ fn build_written_kind<'a>(
     match (value_width(data_type), contents_width(data_type)) {
         (Some(width), _) => build_run_values(alloc, batch, data_type, width, runs),
         (None, Some(width)) => build_run_contents(alloc, batch, data_type, width, runs),
-        (None, None) => build_valid_kind(alloc, batch, data_type, runs),
+        (None, None) => build_valid_kind(alloc, batch, entries, data_type, runs),
     }
 }
 
 // Lists have a node, a validity bitmap and offsets, and below them the items of all.
 #[cycle(by_runs)]
-fn build_run_lists<'a>(
+fn build_run_lists<'k, 'a: 'k>(
     alloc: Global,
     batch: &mut BuiltBatch<'a>,
+    entries: &mut KnownEntries<'k>,
     width: OffsetWidth,
-    item: &Field,
+    item: &'k Field,
     runs: &[SlotRun<'a>],
 ) -> Result<(), AllocError>
     requires ready { AreReady (list_kind width (column_of item.now)) runs.now }
@@ -102,16 +121,17 @@ fn build_run_lists<'a>(
     push_run_slots(alloc, batch, runs)?;
     push_buffer(batch, run_list_offsets(alloc, item, width, runs)?)?;
     let items = item_runs(alloc, item, width, runs)?;
-    build_run_column(alloc, batch, item, &items)
+    build_run_column(alloc, batch, entries, item, &items)
 }
 
 // Fixed lists have a node and a validity bitmap, and below them the items of all, which are nulls below a null.
 #[cycle(by_runs)]
-fn build_run_fixed_lists<'a>(
+fn build_run_fixed_lists<'k, 'a: 'k>(
     alloc: Global,
     batch: &mut BuiltBatch<'a>,
+    entries: &mut KnownEntries<'k>,
     size: usize,
-    item: &Field,
+    item: &'k Field,
     runs: &[SlotRun<'a>],
 ) -> Result<(), AllocError>
     requires ready { AreReady (fixed_lists size (column_of item.now)) runs.now }
@@ -119,30 +139,32 @@ fn build_run_fixed_lists<'a>(
 {
     push_run_slots(alloc, batch, runs)?;
     let items = fixed_item_runs(alloc, item, size, runs)?;
-    build_run_column(alloc, batch, item, &items)
+    build_run_column(alloc, batch, entries, item, &items)
 }
 
 // Structs have a node and a validity bitmap, and below them the same slots of each field.
 #[cycle(by_runs)]
-fn build_run_structs<'a>(
+fn build_run_structs<'k, 'a: 'k>(
     alloc: Global,
     batch: &mut BuiltBatch<'a>,
-    fields: &[Field],
+    entries: &mut KnownEntries<'k>,
+    fields: &'k [Field],
     runs: &[SlotRun<'a>],
 ) -> Result<(), AllocError>
     requires ready { AreReady (structs (columns_of (map column_of fields.now))) runs.now }
     ensures { OnOk result (AddsRuns (structs (columns_of (map column_of fields.now))) runs.now batch.old batch.new) }
 {
     push_run_slots(alloc, batch, runs)?;
-    build_struct_parts(alloc, batch, fields, runs)
+    build_struct_parts(alloc, batch, entries, fields, runs)
 }
 
 // Adds the arrays of the fields of structs. The runs of a field are let go before those of the next one are made.
 #[cycle(by_runs)]
-fn build_struct_parts<'a>(
+fn build_struct_parts<'k, 'a: 'k>(
     alloc: Global,
     batch: &mut BuiltBatch<'a>,
-    fields: &[Field],
+    entries: &mut KnownEntries<'k>,
+    fields: &'k [Field],
     runs: &[SlotRun<'a>],
 ) -> Result<(), AllocError>
     requires ready { AreReady (structs (columns_of (map column_of fields.now))) runs.now }
@@ -151,17 +173,18 @@ fn build_struct_parts<'a>(
 {
     for (place, field) in fields.iter().enumerate() {
         let part = field_runs(alloc, field, runs, place)?;
-        build_run_column(alloc, batch, field, &part)?;
+        build_run_column(alloc, batch, entries, field, &part)?;
     }
     Ok(())
 }
 
 // Adds the array of a column of a type, whatever its name, and all below it. Runs that do not stand as they are written are split at their nulls.
 #[cycle(by_runs)]
-fn build_run_kind<'a>(
+fn build_run_kind<'k, 'a: 'k>(
     alloc: Global,
     batch: &mut BuiltBatch<'a>,
-    data_type: &DataType,
+    entries: &mut KnownEntries<'k>,
+    data_type: &'k DataType,
     runs: &[SlotRun<'a>],
 ) -> Result<(), AllocError>
     requires sound { are_runs_sound (plain_column (kind_of data_type.now) None) runs.now ≡ true }
@@ -169,18 +192,19 @@ fn build_run_kind<'a>(
     ensures { OnOk result (AddsRuns (kind_of data_type.now) runs.now batch.old batch.new) }
 {
     if are_as_written(data_type, runs) {
-        return build_written_kind(alloc, batch, data_type, runs);
+        return build_written_kind(alloc, batch, entries, data_type, runs);
     }
     let valid = valid_runs(alloc, runs)?;
-    build_written_kind(alloc, batch, data_type, &valid)
+    build_written_kind(alloc, batch, entries, data_type, &valid)
 }
 
 // The same of a field.
 #[cycle(by_runs)]
-fn build_run_column<'a>(
+fn build_run_column<'k, 'a: 'k>(
     alloc: Global,
     batch: &mut BuiltBatch<'a>,
-    field: &Field,
+    entries: &mut KnownEntries<'k>,
+    field: &'k Field,
     runs: &[SlotRun<'a>],
 ) -> Result<(), AllocError>
     requires sound { are_runs_sound (column_of field.now) runs.now ≡ true }
@@ -189,16 +213,17 @@ fn build_run_column<'a>(
         (built_at (column_of field.now) (runs_cells (column_of field.now) runs.now))) }
 {
     match field.dictionary {
-        None => build_run_kind(alloc, batch, &field.data_type, runs),
-        Some(spec) => build_coded_column(alloc, batch, field, spec, runs),
+        None => build_run_kind(alloc, batch, entries, &field.data_type, runs),
+        Some(spec) => build_coded_column(alloc, batch, entries, field, spec, runs),
     }
 }
 
 // Adds the arrays of columns, and all below them.
-fn build_run_parts<'a>(
+fn build_run_parts<'k, 'a: 'k>(
     alloc: Global,
     batch: &mut BuiltBatch<'a>,
-    fields: &[Field],
+    entries: &mut KnownEntries<'k>,
+    fields: &'k [Field],
     columns: &[Vec<SlotRun<'a>>],
 ) -> Result<(), AllocError>
     requires sound { are_columns_sound (columns_of (map column_of fields.now)) (map (λ v. v.items) columns.now) ≡ true }
@@ -207,16 +232,17 @@ fn build_run_parts<'a>(
         (built_columns (columns_of (map column_of fields.now)) (map (λ v. v.items) columns.now))) }
 {
     for (place, field) in fields.iter().enumerate() {
-        build_run_column(alloc, batch, field, &columns[place])?;
+        build_run_column(alloc, batch, entries, field, &columns[place])?;
     }
     Ok(())
 }
 
 /// The same of rows whose columns are runs of slots: a buffer of one run stays where it stands, if that is how it is written; else bytes are
-/// copied run by run. No cell is looked at by itself but nulls, and the entries of a dictionary.
-pub fn build_runs<'a>(
+/// copied run by run. No cell is looked at by itself but nulls, and the entries of a dictionary: what is known of these is kept for the next rows.
+pub fn build_runs<'k, 'a: 'k>(
     alloc: Global,
-    fields: &[Field],
+    entries: &mut KnownEntries<'k>,
+    fields: &'k [Field],
     columns: &[Vec<SlotRun<'a>>],
 ) -> Result<BuiltBatch<'a>, AllocError>
     requires sound { are_columns_sound (columns_of (map column_of fields.now)) (map (λ v. v.items) columns.now) ≡ true }
@@ -225,6 +251,6 @@ pub fn build_runs<'a>(
         → batch_in batch ≡ batch_of (built_below (columns_of (map column_of fields.now)) rows)) }
 {
     let mut batch = empty_batch(alloc);
-    build_run_parts(alloc, &mut batch, fields, columns)?;
+    build_run_parts(alloc, &mut batch, entries, fields, columns)?;
     Ok(batch)
 }

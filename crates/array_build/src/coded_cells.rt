@@ -17,11 +17,12 @@ ghost use Rattle.values.specs.Borrowed.{borrowed_cell};
 
 use crate::batch::{BuiltBatch, BuiltDictionary, push_buffer, push_slots};
 use crate::dictionary_cells::{entry_cells, entry_set, indices};
+use crate::known_entries::KnownEntries;
 use crate::run_codes::put_codes;
 use crate::run_slots::{count_slots, push_bit_slots};
 use arrow_schema::{BitWidth, DictSpec, Field, IntegerType};
 use cells::Entry;
-use columns::{SlotRun, entry_count};
+use columns::SlotRun;
 use indexmap::IndexSet;
 use std::alloc::{AllocError, Global};
 use values::ValueRef;
@@ -58,18 +59,6 @@ pub(crate) fn push_indices<'a>(
     push_entries(alloc, batch, index, &entries, cells)
 }
 
-// For how many entries there is room at once: those of the first run's dictionary, or as many as the slots of all runs, if these are fewer.
-fn likely_entries(slots: usize, runs: &[SlotRun<'_>]) -> usize
-    ensures few { result ≤ slots }
-{
-    match runs.first() {
-        Some(SlotRun::Slots { array, .. }) => {
-            entry_count(array.dictionary()).min(slots as u128) as usize
-        }
-        _ => 0,
-    }
-}
-
 // Room for so many indices. More bytes than a number holds have none in memory.
 fn room_for(alloc: Global, width: BitWidth, slots: usize) -> Result<Vec<u8>, AllocError>
     ensures { IfOk result (λ bytes. length bytes.items ≡ bits_of width / 8 * slots) }
@@ -85,13 +74,13 @@ fn room_for(alloc: Global, width: BitWidth, slots: usize) -> Result<Vec<u8>, All
 fn push_codes<'a>(
     alloc: Global,
     batch: &mut BuiltBatch<'_>,
-    entries: &mut IndexSet<Entry<'a>>,
+    entries: &mut KnownEntries<'a>,
     slots: usize,
     field: &'a Field,
     spec: DictSpec,
     runs: &[SlotRun<'a>],
 ) -> Result<Vec<ValueRef<'a>>, AllocError>
-    requires none { entries.old.keys ≡ [] }
+    requires none { entries.old.named.items ≡ [] }
     requires count { slots ≡ length (runs_bits runs.now) }
     requires spec { field.now.dictionary ≡ Some spec }
     requires sound { are_runs_sound (column_of field.now) runs.now ≡ true }
@@ -112,13 +101,14 @@ fn push_codes<'a>(
     )?;
     push_bit_slots(alloc, batch, &valid)?;
     push_buffer(batch, indices)?;
-    entry_cells(alloc, entries)
+    entries.cells(alloc)
 }
 
-/// The same of the cells of runs.
+/// The same of the cells of runs, and no entry is named then.
 pub(crate) fn push_run_indices<'a>(
     alloc: Global,
     batch: &mut BuiltBatch<'_>,
+    entries: &mut KnownEntries<'a>,
     field: &'a Field,
     spec: DictSpec,
     runs: &[SlotRun<'a>],
@@ -129,12 +119,14 @@ pub(crate) fn push_run_indices<'a>(
     ensures entries { IfOk result (λ entries. map borrowed_cell entries.items ≡ entries_of (runs_cells (column_of field.now) runs.now)) }
     ensures batch { OnOk result (batch_in batch.new ≡ with_indices (batch_in batch.old) (index_of spec) (runs_cells (column_of field.now) runs.now)) }
 {
+    entries.end();
     let slots = count_slots(runs)?;
-    let mut entries = IndexSet::with_capacity(alloc, likely_entries(slots, runs))?;
-    push_codes(alloc, batch, &mut entries, slots, field, spec, runs)
+    let cells = push_codes(alloc, batch, entries, slots, field, spec, runs)?;
+    entries.end();
+    Ok(cells)
 }
 
-/// How many distinct values the cells of runs of a column with a dictionary have. An entry of an array's own dictionary is looked up once for each run.
+/// How many distinct values the cells of runs of a column with a dictionary have. An entry of an array's own dictionary is looked up once.
 pub fn count_entries<'a>(
     alloc: Global,
     field: &'a Field,
@@ -147,7 +139,7 @@ pub fn count_entries<'a>(
     ensures { IfOk result (λ count. count ≡ length (entries_of (runs_cells (column_of field.now) runs.now))) }
 {
     let slots = count_slots(runs)?;
-    let mut entries = IndexSet::with_capacity(alloc, likely_entries(slots, runs))?;
+    let mut entries = KnownEntries::none(alloc);
     let mut indices = room_for(alloc, spec.index.width, slots)?;
     let mut valid = vec![in alloc; false; slots]?;
     put_codes(
@@ -159,7 +151,7 @@ pub fn count_entries<'a>(
         spec,
         runs,
     )?;
-    Ok(entries.len())
+    Ok(entries.count())
 }
 
 /// The batch of so many values, as a dictionary.

@@ -1,8 +1,8 @@
 // The entries of a dictionary, and the indices that name them.
-ghost use Rattle.std.specs.Prelude.{◌≡◌, ◌≤◌, ◌+◌, ◌++◌, ◌/◌, OnOk, IfOk, drop, length, map, take};
+ghost use Rattle.std.specs.Prelude.{◌≡◌, ◌≤◌, ◌+◌, ◌++◌, ◌/◌, OnErr, OnOk, IfOk, drop, length, map, take};
 ghost use Rattle.std.specs.List.{flat_map};
 ghost use Rattle.arrow_schema.specs.View.{bits_of};
-ghost use Rattle.array_build.specs.inner.Codes.{code_in, sized_code};
+ghost use Rattle.array_build.specs.inner.Codes.{IsNumber, sized_code};
 ghost use Rattle.byteorder.specs.Endian.{little_bytes};
 ghost use Rattle.cells.specs.Dictionary.{entries_of, with_entry};
 ghost use Rattle.cells.specs.Entry.{entry_cell};
@@ -30,24 +30,26 @@ pub(crate) fn entry_set<'a>(
     Ok(entries)
 }
 
-/// The place of a cell among the entries, to which it is added where it is none of them: a null has none.
-pub(crate) fn code_of<'a>(
-    entries: &mut IndexSet<Entry<'a>>,
+/// The number of a cell among the entries that were seen, of which it is one then: a null has none.
+pub(crate) fn number_of<'a>(
+    seen: &mut IndexSet<Entry<'a>>,
     cell: ValueRef<'a>,
 ) -> Result<Option<usize>, AllocError>
-    ensures entries { OnOk result (map entry_cell entries.new.keys ≡ with_entry (map entry_cell entries.old.keys) (borrowed_cell cell.entry)) }
-    ensures code { IfOk result (λ code. code ≡ code_in (map entry_cell entries.new.keys) (borrowed_cell cell.entry)) }
+    ensures seen { OnOk result (map entry_cell seen.new.keys ≡ with_entry (map entry_cell seen.old.keys) (borrowed_cell cell.entry)) }
+    ensures number { IfOk result (λ number. IsNumber (map entry_cell seen.new.keys) number (borrowed_cell cell.entry)) }
+    ensures unchanged { OnErr result (seen.new.keys ≡ seen.old.keys) }
 {
     match cell.as_entry() {
         None => Ok(None),
         Some(entry) => {
-            let (place, _) = entries.insert_full(entry)?;
-            Ok(Some(place))
+            let (number, _) = seen.insert_full(entry)?;
+            Ok(Some(number))
         }
     }
 }
 
-fn cell_of<'a>(entry: &Entry<'a>) -> ValueRef<'a>
+/// The cell of an entry.
+pub(crate) fn cell_of<'a>(entry: &Entry<'a>) -> ValueRef<'a>
     ensures { borrowed_cell result ≡ entry_cell entry.now }
 {
     match entry {

@@ -1,47 +1,26 @@
-// The places of cells among the entries of a dictionary, of runs of slots. An entry of an array's own dictionary is looked up once for each run, and
-// then known by its number.
-ghost use Rattle.std.specs.Prelude.{◌≡◌, ◌≤◌, ◌+◌, ◌-◌, ◌*◌, ◌/◌, ◌++◌, true, false, OnOk, IfOk, Some, List, drop, is_some, length, map, replicate, set, take};
+// The places of cells among the entries of a dictionary, of runs of slots. An entry of an array's own dictionary is looked up once, and then known by its
+// number.
+ghost use Rattle.std.specs.Prelude.{◌≡◌, ◌≤◌, ◌+◌, ◌-◌, ◌*◌, ◌/◌, ◌++◌, true, false, OnOk, IfOk, Some, drop, is_some, length, replicate, set, take};
 ghost use Rattle.std.specs.List.{list_all};
 ghost use Rattle.arrow_schema.specs.View.{bits_of, column_of, index_of};
-ghost use Rattle.array_build.specs.inner.Codes.{AreCodedSlots, AreKnown, HasPlace, IsCodedSlot, IsPut, IsWritten, code_in, coded_cell, known_at, noted, own_entries, sized_code};
+ghost use Rattle.array_build.specs.inner.Codes.{AreCodedSlots, AreKnown, HasPlace, IsCodedSlot, IsNumber, IsPut, IsWritten, code_in, coded_cell, known_at, noted, own_entries, sized_code};
+ghost use Rattle.array_build.specs.inner.Named.{named_cells, seen_cells};
 ghost use Rattle.array_build.specs.inner.RunCells.{is_coded};
 ghost use Rattle.array_build.specs.inner.Runs.{run_bits, runs_bits};
 ghost use Rattle.columns.specs.Runs.{are_runs_sound, is_run_sound, run_cells, runs_cells};
 ghost use Rattle.columns.specs.declared.slot_runs.SlotRun.TheVariants.{Slots};
 ghost use Rattle.cells.specs.Dictionary.{with_entry};
-ghost use Rattle.cells.specs.Entry.{entry_cell};
 ghost use Rattle.columns.specs.CellAt.{cells_from, is_valid};
 ghost use Rattle.columns.specs.View.{view_array};
 ghost use Rattle.cells.specs.Cell.{Cell};
 
-use crate::dictionary_cells::{code_of, put_code};
+use crate::dictionary_cells::put_code;
+use crate::known_entries::KnownEntries;
 use crate::run_cells::slot_cell;
 use crate::run_slots::run_len;
 use arrow_schema::{BitWidth, DictSpec, Field};
-use cells::Entry;
-use columns::{ArrayView, CodedSlots, SlotRun, entry_count};
-use indexmap::IndexSet;
+use columns::{ArrayView, CodedSlots, SlotRun};
 use std::alloc::{AllocError, Global};
-
-// How many entries a slot pays for: room for these is made at once, and costs less than to look up again one that was named before.
-const ENTRIES_PER_SLOT: usize = 4;
-
-// Room for what will be known of each entry of an array's dictionary: none where it has many more entries than there are slots to be gone through.
-fn unknown(
-    alloc: Global,
-    array: ArrayView<'_>,
-    slots: usize,
-) -> Result<Vec<Option<usize>>, AllocError>
-    ensures { IfOk result (λ known. (entries own : List Cell) → AreKnown entries own known.items) }
-{
-    let mut known = Vec::new(alloc);
-    let entries = entry_count(array.dictionary());
-    let most = slots.saturating_mul(ENTRIES_PER_SLOT);
-    if entries <= most as u128 {
-        known.resize(entries as usize, None)?;
-    }
-    Ok(known)
-}
 
 #[inline]
 fn known_code(known: &[Option<usize>], number: Option<u64>) -> Option<usize>
@@ -63,9 +42,25 @@ fn note_code(known: &mut [Option<usize>], number: Option<u64>, code: Option<usiz
     }
 }
 
+// The place of the entry that has a number, where there is one.
+fn code_at(
+    entries: &mut KnownEntries<'_>,
+    number: Option<usize>,
+) -> Result<Option<usize>, AllocError>
+    requires { (c : Cell) × IsNumber (seen_cells entries.old) number c }
+    ensures seen { OnOk result (seen_cells entries.new ≡ seen_cells entries.old) }
+    ensures entries { OnOk result ((c : Cell) → IsNumber (seen_cells entries.old) number c → named_cells entries.new ≡ with_entry (named_cells entries.old) c) }
+    ensures code { IfOk result (λ code. (c : Cell) → IsNumber (seen_cells entries.old) number c → code ≡ code_in (named_cells entries.new) c) }
+{
+    match number {
+        Some(number) => Ok(Some(entries.place_of(number)?)),
+        None => Ok(None),
+    }
+}
+
 // The code of a slot that is valid, and whose entry is not known.
 fn new_code<'a>(
-    entries: &mut IndexSet<Entry<'a>>,
+    entries: &mut KnownEntries<'a>,
     known: &mut [Option<usize>],
     field: &'a Field,
     slots: CodedSlots<'a>,
@@ -73,15 +68,15 @@ fn new_code<'a>(
 ) -> Result<Option<usize>, AllocError>
     requires slot { IsCodedSlot field.now slots i }
     requires valid { is_valid (view_array slots.view) i ≡ true }
-    requires known { AreKnown (map entry_cell entries.old.keys) (own_entries field.now slots.view) known.old }
-    ensures entries { OnOk result (map entry_cell entries.new.keys ≡ with_entry (map entry_cell entries.old.keys) (coded_cell field.now slots.entry i)) }
-    ensures code { IfOk result (λ code. code ≡ code_in (map entry_cell entries.new.keys) (coded_cell field.now slots.entry i)) }
-    ensures known { OnOk result (AreKnown (map entry_cell entries.new.keys) (own_entries field.now slots.entry.view) known.new) }
+    requires known { AreKnown (seen_cells entries.old) (own_entries field.now slots.view) known.old }
+    ensures entries { OnOk result (named_cells entries.new ≡ with_entry (named_cells entries.old) (coded_cell field.now slots.entry i)) }
+    ensures code { IfOk result (λ code. code ≡ code_in (named_cells entries.new) (coded_cell field.now slots.entry i)) }
+    ensures known { OnOk result (AreKnown (seen_cells entries.new) (own_entries field.now slots.entry.view) known.new) }
 {
-    let number = slots.number(i);
-    let code = code_of(entries, slot_cell(field, slots.view, i))?;
-    note_code(known, number, code);
-    Ok(code)
+    let place = slots.number(i);
+    let number = entries.number_of(slot_cell(field, slots.view, i))?;
+    note_code(known, place, number);
+    code_at(entries, number)
 }
 
 // Writes the index that a code is, and whether there is one, at the place of a slot.
@@ -105,7 +100,7 @@ fn put_at<const SIZE: usize>(
 // Writes what a slot has that is valid, and whose entry is not known. It is no part of the loop over slots, which would keep its variables in memory for it.
 #[inline(never)]
 fn put_new_code<'a, const SIZE: usize>(
-    entries: &mut IndexSet<Entry<'a>>,
+    entries: &mut KnownEntries<'a>,
     known: &mut [Option<usize>],
     indices: &mut [u8],
     valid: &mut [bool],
@@ -116,12 +111,12 @@ fn put_new_code<'a, const SIZE: usize>(
 ) -> Result<(), AllocError>
     requires slot { IsCodedSlot field.now slots i }
     requires valid { is_valid (view_array slots.view) i ≡ true }
-    requires known { AreKnown (map entry_cell entries.old.keys) (own_entries field.now slots.view) known.old }
+    requires known { AreKnown (seen_cells entries.old) (own_entries field.now slots.view) known.old }
     requires place { HasPlace SIZE place indices.old valid.old }
-    ensures entries { OnOk result (map entry_cell entries.new.keys ≡ with_entry (map entry_cell entries.old.keys) (coded_cell field.now slots.entry i)) }
-    ensures put { OnOk result (IsPut SIZE place (map entry_cell entries.new.keys) (coded_cell field.now slots.entry i)
+    ensures entries { OnOk result (named_cells entries.new ≡ with_entry (named_cells entries.old) (coded_cell field.now slots.entry i)) }
+    ensures put { OnOk result (IsPut SIZE place (named_cells entries.new) (coded_cell field.now slots.entry i)
         indices.old indices.new valid.old valid.new) }
-    ensures known { OnOk result (AreKnown (map entry_cell entries.new.keys) (own_entries field.now slots.entry.view) known.new) }
+    ensures known { OnOk result (AreKnown (seen_cells entries.new) (own_entries field.now slots.entry.view) known.new) }
 {
     let code = new_code(entries, known, field, slots, i)?;
     put_at::<SIZE>(indices, valid, place, code);
@@ -131,7 +126,7 @@ fn put_new_code<'a, const SIZE: usize>(
 // Writes what a slot has. Each way writes by itself, so that none asks again whether there is a code.
 #[inline]
 fn put_slot_code<'a, const SIZE: usize, const SIGNED: bool>(
-    entries: &mut IndexSet<Entry<'a>>,
+    entries: &mut KnownEntries<'a>,
     known: &mut [Option<usize>],
     indices: &mut [u8],
     valid: &mut [bool],
@@ -143,19 +138,20 @@ fn put_slot_code<'a, const SIZE: usize, const SIGNED: bool>(
     requires size { SIZE ≡ (index_of slots.spec).bits / 8 }
     requires signed { SIGNED ≡ (index_of slots.spec).signed }
     requires slot { IsCodedSlot field.now slots i }
-    requires known { AreKnown (map entry_cell entries.old.keys) (own_entries field.now slots.view) known.old }
+    requires known { AreKnown (seen_cells entries.old) (own_entries field.now slots.view) known.old }
     requires place { HasPlace SIZE place indices.old valid.old }
-    ensures entries { OnOk result (map entry_cell entries.new.keys ≡ with_entry (map entry_cell entries.old.keys) (coded_cell field.now slots.entry i)) }
-    ensures put { OnOk result (IsPut SIZE place (map entry_cell entries.new.keys) (coded_cell field.now slots.entry i)
+    ensures entries { OnOk result (named_cells entries.new ≡ with_entry (named_cells entries.old) (coded_cell field.now slots.entry i)) }
+    ensures put { OnOk result (IsPut SIZE place (named_cells entries.new) (coded_cell field.now slots.entry i)
         indices.old indices.new valid.old valid.new) }
-    ensures known { OnOk result (AreKnown (map entry_cell entries.new.keys) (own_entries field.now slots.entry.view) known.new) }
+    ensures known { OnOk result (AreKnown (seen_cells entries.new) (own_entries field.now slots.entry.view) known.new) }
 {
     if !slots.is_valid(i) {
         put_at::<SIZE>(indices, valid, place, None);
         return Ok(());
     }
     let number = slots.number_below::<SIZE, SIGNED>(i, known.len() as u64);
-    if let Some(code) = known_code(known, number) {
+    if let Some(known) = known_code(known, number) {
+        let code = entries.place_of(known)?;
         put_at::<SIZE>(indices, valid, place, Some(code));
         return Ok(());
     }
@@ -164,7 +160,7 @@ fn put_slot_code<'a, const SIZE: usize, const SIGNED: bool>(
 
 // Writes the indices of so many bytes, with a sign or without, of some slots of an array, and whether each slot has one, where there is room for just these.
 fn put_sized_codes<'a, const SIZE: usize, const SIGNED: bool>(
-    entries: &mut IndexSet<Entry<'a>>,
+    entries: &mut KnownEntries<'a>,
     known: &mut [Option<usize>],
     indices: &mut [u8],
     valid: &mut [bool],
@@ -177,11 +173,12 @@ fn put_sized_codes<'a, const SIZE: usize, const SIGNED: bool>(
     requires size { SIZE ≡ (index_of slots.spec).bits / 8 }
     requires signed { SIGNED ≡ (index_of slots.spec).signed }
     requires slots { AreCodedSlots field.now slots from to }
-    requires known { AreKnown (map entry_cell entries.old.keys) (own_entries field.now slots.view) known.old }
+    requires known { AreKnown (seen_cells entries.old) (own_entries field.now slots.view) known.old }
     requires room { length indices.old ≡ SIZE * (to - from) }
     requires places { length valid.old ≡ to - from }
-    ensures { OnOk result (IsWritten SIZE (map entry_cell entries.old.keys) (map entry_cell entries.new.keys)
+    ensures written { OnOk result (IsWritten SIZE (named_cells entries.old) (named_cells entries.new)
         indices.new valid.new (cells_from (coded_cell field.now slots.entry) from (to - from))) }
+    ensures known { OnOk result (AreKnown (seen_cells entries.new) (own_entries field.now slots.entry.view) known.new) }
 {
     // a number of the code is below 2^64, so that the places of all indices are too
     let _room = indices.len();
@@ -193,7 +190,7 @@ fn put_sized_codes<'a, const SIZE: usize, const SIGNED: bool>(
 
 // The same, by a loop for indices with a sign and one for those without.
 fn put_codes_of_size<'a, const SIZE: usize>(
-    entries: &mut IndexSet<Entry<'a>>,
+    entries: &mut KnownEntries<'a>,
     known: &mut [Option<usize>],
     indices: &mut [u8],
     valid: &mut [bool],
@@ -205,11 +202,12 @@ fn put_codes_of_size<'a, const SIZE: usize>(
     requires small { SIZE ≤ 8 }
     requires size { SIZE ≡ (index_of slots.spec).bits / 8 }
     requires slots { AreCodedSlots field.now slots from to }
-    requires known { AreKnown (map entry_cell entries.old.keys) (own_entries field.now slots.view) known.old }
+    requires known { AreKnown (seen_cells entries.old) (own_entries field.now slots.view) known.old }
     requires room { length indices.old ≡ SIZE * (to - from) }
     requires places { length valid.old ≡ to - from }
-    ensures { OnOk result (IsWritten SIZE (map entry_cell entries.old.keys) (map entry_cell entries.new.keys)
+    ensures written { OnOk result (IsWritten SIZE (named_cells entries.old) (named_cells entries.new)
         indices.new valid.new (cells_from (coded_cell field.now slots.entry) from (to - from))) }
+    ensures known { OnOk result (AreKnown (seen_cells entries.new) (own_entries field.now slots.entry.view) known.new) }
 {
     if slots.spec.index.signed {
         put_sized_codes::<SIZE, true>(entries, known, indices, valid, field, slots, from, to)
@@ -220,7 +218,7 @@ fn put_codes_of_size<'a, const SIZE: usize>(
 
 // The same, by loops for each size of an index.
 fn put_slot_codes<'a>(
-    entries: &mut IndexSet<Entry<'a>>,
+    entries: &mut KnownEntries<'a>,
     known: &mut [Option<usize>],
     indices: &mut [u8],
     valid: &mut [bool],
@@ -230,11 +228,12 @@ fn put_slot_codes<'a>(
     to: usize,
 ) -> Result<(), AllocError>
     requires slots { AreCodedSlots field.now slots from to }
-    requires known { AreKnown (map entry_cell entries.old.keys) (own_entries field.now slots.view) known.old }
+    requires known { AreKnown (seen_cells entries.old) (own_entries field.now slots.view) known.old }
     requires room { length indices.old ≡ bits_of slots.spec.index.width / 8 * (to - from) }
     requires places { length valid.old ≡ to - from }
-    ensures { OnOk result (IsWritten (bits_of slots.entry.spec.index.width / 8) (map entry_cell entries.old.keys) (map entry_cell entries.new.keys)
+    ensures written { OnOk result (IsWritten (bits_of slots.entry.spec.index.width / 8) (named_cells entries.old) (named_cells entries.new)
         indices.new valid.new (cells_from (coded_cell field.now slots.entry) from (to - from))) }
+    ensures known { OnOk result (AreKnown (seen_cells entries.new) (own_entries field.now slots.entry.view) known.new) }
 {
     match slots.spec.index.width {
         BitWidth::Eight => {
@@ -255,7 +254,7 @@ fn put_slot_codes<'a>(
 // The same of some slots of the array of a run.
 fn put_array_codes<'a>(
     alloc: Global,
-    entries: &mut IndexSet<Entry<'a>>,
+    entries: &mut KnownEntries<'a>,
     indices: &mut [u8],
     valid: &mut [bool],
     field: &'a Field,
@@ -269,12 +268,12 @@ fn put_array_codes<'a>(
     requires coded { list_all is_coded (run_cells (column_of field.now) (Slots array from len)) ≡ true }
     requires room { length indices.old ≡ bits_of spec.index.width / 8 * len }
     requires places { length valid.old ≡ len }
-    ensures { OnOk result (IsWritten (bits_of spec.index.width / 8) (map entry_cell entries.old.keys) (map entry_cell entries.new.keys) indices.new valid.new
+    ensures { OnOk result (IsWritten (bits_of spec.index.width / 8) (named_cells entries.old) (named_cells entries.new) indices.new valid.new
         (run_cells (column_of field.now) (Slots array.entry from len))) }
 {
     // a number of the code is below 2^64, so that the sum is too
     let _slots = array.slots();
-    let mut known = unknown(alloc, array, len)?;
+    let mut known = entries.take_numbers(alloc, field, array, len)?;
     let slots = CodedSlots::new(spec, array);
     put_slot_codes(
         entries,
@@ -285,7 +284,8 @@ fn put_array_codes<'a>(
         slots,
         from,
         from + len,
-    )
+    )?;
+    entries.keep_numbers(field, array, known)
 }
 
 // Zeros stand for the indices of nulls.
@@ -300,7 +300,7 @@ fn put_null_codes(indices: &mut [u8], valid: &mut [bool])
 // The same of a run.
 fn put_run_codes<'a>(
     alloc: Global,
-    entries: &mut IndexSet<Entry<'a>>,
+    entries: &mut KnownEntries<'a>,
     indices: &mut [u8],
     valid: &mut [bool],
     field: &'a Field,
@@ -312,7 +312,7 @@ fn put_run_codes<'a>(
     requires coded { list_all is_coded (run_cells (column_of field.now) run.now) ≡ true }
     requires room { length indices.old ≡ bits_of spec.index.width / 8 * length (run_bits run.now) }
     requires places { length valid.old ≡ length (run_bits run.now) }
-    ensures { OnOk result (IsWritten (bits_of spec.index.width / 8) (map entry_cell entries.old.keys) (map entry_cell entries.new.keys) indices.new valid.new
+    ensures { OnOk result (IsWritten (bits_of spec.index.width / 8) (named_cells entries.old) (named_cells entries.new) indices.new valid.new
         (run_cells (column_of field.now) run.now)) }
 {
     match run {
@@ -332,7 +332,7 @@ fn put_run_codes<'a>(
 /// one, where there is room for just these.
 pub(crate) fn put_codes<'a>(
     alloc: Global,
-    entries: &mut IndexSet<Entry<'a>>,
+    entries: &mut KnownEntries<'a>,
     indices: &mut [u8],
     valid: &mut [bool],
     field: &'a Field,
@@ -344,7 +344,7 @@ pub(crate) fn put_codes<'a>(
     requires coded { list_all is_coded (runs_cells (column_of field.now) runs.now) ≡ true }
     requires room { length indices.old ≡ bits_of spec.index.width / 8 * length (runs_bits runs.now) }
     requires places { length valid.old ≡ length (runs_bits runs.now) }
-    ensures { OnOk result (IsWritten (bits_of spec.index.width / 8) (map entry_cell entries.old.keys) (map entry_cell entries.new.keys) indices.new valid.new
+    ensures { OnOk result (IsWritten (bits_of spec.index.width / 8) (named_cells entries.old) (named_cells entries.new) indices.new valid.new
         (runs_cells (column_of field.now) runs.now)) }
 {
     // a number of the code is below 2^64, so that all places are too

@@ -20,7 +20,7 @@ use crate::encoder::{EncodedPieces, no_pieces, push_stream};
 use crate::front::BatchFront;
 use crate::messages::write_run_piece;
 use crate::stream::{Stream, begin_stream, end_stream, into_bytes, into_parts, schema_bytes};
-use array_build::Buffer;
+use array_build::{Buffer, KnownEntries};
 use arrow_schema::Schema;
 use canonical_stream::pieces_can_be_built;
 use std::alloc::{AllocError, Global};
@@ -29,11 +29,12 @@ use values::Part;
 
 // Writes the messages of the rows that are left, of which there are so many. The front that is kept for the next piece is the caller's, so that no turn of the
 // loop owns it.
-fn write_runs<'a>(
+fn write_runs<'k, 'a: 'k>(
     alloc: Global,
-    schema: &Schema,
+    schema: &'k Schema,
     stream: &mut Stream<'a>,
     kept: &mut Option<BatchFront>,
+    entries: &mut KnownEntries<'k>,
     left: &mut RowsLeft<'a>,
     rows: usize,
 ) -> Result<(), AllocError>
@@ -47,7 +48,7 @@ fn write_runs<'a>(
     let mut from = 0;
     while from < rows {
         let piece = left.next_piece(alloc, schema)?;
-        write_run_piece(alloc, stream, kept, schema, &piece)?;
+        write_run_piece(alloc, stream, kept, entries, schema, &piece)?;
         from += piece.rows;
     }
     Ok(())
@@ -68,7 +69,15 @@ fn encode_left<'a>(
     let mut left = all;
     let first = schema_bytes(alloc, schema)?;
     let mut stream = begin_stream(alloc, first);
-    write_runs(alloc, schema, &mut stream, &mut None, &mut left, rows)?;
+    write_runs(
+        alloc,
+        schema,
+        &mut stream,
+        &mut None,
+        &mut KnownEntries::none(alloc),
+        &mut left,
+        rows,
+    )?;
     end_stream(&mut stream)?;
     Ok(stream)
 }
@@ -104,7 +113,15 @@ pub(crate) fn messages_of_parts<'a>(
 {
     let mut left = RowsLeft::new(alloc, parts)?;
     let mut stream = begin_stream(alloc, Vec::new(alloc));
-    write_runs(alloc, schema, &mut stream, &mut None, &mut left, rows)?;
+    write_runs(
+        alloc,
+        schema,
+        &mut stream,
+        &mut None,
+        &mut KnownEntries::none(alloc),
+        &mut left,
+        rows,
+    )?;
     Ok(stream)
 }
 
@@ -129,11 +146,12 @@ pub fn encode_runs(
 }
 
 // The stream of a piece, as a table of its own, but for the message of the schema, which has so many bytes.
-fn encode_run_piece<'a>(
+fn encode_run_piece<'k, 'a: 'k>(
     alloc: Global,
-    schema: &Schema,
+    schema: &'k Schema,
     before: usize,
     kept: &mut Option<BatchFront>,
+    entries: &mut KnownEntries<'k>,
     piece: &RunPiece<'a>,
 ) -> Result<Vec<Buffer<'a>>, AllocError>
     requires piece { IsPieceOf (schema_of schema.now) (runs_rows (columns_of (schema_of schema.now).columns) piece.now.runs.items) }
@@ -147,18 +165,19 @@ fn encode_run_piece<'a>(
     ensures short { IfOk result (λ parts. length (schema_message (schema_of schema.now) ++ joined_parts parts.items) < 2 ^ 64) }
 {
     let mut stream = begin_stream(alloc, Vec::new(alloc));
-    write_run_piece(alloc, &mut stream, kept, schema, piece)?;
+    write_run_piece(alloc, &mut stream, kept, entries, schema, piece)?;
     end_stream(&mut stream)?;
     into_parts(before, stream)
 }
 
 // Adds the streams of the pieces of the rows that are left, of which there are so many, and counts the rows of each. Nothing was added before. The front that
 // is kept for the next piece is the caller's here too.
-fn push_left<'a>(
+fn push_left<'k, 'a: 'k>(
     alloc: Global,
-    schema: &Schema,
+    schema: &'k Schema,
     before: usize,
     kept: &mut Option<BatchFront>,
+    entries: &mut KnownEntries<'k>,
     left: &mut RowsLeft<'a>,
     rows: usize,
     pieces: &mut EncodedPieces<'a>,
@@ -180,7 +199,7 @@ fn push_left<'a>(
     let mut from = 0;
     while from < rows {
         let piece = left.next_piece(alloc, schema)?;
-        let stream = encode_run_piece(alloc, schema, before, kept, &piece)?;
+        let stream = encode_run_piece(alloc, schema, before, kept, entries, &piece)?;
         push_stream(pieces, stream, piece.rows)?;
         from += piece.rows;
     }
@@ -209,6 +228,7 @@ pub(crate) fn encode_parts_pieces<'a>(
         schema,
         before,
         &mut None,
+        &mut KnownEntries::none(alloc),
         &mut left,
         rows,
         &mut pieces,

@@ -14,7 +14,7 @@ ghost use Rattle.values.specs.Borrowed.{borrowed_cells};
 
 use crate::front::{BatchFront, borrowed};
 use crate::stream::{Stream, push_body};
-use array_build::{Buffer, BuiltBatch, BuiltDictionary, build, build_runs};
+use array_build::{Buffer, BuiltBatch, BuiltDictionary, KnownEntries, build, build_runs};
 use arrow_schema::Schema;
 use canonical_stream::{written_batches_pass, written_entries_are_read};
 use columns::{dictionaries_are_written_alone, written_arrays_have_their_shape};
@@ -183,9 +183,10 @@ pub(crate) fn write_piece(
 }
 
 // The arrays of a piece whose rows are runs, which messages have room for.
-fn build_run_piece<'a>(
+fn build_run_piece<'k, 'a: 'k>(
     alloc: Global,
-    schema: &Schema,
+    entries: &mut KnownEntries<'k>,
+    schema: &'k Schema,
     runs: &[RowRun<'a>],
 ) -> Result<BuiltBatch<'a>, AllocError>
     requires piece { IsPieceOf (schema_of schema.now) (runs_rows (columns_of (schema_of schema.now).columns) runs.now) }
@@ -202,16 +203,17 @@ fn build_run_piece<'a>(
     written_batches_pass();
     written_entries_are_read();
     let columns = column_runs(alloc, &schema.fields, runs)?;
-    build_runs(alloc, &schema.fields, &columns)
+    build_runs(alloc, entries, &schema.fields, &columns)
 }
 
-/// The same of a piece whose rows are runs: no row is borrowed.
+/// The same of a piece whose rows are runs: no row is borrowed. What is known of the entries of dictionaries is kept for the next piece too.
 #[tactic(auto, unfolding(canonical_stream::specs::Canonical::piece_messages))]
-pub(crate) fn write_run_piece<'a>(
+pub(crate) fn write_run_piece<'k, 'a: 'k>(
     alloc: Global,
     stream: &mut Stream<'a>,
     kept: &mut Option<BatchFront>,
-    schema: &Schema,
+    entries: &mut KnownEntries<'k>,
+    schema: &'k Schema,
     piece: &RunPiece<'a>,
 ) -> Result<(), AllocError>
     requires piece { IsPieceOf (schema_of schema.now) (runs_rows (columns_of (schema_of schema.now).columns) piece.now.runs.items) }
@@ -220,6 +222,6 @@ pub(crate) fn write_run_piece<'a>(
     ensures { OnOk result (stream_in stream.new ≡ stream_in stream.old
         ++ piece_messages (schema_of schema.now) (runs_rows (columns_of (schema_of schema.now).columns) piece.now.runs.items)) }
 {
-    let built = build_run_piece(alloc, schema, &piece.runs)?;
+    let built = build_run_piece(alloc, entries, schema, &piece.runs)?;
     write_built(alloc, stream, kept, piece.rows, built)
 }

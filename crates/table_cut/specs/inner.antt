@@ -3,4 +3,3 @@ pub mod Columns
 pub mod Fit
 pub mod Weights
 pub mod Room
-pub mod Same

@@ -1,4 +1,4 @@
-// Whether the dictionaries of columns have room for all rows of some runs, column by column: an entry is looked up once for each run that names it.
+// Whether the dictionaries of columns have room for all rows of some runs, column by column: an entry of a dictionary is looked up once.
 ghost use Rattle.std.specs.Prelude.{◌≡◌, ◌≤◌, ℕ, true, Some, IfOk, length, map};
 ghost use Rattle.std.specs.List.{flat_map};
 ghost use Rattle.arrow_schema.specs.Column.{Column, columns_of};

@@ -4,79 +4,20 @@ ghost use Rattle.arrays.specs.Shared.{SharesEntries, SharesBelow, ShareEntries};
 ghost use Rattle.arrow_schema.specs.Column.{columns_of};
 ghost use Rattle.arrow_schema.specs.View.{kind_of, column_of};
 ghost use Rattle.columns.specs.Array.{first_array, children_in};
-ghost use Rattle.columns.specs.Places.{within};
 ghost use Rattle.columns.specs.View.{view_array, placed_dictionary, IsNoArray};
 ghost use Rattle.table_cut.specs.Rows.{arrays_of_run};
 ghost use Rattle.table_cut.specs.inner.Columns.{arrays_behind};
-ghost use Rattle.table_cut.specs.inner.Same.{IsSameLayout, IsSameArray};
 
 use crate::row_run::RowRun;
+use array_build::{Compared, is_same_dictionary};
 use arrow_schema::{DataType, Field};
 use cells::entry_limit;
-use columns::{
-    ArrayView, KnownArrays, PlacedArray, PlacedLayout, Span, array_or, bytes_at, no_array,
-};
+use columns::{ArrayView, PlacedArray, array_or, no_array};
 
 // Buffers with more bytes than these together, of which the second are for each row, are not compared: the rows are gone through.
 const LEAST_COMPARED: usize = 16_384;
 
 const COMPARED_PER_ROW: usize = 64;
-
-// Of dictionaries that were appended to more often than this, rows are gone through too.
-const MOST_ARRAYS: usize = 16;
-
-// The bytes that a buffer is looked for in, and how many of a buffer are compared.
-#[derive(Clone, Copy)]
-struct Compared<'a> {
-    own: &'a [u8],
-    others: &'a [u8],
-    most: usize,
-}
-
-fn is_same_span(bytes: Compared<'_>, a: Span, b: Span) -> bool
-    ensures { result ≡ true → within bytes.entry.own.now a ≡ within bytes.entry.others.now b }
-{
-    a.len <= bytes.most && bytes_at(bytes.own, a) == bytes_at(bytes.others, b)
-}
-
-fn is_same_layout(bytes: Compared<'_>, a: &PlacedLayout, b: &PlacedLayout) -> bool
-    ensures { result ≡ true → IsSameLayout bytes.entry.own.now a.now bytes.entry.others.now b.now }
-{
-    match (a, b) {
-        (PlacedLayout::Null, PlacedLayout::Null) => true,
-        (PlacedLayout::Bits(a), PlacedLayout::Bits(b)) => is_same_span(bytes, *a, *b),
-        (PlacedLayout::Fixed(a), PlacedLayout::Fixed(b)) => is_same_span(bytes, *a, *b),
-        (PlacedLayout::Binary(a, contents), PlacedLayout::Binary(b, others)) => {
-            is_same_span(bytes, *a, *b) && is_same_span(bytes, *contents, *others)
-        }
-        _ => false,
-    }
-}
-
-// Whether two arrays are one, of a type whose values are flat.
-fn is_same_array(bytes: Compared<'_>, a: &PlacedArray, b: &PlacedArray) -> bool
-    ensures { result ≡ true → IsSameArray bytes.entry.own.now a.now bytes.entry.others.now b.now }
-{
-    a.slots == b.slots
-        && is_same_span(bytes, a.validity, b.validity)
-        && is_same_layout(bytes, &a.layout, &b.layout)
-}
-
-// Whether two dictionaries are one.
-fn is_same_dictionary(bytes: Compared<'_>, own: KnownArrays<'_>, others: KnownArrays<'_>) -> bool
-    ensures { result ≡ true
-        → placed_dictionary bytes.entry.others.now others.entry.arrays.now ≡ placed_dictionary bytes.entry.own.now own.entry.arrays.now }
-{
-    if own.arrays.len() != others.arrays.len() || own.arrays.len() > MOST_ARRAYS {
-        return false;
-    }
-    for (i, array) in own.arrays.iter().enumerate() {
-        if !is_same_array(bytes, array, &others.arrays[i]) {
-            return false;
-        }
-    }
-    true
-}
 
 // The arrays below that of structs.
 fn children_of<'a>(view: ArrayView<'a>) -> RowRun<'a>

@@ -6,7 +6,7 @@ use Rattle.array_build.specs.inner.RunCells.{is_coded}
 use Rattle.arrow_schema.specs.View.{column_of, kind_of}
 use Rattle.arrow_schema.specs.declared.types.Field.{Field}
 use Rattle.cells.specs.Cell.{Cell, null}
-use Rattle.cells.specs.Dictionary.{is_entry, with_entries, with_entry}
+use Rattle.cells.specs.Dictionary.{entry_in, is_entry, with_entries}
 use Rattle.columns.specs.Array.{dictionary_in, slots_in}
 use Rattle.columns.specs.Built.{place_or_zero}
 use Rattle.columns.specs.CellAt.{cell_at, cells_from, entries_of_kind}
@@ -69,12 +69,7 @@ pub record IsWritten (size : ℕ) (old_entries new_entries : List Cell) (bytes :
 abbrev pub own_entries : Field → ArrayView → List Cell
 own_entries field view = entries_of_kind (kind_of field.data_type) (dictionary_in (view_array view))
 
--- the cell is among the entries, and this is its place
-pub record IsKnown (entries : List Cell) (c : Cell) (place : ℕ) : Type 0 where
-  pub stays : with_entry entries c ≡ entries
-  pub code : Some place ≡ code_in entries c
-
--- the code of the entry that has a number
+-- what is known of the entry that has a number
 abbrev pub known_at : List (Option ℕ) → Option ℕ → Option ℕ
 known_at known None = None
 known_at known (Some n) = get_or known n None
@@ -83,5 +78,11 @@ abbrev pub noted : List (Option ℕ) → Option ℕ → Option ℕ → List (Opt
 noted known None code = known
 noted known (Some n) code = set known n code
 
-abbrev pub AreKnown : (entries own : List Cell) → (known : List (Option ℕ)) → Type 0
-AreKnown entries own known = (n place : ℕ) → Some place ≡ get_or known n None → IsKnown entries (get_or own n null) place
+-- each entry is the one that was seen under the number that is known for it
+abbrev pub AreKnown : (seen own : List Cell) → (known : List (Option ℕ)) → Type 0
+AreKnown seen own known = (n k : ℕ) → Some k ≡ get_or known n None → is_entry (get_or own n null) (get_or seen k null) ≡ true
+
+-- the number under which a cell was seen: none where it is no entry
+abbrev pub IsNumber : (seen : List Cell) → Option ℕ → Cell → Type 0
+IsNumber seen None c = entry_in c ≡ None
+IsNumber seen (Some k) c = is_entry c (get_or seen k null) ≡ true

@@ -20,7 +20,7 @@ pub build_values-requires : goal.build_values-requires
 build_values-requires c =
     let kind : Kind = kind_of c.args.field.now.data_type in
     let cells : List Cell = runs_cells (column_of c.args.field.now) c.args.runs.now in
-    let entries = ap (map borrowed_cell) c.deref.ensures.value ∙ c.in_ok-entries.ensures.entries in
+    let entries = ap (map borrowed_cell) c.deref.ensures.value ∙ c.in_ok-cells.ensures.entries in
     ap (can_build (plain_column kind None)) entries
     ∙ entries_can kind (index_of c.args.spec) cells (dictionary_can_be_built c.args.field.now c.args.spec cells c.requires.spec c.requires.fits)
 
@@ -28,8 +28,8 @@ pub returns : goal.returns
 returns c =
     let kind : Kind = kind_of c.args.field.now.data_type in
     let cells : List Cell = runs_cells (column_of c.args.field.now) c.args.runs.now in
-    let entries = ap (map borrowed_cell) c.deref.ensures.value ∙ c.in_ok-entries.ensures.entries in
+    let entries = ap (map borrowed_cell) c.deref.ensures.value ∙ c.in_ok-cells.ensures.entries in
     let built = dictionary_built kind (index_of c.args.spec) cells (map borrowed_cell c.deref.result.now) (batch_in c.args.batch.now) (batch_in c.push_run_indices.new.batch)
-    (dictionary_in c.in_ok-values.values) entries c.in_ok-entries.ensures.batch c.in_ok-values.ensures
+    (dictionary_in c.in_ok-values.values) entries c.in_ok-cells.ensures.batch c.in_ok-values.ensures
     ∙ dictionary_field (batch_in c.args.batch.now) c.args.field.now c.args.spec cells c.requires.spec in
     subst (λ (p : PlainBatch). OnOk c.push_dictionary.result (batch_in c.push_dictionary.new.batch ≡ p)) built c.push_dictionary.ensures

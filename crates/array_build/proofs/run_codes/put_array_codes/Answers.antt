@@ -1,19 +1,21 @@
 use Rattle.std.specs.Prelude.{None, Option, Some, get_or}
 use Rattle.std.specs.List.{list_all}
-use Rattle.std.proofs.Common.{◌≡◌, ◌≤◌, ◌+◌, ◌-◌, ◌/◌, ◌∙◌, ℕ, List, map, arith, ap, refl, subst, sym}
+use Rattle.std.proofs.Common.{◌≡◌, ◌≤◌, ◌+◌, ◌-◌, ◌/◌, ◌∙◌, ℕ, Bool, List, arith, ap, drop, length, refl, subst, sym}
+use Rattle.std.proofs.lemmas.List.{take_at}
 use Rattle.std.proofs.lemmas.Bool.{and_parts, leb-true}
 use Rattle.std.proofs.lemmas.Result.{on_ok_weaker}
 use Rattle.arrow_schema.specs.Column.{Column}
 use Rattle.arrow_schema.specs.View.{bits_of, column_of}
 use Rattle.arrow_schema.specs.declared.types.DictSpec.{DictSpec}
+use Rattle.array_build.specs.inner.Named.{named_cells, seen_cells}
 use Rattle.array_build.proofs.CodedRuns.{long_buffers}
 use Rattle.array_build.proofs.run_codes.put_array_codes.Goals as goal
 use Rattle.array_build.specs.inner.Codes.{IsWritten, own_entries}
 use Rattle.array_build.specs.inner.RunCells.{is_coded}
 use Rattle.columns.specs.Runs.{run_cells}
 use Rattle.columns.specs.declared.slot_runs.SlotRun.TheVariants.{Slots}
-use Rattle.cells.specs.Cell.{Cell}
-use Rattle.cells.specs.Entry.{entry_cell}
+use Rattle.cells.specs.Cell.{Cell, null}
+use Rattle.cells.specs.Dictionary.{is_entry}
 use Rattle.columns.specs.Array.{slots_in}
 use Rattle.columns.specs.CellAt.{cell_at, cells_from}
 use Rattle.columns.specs.Sound.{is_sound}
@@ -54,18 +56,35 @@ put_slot_codes-requires-clause-slots c =
     }
 
 pub put_slot_codes-requires-clause-known : goal.put_slot_codes-requires-clause-known
-put_slot_codes-requires-clause-known c = λ n place some.
-    c.in_ok-known.ensures (map entry_cell c.args.entries.now.keys) (own_entries c.args.field.now c.new-slots.result.view) n place
-    (some ∙ ap (λ (ks : List (Option ℕ)). get_or ks n None) c.as_mut_slice.ensures.value)
+put_slot_codes-requires-clause-known c = λ n k some.
+    let seen : List Cell = seen_cells c.args.entries.now in
+    ap (λ (xs : List Cell). is_entry (get_or (own_entries c.args.field.now c.new-slots.result.view) n null) (get_or xs k null)) c.in_ok-known.ensures.seen
+    ∙ ap (λ (v : ArrayView). is_entry (get_or (own_entries c.args.field.now v) n null) (get_or seen k null)) c.new-slots.ensures.view
+    ∙ c.in_ok-known.ensures.known n k (some ∙ ap (λ (ks : List (Option ℕ)). get_or ks n None) c.as_mut_slice.ensures.value)
+
+pub keep_numbers-requires : goal.keep_numbers-requires
+keep_numbers-requires c = λ n k some.
+    let seen : List Cell = seen_cells c.put_slot_codes.new.entries in
+    let whole = take_at c.put_slot_codes.new.known (drop (length c.put_slot_codes.new.known) c.in_ok-known.known.items) c.in_ok-known.known.len
+    (omega (arith, c.put_slot_codes.auto.known, c.as_mut_slice.ensures.len)) in
+    ap (λ (v : ArrayView). is_entry (get_or (own_entries c.args.field.now v) n null) (get_or seen k null)) (sym c.new-slots.ensures.view)
+    ∙ c.in_ok-put_slot_codes.ensures.known n k (some ∙ ap (λ (ks : List (Option ℕ)). get_or ks n None) whole)
 
 pub returns : goal.returns
 returns c =
     let col : Column = column_of c.args.field.now in
-    let es : List Cell = map entry_cell c.args.entries.now.keys in
-    let after : List Cell = map entry_cell c.put_slot_codes.new.entries.keys in
+    let es : List Cell = named_cells c.args.entries.now in
+    let after : List Cell = named_cells c.put_slot_codes.new.entries in
+    let indices : List ℕ = c.put_slot_codes.new.indices in
+    let valid : List Bool = c.put_slot_codes.new.valid in
+    let own : List Cell = run_cells col (Slots c.args.array c.args.from c.args.len) in
     let same = same_slots col c.new-slots.result.view c.args.array c.args.from c.args.len _ c.new-slots.ensures.view refl in
     let size = ap (λ (d : DictSpec). bits_of d.index.width / 8) c.new-slots.ensures.spec in
-    on_ok_weaker c.put_slot_codes.result
-    (λ h. subst (λ (n : ℕ). IsWritten n es after c.put_slot_codes.new.indices c.put_slot_codes.new.valid (run_cells col (Slots c.args.array c.args.from c.args.len))) size
-    (subst (λ (cs : List Cell). IsWritten (bits_of c.new-slots.result.spec.index.width / 8) es after c.put_slot_codes.new.indices c.put_slot_codes.new.valid cs) same h))
-    c.put_slot_codes.ensures
+    let written : IsWritten (bits_of c.args.spec.index.width / 8) es after indices valid own =
+    subst (λ (n : ℕ). IsWritten n es after indices valid own) size
+    (subst (λ (cs : List Cell). IsWritten (bits_of c.new-slots.result.spec.index.width / 8) es after indices valid cs) same
+    (subst (λ (xs : List Cell). IsWritten (bits_of c.new-slots.result.spec.index.width / 8) xs after indices valid
+    (cells_from (cell_at col (view_array c.new-slots.result.view)) c.args.from (c.args.from + c.args.len - c.args.from))) c.in_ok-known.ensures.named c.in_ok-put_slot_codes.ensures.written)) in
+    on_ok_weaker c.keep_numbers.result
+    (λ kept. subst (λ (xs : List Cell). IsWritten (bits_of c.args.spec.index.width / 8) es xs indices valid own) (sym kept) written)
+    c.keep_numbers.ensures.named

@@ -1,10 +1,11 @@
 use Rattle.std.specs.List.{list_all}
-use Rattle.std.proofs.Common.{◌≡◌, ◌≤◌, ◌+◌, ◌*◌, ◌-◌, ◌++◌, ◌/◌, ◌∙◌, ℕ, List, [], ◌∷◌, ap, arith, drop, length, length-append, map, refl, subst, sym, take}
+use Rattle.std.proofs.Common.{◌≡◌, ◌≤◌, ◌+◌, ◌*◌, ◌-◌, ◌++◌, ◌/◌, ◌∙◌, ℕ, List, [], ◌∷◌, ap, arith, drop, length, length-append, refl, subst, sym, take}
 use Rattle.std.proofs.Math.Nat.{mul-le-mul_left}
 use Rattle.std.proofs.lemmas.Bool.{and_parts}
 use Rattle.std.proofs.lemmas.List.{drop_all}
 use Rattle.arrow_schema.specs.Column.{Column}
 use Rattle.arrow_schema.specs.View.{bits_of, column_of}
+use Rattle.array_build.specs.inner.Named.{named_cells}
 use Rattle.array_build.proofs.CodedRuns.{all_front}
 use Rattle.array_build.proofs.Written.{IsPartWritten, all_written, part_size, some_written}
 use Rattle.array_build.proofs.run_codes.put_codes.Goals as goal
@@ -13,7 +14,6 @@ use Rattle.array_build.specs.inner.Runs.{run_bits, runs_bits}
 use Rattle.columns.specs.Runs.{are_runs_sound, is_run_sound, run_cells, runs_cells}
 use Rattle.columns.specs.declared.slot_runs.SlotRun.{SlotRun}
 use Rattle.cells.specs.Cell.{Cell}
-use Rattle.cells.specs.Entry.{entry_cell}
 use Rattle.facts.specs.laws.Lists.{drop-item}
 use borrow.Rule.Slice.PartMut.{post_of}
 
@@ -29,10 +29,10 @@ loop-run-preserved c =
     let n : ℕ = c.run_len.result in
     let cells : List Cell = run_cells col run in
     let left : List Cell = runs_cells col (drop (i + 1) runs) in
-    let start : List Cell = map entry_cell c.args.entries.now.keys in
+    let start : List Cell = named_cells c.args.entries.now in
     let all : List Cell = runs_cells col runs in
-    let before : List Cell = map entry_cell c.loop-run.entries.keys in
-    let after : List Cell = map entry_cell c.put_run_codes.new.entries.keys in
+    let before : List Cell = named_cells c.loop-run.entries in
+    let after : List Cell = named_cells c.put_run_codes.new.entries in
     let item : drop i runs ≡ run ∷ drop (i + 1) runs = drop-item runs i run c.loop-run-test.true c.run-item.is in
     let split : runs_cells col (drop i runs) ≡ cells ++ left = ap (runs_cells col) item in
     let others : ℕ = length (runs_bits (drop (i + 1) runs)) in
@@ -67,9 +67,9 @@ returns c =
     let runs : List SlotRun = c.args.runs.now in
     let col : Column = column_of c.args.field.now in
     let size : ℕ = bits_of c.args.spec.index.width / 8 in
-    let start : List Cell = map entry_cell c.args.entries.now.keys in
+    let start : List Cell = named_cells c.args.entries.now in
     let all : List Cell = runs_cells col runs in
-    let es : List Cell = map entry_cell c.loop-run.entries.keys in
+    let es : List Cell = named_cells c.loop-run.entries in
     let at : ℕ = c.loop-run.at in
     let past : drop c.loop-run.run-index runs ≡ [] = drop_all c.loop-run.run-index runs c.loop-run-test.false in
     let none : runs_cells col (drop c.loop-run.run-index runs) ≡ [] = ap (runs_cells col) past in

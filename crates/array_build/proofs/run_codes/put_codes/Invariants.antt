@@ -1,11 +1,11 @@
-use Rattle.std.proofs.Common.{◌≡◌, ◌+◌, ◌/◌, true, drop, length, map}
+use Rattle.std.proofs.Common.{◌≡◌, ◌+◌, ◌/◌, true, drop, length}
 use Rattle.std.specs.List.{list_all}
 use Rattle.arrow_schema.specs.View.{bits_of, column_of}
+use Rattle.array_build.specs.inner.Named.{named_cells}
 use Rattle.array_build.proofs.Written.{IsPartWritten}
 use Rattle.array_build.specs.inner.RunCells.{is_coded}
 use Rattle.array_build.specs.inner.Runs.{runs_bits}
 use Rattle.columns.specs.Runs.{are_runs_sound, runs_cells}
-use Rattle.cells.specs.Entry.{entry_cell}
 use Rattle.array_build.proofs.run_codes.put_codes.Given as goal
 
 -- what is written so far, and the cells of the other runs
@@ -16,6 +16,6 @@ invariant-loop-run l =
       sound : are_runs_sound (column_of l.field) (drop l.run-index l.runs) ≡ true;
       coded : list_all is_coded left ≡ true;
       count : l.at + length (runs_bits (drop l.run-index l.runs)) ≡ length (runs_bits l.runs);
-      written : IsPartWritten (bits_of l.spec.index.width / 8) (map entry_cell l.fn.entries.keys) (runs_cells (column_of l.field) l.runs) (map entry_cell l.entries.keys) left
+      written : IsPartWritten (bits_of l.spec.index.width / 8) (named_cells l.fn.entries) (runs_cells (column_of l.field) l.runs) (named_cells l.entries) left
           l.indices l.valid l.at;
     }

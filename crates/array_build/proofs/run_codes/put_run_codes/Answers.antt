@@ -1,7 +1,8 @@
 use Rattle.std.specs.Prelude.{replicate}
-use Rattle.std.proofs.Common.{◌≡◌, ◌*◌, ◌/◌, ◌∙◌, ℕ, false, List, ap, arith, length, map, subst, sym}
+use Rattle.std.proofs.Common.{◌≡◌, ◌*◌, ◌/◌, ◌∙◌, ℕ, false, List, ap, arith, length, subst, sym}
 use Rattle.std.proofs.lemmas.List.{length-replicate}
 use Rattle.arrow_schema.specs.View.{bits_of, column_of}
+use Rattle.array_build.specs.inner.Named.{named_cells}
 use Rattle.array_build.proofs.RunSlots.{slots_counted}
 use Rattle.array_build.proofs.Written.{nulls_written}
 use Rattle.array_build.proofs.run_codes.put_run_codes.Goals as goal
@@ -10,7 +11,6 @@ use Rattle.array_build.specs.inner.Runs.{run_bits}
 use Rattle.columns.specs.Runs.{run_cells}
 use Rattle.columns.specs.declared.slot_runs.SlotRun.{SlotRun}
 use Rattle.cells.specs.Cell.{Cell}
-use Rattle.cells.specs.Entry.{entry_cell}
 
 pub put_array_codes-requires-clause-room : goal.put_array_codes-requires-clause-room
 put_array_codes-requires-clause-room c =
@@ -23,7 +23,7 @@ pub returns-in-Nulls : goal.returns-in-Nulls
 returns-in-Nulls c =
     let size : ℕ = bits_of c.args.spec.index.width / 8 in
     let n : ℕ = c.in-Nulls.field-0 in
-    let es : List Cell = map entry_cell c.args.entries.now.keys in
+    let es : List Cell = named_cells c.args.entries.now in
     let count : length (run_bits c.args.run.now) ≡ n = ap (λ (run : SlotRun). length (run_bits run)) c.in-Nulls.is ∙ length-replicate n false in
     let places : length c.args.valid.now ≡ n = c.requires.places ∙ count in
     let room : length c.args.indices.now ≡ n * size = c.requires.room ∙ ap (λ (m : ℕ). size * m) count ∙ omega arith in

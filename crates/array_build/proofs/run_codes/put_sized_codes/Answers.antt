@@ -1,12 +1,12 @@
-use Rattle.std.proofs.Common.{◌≡◌, ◌≤◌, ◌<◌, ◌+◌, ◌-◌, ◌*◌, ℕ, List, arith, length, map, refl, subst}
+use Rattle.std.proofs.Common.{◌≡◌, ◌≤◌, ◌<◌, ◌+◌, ◌-◌, ◌*◌, ℕ, List, arith, length, refl, subst}
 use Rattle.std.proofs.Math.Nat.{mul-le-mul_left}
 use Rattle.arrow_schema.specs.View.{column_of}
+use Rattle.array_build.specs.inner.Named.{named_cells}
 use Rattle.array_build.proofs.CodedRuns.{coded_here, first_cell}
 use Rattle.array_build.proofs.Written.{IsPartWritten, all_written, none_written, one_written}
 use Rattle.array_build.proofs.run_codes.put_sized_codes.Goals as goal
 use Rattle.array_build.specs.inner.Codes.{code_in}
 use Rattle.cells.specs.Cell.{Cell}
-use Rattle.cells.specs.Entry.{entry_cell}
 use Rattle.columns.specs.CellAt.{cell_at, cells_from}
 use Rattle.columns.specs.View.{view_array}
 
@@ -30,11 +30,11 @@ put_slot_code-requires-clause-place g c =
 pub loop-i-preserved : goal.loop-i-preserved
 loop-i-preserved g c =
     let f : ℕ → Cell = cell_at (column_of c.args.field.now) (view_array c.args.slots.view) in
-    let start : List Cell = map entry_cell c.args.entries.now.keys in
+    let start : List Cell = named_cells c.args.entries.now in
     let all : List Cell = cells_from f c.args.from (c.args.to - c.args.from) in
     let left : List Cell = cells_from f (c.loop-i.i + 1) (c.args.to - (c.loop-i.i + 1)) in
-    let before : List Cell = map entry_cell c.loop-i.entries.keys in
-    let after : List Cell = map entry_cell c.put_slot_code.new.entries.keys in
+    let before : List Cell = named_cells c.loop-i.entries in
+    let after : List Cell = named_cells c.put_slot_code.new.entries in
     let done : ℕ = c.loop-i.i - c.args.from in
     let here = subst (λ (cs : List Cell). IsPartWritten g.row.SIZE start all before cs c.loop-i.indices c.loop-i.valid done) (first_cell f c.loop-i.i c.args.to c.loop-i-test.true) c.loop-i.invariant.written in
     let le : done ≤ c.args.to - c.args.from = omega (arith, c.loop-i-test.true) in
@@ -55,19 +55,22 @@ loop-i-init g c =
     record {
       coded = c.requires.slots.coded;
       known = c.requires.known;
-      written = none_written g.row.SIZE (map entry_cell c.args.entries.now.keys) (cells_from f c.args.from (c.args.to - c.args.from)) c.args.indices.now c.args.valid.now _ none;
+      written = none_written g.row.SIZE (named_cells c.args.entries.now) (cells_from f c.args.from (c.args.to - c.args.from)) c.args.indices.now c.args.valid.now _ none;
     }
 
 pub returns : goal.returns
 returns g c =
     let f : ℕ → Cell = cell_at (column_of c.args.field.now) (view_array c.args.slots.view) in
-    let start : List Cell = map entry_cell c.args.entries.now.keys in
+    let start : List Cell = named_cells c.args.entries.now in
     let all : List Cell = cells_from f c.args.from (c.args.to - c.args.from) in
-    let es : List Cell = map entry_cell c.loop-i.entries.keys in
+    let es : List Cell = named_cells c.loop-i.entries in
     let done : ℕ = c.loop-i.i - c.args.from in
     let none : c.args.to - c.loop-i.i ≡ 0 = omega (arith, c.loop-i-test.false) in
     let le : c.args.to - c.args.from ≤ done = omega (arith, c.loop-i-test.false) in
     let room : length c.loop-i.indices ≤ g.row.SIZE * done = omega (arith, mul-le-mul_left g.row.SIZE le, c.requires.room, c.loop-i.auto.indices) in
     let places : length c.loop-i.valid ≤ done = omega (arith, le, c.requires.places, c.loop-i.auto.valid) in
-    all_written g.row.SIZE start all es c.loop-i.indices c.loop-i.valid done
-    (subst (λ (n : ℕ). IsPartWritten g.row.SIZE start all es (cells_from f c.loop-i.i n) c.loop-i.indices c.loop-i.valid done) none c.loop-i.invariant.written) room places
+    record {
+      written = all_written g.row.SIZE start all es c.loop-i.indices c.loop-i.valid done
+          (subst (λ (n : ℕ). IsPartWritten g.row.SIZE start all es (cells_from f c.loop-i.i n) c.loop-i.indices c.loop-i.valid done) none c.loop-i.invariant.written) room places;
+      known = c.loop-i.invariant.known;
+    }

@@ -1,10 +1,10 @@
-use Rattle.std.proofs.Common.{◌≡◌, ◌-◌, true, map}
+use Rattle.std.proofs.Common.{◌≡◌, ◌-◌, true}
 use Rattle.std.specs.List.{list_all}
 use Rattle.arrow_schema.specs.View.{column_of}
+use Rattle.array_build.specs.inner.Named.{named_cells, seen_cells}
 use Rattle.array_build.proofs.Written.{IsPartWritten}
 use Rattle.array_build.specs.inner.Codes.{AreKnown, own_entries}
 use Rattle.array_build.specs.inner.RunCells.{is_coded}
-use Rattle.cells.specs.Entry.{entry_cell}
 use Rattle.columns.specs.CellAt.{cell_at, cells_from}
 use Rattle.columns.specs.View.{view_array}
 use Rattle.array_build.proofs.run_codes.put_sized_codes.Given as goal
@@ -15,7 +15,7 @@ invariant-loop-i g l =
     let left = cells_from (cell_at (column_of l.field) (view_array l.slots.view)) l.i (l.to - l.i) in
     record {
       coded : list_all is_coded left ≡ true;
-      known : AreKnown (map entry_cell l.entries.keys) (own_entries l.field l.slots.view) l.known;
-      written : IsPartWritten g.row.SIZE (map entry_cell l.fn.entries.keys) (cells_from (cell_at (column_of l.field) (view_array l.slots.view)) l.from (l.to - l.from))
-          (map entry_cell l.entries.keys) left l.indices l.valid (l.i - l.from);
+      known : AreKnown (seen_cells l.entries) (own_entries l.field l.slots.view) l.known;
+      written : IsPartWritten g.row.SIZE (named_cells l.fn.entries) (cells_from (cell_at (column_of l.field) (view_array l.slots.view)) l.from (l.to - l.from))
+          (named_cells l.entries) left l.indices l.valid (l.i - l.from);
     }

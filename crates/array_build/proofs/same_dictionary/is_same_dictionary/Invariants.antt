@@ -1,6 +1,6 @@
 use Rattle.std.proofs.Common.{◌≡◌, map, take}
 use Rattle.columns.specs.View.{array_in, no_dictionary}
-use Rattle.table_cut.proofs.shared.is_same_dictionary.Given as goal
+use Rattle.array_build.proofs.same_dictionary.is_same_dictionary.Given as goal
 
 abbrev pub invariant-loop-i : goal.invariant-loop-i
 invariant-loop-i l =

@@ -1,0 +1,32 @@
+// What is known of the entries of a dictionary.
+ghost use Rattle.std.specs.Prelude.{◌≡◌, true};
+ghost use Rattle.array_build.specs.inner.Codes.{own_entries};
+ghost use Rattle.array_build.specs.inner.Known.{dictionary_entries};
+
+use crate::same_dictionary::{Compared, is_same_dictionary};
+use arrow_schema::{DataType, Field};
+use columns::{ArrayView, KnownArrays};
+
+/// A dictionary of values of a type, and the number that each of its entries is known by.
+#[derive(Drop)]
+pub struct KnownDictionary<'a> {
+    pub(crate) data_type: &'a DataType,
+    pub(crate) bytes: &'a [u8],
+    pub(crate) arrays: KnownArrays<'a>,
+    pub(crate) numbers: Vec<Option<usize>>,
+}
+
+impl<'a> KnownDictionary<'a> {
+    /// Whether it is known to be the dictionary of an array: no buffer of more bytes than so many is compared.
+    pub(crate) fn is_of(&self, field: &Field, array: ArrayView<'_>, most: usize) -> bool
+        ensures { result ≡ true → dictionary_entries self.now ≡ own_entries field.now array.entry }
+    {
+        let compared = Compared {
+            own: self.bytes,
+            others: array.bytes,
+            most,
+        };
+        self.data_type.equals(&field.data_type)
+            && is_same_dictionary(compared, self.arrays, array.dictionary())
+    }
+}
