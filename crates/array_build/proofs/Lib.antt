@@ -20,6 +20,7 @@ mod RunBits
 mod RunColumns
 mod RunContents
 mod RunFixedItems
+mod RunFlags
 mod RunItems
 mod RunParts
 mod RunSlots

@@ -31,6 +31,7 @@ mod run_cells;
 mod run_codes;
 mod run_contents;
 mod run_fixed_items;
+mod run_flags;
 mod run_items;
 mod run_parts;
 mod run_slots;

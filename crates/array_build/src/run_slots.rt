@@ -10,6 +10,7 @@ ghost use Rattle.columns.specs.Tests.{has_short_validity};
 ghost use Rattle.columns.specs.View.{view_array};
 
 use crate::batch::{BuiltBatch, push_validity};
+use crate::run_flags::{are_short, run_flags};
 use bitmap::{MaskBuilder, get, pack, run_end};
 use columns::{ArrayView, SlotRun};
 use std::alloc::{AllocError, Global};
@@ -131,6 +132,9 @@ fn run_validity(alloc: Global, slots: usize, runs: &[SlotRun<'_>]) -> Result<Vec
 {
     if have_no_null(runs) {
         return Ok(Vec::new(alloc));
+    }
+    if are_short(slots, runs) {
+        return pack(alloc, &run_flags(alloc, slots, runs)?);
     }
     let mut bits = MaskBuilder::with_capacity(alloc, slots)?;
     for run in runs {

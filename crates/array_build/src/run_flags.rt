@@ -1,0 +1,75 @@
+// A `bool` for each slot of runs that have few slots each: many are packed at once, where each run of bits would cost a call.
+ghost use Rattle.std.specs.Prelude.{◌≡◌, ◌≤◌, ◌+◌, ◌++◌, false, true, OnOk, IfOk, map, replicate};
+ghost use Rattle.std.specs.List.{list_all, range_with_len};
+ghost use Rattle.array_build.specs.inner.Runs.{run_bits, runs_bits};
+ghost use Rattle.columns.specs.Array.{slots_in};
+ghost use Rattle.columns.specs.CellAt.{is_valid};
+ghost use Rattle.columns.specs.Runs.{has_validity};
+ghost use Rattle.columns.specs.Tests.{has_short_validity};
+ghost use Rattle.columns.specs.View.{view_array};
+
+use columns::{ArrayView, SlotRun};
+use std::alloc::{AllocError, Global};
+
+// Runs that have no more slots than this, one with another, are short.
+const SHORT_RUN: usize = 16;
+
+/// Whether so many slots are in short runs.
+pub(crate) fn are_short(slots: usize, runs: &[SlotRun<'_>]) -> bool {
+    slots / SHORT_RUN < runs.len()
+}
+
+// The same so many times.
+fn push_alike(flags: &mut Vec<bool>, count: usize, flag: bool) -> Result<(), AllocError>
+    ensures { OnOk result (flags.new.items ≡ flags.old.items ++ replicate count flag) }
+{
+    for _ in 0..count {
+        flags.push(flag)?;
+    }
+    Ok(())
+}
+
+// Whether each of some slots is valid.
+fn push_slots(
+    flags: &mut Vec<bool>,
+    array: ArrayView<'_>,
+    from: usize,
+    len: usize,
+) -> Result<(), AllocError>
+    requires long { has_short_validity (view_array array) ≡ false }
+    requires within { from + len ≤ slots_in (view_array array) }
+    ensures { OnOk result (flags.new.items ≡ flags.old.items ++ map (is_valid (view_array array.entry)) (range_with_len from len)) }
+{
+    // a number of the code is below 2^64, so that the sum is too
+    let _slots = array.slots();
+    for i in from..from + len {
+        flags.push(array.is_valid(i))?;
+    }
+    Ok(())
+}
+
+fn push_run(flags: &mut Vec<bool>, run: &SlotRun<'_>) -> Result<(), AllocError>
+    requires { has_validity run.now ≡ true }
+    ensures { OnOk result (flags.new.items ≡ flags.old.items ++ run_bits run.now) }
+{
+    match run {
+        SlotRun::Slots { array, from, len } => push_slots(flags, *array, *from, *len),
+        SlotRun::Nulls(count) => push_alike(flags, *count, false),
+    }
+}
+
+/// Whether each slot of runs is valid, of which there are about so many.
+pub(crate) fn run_flags(
+    alloc: Global,
+    slots: usize,
+    runs: &[SlotRun<'_>],
+) -> Result<Vec<bool>, AllocError>
+    requires { list_all has_validity runs.now ≡ true }
+    ensures { IfOk result (λ flags. flags.items ≡ runs_bits runs.now) }
+{
+    let mut flags = Vec::with_capacity(alloc, slots)?;
+    for run in runs {
+        push_run(&mut flags, run)?;
+    }
+    Ok(flags)
+}
