@@ -443,7 +443,7 @@ fn place_weight(field: &Field, found: Option<EntryPlace<'_>>, none: &PlacedArray
     ensures { let kind = kind_of field.now.data_type in result ≡ capped_weight (kind_weight kind (located_cell kind found.entry)) }
 {
     match found {
-        Some(entry) => plain_weight(field, entry.view, entry.place, 1, none),
+        Some(entry) => run_weight(field, entry.view, entry.place, 1, none),
         None => nulls_weight(field, 1),
     }
 }

@@ -493,19 +493,19 @@ slots_weight-loop-i-preserved t c =
     let total = next_total _ _ _ _ _ _ _ c.loop-i.invariant.sums more c.slot_weight-entry.ensures c.add_weights-total.ensures in
     record { sums = total.0; capped = total.1 }
 
-pub place_weight-plain_weight-requires : goal.place_weight-plain_weight-requires
-place_weight-plain_weight-requires t c =
+pub place_weight-run_weight-requires : goal.place_weight-run_weight-requires
+place_weight-run_weight-requires t c =
     let kind : Kind = kind_of c.args.field.now.data_type in
     let place : IsSoundPlace kind (Some c.in-Some.entry) = subst (λ (found : Option EntryPlace). IsSoundPlace kind found) c.in-Some.is c.requires.sound in (
       search (rules, field_lemmas),
-      (c.requires.empty, (c.requires.varied, (place.1, omega (arith, place.0)))),
+      (c.requires.empty, (c.requires.varied, (place.1, (omega arith, (omega (arith, place.0), λ i le lt. let e : i ≡ c.in-Some.entry.place = omega (arith, le, lt) in ap (is_valid (view_array c.in-Some.entry.view)) e))))),
     )
 
 pub place_weight-returns-in-Some : goal.place_weight-returns-in-Some
 place_weight-returns-in-Some t c =
     let kind : Kind = kind_of c.args.field.now.data_type in
     let a : Array = view_array c.in-Some.entry.view in
-    c.plain_weight.ensures
+    c.run_weight.ensures
     ∙ ap capped_weight (one_slot (kind_weight kind) (unless_null (kind_cell kind) a) c.in-Some.entry.place)
     ∙ ap (λ (found : Option EntryPlace). capped_weight (kind_weight kind (located_cell kind found))) (sym c.in-Some.is)
 
