@@ -1,13 +1,15 @@
 // A `bool` for each slot of runs that have few slots each: many are packed at once, where each run of bits would cost a call.
-ghost use Rattle.std.specs.Prelude.{◌≡◌, ◌≤◌, ◌+◌, ◌++◌, false, true, OnOk, IfOk, map, replicate};
+ghost use Rattle.std.specs.Prelude.{◌≡◌, ◌≤◌, ◌+◌, ◌*◌, ◌++◌, false, true, OnOk, IfOk, length, map, replicate};
 ghost use Rattle.std.specs.List.{list_all, range_with_len};
 ghost use Rattle.array_build.specs.inner.Runs.{run_bits, runs_bits};
-ghost use Rattle.columns.specs.Array.{slots_in};
+ghost use Rattle.bitmap.specs.Bits.{bit};
+ghost use Rattle.columns.specs.Array.{bits_in, slots_in};
 ghost use Rattle.columns.specs.CellAt.{is_valid};
 ghost use Rattle.columns.specs.Runs.{has_validity};
 ghost use Rattle.columns.specs.Tests.{has_short_validity};
 ghost use Rattle.columns.specs.View.{view_array};
 
+use bitmap::get;
 use columns::{ArrayView, SlotRun};
 use std::alloc::{AllocError, Global};
 
@@ -19,8 +21,8 @@ pub(crate) fn are_short(slots: usize, runs: &[SlotRun<'_>]) -> bool {
     slots / SHORT_RUN < runs.len()
 }
 
-// The same so many times.
-fn push_alike(flags: &mut Vec<bool>, count: usize, flag: bool) -> Result<(), AllocError>
+/// The same so many times.
+pub(crate) fn push_alike(flags: &mut Vec<bool>, count: usize, flag: bool) -> Result<(), AllocError>
     ensures { OnOk result (flags.new.items ≡ flags.old.items ++ replicate count flag) }
 {
     for _ in 0..count {
@@ -72,4 +74,24 @@ pub(crate) fn run_flags(
         push_run(&mut flags, run)?;
     }
     Ok(flags)
+}
+
+/// Whether each of some bits of booleans is set.
+pub(crate) fn push_booleans(
+    flags: &mut Vec<bool>,
+    array: ArrayView<'_>,
+    from: usize,
+    len: usize,
+) -> Result<(), AllocError>
+    requires within { from + len ≤ slots_in (view_array array) }
+    requires long { from + len ≤ 8 * length (bits_in (view_array array)) }
+    ensures { OnOk result (flags.new.items ≡ flags.old.items ++ map (bit (bits_in (view_array array.entry))) (range_with_len from len)) }
+{
+    // a number of the code is below 2^64, so that the sum is too
+    let _slots = array.slots();
+    let bits = array.bits();
+    for i in from..from + len {
+        flags.push(get(bits, i))?;
+    }
+    Ok(())
 }
