@@ -75,7 +75,8 @@ vectors: bin/arrowstore
 	tests/stores bin/arrowstore
 	tests/images_open bin/arrowstore
 	tests/queries bin/arrowstore
-	tests/sessions bin/arrowstore tests/vectors/sessions_store tests/vectors/sessions_texts tests/vectors/sessions_compact
+	tests/sessions bin/arrowstore tests/vectors/sessions_store tests/vectors/sessions_texts tests/vectors/sessions_compact tests/vectors/replays
+	tests/replays bin/arrowstore
 	tests/killed bin/arrowstore
 	tests/types bin/arrowstore
 	tests/metadata bin/arrowstore

@@ -52,7 +52,7 @@ long_found : (name : Text) → (b : Bool) → bytes_eq (codes "help") name ≡ b
 long_found name true e = inl (rw e refl, (bytes_eq-Decides (codes "help") name).0 e)
 long_found name false e = inr (rw e refl)
 
--- ---- letters behind a hyphen
+-- ---- letters after a hyphen
 
 abbrev letter_kinds : Kinds → Option ℕ → ℕ → Text → Text → Kinds
 letter_kinds stray letter k flags word =

@@ -1,6 +1,6 @@
 -- What requests of a store come to.
 use Rattle.std.proofs.Common.{◌≡◌, ◌≢◌, ◌↔◌, ◌≤◌, ℕ, Bool, true, false, List, [], ◌∷◌, refl, sym, subst, ap, ◌∙◌, true≢false}
-use Rattle.std.specs.Prelude.{Option, Result, Ok, Err, IfOk, IfErr, IsOk, IsErrOf}
+use Rattle.std.specs.Prelude.{Option, Result, Ok, Err, IfOk, IfErr, IsOk, IsTrue, IsErrOf}
 use Rattle.std.proofs.lemmas.Bool.{and_from, le-leb}
 use Rattle.sector_dev.specs.declared.device.SectorDevice.{Ghosts}
 use Rattle.std.specs.declared.io.traits.Read.{Ghosts as ReadGhosts}
@@ -21,10 +21,14 @@ use Rattle.program_texts.specs.declared.status.Status.TheVariants.{Done, Refused
 use Rattle.program_texts.specs.declared.status.Ended.{Ended}
 use Rattle.program_texts.specs.Ending.{HasReported, TellsRefusal}
 use Rattle.program_texts.specs.Reported.{IfRefused}
-use Rattle.program_texts.specs.declared.telling.Audience.{Audience}
-use Rattle.clap.specs.Words.{Text}
+use Rattle.clap.specs.Words.{Text, kind_of}
+use Rattle.clap.specs.declared.error.Error.{Error}
+use Rattle.clap.specs.declared.error.kind.ErrorKind.TheVariants.{OutOfMemory}
+use Rattle.store_requests.specs.Apps.{IsOfMemory}
+use Rattle.store_requests.specs.declared.store_command_line.Mistake.{Mistake}
+use Rattle.store_requests.specs.declared.store_command_line.Mistake.TheVariants as mistakes
 use Rattle.store_requests.specs.StoreWords.{takes_input, takes_input_word, first_word}
-use Rattle.arrowstore.specs.OnFiles.{Ends, IsOpenedFile, IsOfFile, FailsToFormat, RefusesFormat, ServesWord, status_of}
+use Rattle.arrowstore.specs.OnFiles.{IsOpenedFile, IsOfFile, FailsToFormat, RefusesFormat, status_of}
 
 -- a file was not opened
 pub of_file : (e : FileError) → IsOfFile (file_refusal e)
@@ -66,18 +70,18 @@ of_formatting g size sectors (Opening r) same limits why = (limits, subst (λ (n
 of_formatting g size sectors _ same limits why = absurd why
 
 -- how a run ends whose request was done or refused
-pub ends_as : (done : Result (Unit {0}) Refusal) (status : Status) (kept : Type 0) → (IsOk done → (status ≡ Done) × kept) → IfErr done (λ refusal. status ≡ Refused refusal) → status ≡ status_of done
-ends_as (Ok unit) status kept is refused = (is refl).0
-ends_as (Err e) status kept is refused = refused
+pub ends_as : (done : Result (Unit {0}) Refusal) (status : Status) (kept reported : Type 0) → (IsOk done → (status ≡ Done) × kept × reported) → IfErr done (λ refusal. status ≡ Refused refusal) → status ≡ status_of done
+ends_as (Ok unit) status kept reported is refused = (is refl).0
+ends_as (Err e) status kept reported is refused = refused
 
--- what is told of it
+-- what is reported of it
 pub has_reported : {W E : Type 0} (contents : E → Option (List ℕ)) (tells : Refusal → List ℕ) (output output' : W) (errors errors' : E) (done : Result (Unit {0}) Refusal) (ended : Ended)
-    → IfErr done (λ refusal. refusal ≢ Io → output' ≡ output) → (IsOk done → (ended.status ≡ Done) × (errors' ≡ errors)) → IfErr done (λ refusal. ended.status ≡ Refused refusal)
+    → IfErr done (λ refusal. refusal ≢ Io → output' ≡ output) → (IsOk done → (ended.status ≡ Done) × (errors' ≡ errors) × IsTrue ended.is_reported) → IfErr done (λ refusal. ended.status ≡ Refused refusal)
     → TellsRefusal tells ended (contents errors) (contents errors') → HasReported contents tells output output' errors errors' ended
 has_reported contents tells output output' errors errors' (Ok unit) ended silent is refused line =
     let done : ended.status ≡ Done = (is refl).0 in
     record {
-      silent = λ _. (is refl).1;
+      silent = λ _. ((is refl).1, (is refl).2);
       nothing_written = λ wrong. absurd (cc (done, wrong));
       quiet = subst (λ s. IfRefused s (λ refusal. refusal ≢ Io → output' ≡ output)) (sym done) tt;
       line = line;
@@ -89,12 +93,12 @@ has_reported contents tells output output' errors errors' (Err e) ended silent i
   line = line;
 }
 
--- what was served of a word was served of the same one
-pub served_as : {D : Type 0} (g : Ghosts D) (is_opened : D → Type 0) {R W E : Type 0} (remaining : R → Option (List ℕ)) (contents : W → Option (List ℕ)) (reported : E → Option (List ℕ)) (audience : Audience)
-    (word other : List ℕ) (before after : Ends R W E) (ended : Ended) → word ≡ other
-    → ServesWord g is_opened remaining contents reported audience word before after ended → ServesWord g is_opened remaining contents reported audience other before after ended
-served_as g is_opened remaining contents reported audience word other before after ended same served =
-    subst (λ (w : List ℕ). ServesWord g is_opened remaining contents reported audience w before after ended) same served
+-- a mistake for want of memory
+pub refused_memory : (mistake : Mistake) (error : Error) → mistake ≡ mistakes.Words error → IsOfMemory mistake → kind_of error ≡ OutOfMemory
+refused_memory mistake error is memory = subst IsOfMemory is memory
+
+pub sign_takes_none : (mistake : Mistake) → mistake ≡ mistakes.SignedNumber → IsOfMemory mistake → ⊥
+sign_takes_none mistake is memory = subst IsOfMemory is memory
 
 -- a command whose word says that it reads the input
 pub takes_input_by : (arguments : List Text) (word : Text) → word ≡ first_word arguments → takes_input_word word ≡ true → takes_input arguments ≡ true

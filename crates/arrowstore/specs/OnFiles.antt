@@ -21,14 +21,18 @@ use Rattle.store_commands.specs.Copying.{Copies}
 use Rattle.command_refusals.specs.declared.hint.Hint.{Hint}
 use Rattle.command_refusals.specs.declared.hint.Hint.TheVariants as hints
 use Rattle.program_texts.specs.Reported.{IsWrong}
-use Rattle.program_texts.specs.Ending.{HasReported}
+use Rattle.program_texts.specs.Ending.{GivesSome, HasReported}
 use Rattle.program_texts.specs.Told.{told}
 use Rattle.program_texts.specs.declared.telling.Audience.{Audience}
 use Rattle.program_texts.specs.declared.status.Ended.{Ended}
 use Rattle.program_texts.specs.declared.status.Status.{Status}
 use Rattle.program_texts.specs.declared.status.Status.TheVariants.{Done, Refused}
 use Rattle.store_requests.specs.Asked.{request_word}
+use Rattle.store_requests.specs.Operands.{are_right, Names}
 use Rattle.store_requests.specs.StoreWords.{first_word, ask_for_help}
+use Rattle.sector_dev.specs.declared.model.ModelDevice.{ModelDevice}
+use Rattle.replay.specs.Replay.{IsReplayOfFile, RefusesReplay}
+use Rattle.store_requests.specs.declared.replaying.ReplayWords.{ReplayWords}
 use Rattle.store_requests.specs.declared.store_words.StoreCommand.{StoreCommand}
 use Rattle.store_requests.specs.declared.store_words.StoreRequest.{StoreRequest}
 use Rattle.store_requests.specs.declared.store_words.StoreRequest.TheVariants as requests
@@ -70,20 +74,20 @@ ServesCommand g is_opened remaining contents command before after result =
     IsErrAnd result (λ refusal. RefusesCommand command refusal × (after ≡ before))
     ⊎ ServesStated g is_opened remaining contents command before after result
 
--- why no store is made on a device of so many sectors
+-- why no store is made on a device of this number of sectors
 unfoldable pub FailsToFormat : {D : Type 0} → (g : Ghosts D) → (sectors : ℕ) → Refusal → Type 0
 FailsToFormat {D} g sectors (refusals.Opening r) =
     (device : D) × (back : D) × (g.size device ≡ sectors) × LeavesUnformatted g.size g.story g.tells device r back
 FailsToFormat g sectors _ = ⊥
 
--- why none is made in a new file of so many sectors: the system refuses the file, no store has that size, or some device was not formatted
+-- why none is made in a new file of this number of sectors: the system refuses the file, no store has that size, or some device was not formatted
 unfoldable pub RefusesFormat : {D : Type 0} → (g : Ghosts D) → (sectors : ℕ) → Refusal → Type 0
 RefusesFormat g sectors refusals.Io = Unit {0}
 RefusesFormat g sectors refusals.BadSize = ¬ ((LEAST_SECTORS ≤ sectors) × (sectors ≤ MOST_SECTORS))
 RefusesFormat g sectors (refusals.Opening r) = (is_size sectors ≡ true) × FailsToFormat g sectors (refusals.Opening r)
 RefusesFormat g sectors _ = ⊥
 
--- an empty store of so many sectors was made on a device, and `ok` is written
+-- an empty store of this number of sectors was made on a device, and `ok` is written
 pub record MakesStore {D : Type 0} (g : Ghosts D) {W : Type 0} (contents : W → Option (List ℕ)) (sectors : ℕ) (output output' : W)
     (result : Result (Unit {0}) Refusal) : Type 0 where
   pub store : Store D g
@@ -110,7 +114,7 @@ pub record OpensStore {D : Type 0} (g : Ghosts D) (is_opened : D → Type 0) (st
 abbrev pub FailsToOpen : {D : Type 0} → (g : Ghosts D) → (is_opened : D → Type 0) → Refusal → Type 0
 FailsToOpen {D} g is_opened refusal = IsOfFile refusal ⊎ ((device : D) × is_opened device × ((back : D) × RefusesOpening g device back refusal))
 
--- a new store of so many sectors was made, and the tables of another one were copied into it, which was answered so
+-- a new store of this number of sectors was made, and the tables of another one were copied into it, which was answered so
 pub record CopiesInto {D : Type 0} (g : Ghosts D) (sectors : ℕ) (from : Store D g) (answer : Result (Unit {0}) tables.Refusal) : Type 0 where
   pub made : Store D g
   pub new : IsNewStore sectors made
@@ -143,14 +147,28 @@ abbrev pub CopiesStore : {D : Type 0} → (g : Ghosts D) → (is_opened : D → 
 CopiesStore g is_opened contents sectors output output' result =
     IsErrAnd result (λ refusal. RefusesCopying g is_opened sectors refusal × (output' ≡ output)) ⊎ MakesCopy g is_opened contents sectors output output' result
 
--- what a request comes to
+-- ---- a script
+
+-- the script of some file was played on a device in memory, and what is printed is what came of it; or why not
+abbrev pub Replays : (g : Ghosts ModelDevice) → {F R W : Type 0} → (of_file : F → Option (List ℕ)) → (of_none : R → Option (List ℕ)) → (contents : W → Option (List ℕ))
+    → ReplayWords → (output output' : W) → Result (Unit {0}) Refusal → Type 0
+Replays g of_file of_none contents words output output' result =
+    OnOk result (IsReplayOfFile g of_file of_none words.sectors words.fail words.stop words.choice (contents output) (contents output'))
+    × IfErr result (RefusesReplay of_file words.sectors)
+
+-- ---- requests
+
+-- what a request comes to; what a script does is said by `replays`
 abbrev pub ServesRequest : {D : Type 0} → (g : Ghosts D) → (is_opened : D → Type 0) → {R W : Type 0} → (remaining : R → Option (List ℕ))
-    → (contents : W → Option (List ℕ)) → StoreRequest → (before after : Channels R W) → Result (Unit {0}) Refusal → Type 0
-ServesRequest g is_opened remaining contents (requests.Format path sectors) before after result =
+    → (contents : W → Option (List ℕ)) → (replays : ReplayWords → W → W → Result (Unit {0}) Refusal → Type 0) → StoreRequest → (before after : Channels R W)
+    → Result (Unit {0}) Refusal → Type 0
+ServesRequest g is_opened remaining contents replays (requests.Format path sectors) before after result =
     Formats g contents sectors before.output after.output result × (after.hint ≡ before.hint)
-ServesRequest g is_opened remaining contents (requests.Copy path new sectors) before after result =
+ServesRequest g is_opened remaining contents replays (requests.Copy path new sectors) before after result =
     CopiesStore g is_opened contents sectors before.output after.output result × (after.hint ≡ before.hint)
-ServesRequest g is_opened remaining contents (requests.Command path command) before after result =
+ServesRequest g is_opened remaining contents replays (requests.Replay words) before after result =
+    replays words before.output after.output result × (after.hint ≡ before.hint)
+ServesRequest g is_opened remaining contents replays (requests.Command path command) before after result =
     ServesCommand g is_opened remaining contents command before after result
 
 -- how a run ends
@@ -158,7 +176,7 @@ abbrev pub status_of : Result (Unit {0}) Refusal → Status
 status_of (Ok unit) = Done
 status_of (Err refusal) = Refused refusal
 
--- the part of the input that a hint tells, if it tells one
+-- the part of the input that a hint names, if it names one
 abbrev pub hinted_part : Option Hint → Option RefusedPart
 hinted_part (Some (hints.Part p)) = Some p.now
 hinted_part _ = None
@@ -172,32 +190,48 @@ pub record Ends (R W E : Type 0) : Type 0 where
 abbrev pub ends_of : {R W E : Type 0} → R → W → E → Ends R W E
 ends_of input output errors = record { input = input; output = output; errors = errors }
 
--- what a run is said to end with was told to an audience, with a hint
+-- what a run ended with was reported to an audience, with a hint
 abbrev pub HasTold : {W E : Type 0} → (reported : E → Option (List ℕ)) → Audience → (output output' : W) → (errors errors' : E) → Ended → Option Hint → Type 0
 HasTold reported audience output output' errors errors' ended hint = HasReported reported (told audience hint) output output' errors errors' ended
 
--- a request of this word was served, and what is hinted is told
-pub record ServesWord {D : Type 0} (g : Ghosts D) (is_opened : D → Type 0) {R W E : Type 0} (remaining : R → Option (List ℕ)) (contents : W → Option (List ℕ))
-    (reported : E → Option (List ℕ)) (audience : Audience) (word : List ℕ) (before after : Ends R W E) (ended : Ended) : Type 0 where
-  pub request : StoreRequest
-  pub asks : request_word request ≡ word
+-- a request was served, and what is hinted is reported
+pub record ServesTold {D : Type 0} (g : Ghosts D) (is_opened : D → Type 0) {R W E : Type 0} (remaining : R → Option (List ℕ)) (contents : W → Option (List ℕ))
+    (replays : ReplayWords → W → W → Result (Unit {0}) Refusal → Type 0) (reported : E → Option (List ℕ)) (audience : Audience) (request : StoreRequest) (before after : Ends R W E) (ended : Ended) : Type 0 where
   pub part : Option RefusedPart
   pub result : Result (Unit {0}) Refusal
-  pub serves : ServesRequest g is_opened remaining contents request (channels before.input before.output None) (channels after.input after.output part) result
+  pub serves : ServesRequest g is_opened remaining contents replays request (channels before.input before.output None) (channels after.input after.output part) result
   pub ends : ended.status ≡ status_of result
   pub hint : Option Hint
-  -- what is told of the input is the part that is refused, and else none is told
+  -- what is hinted of the input is the part that is refused, and else none is
   pub hints : hinted_part hint ≡ part
   pub told : HasTold reported audience before.output after.output before.errors after.errors ended hint
 
--- no command is asked for: some word asks for help, or what the words say is reported as wrong and nothing is written
-abbrev pub AsksForNone : {W : Type 0} → (asks_for_help : Bool) → (output output' : W) → Status → Type 0
-AsksForNone asks_for_help output output' status = (asks_for_help ≡ true) ⊎ (IsWrong status × (output' ≡ output))
+-- the request that the words state: the command of the first one, and where operands alone follow, the file and the tables that they name
+abbrev pub IsAskedBy : (arguments : List (List ℕ)) → StoreRequest → Type 0
+IsAskedBy arguments request = (request_word request ≡ first_word arguments) × Names arguments request
 
--- arguments for a store: they ask for no command, and nothing is read; or the command of their first word was served
+-- it was served
+pub record ServesAsked {D : Type 0} (g : Ghosts D) (is_opened : D → Type 0) {R W E : Type 0} (remaining : R → Option (List ℕ)) (contents : W → Option (List ℕ))
+    (replays : ReplayWords → W → W → Result (Unit {0}) Refusal → Type 0) (reported : E → Option (List ℕ)) (audience : Audience) (arguments : List (List ℕ)) (before after : Ends R W E) (ended : Ended) : Type 0 where
+  pub request : StoreRequest
+  pub asks : IsAskedBy arguments request
+  pub served : ServesTold g is_opened remaining contents replays reported audience request before after ended
+
+-- help that is asked for is given, or what the words say is reported as wrong and nothing is written
+abbrev pub GivesHelpOrWrong : {W : Type 0} → (contents : W → Option (List ℕ)) → (asks_for_help : Bool) → (output output' : W) → Status → Type 0
+GivesHelpOrWrong contents asks_for_help output output' status =
+    ((asks_for_help ≡ true) × (status ≡ Done → GivesSome (contents output) (contents output'))) ⊎ (IsWrong status × (output' ≡ output))
+
+-- no command is served: some word asks for help, or the words are wrong; right ones are served unless memory is refused
+abbrev pub AsksForNone : {W : Type 0} → (contents : W → Option (List ℕ)) → (arguments : List (List ℕ)) → (output output' : W) → Status → Type 0
+AsksForNone contents arguments output output' status =
+    GivesHelpOrWrong contents (ask_for_help arguments) output output' status × (are_right arguments ≡ true → status ≡ Refused refusals.OutOfMemory)
+
+-- arguments for a store: no command of them is served, and nothing is read; or the request that they state was served
 abbrev pub RunsOnStore : {D : Type 0} → (g : Ghosts D) → (is_opened : D → Type 0) → {R W E : Type 0} → (remaining : R → Option (List ℕ))
-    → (contents : W → Option (List ℕ)) → (reported : E → Option (List ℕ)) → Audience → (arguments : List (List ℕ)) → (before after : Ends R W E) → Ended → Type 0
-RunsOnStore g is_opened remaining contents reported audience arguments before after ended =
-    (AsksForNone (ask_for_help arguments) before.output after.output ended.status × (after.input ≡ before.input)
+    → (contents : W → Option (List ℕ)) → (replays : ReplayWords → W → W → Result (Unit {0}) Refusal → Type 0) → (reported : E → Option (List ℕ)) → Audience
+    → (arguments : List (List ℕ)) → (before after : Ends R W E) → Ended → Type 0
+RunsOnStore g is_opened remaining contents replays reported audience arguments before after ended =
+    (AsksForNone contents arguments before.output after.output ended.status × (after.input ≡ before.input)
     × HasTold reported audience before.output after.output before.errors after.errors ended None)
-    ⊎ ServesWord g is_opened remaining contents reported audience (first_word arguments) before after ended
+    ⊎ ServesAsked g is_opened remaining contents replays reported audience arguments before after ended

@@ -99,7 +99,7 @@ AreReadable {g = g} store = g.tells ≡ true → AllByRecursion (IsReadable (is_
 abbrev pub OnlyRead : {D : Type 0} {g : Ghosts D} → Result (Unit {0}) Refusal → (old new : Store D g) → Type 0
 OnlyRead {g = g} result old new = OnlyReadsStore g.size g.story g.failed g.tells (store_ended result) old new
 
--- what each command does, from a store and what it reads, writes and hints at to what they are behind it
+-- what each command does, from a store and what it reads, writes and hints at to what they are after it
 unfoldable pub Serves : {D : Type 0} {g : Ghosts D} {R W : Type 0} → (remaining : R → Option (List ℕ)) → (contents : W → Option (List ℕ)) → OpenCommand
     → (old new : Store D g) → (before after : Channels R W) → Result (Unit {0}) Refusal → Type 0
 Serves remaining contents (opened.Change c) old new before after result = Carries contents (command_of c) old new before after result

@@ -5,28 +5,22 @@ ghost use Rattle.clap.specs.declared.error.kind.ErrorKind.TheVariants.{OutOfMemo
 ghost use Rattle.arrowstore.specs.Arguments.{program_command, AreRecode, AskForHelp};
 ghost use Rattle.program_texts.specs.Reported.{IsRequest};
 
+use clap::error::ErrorKind;
 use clap::{ArgMatches, Command, Error};
 use std::alloc::{AllocError, Global};
 use std::convert::AsStr;
-use store_requests::{ask_help_of_command, help_of_command};
+use store_requests::{ask_help_of_command, command_lines, help_of_command, store_commands};
 
-// What `--help` says beside `recode`. Each line is the first one of the help of its command.
-const OTHER_COMMANDS: &str =
-    "Commands of a store, which is a file ('arrowstore COMMAND --help' says how each is called):
-  format   Makes a file of so many sectors, and an empty store in it
-  create   Makes a table without rows
-  import   Reads a stream from standard input, and makes its table, in place of one of this name
-  append   Reads rows from standard input, and appends them to a table
-  query    Prints the rows of a table that meet all conditions, each as a line of JSON
-  export   Writes the stream of a table to standard output
-  rename   Gives a table another name
-  drop     Removes a table with all its rows
-  tables   Prints a line for each table: its name, and how many rows it has
-  schema   Prints a line for each field of a table
-  check    Reads all tables, and prints ok where each can be read
-  compact  Joins small segments, moves the last ones forward, and prints how many steps that took
-  copy     Makes a store of so many sectors in a new file, with all tables of another one
+const ABOUT: &str = "A crash-safe store of named tables in the Apache Arrow format";
 
+const RECODE: &str =
+    "Reads a stream from standard input, and writes its canonical form to standard output";
+
+// What stands in the help after the commands.
+const OTHER_HELP: &str = "Options:
+  -h, --help  Print help
+
+Each command has its own help, with an example: 'arrowstore COMMAND --help'
 What each refusal means, and what to do: arrowstore help refusals
 The version: arrowstore --version";
 
@@ -47,8 +41,42 @@ pub(crate) fn action_of<S: AsStr>(alloc: Global, arguments: &[S]) -> Result<Acti
     if ask_help_of_command(arguments) {
         help_of_command(alloc, arguments)?;
     }
-    let matches = program(alloc)?.try_get_matches_from(arguments)?;
-    Ok(named(&matches))
+    let help = help_of_all(alloc)?;
+    match program(alloc, help.as_str())?.try_get_matches_from(arguments) {
+        Ok(matches) => Ok(named(&matches)),
+        Err(error) => Err(with_all_commands(alloc, arguments, error)),
+    }
+}
+
+// The help of the program: all commands in one list, each with the line that its own help begins with.
+fn help_of_all(alloc: Global) -> Result<String, AllocError> {
+    let of_stores = command_lines(alloc)?;
+    format!(in alloc;
+        "{ABOUT}\n\nUsage: arrowstore <COMMAND>\n\nCommands:\n{of_stores}  recode   {RECODE}\n  help     Print this message or the help of the given command\n\n{OTHER_HELP}"
+    )
+}
+
+// Where no command is given, or one that is not known, what is said of it names all commands, or one that is near.
+fn with_all_commands<S: AsStr>(alloc: Global, arguments: &[S], error: Error) -> Error
+    ensures { kind_of result ≡ kind_of error }
+{
+    let Some(other) = error_of_all(alloc, arguments) else {
+        return error;
+    };
+    match (error.kind(), other.kind()) {
+        (ErrorKind::InvalidSubcommand, ErrorKind::InvalidSubcommand)
+        | (ErrorKind::MissingSubcommand, ErrorKind::MissingSubcommand) => other,
+        _ => error,
+    }
+}
+
+// What is wrong with the arguments where all commands are known.
+fn error_of_all<S: AsStr>(alloc: Global, arguments: &[S]) -> Option<Error> {
+    let commands = store_commands(alloc)
+        .ok()?
+        .subcommand(Command::new(alloc, "recode"))
+        .ok()?;
+    commands.try_get_matches_from(arguments).err()
 }
 
 fn named(matches: &ArgMatches<'_>) -> Action
@@ -61,17 +89,14 @@ fn named(matches: &ArgMatches<'_>) -> Action
     }
 }
 
-fn program<'a>(alloc: Global) -> Result<Command<'a>, AllocError>
+fn program<'a>(alloc: Global, help: &'a str) -> Result<Command<'a>, AllocError>
     ensures { IfOk result (λ command. app_of command ≡ program_command) }
 {
-    let recode = Command::new(alloc, "recode")
-        .about(
-            "Reads a stream from standard input, and writes its canonical form to standard output",
-        )
-        .after_help("Example: arrowstore recode < readings.arrows > canonical.arrows");
+    let recode = Command::new(alloc, "recode").about(RECODE).after_help(
+        "Example: arrowstore recode < readings.arrows > canonical.arrows",
+    );
     Command::new(alloc, "arrowstore")
-        .about("A crash-safe store of named tables in the Apache Arrow format")
-        .after_help(OTHER_COMMANDS)
+        .override_help(help)
         .subcommand_required(true)
         .subcommand(recode)
 }

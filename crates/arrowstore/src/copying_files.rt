@@ -46,7 +46,7 @@ fn copy_into_file<
     }
 }
 
-/// Makes a store of so many sectors in a new file, copies all tables of the store in another file into it, and writes `ok`.
+/// Makes a store of `sectors` sectors of 512 bytes in a new file, copies all tables of the store in another file into it, and writes `ok`.
 pub(crate) fn serve_copy<
     F: Read + Write + Seek + OpenFile + LockFile + Drop,
     H: Files<File = F> + AllocGlobal,

@@ -2,25 +2,27 @@
 //!
 //! [`run_with_files`] does what a command line asks for; the crate `program` hands it the process's arguments, streams and files. [`run`] is
 //! that without files. The commands that they carry out stand in `store_commands`, what a command line asks of a store in `store_requests`,
-//! what is told and how a run ends in `program_texts`, and why a command was refused in `command_refusals`.
+//! what is reported and how a run ends in `program_texts`, and why a command was refused in `command_refusals`.
 //!
 //! ```
 //! let arguments = ["arrowstore", "recode"];
 //! let ended = run(alloc, &arguments, &mut input, &mut output, &mut errors, Audience::Program);
-//! assert_eq!(ended.status.code(), 0); // `output` has the canonical stream of `input`
+//! assert_eq!(ended.code(), 0); // `output` has the canonical stream of `input`
 //! ```
 #![tactic(auto)]
 
 mod command_line;
 mod copying_files;
 mod open_command;
+mod replaying;
 mod running;
 mod serving;
 mod serving_device;
 mod serving_open;
+mod unopened;
 mod with_files;
 
-pub use command_refusals::{Hint, REFUSALS, Refusal, Role, Word};
+pub use command_refusals::{FileReason, Hint, REFUSALS, Refusal, Role, UnopenedFile, Word};
 pub use open_command::{OpenCommand, stated};
 pub use program_texts::{Audience, Ended, Status, VERSION, report_unreadable_arguments};
 pub use running::run;

@@ -25,7 +25,7 @@ pub enum OpenCommand<'a> {
     Change(Command),
     /// The table that all of the input means as a stream, in place of one of this name.
     Import { name: &'a str },
-    /// The rows that all of the input means as a stream, behind those of the table.
+    /// The rows that all of the input means as a stream, after those of the table.
     Append { name: &'a str },
     /// The same of a text.
     AppendText { name: &'a str, form: TextForm<'a> },
@@ -41,20 +41,6 @@ pub enum OpenCommand<'a> {
     Check,
     /// Steps of a compaction until there is nothing to do.
     Compact,
-}
-
-impl OpenCommand<'_> {
-    // Whether it writes nothing to the store.
-    pub(crate) fn only_reads(&self) -> bool {
-        match self {
-            OpenCommand::Change(_)
-            | OpenCommand::Import { .. }
-            | OpenCommand::Append { .. }
-            | OpenCommand::AppendText { .. }
-            | OpenCommand::Compact => false,
-            _ => true,
-        }
-    }
 }
 
 fn create(alloc: Global, name: &str, fields: &[&str]) -> Result<Command, Refusal>

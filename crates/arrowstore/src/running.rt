@@ -3,7 +3,7 @@ ghost use Rattle.std.specs.Prelude.{◌≡◌, ◌⊎◌, true, map, None};
 ghost use Rattle.std.specs.Io.KnownBytes.{Appends};
 ghost use Rattle.arrowstore.specs.Arguments.{AreRecode, AreRight};
 ghost use Rattle.arrowstore.specs.Running.{Recodes};
-ghost use Rattle.program_texts.specs.Ending.{GivesText, HasReported};
+ghost use Rattle.program_texts.specs.Ending.{GivesSome, GivesText, HasReported};
 ghost use Rattle.program_texts.specs.OwnTexts.{is_own, own_text};
 ghost use Rattle.program_texts.specs.Reported.{IsWrong};
 ghost use Rattle.program_texts.specs.Told.{told};
@@ -35,8 +35,11 @@ pub fn run<S: AsStr, R: Read, W: Write, E: Write>(
         → GivesText (Appends (W.contents output.old) (W.contents output.new) (own_text (map S.text arguments.now))) result.status }
     // Wrong arguments are reported, unless memory is out: nothing is read, and nothing is written but on `errors`.
     ensures wrong_arguments { AreRight (map S.text arguments.now) ⊎ (IsWrong result.status × (output.new ≡ output.old)) }
+    // Help that is asked for is written, and nothing else.
+    ensures helps { result.status ≡ Done → AreRecode (map S.text arguments.now) ⊎ (is_own (map S.text arguments.now) ≡ true)
+        ⊎ GivesSome (W.contents output.old) (W.contents output.new) }
     ensures only_recode_reads { AreRecode (map S.text arguments.now) ⊎ (input.new ≡ input.old) }
-    // What is on `errors`: what is told of a refusal to such an audience, and nothing where all is done.
+    // What is on `errors`: the report of a refusal to such an audience, and nothing where all is done.
     ensures reports { HasReported E.contents (told audience None) output.old output.new errors.old errors.new result }
 {
     if is_own(arguments) {
@@ -49,6 +52,6 @@ pub fn run<S: AsStr, R: Read, W: Write, E: Write>(
     }
     match action_of(alloc, arguments) {
         Ok(Action::Recode) => end(recode(alloc, input, output), None, audience, errors),
-        Err(error) => report_arguments(&error, output, errors, audience),
+        Err(error) => report_arguments(alloc, &error, output, errors, audience),
     }
 }

@@ -3,17 +3,18 @@ ghost use Rattle.std.specs.Prelude.{◌≡◌, ◌≢◌, ◌⊎◌, true, IfOk,
 ghost use Rattle.store.specs.Fits.{device_of, IsNewStore};
 ghost use Rattle.store_requests.specs.Asked.{command_word, request_word};
 ghost use Rattle.store_requests.specs.StoreWords.{takes_input_word};
-ghost use Rattle.arrowstore.specs.OnFiles.{IsOpenedFile, FailsToFormat, RefusesFormat, Formats, ServesCommand, ServesRequest};
+ghost use Rattle.arrowstore.specs.OnFiles.{IsOpenedFile, FailsToFormat, RefusesFormat, Formats, Replays, ServesCommand, ServesRequest};
 ghost use Rattle.arrowstore.specs.Serving.{channels};
 
 use crate::copying_files::serve_copy;
-use crate::open_command::{OpenCommand, stated};
+use crate::open_command::stated;
+use crate::replaying::serve_replay;
 use crate::serving_device::serve_device;
 use command_refusals::{Refusal, write_whole};
-use sector_dev::{FileDevice, FileError, LockFile, SectorDevice};
+use sector_dev::{FileDevice, FileError, LockFile, ModelDevice, SectorDevice};
 use std::alloc::Global;
 use std::fs::{self, OpenFile};
-use std::io::{Read, Seek, Write};
+use std::io::{Empty, Read, Seek, Write};
 use std::rt::Files;
 use store::Store;
 use store_requests::{StoreCommand, StoreRequest};
@@ -46,11 +47,11 @@ pub(crate) fn take_places_of_streams<
 fn device_of<F: Read + Write + Seek + OpenFile + LockFile + Drop, H: Files<File = F> + AllocGlobal>(
     rt: &H,
     path: &str,
-    command: &OpenCommand<'_>,
+    only_reads: bool,
 ) -> Result<FileDevice<F>, FileError>
     ensures opened { IfOk result (λ device. IsOpenedFile device) }
 {
-    if command.only_reads() {
+    if only_reads {
         FileDevice::open_to_read(rt, path)
     } else {
         FileDevice::open(rt, path)
@@ -109,9 +110,10 @@ fn serve_command<
     ensures unread { (takes_input_word (command_word command.now) ≡ true) ⊎ (input.new ≡ input.old) }
     ensures silent { IfErr result (λ refusal. refusal ≢ Refusal.Io → output.new ≡ output.old) }
 {
+    let only_reads = command.only_reads();
     let command = stated(rt.alloc(), command)?;
     let _places = take_places_of_streams(rt)?;
-    let device = device_of(rt, path, &command)?;
+    let device = device_of(rt, path, only_reads)?;
     let (done, _device) = serve_device(rt.alloc(), device, command, input, output, hint);
     done
 }
@@ -129,7 +131,8 @@ pub(crate) fn serve<
     output: &mut W,
     hint: &mut Option<RefusedPart>,
 ) -> Result<(), Refusal>
-    ensures serves { ServesRequest ⟦<FileDevice<F> as SectorDevice>⟧ IsOpenedFile R.remaining W.contents request.now
+    ensures serves { ServesRequest ⟦<FileDevice<F> as SectorDevice>⟧ IsOpenedFile R.remaining W.contents
+        (Replays ⟦<ModelDevice as SectorDevice>⟧ F.remaining ⟦<Empty as Read>⟧.remaining W.contents) request.now
         (channels input.old output.old hint.old) (channels input.new output.new hint.new) result }
     ensures unread { (takes_input_word (request_word request.now) ≡ true) ⊎ (input.new ≡ input.old) }
     // Where it is refused, nothing is written, unless a read or a write failed.
@@ -138,6 +141,7 @@ pub(crate) fn serve<
     match request {
         StoreRequest::Format { path, sectors } => serve_format(rt, path, *sectors, output),
         StoreRequest::Copy { path, new, sectors } => serve_copy(rt, path, new, *sectors, output),
+        StoreRequest::Replay(words) => serve_replay(rt, *words, output),
         StoreRequest::Command { path, command } => {
             serve_command(rt, path, command, input, output, hint)
         }

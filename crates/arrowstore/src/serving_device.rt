@@ -26,7 +26,7 @@ pub fn serve_device<D: SectorDevice, R: Read, W: Write>(
     output: &mut W,
     hint: &mut Option<RefusedPart>,
 ) -> (Result<(), Refusal>, D)
-    // What is done is the command, on the store of this very device, and nothing before or behind it.
+    // What is done is the command, on the store of this very device, and nothing before or after it.
     ensures serves { ServesDevice ⟦<D as SectorDevice>⟧ R.remaining W.contents command.entry device result.1
         (channels input.old output.old hint.old) (channels input.new output.new hint.new) result.0 }
     ensures unread { (reads_input command.entry ≡ true) ⊎ (input.new ≡ input.old) }

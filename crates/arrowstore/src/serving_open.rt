@@ -16,6 +16,9 @@ use store_commands::{
 use text_import::RefusedPart;
 
 /// Does what is asked of an open store, on any device. Where a text is refused, `hint` is left with the part of it that is.
+///
+/// # Errors
+/// Those of the function of `store_commands` that does the command.
 #[tactic(auto, unfolding(crate::specs::Serving::Serves))]
 pub fn serve_open<D: SectorDevice, R: Read, W: Write>(
     alloc: Global,

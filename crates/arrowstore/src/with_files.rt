@@ -1,28 +1,33 @@
 // The program over any files, input and output.
-ghost use Rattle.std.specs.Prelude.{◌≡◌, ◌⊎◌, true, map, Option, None};
+ghost use Rattle.std.specs.Prelude.{◌≡◌, ◌⊎◌, true, map, Option, None, IsOk, IsTrue, IfErr};
 ghost use Rattle.std.specs.Io.KnownBytes.{Appends};
+ghost use Rattle.clap.specs.Words.{kind_of};
+ghost use Rattle.clap.specs.declared.error.kind.ErrorKind.TheVariants as kinds;
 ghost use Rattle.arrowstore.specs.Arguments.{AreRecode, AreRight};
-ghost use Rattle.arrowstore.specs.OnFiles.{AsksForNone, HasTold, IsOpenedFile, RunsOnStore, ServesWord, ends_of, hinted_part};
+ghost use Rattle.arrowstore.specs.OnFiles.{GivesHelpOrWrong, HasTold, IsOpenedFile, Replays, RunsOnStore, ServesTold, ends_of, hinted_part};
 ghost use Rattle.arrowstore.specs.Running.{Recodes};
-ghost use Rattle.program_texts.specs.Ending.{GivesText};
+ghost use Rattle.program_texts.specs.Ending.{GivesSome, GivesText, TellsRefusal};
 ghost use Rattle.program_texts.specs.OwnTexts.{is_own, own_text};
+ghost use Rattle.program_texts.specs.Told.{told};
 ghost use Rattle.store_requests.specs.Asked.{request_word};
 ghost use Rattle.store_requests.specs.StoreWords.{is_of_store, takes_input, takes_input_word};
 ghost use Rattle.program_texts.specs.Reported.{IsWrong};
-ghost use Rattle.program_texts.specs.declared.status.Status.TheVariants.{Done};
+ghost use Rattle.program_texts.specs.declared.status.Status.TheVariants.{Done, Refused};
+ghost use Rattle.command_refusals.specs.declared.refusal.Refusal.TheVariants as refusals;
 ghost use Rattle.command_refusals.specs.declared.hint.Hint.{Hint};
 
 use crate::run;
 use crate::serving::serve;
+use crate::unopened::{Unopened, is_there, refused_file};
 use command_refusals::{Hint, Refusal};
 use program_texts::{
     Audience, Ended, end, report_arguments, report_signed_number, report_wrong_arguments,
 };
-use sector_dev::{FileDevice, LockFile, SectorDevice};
+use sector_dev::{FileDevice, LockFile, ModelDevice, SectorDevice};
 use std::alloc::Global;
 use std::convert::AsStr;
 use std::fs::OpenFile;
-use std::io::{Read, Seek, Write};
+use std::io::{Empty, Read, Seek, Write};
 use std::rt::Files;
 use store_requests::{Mistake, StoreRequest, ask_for_help, is_of_store, refused_word, request_of};
 use text_import::RefusedPart;
@@ -51,8 +56,41 @@ fn word_of<'a>(
     }
 }
 
+// The system is asked once more where a person reads why.
+fn unopened_for<'a, F: OpenFile + LockFile + Drop, H: Files<File = F> + AllocGlobal>(
+    rt: &H,
+    request: &StoreRequest<'a>,
+    was_there: bool,
+    done: &Result<(), Refusal>,
+    audience: Audience,
+) -> Option<Unopened<'a>> {
+    match audience {
+        Audience::Program => None,
+        Audience::Terminal => refused_file(rt, request, was_there, done),
+    }
+}
+
+// Reports how a request ended. What is hinted is the file that was not opened or made, or a word of the command line that is refused.
+fn end_of_request<E: Write>(
+    alloc: Global,
+    request: &StoreRequest<'_>,
+    file: &Option<Unopened<'_>>,
+    done: Result<(), Refusal>,
+    audience: Audience,
+    errors: &mut E,
+) -> Ended
+    ensures done { IsOk done → (result.status ≡ Done) × (errors.new ≡ errors.old) × IsTrue result.is_reported }
+    ensures refused { IfErr done (λ refusal. result.status ≡ Refused refusal) }
+    ensures line { (hint : Option Hint) × (hinted_part hint ≡ None) × TellsRefusal (told audience hint) result (E.contents errors.old) (E.contents errors.new) }
+{
+    match file {
+        Some(file) => end(done, Some(file.hint()), audience, errors),
+        None => end(done, word_of(alloc, request, &done), audience, errors),
+    }
+}
+
 // A command of a store. What is hinted to be refused is a part of the input, where one is known, and else a word of the command line.
-fn serve_and_tell<
+fn serve_and_report<
     F: Read + Write + Seek + OpenFile + LockFile + Drop,
     H: Files<File = F> + AllocGlobal,
     R: Read,
@@ -66,31 +104,38 @@ fn serve_and_tell<
     errors: &mut E,
     audience: Audience,
 ) -> Ended
-    ensures serves { ServesWord ⟦<FileDevice<F> as SectorDevice>⟧ IsOpenedFile R.remaining W.contents E.contents audience (request_word request.now)
+    ensures serves { ServesTold ⟦<FileDevice<F> as SectorDevice>⟧ IsOpenedFile R.remaining W.contents
+        (Replays ⟦<ModelDevice as SectorDevice>⟧ F.remaining ⟦<Empty as Read>⟧.remaining W.contents) E.contents audience request.now
         (ends_of input.old output.old errors.old) (ends_of input.new output.new errors.new) result }
     ensures unread { (takes_input_word (request_word request.now) ≡ true) ⊎ (input.new ≡ input.old) }
 {
+    let was_there = audience == Audience::Terminal && is_there(rt, request);
     let mut part = None;
     let done = serve(rt, request, input, output, &mut part);
     match part_of(&part) {
         Some(hint) => end(done, Some(hint), audience, errors),
-        None => end(done, word_of(rt.alloc(), request, &done), audience, errors),
+        None => {
+            let file = unopened_for(rt, request, was_there, &done, audience);
+            end_of_request(rt.alloc(), request, &file, done, audience, errors)
+        }
     }
 }
 
 // What `clap` says of the words of a command line. It gives help where one of them asks for it alone.
 fn report_mistake<W: Write, E: Write>(
+    alloc: Global,
     error: &clap::Error,
     asks_for_help: bool,
     output: &mut W,
     errors: &mut E,
     audience: Audience,
 ) -> Ended
-    ensures none { AsksForNone asks_for_help output.old output.new result.status }
+    ensures none { GivesHelpOrWrong W.contents asks_for_help output.old output.new result.status }
+    ensures memory { kind_of error.now ≡ kinds.OutOfMemory → result.status ≡ Refused refusals.OutOfMemory }
     ensures reports { HasTold E.contents audience output.old output.new errors.old errors.new result None }
 {
     if asks_for_help {
-        report_arguments(error, output, errors, audience)
+        report_arguments(alloc, error, output, errors, audience)
     } else {
         report_wrong_arguments(error, errors, audience)
     }
@@ -113,14 +158,22 @@ fn run_on_store<
     audience: Audience,
 ) -> Ended
     requires { is_of_store (map S.text arguments.now) ≡ true }
-    ensures serves { RunsOnStore ⟦<FileDevice<F> as SectorDevice>⟧ IsOpenedFile R.remaining W.contents E.contents audience (map S.text arguments.now)
+    ensures serves { RunsOnStore ⟦<FileDevice<F> as SectorDevice>⟧ IsOpenedFile R.remaining W.contents
+        (Replays ⟦<ModelDevice as SectorDevice>⟧ F.remaining ⟦<Empty as Read>⟧.remaining W.contents) E.contents audience (map S.text arguments.now)
         (ends_of input.old output.old errors.old) (ends_of input.new output.new errors.new) result }
     ensures input { (takes_input (map S.text arguments.now) ≡ true) ⊎ (input.new ≡ input.old) }
 {
     match request_of(rt.alloc(), arguments) {
-        Ok(request) => serve_and_tell(rt, &request, input, output, errors, audience),
+        Ok(request) => serve_and_report(rt, &request, input, output, errors, audience),
         Err(Mistake::Words(error)) => {
-            report_mistake(&error, ask_for_help(arguments), output, errors, audience)
+            report_mistake(
+                rt.alloc(),
+                &error,
+                ask_for_help(arguments),
+                output,
+                errors,
+                audience,
+            )
         }
         Err(Mistake::SignedNumber) => report_signed_number(errors),
     }
@@ -155,12 +208,16 @@ pub fn run_with_files<
         ⊎ (IsWrong result.status × (output.new ≡ output.old)) }
     // The input is read by these commands alone.
     ensures others_leave_input { AreRecode (map S.text arguments.now) ⊎ (takes_input (map S.text arguments.now) ≡ true) ⊎ (input.new ≡ input.old) }
-    // A store's words lead to the command of the first one: it was refused before a store was open, or what the words state was carried out on one.
-    // But where a word asks for help that may be given, and wrong words are reported.
+    // A store's words lead to the command of the first one, on the file and the tables that they name: it was refused before a store was open, or what
+    // the words state was carried out on one. But where a word asks for help that may be given, and wrong words are reported; right ones are not.
     ensures serves { is_of_store (map S.text arguments.now) ≡ true
-        → RunsOnStore ⟦<FileDevice<F> as SectorDevice>⟧ IsOpenedFile R.remaining W.contents E.contents audience (map S.text arguments.now)
+        → RunsOnStore ⟦<FileDevice<F> as SectorDevice>⟧ IsOpenedFile R.remaining W.contents
+        (Replays ⟦<ModelDevice as SectorDevice>⟧ F.remaining ⟦<Empty as Read>⟧.remaining W.contents) E.contents audience (map S.text arguments.now)
         (ends_of input.old output.old errors.old) (ends_of input.new output.new errors.new) result }
-    // What is on `errors`: what is told of a refusal to such an audience, and nothing where all is done. Only of commands of a store more is hinted.
+    // Where no command is done, help that is asked for is written, and nothing else.
+    ensures helps { result.status ≡ Done → AreRecode (map S.text arguments.now) ⊎ (is_own (map S.text arguments.now) ≡ true)
+        ⊎ (is_of_store (map S.text arguments.now) ≡ true) ⊎ GivesSome (W.contents output.old) (W.contents output.new) }
+    // What is on `errors`: the report of a refusal to such an audience, and nothing where all is done. Only of commands of a store more is hinted.
     ensures reports { (hint : Option Hint) × ((is_of_store (map S.text arguments.now) ≡ true) ⊎ (hint ≡ None))
         × HasTold E.contents audience output.old output.new errors.old errors.new result hint }
 {

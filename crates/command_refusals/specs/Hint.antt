@@ -1,4 +1,4 @@
--- What is said to be refused, on a terminal in front of what to do: a word of the command line, or a part of the input.
+-- What is said to be refused, on a terminal before what to do: a word of the command line, or a part of the input.
 use Rattle.std.specs.Prelude.{ℕ, ◌&&◌, ◌++◌, Bool, not, nat_le, codes, length, List, [], Option, Some, None, if◌then◌else◌}
 use Rattle.std.specs.Char.{is_control}
 use Rattle.std.specs.List.{list_any}
@@ -6,9 +6,10 @@ use Rattle.std.specs.Option.{option_and_then}
 use Rattle.std.specs.Str.{is_utf8, chars}
 use Rattle.text_import.specs.Part.{PlainPart, field, line, part_of}
 use Rattle.command_refusals.specs.declared.hint.Hint.{Hint}
-use Rattle.command_refusals.specs.declared.hint.Hint.TheVariants.{Word, Part}
+use Rattle.command_refusals.specs.declared.hint.Hint.TheVariants.{Word, File, Part}
 use Rattle.command_refusals.specs.declared.hint.TheConstants.{MOST_SHOWN}
 use Rattle.command_refusals.specs.RefusedWord.{role_text}
+use Rattle.command_refusals.specs.Unopened.{reason_text}
 
 -- what a terminal may be shown of an input: no long text, and none that could do something to it
 abbrev pub is_shown : List ℕ → Bool
@@ -35,4 +36,5 @@ part_text (line name text) = line_text (shown text) ++ field_text (option_and_th
 
 unfoldable pub hint_text : Hint → List ℕ
 hint_text (Word word) = codes "The " ++ role_text word.role ++ codes " `" ++ word.text.now ++ codes "` is refused. "
+hint_text (File file) = codes "The file `" ++ file.path.now ++ codes "` " ++ reason_text file.reason ++ codes ". "
 hint_text (Part part) = part_text (part_of part.now)

@@ -3,3 +3,4 @@ pub mod Remedies
 pub mod Page
 pub mod RefusedWord
 pub mod Hint
+pub mod Unopened

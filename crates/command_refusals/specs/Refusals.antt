@@ -17,7 +17,7 @@ use Rattle.tables.specs.declared.refusal.QueryRefusal.TheVariants as reasons
 use Rattle.tables.specs.Refusals as tables
 use Rattle.commit.specs.Told.{opening_text}
 use Rattle.command_refusals.specs.declared.refusal.Refusal.{Refusal}
-use Rattle.command_refusals.specs.declared.refusal.Refusal.TheVariants.{Fault, TooManyBytes, Io, BadSize, Fields, Text, Query, Opening, Store, OutOfMemory}
+use Rattle.command_refusals.specs.declared.refusal.Refusal.TheVariants.{Fault, TooManyBytes, Io, BadSize, BadScript, Fields, Text, Query, Opening, Store, OutOfMemory}
 
 -- what an import that failed is reported as
 abbrev pub refusal_of : ImportError → Refusal
@@ -52,6 +52,7 @@ refusal_text (Fault fault) = fault_text fault
 refusal_text TooManyBytes = codes "S7 TooMany Bytes"
 refusal_text Io = codes "G1 Io"
 refusal_text BadSize = codes "G2 BadSize"
+refusal_text (BadScript line) = codes "G3 BadScript " ++ decimal line
 refusal_text (Fields error) = fields_text error
 refusal_text (Text refused) = refused_text refused
 refusal_text (Query refusal) = tables.query_text refusal

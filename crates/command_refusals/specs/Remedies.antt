@@ -13,7 +13,7 @@ use Rattle.tables.specs.declared.refusal.Refusal.TheVariants as stores
 use Rattle.commit.specs.declared.opening_refusal.OpeningRefusal.{OpeningRefusal}
 use Rattle.commit.specs.declared.opening_refusal.OpeningRefusal.TheVariants as openings
 use Rattle.command_refusals.specs.declared.refusal.Refusal.{Refusal}
-use Rattle.command_refusals.specs.declared.refusal.Refusal.TheVariants.{Fault, TooManyBytes, Io, BadSize, Fields, Text, Query, Opening, Store, OutOfMemory}
+use Rattle.command_refusals.specs.declared.refusal.Refusal.TheVariants.{Fault, TooManyBytes, Io, BadSize, BadScript, Fields, Text, Query, Opening, Store, OutOfMemory}
 use Rattle.command_refusals.specs.declared.remedies.TheConstants as remedies
 
 -- of a fault of a stream; those without a remedy of their own lie with the program that wrote it
@@ -85,6 +85,7 @@ remedy (Fault fault) = fault_remedy fault
 remedy TooManyBytes = remedies.GIVE_LESS.now
 remedy Io = remedies.SEE_TO_FILES.now
 remedy BadSize = remedies.SIZE_OF_A_STORE.now
+remedy (BadScript line) = remedies.LINES_OF_A_SCRIPT.now
 remedy (Fields error) = fields_remedy error
 remedy (Text refused) = text_remedy refused.refusal
 remedy (Query reason) = query_remedy reason

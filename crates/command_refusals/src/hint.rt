@@ -6,7 +6,7 @@ ghost use Rattle.std.specs.Char.{is_control};
 ghost use Rattle.std.specs.Str.{chars};
 ghost use Rattle.command_refusals.specs.Hint.{shown};
 
-use crate::Word;
+use crate::{UnopenedFile, Word};
 use std::fmt;
 use text_import::RefusedPart;
 
@@ -18,6 +18,8 @@ pub const MOST_SHOWN: usize = 100;
 pub enum Hint<'a> {
     /// A word of the command line.
     Word(Word<'a>),
+    /// A file that the command line names, with what the system says of it.
+    File(UnopenedFile<'a>),
     /// A part of the input. Those of its strings are printed that a terminal may be shown.
     Part(&'a RefusedPart),
 }
@@ -112,6 +114,7 @@ impl fmt::Display for Hint<'_> {
     fn fmt<W: fmt::Write>(&self, f: &mut fmt::Formatter<W>) -> fmt::Result {
         match self {
             Hint::Word(Word { role, text }) => write!(f, "The {role} `{text}` is refused. "),
+            Hint::File(UnopenedFile { path, reason }) => write!(f, "The file `{path}` {reason}. "),
             Hint::Part(RefusedPart::Field { name, text }) => {
                 let field = FieldShown {
                     name: shown(name.as_bytes()),

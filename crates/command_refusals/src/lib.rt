@@ -1,5 +1,5 @@
-//! Why a command of the program was refused, as it is reported: its text, what to do about it, and the word or the part of the
-//! input that is meant.
+//! Why a command of the program was refused, as it is reported: its text, what to do about it, and the word, the file or the part of
+//! the input that is meant.
 //!
 //! A [`Refusal`] holds those of the layers below, which become one by `?`. Promised are its text (`specs/Refusals.antt`) and
 //! [`Refusal::remedy`], a sentence that stands on the page of all refusals ([`refusals_page`]) too.
@@ -15,9 +15,11 @@ mod page;
 mod refusal;
 mod refused_word;
 mod remedies;
+mod unopened;
 
 pub use hint::{Hint, MOST_SHOWN};
 pub use output::write_whole;
 pub use page::{REFUSALS, refusals_page};
 pub use refusal::Refusal;
 pub use refused_word::{Role, Word};
+pub use unopened::{FileReason, UnopenedFile};

@@ -5,23 +5,25 @@ ghost use Rattle.command_refusals.specs.Page.{refusals_page};
 use crate::remedies::{
     CONVERT_COLUMN, EARLIER_COPY, FEWER_FIELDS, FEWER_ROWS, FIELDS_OF_THE_TABLE, FILE_OF_A_STORE,
     FORM_OF_A_CONDITION, FORM_OF_A_FIELD, FORM_OF_A_NAME, GIVE_A_STREAM, GIVE_ALL, GIVE_ARRAYS,
-    GIVE_JSON_LINES, GIVE_LESS, IMPORT_AGAIN, LEAVE_OUT_MESSAGES, LITTLE_ENDIAN, LOOK_AGAIN,
-    MEND_RECORD, MEND_ROW, MORE_MEMORY, MORE_ROOM, NAME_OF_A_TABLE, NAMES_FIRST, NAMES_OF_COLUMNS,
-    NO_COMPRESSION, ONE_STREAM, OTHER_NAME, SCHEMA_FIRST, SEE_TO_FILES, SHORTER_BATCHES,
-    SIZE_OF_A_STORE, SMALLER_FIELDS, TEST_FOR_NULL, TRY_AGAIN, WRITE_AGAIN, WRITE_V5,
+    GIVE_JSON_LINES, GIVE_LESS, IMPORT_AGAIN, LEAVE_OUT_MESSAGES, LINES_OF_A_SCRIPT, LITTLE_ENDIAN,
+    LOOK_AGAIN, MEND_RECORD, MEND_ROW, MORE_MEMORY, MORE_ROOM, NAME_OF_A_TABLE, NAMES_FIRST,
+    NAMES_OF_COLUMNS, NO_COMPRESSION, ONE_STREAM, OTHER_NAME, SCHEMA_FIRST, SEE_TO_FILES,
+    SHORTER_BATCHES, SIZE_OF_A_STORE, SMALLER_FIELDS, TEST_FOR_NULL, TRY_AGAIN, WRITE_AGAIN,
+    WRITE_V5,
 };
 use std::alloc::{AllocError, Global};
 
 /// What each refusal means, and what to do: strings one after another, among them the sentences of `remedies`. The file
 /// `docs/refusals.md` has the same bytes.
-pub const REFUSALS: [&str; 77] = [
+pub const REFUSALS: [&str; 79] = [
     "# What each refusal means
 
 A refusal is one line on standard error: `refused`, a code, a name, and what it carries, as
 `refused S8 NoRoom 13`. On a terminal a second line says what to do, with the sentence that stands here,
-and names the word of the command line that is refused, or the field of the input with its text, where
-that is known and can be shown. The exit status is 1 then; it is 0 where all is done, and 2 where the
-command line is wrong. A refused command has changed no table, but for S9 and G1, as said there.
+and names the word of the command line that is refused, the file with the reason that the system gives,
+or the field of the input with its text, where that is known and can be shown. The exit status is 1
+then; it is 0 where all is done, and 2 where the command line is wrong. A refused command has changed no
+table, but for S9 and G1, as said there.
 
 ## F: the input is no stream that is read
 
@@ -106,6 +108,11 @@ imported or appended. A fault without a remedy of its own lies with the program 
   of 512 bytes. The file may be cut short, or be no store.
   ",
     SIZE_OF_A_STORE,
+    "
+- G3 BadScript N: line N of the script, counted from 1, is none that `replay` plays: its words, which single
+  spaces split, ask for nothing that it knows, or a field text is refused (P).
+  ",
+    LINES_OF_A_SCRIPT,
     "
 
 ## C: no store is opened

@@ -25,6 +25,8 @@ pub enum Refusal {
     Io,
     /// G2: a store's file is no whole number of sectors, or no store has such a number of them.
     BadSize,
+    /// G3: the line of a script, counted from 1, is none that is played.
+    BadScript(u64),
     /// P: the texts of fields state no schema.
     Fields(ParseError),
     /// X: a record of the input is no row of the table.
@@ -123,6 +125,7 @@ impl fmt::Display for Refusal {
             Refusal::TooManyBytes => f.write_str("S7 TooMany Bytes"),
             Refusal::Io => f.write_str("G1 Io"),
             Refusal::BadSize => f.write_str("G2 BadSize"),
+            Refusal::BadScript(line) => write!(f, "G3 BadScript {line}"),
             Refusal::Fields(ParseError::BadText(number)) => write!(f, "P1 BadText {number}"),
             Refusal::Fields(ParseError::Limit) => f.write_str("P2 Limit"),
             Refusal::Fields(ParseError::OutOfMemory) => f.write_str("OutOfMemory"),

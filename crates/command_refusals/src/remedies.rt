@@ -47,6 +47,9 @@ pub const SEE_TO_FILES: &str =
 pub const SIZE_OF_A_STORE: &str =
     "Give `format` 16 to 4,194,304 sectors, and other commands the whole file of a store.";
 
+pub const LINES_OF_A_SCRIPT: &str =
+    "Write each line as `create NAME FIELD ..`, `import NAME FILE`, `append NAME FILE`, `rename FROM TO`, `drop NAME`, `compact` or `reopen`.";
+
 pub const FILE_OF_A_STORE: &str =
     "Give the file of a store; where `format` was interrupted, delete the file and format again.";
 
@@ -235,6 +238,7 @@ impl Refusal {
             Refusal::TooManyBytes => GIVE_LESS,
             Refusal::Io => SEE_TO_FILES,
             Refusal::BadSize => SIZE_OF_A_STORE,
+            Refusal::BadScript(_) => LINES_OF_A_SCRIPT,
             Refusal::Fields(error) => fields_remedy(error),
             Refusal::Text(refused) => text_remedy(refused.refusal),
             Refusal::Query(reason) => query_remedy(reason),

@@ -1,5 +1,5 @@
 //! The program `arrowstore`: hands the process's arguments and streams to the library of that name, and exits with its status.
-//! On a terminal one line tells meanwhile what goes on, where the work takes more than a second.
+//! On a terminal one line shows meanwhile what goes on, where the work takes more than a second.
 //!
 //! Status 0 is done, 1 refused, with a line `refused CODE NAME ..` on standard error, and 2 wrong arguments.
 #![tactic(auto)]
@@ -30,7 +30,7 @@ fn main(rt: HostRuntime) -> ExitCode {
     if let Some(line) = &line {
         line.clear();
     }
-    ExitCode::from(ended.status.code())
+    ExitCode::from(ended.code())
 }
 
 fn arguments_of(rt: &HostRuntime) -> io::Result<Vec<String>> {

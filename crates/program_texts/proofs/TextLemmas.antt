@@ -1,11 +1,13 @@
 -- What is told or written of a run.
 use Rattle.std.proofs.Common.{◌≡◌, ℕ, List, true, inl, inr, refl, subst, sym, true≢false}
-use Rattle.std.specs.Prelude.{◌≢◌, Option, Result, Ok, Err, OnOk, is_ok}
+use Rattle.std.specs.Prelude.{◌≢◌, Option, Result, Ok, Err, OnOk, IfErr, IsOk, IsTrue, is_ok}
 use Rattle.clap.specs.Words.{Text}
 use Rattle.command_refusals.specs.declared.refusal.Refusal.{Refusal}
 use Rattle.command_refusals.specs.declared.refusal.Refusal.TheVariants.{Io}
 use Rattle.program_texts.specs.declared.own_texts.TheConstants.{VERSION}
 use Rattle.program_texts.specs.declared.status.Ended.{Ended}
+use Rattle.program_texts.specs.declared.status.Status.{Status}
+use Rattle.program_texts.specs.declared.status.Status.TheVariants.{Done, Refused}
 use Rattle.program_texts.specs.Ending.{HasReported, TellsRefusal}
 use Rattle.program_texts.specs.OwnTexts.{asks_version, own_text}
 use Rattle.program_texts.specs.Reported.{IfRefused, IsWrong}
@@ -32,5 +34,30 @@ wrong_reported contents tells output errors errors' ended (inr memory) line = re
   silent = λ done. absurd (cc (memory, done));
   nothing_written = λ _. refl;
   quiet = subst (λ s. IfRefused s (λ refusal. refusal ≢ Io → output ≡ output)) (sym memory) (λ _. refl);
+  line = line;
+}
+
+pub wrong_undone : {P : Type 0} (status : Status) → IsWrong status → status ≡ Done → P
+wrong_undone status (inl wrong) done = absurd (cc (wrong, done))
+wrong_undone status (inr memory) done = absurd (cc (memory, done))
+
+-- help was given, where it is told so
+pub help_given : (written : Result (Unit {0}) Refusal) (status : Status) (P : Type 0) → OnOk written P → IfErr written (λ refusal. status ≡ Refused refusal) → status ≡ Done → P
+help_given (Ok unit) status P given refused done = given
+help_given (Err e) status P given refused done = absurd (cc (refused, done))
+
+pub help_reported : {W E : Type 0} (contents : E → Option (List ℕ)) (tells : Refusal → List ℕ) (output output' : W) (errors errors' : E) (written : Result (Unit {0}) Refusal) (ended : Ended)
+    → (IsOk written → (ended.status ≡ Done) × (errors' ≡ errors) × IsTrue ended.is_reported) → IfErr written (λ refusal. ended.status ≡ Refused refusal)
+    → IfErr written (λ refusal. refusal ≢ Io → output' ≡ output) → TellsRefusal tells ended (contents errors) (contents errors') → HasReported contents tells output output' errors errors' ended
+help_reported contents tells output output' errors errors' (Ok unit) ended ok err quiet line = let is = ok refl in record {
+  silent = λ _. (is.1, is.2);
+  nothing_written = λ wrong. absurd (cc (is.0, wrong));
+  quiet = subst (λ s. IfRefused s (λ refusal. refusal ≢ Io → output' ≡ output)) (sym is.0) tt;
+  line = line;
+}
+help_reported contents tells output output' errors errors' (Err e) ended ok err quiet line = record {
+  silent = λ done. absurd (cc (err, done));
+  nothing_written = λ wrong. absurd (cc (err, wrong));
+  quiet = subst (λ s. IfRefused s (λ refusal. refusal ≢ Io → output' ≡ output)) (sym err) quiet;
   line = line;
 }

@@ -1,5 +1,5 @@
 -- What a run of the program leaves on its output and on standard error.
-use Rattle.std.specs.Prelude.{◌≡◌, ◌≢◌, ℕ, List, Option, IsTrue}
+use Rattle.std.specs.Prelude.{◌≡◌, ◌≢◌, ◌<◌, ℕ, List, length, Option, IsTrue}
 use Rattle.std.specs.Io.KnownBytes.{Appends}
 use Rattle.command_refusals.specs.declared.refusal.Refusal.{Refusal}
 use Rattle.command_refusals.specs.declared.refusal.Refusal.TheVariants.{Io, OutOfMemory}
@@ -20,15 +20,19 @@ GivesText given Done = given
 GivesText given (Refused refusal) = IsOfOutput refusal
 GivesText given WrongArguments = ⊥
 
--- what is told of a refusal, where standard error takes what it is given
+-- a text is written, and nothing else
+abbrev pub GivesSome : (contents contents' : Option (List ℕ)) → Type 0
+GivesSome contents contents' = (text : List ℕ) × (0 < length text) × Appends contents contents' text
+
+-- what is reported of a refusal, where standard error takes what it is given
 abbrev pub TellsRefusal : (tells : Refusal → List ℕ) → Ended → Option (List ℕ) → Option (List ℕ) → Type 0
 TellsRefusal tells ended errors errors' = IfRefused ended.status (λ refusal. IsTrue ended.is_reported → Appends errors errors' (tells refusal))
 
 -- a run that has ended, whatever it was asked for
 pub record HasReported {W E : Type 0} (contents : E → Option (List ℕ)) (tells : Refusal → List ℕ)
     (output output' : W) (errors errors' : E) (ended : Ended) : Type 0 where
-  -- nothing is reported of what is done
-  pub silent : ended.status ≡ Done → errors' ≡ errors
+  -- nothing is reported of what is done, and so all of it is
+  pub silent : ended.status ≡ Done → (errors' ≡ errors) × IsTrue ended.is_reported
   pub nothing_written : ended.status ≡ WrongArguments → output' ≡ output
   -- what is refused has written nothing, unless a read or a write failed
   pub quiet : IfRefused ended.status (λ refusal. refusal ≢ Io → output' ≡ output)

@@ -19,7 +19,7 @@ is_version_word word = bytes_eq (codes "--version") word || bytes_eq (codes "-V"
 unfoldable pub is_refusals_topic : (word topic : Text) → Bool
 is_refusals_topic word topic = bytes_eq (codes "help") word && bytes_eq (codes "refusals") topic
 
--- behind the program's name, whatever follows
+-- after the program's name, whatever follows
 unfoldable pub asks_version : List Text → Bool
 asks_version arguments = is_version_word (word_at arguments 1)
 

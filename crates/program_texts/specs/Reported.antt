@@ -1,10 +1,11 @@
 -- How a run is reported to have ended.
-use Rattle.std.specs.Prelude.{◌≡◌, ◌⊎◌, ℕ, List, [], ◌∷◌, ◌++◌, codes}
+use Rattle.std.specs.Prelude.{◌≡◌, ◌⊎◌, ℕ, max, if◌then◌else◌, List, [], ◌∷◌, ◌++◌, codes}
 use Rattle.clap.specs.declared.error.kind.ErrorKind.{ErrorKind}
 use Rattle.clap.specs.declared.error.kind.ErrorKind.TheVariants as kinds
 use Rattle.command_refusals.specs.Refusals.{refusal_text}
 use Rattle.command_refusals.specs.declared.refusal.Refusal.{Refusal}
 use Rattle.command_refusals.specs.declared.refusal.Refusal.TheVariants.{OutOfMemory}
+use Rattle.program_texts.specs.declared.status.Ended.{Ended}
 use Rattle.program_texts.specs.declared.status.Status.{Status}
 use Rattle.program_texts.specs.declared.status.Status.TheVariants.{Done, Refused, WrongArguments}
 
@@ -17,6 +18,10 @@ abbrev pub status_code : Status → ℕ
 status_code Done = 0
 status_code (Refused refusal) = 1
 status_code WrongArguments = 2
+
+-- where what is reported was not taken, at least that of a refusal
+abbrev pub ended_code : Ended → ℕ
+ended_code ended = if ended.is_reported then status_code ended.status else max 1 (status_code ended.status)
 
 abbrev pub IfRefused : Status → (Refusal → Type 0) → Type 0
 IfRefused Done P = Unit {0}

@@ -1,7 +1,7 @@
-//! What the program says, and how it ends: its status, what it tells of a refusal and to whom, and its own texts.
+//! What the program says, and how it ends: its status, what it reports of a refusal and to whom, and its own texts.
 //!
-//! [`end`] and [`report_arguments`] report on any writer how a run ended, and promise which bytes are told: to a program the
-//! line of a refusal, and on a terminal behind it what to do. [`write_own_text`] writes the version, or what each refusal means.
+//! [`end`] and [`report_arguments`] report on any writer how a run ended, and say which bytes are written: to a program the
+//! line of a refusal, and on a terminal after it what to do. [`write_own_text`] writes the version, or what each refusal means.
 //!
 //! ```
 //! let ended = end(Err(Refusal::Io), None, Audience::Program, &mut errors); // `errors` has the line `refused G1 Io`

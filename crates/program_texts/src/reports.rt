@@ -1,31 +1,47 @@
 // What is reported of a run that was refused, of wrong arguments and of a request for help.
-ghost use Rattle.std.specs.Prelude.{◌≡◌, ◌⊎◌, None, IsOk, IfErr};
+ghost use Rattle.std.specs.Prelude.{◌≡◌, ◌≢◌, ◌⊎◌, None, IsOk, IsTrue, IfErr, OnOk};
 ghost use Rattle.clap.specs.Words.{kind_of};
 ghost use Rattle.program_texts.specs.Reported.{IsRequest, IsWrong};
-ghost use Rattle.program_texts.specs.Ending.{TellsRefusal, HasReported};
+ghost use Rattle.program_texts.specs.Ending.{GivesSome, IsOfOutput, TellsRefusal, HasReported};
 ghost use Rattle.program_texts.specs.Told.{told};
 
 use crate::telling::tell;
 use crate::{Audience, Ended, Status};
 use clap::error::ErrorKind;
-use command_refusals::{Hint, Refusal};
+use command_refusals::{Hint, Refusal, write_whole};
+use std::alloc::Global;
 use std::io::Write;
+
+// Writes a text of help. `clap` promises no text, so that there is one is tested.
+fn write_help<W: Write>(alloc: Global, error: &clap::Error, output: &mut W) -> Result<(), Refusal>
+    ensures written { OnOk result (GivesSome (W.contents output.old) (W.contents output.new)) }
+    ensures refused { IfErr result IsOfOutput }
+    ensures silent { IfErr result (λ refusal. refusal ≢ Refusal.Io → output.new ≡ output.old) }
+{
+    let help = format!(in alloc; "{error}")?;
+    if help.is_empty() {
+        return Err(Refusal::Io);
+    }
+    write_whole(output, help.as_bytes())
+}
 
 /// Reports why the arguments ask for nothing: what is wrong with them goes to `errors`, and help to `output`.
 pub fn report_arguments<W: Write, E: Write>(
+    alloc: Global,
     error: &clap::Error,
     output: &mut W,
     errors: &mut E,
     audience: Audience,
 ) -> Ended
     ensures request { IsRequest (kind_of error.now) ⊎ (IsWrong result.status × (output.new ≡ output.old)) }
+    // Help that is asked for is written, and nothing else.
+    ensures helps { result.status ≡ Status.Done → GivesSome (W.contents output.old) (W.contents output.new) }
     ensures memory { kind_of error.now ≡ ErrorKind.OutOfMemory → (result.status ≡ Status.Refused Refusal.OutOfMemory) × (output.new ≡ output.old) }
     ensures reports { HasReported E.contents (told audience None) output.old output.new errors.old errors.new result }
 {
     match error.kind() {
         ErrorKind::DisplayHelp | ErrorKind::DisplayVersion => {
-            let written = write!(output, "{error}").map_err(|_| Refusal::Io);
-            end(written, None, audience, errors)
+            end(write_help(alloc, error, output), None, audience, errors)
         }
         _ => report_wrong_arguments(error, errors, audience),
     }
@@ -67,7 +83,7 @@ pub fn end<E: Write>(
     audience: Audience,
     errors: &mut E,
 ) -> Ended
-    ensures done { IsOk done → (result.status ≡ Status.Done) × (errors.new ≡ errors.old) }
+    ensures done { IsOk done → (result.status ≡ Status.Done) × (errors.new ≡ errors.old) × IsTrue result.is_reported }
     ensures refused { IfErr done (λ refusal. result.status ≡ Status.Refused refusal) }
     ensures line { TellsRefusal (told audience hint.entry) result (E.contents errors.old) (E.contents errors.new) }
 {

@@ -1,6 +1,6 @@
 // How a run ended.
 ghost use Rattle.std.specs.Prelude.{◌≡◌};
-ghost use Rattle.program_texts.specs.Reported.{status_code};
+ghost use Rattle.program_texts.specs.Reported.{status_code, ended_code};
 
 use command_refusals::Refusal;
 
@@ -33,4 +33,17 @@ impl Status {
 pub struct Ended {
     pub status: Status,
     pub is_reported: bool,
+}
+
+impl Ended {
+    /// What the process exits with: 0 only where all is done, and all that is reported of it was taken.
+    pub fn code(self) -> u8
+        ensures { result ≡ ended_code self }
+    {
+        if self.is_reported {
+            self.status.code()
+        } else {
+            self.status.code().max(1)
+        }
+    }
 }

@@ -1,4 +1,4 @@
-// What is told of a refusal, and to whom.
+// What is reported of a refusal, and to whom.
 ghost use Rattle.std.specs.Prelude.{◌≡◌, OnOk};
 ghost use Rattle.std.specs.Io.KnownBytes.{Appends};
 ghost use Rattle.program_texts.specs.Told.{told};
@@ -6,12 +6,12 @@ ghost use Rattle.program_texts.specs.Told.{told};
 use command_refusals::{Hint, Refusal};
 use std::io::{self, IsTerminal, Write};
 
-/// Who reads what is told of a refusal.
+/// Who reads the report of a refusal.
 #[derive(Clone, Copy, PartialEq, Eq)]
 pub enum Audience {
     /// A program or a file: the line of the refusal alone.
     Program,
-    /// A person at a terminal: behind it a line with what to do.
+    /// A person at a terminal: after it a line with what to do.
     Terminal,
 }
 
@@ -26,7 +26,7 @@ impl Audience {
     }
 }
 
-/// Tells of a refusal, with what is refused where more of it is known.
+/// Reports a refusal, with what is refused where more of it is known.
 #[tactic(auto, unfolding(crate::specs::Told::told, crate::specs::Told::remedy_line, crate::specs::Reported::refusal_line))]
 pub(crate) fn tell<E: Write>(
     refusal: Refusal,

@@ -14,7 +14,7 @@ use Rattle.store.specs.declared.store.Store.{Store}
 use Rattle.store.specs.Calls.{done}
 use Rattle.store.specs.Reading.{ReadsTable, OnlyReadsStore}
 use Rattle.command_refusals.specs.declared.refusal.Refusal.{Refusal}
-use Rattle.command_refusals.specs.declared.refusal.Refusal.TheVariants.{Fault, TooManyBytes, Io, BadSize, Fields, Text, Query, Opening, Store as OfStore, OutOfMemory}
+use Rattle.command_refusals.specs.declared.refusal.Refusal.TheVariants.{Fault, TooManyBytes, Io, BadSize, BadScript, Fields, Text, Query, Opening, Store as OfStore, OutOfMemory}
 use Rattle.command_refusals.specs.Refusals.{query_refusal}
 use Rattle.store_commands.specs.Reading.{store_ended}
 use Rattle.store_commands.specs.Selecting.{RefusesLines, RefusesQuery}
@@ -34,6 +34,7 @@ lines_refused halted tells image found q table (Fault fault) reads why = absurd 
 lines_refused halted tells image found q table TooManyBytes reads why = absurd why
 lines_refused halted tells image found q table Io reads why = absurd why
 lines_refused halted tells image found q table BadSize reads why = absurd why
+lines_refused halted tells image found q table (BadScript line) reads why = absurd why
 lines_refused halted tells image found q table (Fields error) reads why = absurd why
 lines_refused halted tells image found q table (Text refused) reads why = absurd why
 lines_refused halted tells image found q table (Opening refusal) reads why = absurd why
@@ -48,6 +49,7 @@ only_read story size failed tells old new table q (Fault fault) why reads = read
 only_read story size failed tells old new table q TooManyBytes why reads = reads
 only_read story size failed tells old new table q Io why reads = reads
 only_read story size failed tells old new table q BadSize why reads = reads
+only_read story size failed tells old new table q (BadScript line) why reads = reads
 only_read story size failed tells old new table q (Fields error) why reads = reads
 only_read story size failed tells old new table q (Text refused) why reads = reads
 only_read story size failed tells old new table q (Opening refusal) why reads = reads

@@ -3,7 +3,7 @@ use Rattle.std.specs.Prelude.{ℕ, List, ◌≡◌, ◌+◌, ◌≤◌, length, 
 use Rattle.store.specs.Input.{HasGiven, HasGivenAtMost}
 use Rattle.store_commands.specs.declared.input.TheConstants.{LARGEST_INPUT}
 use Rattle.command_refusals.specs.declared.refusal.Refusal.{Refusal}
-use Rattle.command_refusals.specs.declared.refusal.Refusal.TheVariants.{Fault, TooManyBytes, Io, BadSize, Fields, Text, Query, Opening, Store, OutOfMemory}
+use Rattle.command_refusals.specs.declared.refusal.Refusal.TheVariants.{Fault, TooManyBytes, Io, BadSize, BadScript, Fields, Text, Query, Opening, Store, OutOfMemory}
 
 -- of every answer but the refusal of too many bytes
 abbrev pub UnlessTooManyBytes : {A : Type 0} → Result A Refusal → Type 0 → Type 0
@@ -12,6 +12,7 @@ UnlessTooManyBytes (Err (Fault fault)) P = P
 UnlessTooManyBytes (Err TooManyBytes) P = Unit {0}
 UnlessTooManyBytes (Err Io) P = P
 UnlessTooManyBytes (Err BadSize) P = P
+UnlessTooManyBytes (Err (BadScript line)) P = P
 UnlessTooManyBytes (Err (Fields error)) P = P
 UnlessTooManyBytes (Err (Text refused)) P = P
 UnlessTooManyBytes (Err (Query refusal)) P = P

@@ -6,7 +6,7 @@ use Rattle.ipc_message.specs.Header.{supported_codes}
 use Rattle.ipc_stream.specs.Meaning.{meaning}
 use Rattle.canonical_stream.specs.Canonical.{canonical}
 use Rattle.command_refusals.specs.declared.refusal.Refusal.{Refusal}
-use Rattle.command_refusals.specs.declared.refusal.Refusal.TheVariants.{Fault, TooManyBytes, Io, BadSize, Fields, Text, Query, Opening, Store, OutOfMemory}
+use Rattle.command_refusals.specs.declared.refusal.Refusal.TheVariants.{Fault, TooManyBytes, Io, BadSize, BadScript, Fields, Text, Query, Opening, Store, OutOfMemory}
 
 -- the answer speaks of the whole input: it has a meaning, or a fault
 abbrev pub IsVerdict : {A : Type 0} → Result A Refusal → Type 0
@@ -15,6 +15,7 @@ IsVerdict (Err (Fault fault)) = Unit {0}
 IsVerdict (Err TooManyBytes) = ⊥
 IsVerdict (Err Io) = ⊥
 IsVerdict (Err BadSize) = ⊥
+IsVerdict (Err (BadScript line)) = ⊥
 IsVerdict (Err (Fields error)) = ⊥
 IsVerdict (Err (Text refused)) = ⊥
 IsVerdict (Err (Query refusal)) = ⊥

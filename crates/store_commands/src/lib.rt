@@ -27,7 +27,7 @@ pub use compacting::compact_tables;
 pub use copying::copy_tables;
 pub use creating::new_table;
 pub use input::LARGEST_INPUT;
-pub use printing::{print_schema, print_tables};
+pub use printing::{lines_of_tables, print_schema, print_tables};
 pub use reading::{check_tables, export_table};
 pub use selecting::{print_selection, query_of};
 pub use stream::recode;

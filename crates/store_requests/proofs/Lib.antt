@@ -1,1 +1,3 @@
 mod WordLemmas
+pub mod OperandLemmas
+pub mod AppLemmas

@@ -25,4 +25,5 @@ command_word commands.Compact = codes "compact"
 abbrev pub request_word : StoreRequest → Text
 request_word (requests.Format path sectors) = codes "format"
 request_word (requests.Copy path new sectors) = codes "copy"
+request_word (requests.Replay words) = codes "replay"
 request_word (requests.Command path command) = command_word command

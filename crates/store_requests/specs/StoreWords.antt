@@ -27,7 +27,7 @@ unfoldable pub makes_word : Text → Bool
 makes_word word = bytes_eq (codes "format") word || bytes_eq (codes "copy") word
 
 unfoldable pub is_store_word : Text → Bool
-is_store_word word = changes_word word || (makes_word word || reads_word word)
+is_store_word word = changes_word word || (makes_word word || (bytes_eq (codes "replay") word || reads_word word))
 
 -- the program's name, and a command of a store
 unfoldable pub is_of_store : List Text → Bool
@@ -49,7 +49,7 @@ is_help_word word = bytes_eq (codes "--help") word || starts_with nat_eq word (c
 unfoldable pub ask_for_help : List Text → Bool
 ask_for_help arguments = list_any is_help_word arguments
 
--- the first word behind the program's name; empty where there is none
+-- the first word after the program's name; empty where there is none
 unfoldable pub first_word : List Text → Text
 first_word [] = []
 first_word (name ∷ []) = []

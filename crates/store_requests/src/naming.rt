@@ -54,7 +54,7 @@ fn formless<'a>(alloc: Global, texts: &[&'a str]) -> Option<&'a str> {
     None
 }
 
-// A query tells no place of what it refuses, so that a word is known where it is the only one that may be meant, or where it has no form.
+// A query does not say which of its texts it refuses, so a word is known where it is the only one that may be meant, or where it has no form.
 fn word_of_query<'a>(
     alloc: Global,
     query: &QueryWords<'a>,

@@ -1,7 +1,9 @@
 // What a command line asks of a store.
-ghost use Rattle.std.specs.Prelude.{◌≡◌, map};
+ghost use Rattle.std.specs.Prelude.{◌≡◌, true, map};
+ghost use Rattle.store_requests.specs.Asked.{command_word};
 ghost use Rattle.store_requests.specs.StoreWords.{takes_input_word, changes_word, makes_word, reads_table_word, reads_word, is_store_word, is_of_store, takes_input, is_help_word, ask_for_help, ask_help_of_command};
 
+use crate::ReplayWords;
 use std::convert::AsStr;
 use text_import::TextForm;
 
@@ -16,17 +18,19 @@ pub struct QueryWords<'a> {
 /// What is asked of the store in the file at a path.
 #[derive(Drop)]
 pub enum StoreRequest<'a> {
-    /// An empty store of so many sectors, in a new file.
+    /// An empty store of `sectors` sectors of 512 bytes, in a new file.
     Format {
         path: &'a str,
         sectors: u64,
     },
-    /// A store of so many sectors, in the file at another path, that has the tables of the one that stands there.
+    /// A store of `sectors` sectors of 512 bytes in a new file at `new`, with the tables of the one at `path`.
     Copy {
         path: &'a str,
         new: &'a str,
         sectors: u64,
     },
+    /// A script, played on a device in memory.
+    Replay(ReplayWords<'a>),
     /// A command of the store that stands there.
     Command {
         path: &'a str,
@@ -46,7 +50,7 @@ pub enum StoreCommand<'a> {
     Import {
         name: &'a str,
     },
-    /// The rows that a stream means, behind those of the table.
+    /// The rows that a stream means, after those of the table.
     Append {
         name: &'a str,
     },
@@ -87,8 +91,25 @@ pub enum StoreCommand<'a> {
     },
     /// Whether all tables can be read.
     Check,
-    /// Segments that can be one become one, and lie as far in front as they can.
+    /// Small segments are joined, and moved to the lowest free sectors.
     Compact,
+}
+
+impl StoreCommand<'_> {
+    /// Whether it writes nothing to the store.
+    #[tactic(auto, unfolding(crate::specs::StoreWords::reads_word, crate::specs::StoreWords::reads_table_word))]
+    pub fn only_reads(&self) -> bool
+        ensures { result ≡ true → reads_word (command_word self.now) ≡ true }
+    {
+        matches!(
+            self,
+            StoreCommand::Query { .. }
+                | StoreCommand::Tables
+                | StoreCommand::Schema { .. }
+                | StoreCommand::Export { .. }
+                | StoreCommand::Check
+        )
+    }
 }
 
 #[tactic(auto, unfolding(crate::specs::StoreWords::takes_input_word))]
@@ -130,7 +151,7 @@ fn reads_word(word: &str) -> bool
 fn is_store_word(word: &str) -> bool
     ensures { result ≡ is_store_word word.now }
 {
-    changes_word(word) || makes_word(word) || reads_word(word)
+    changes_word(word) || makes_word(word) || word == "replay" || reads_word(word)
 }
 
 /// Whether the arguments, of which the program's name is the first, name a command of a store.

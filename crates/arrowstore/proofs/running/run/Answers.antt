@@ -22,7 +22,7 @@ returns-then-is_own-clause-recodes g c = λ are. absurd (true≢false (sym (sym 
 
 pub returns-then-is_own-clause-own : goal.returns-then-is_own-clause-own
 returns-then-is_own-clause-own g c = λ _.
-    own_given c.write_own_text.result c.end.result.status _ _ c.end.ensures.done c.end.ensures.refused c.write_own_text.ensures.written c.write_own_text.ensures.refused
+    own_given c.write_own_text.result c.end.result.status _ _ _ c.end.ensures.done c.end.ensures.refused c.write_own_text.ensures.written c.write_own_text.ensures.refused
 
 pub returns-then-is_own-clause-reports : goal.returns-then-is_own-clause-reports
 returns-then-is_own-clause-reports g c =
@@ -35,3 +35,9 @@ returns-in-Err-clause-recodes g c = λ are.
 
 pub returns-in-Err-clause-own : goal.returns-in-Err-clause-own
 returns-in-Err-clause-own g c = λ own. absurd (true≢false (sym own ∙ (sym c.is_own.ensures ∙ c.if-is_own.false)))
+
+pub returns-in-Err-clause-helps : goal.returns-in-Err-clause-helps
+returns-in-Err-clause-helps g c = λ done. inr (inr (c.report_arguments.ensures.helps done))
+
+pub returns-then-is_own-clause-helps : goal.returns-then-is_own-clause-helps
+returns-then-is_own-clause-helps g c = λ _. inr (inl (sym c.is_own.ensures ∙ c.if-is_own.true))

@@ -26,7 +26,7 @@ returns-then-is_of_store-clause-serves g c = λ _. c.run_on_store.ensures.serves
 pub returns-then-is_of_store-clause-reports : goal.returns-then-is_of_store-clause-reports
 returns-then-is_of_store-clause-reports g c =
     let is = sym c.is_of_store.ensures ∙ c.if-is_of_store.true in
-    elim c.run_on_store.ensures.serves [ inl none ↦ (None, inl is, none.2) | inr served ↦ (served.hint, inl is, served.told) ]
+    elim c.run_on_store.ensures.serves [ inl none ↦ (None, inl is, none.2) | inr asked ↦ (asked.served.hint, inl is, asked.served.told) ]
 
 pub returns-clause-done : goal.returns-clause-done
 returns-clause-done g c = λ done. inl (c.run.ensures.done done)
@@ -48,3 +48,12 @@ returns-clause-serves g c = λ is. absurd (true≢false (sym is ∙ (sym c.is_of
 
 pub returns-clause-reports : goal.returns-clause-reports
 returns-clause-reports g c = (None, inr refl, c.run.ensures.reports)
+
+pub returns-then-is_of_store-clause-helps : goal.returns-then-is_of_store-clause-helps
+returns-then-is_of_store-clause-helps g c = λ _. inr (inr (inl (sym c.is_of_store.ensures ∙ c.if-is_of_store.true)))
+
+pub returns-clause-helps : goal.returns-clause-helps
+returns-clause-helps g c = λ done. elim (c.run.ensures.helps done) [
+  | inl recode ↦ inl recode
+  | inr other ↦ elim other [ inl own ↦ inr (inl own) | inr given ↦ inr (inr (inr given)) ]
+]

@@ -1,0 +1,28 @@
+// A script that is played on a device in memory.
+ghost use Rattle.std.specs.Prelude.{◌≡◌, ◌≢◌, IfErr};
+ghost use Rattle.arrowstore.specs.OnFiles.{Replays};
+
+use command_refusals::Refusal;
+use replay::{Faults, replay};
+use sector_dev::{ModelDevice, SectorDevice};
+use std::fs::OpenFile;
+use std::io::{Empty, Read, Write};
+use std::rt::Files;
+use store_requests::ReplayWords;
+
+/// Plays the script that the words name, and prints what came of it. Nothing is written but to the output.
+pub(crate) fn serve_replay<F: Read + OpenFile + Drop, H: Files<File = F> + AllocGlobal, W: Write>(
+    rt: &H,
+    words: ReplayWords<'_>,
+    output: &mut W,
+) -> Result<(), Refusal>
+    ensures replays { Replays ⟦<ModelDevice as SectorDevice>⟧ F.remaining ⟦<Empty as Read>⟧.remaining W.contents words output.old output.new result }
+    ensures silent { IfErr result (λ refusal. refusal ≢ Refusal.Io → output.new ≡ output.old) }
+{
+    let faults = Faults {
+        fail: words.fail,
+        stop: words.stop,
+        choice: words.choice,
+    };
+    replay(rt, words.script, words.sectors, faults, output)
+}

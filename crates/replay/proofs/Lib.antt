@@ -1,0 +1,9 @@
+pub mod Lines
+pub mod LineCalls
+pub mod Inputs
+pub mod Results
+pub mod Plays
+pub mod Runs
+pub mod Formatted
+pub mod Opening
+pub mod Kept

@@ -1,0 +1,4 @@
+pub mod Script
+pub mod Plain
+pub mod Playing
+pub mod Replay
