@@ -1,5 +1,5 @@
 -- What is written is read again.
-use Rattle.std.proofs.Common.{◌≡◌, ◌≤◌, ◌<◌, ◌+◌, ◌/◌, ◌^◌, ◌&&◌, ltb, leb, eqb, ℕ, zero, suc, true, cond, List, [], ◌∷◌, ◌++◌, length, take, drop, Option, Some, None, refl, sym, ap, ◌∙◌, append_assoc, arith}
+use Rattle.std.proofs.Common.{◌≡◌, ◌≤◌, ◌<◌, ◌+◌, ◌/◌, ◌^◌, ◌&&◌, ltb, leb, eqb, ℕ, zero, suc, true, cond, List, [], ◌∷◌, ◌++◌, length, take, drop, map, Option, Some, None, refl, sym, ap, ◌∙◌, append_assoc, arith}
 use Rattle.std.specs.List.{list_all, flat_map, AllByRecursion}
 use Rattle.std.specs.Str.{IsUtf8, IsAscii}
 use Rattle.std.proofs.lemmas.Bool.{and_parts, leb-true, le-leb, ltb-true, eqb-true, cond-true}
@@ -16,12 +16,12 @@ use Rattle.segments.specs.Sectors.{sector_count}
 use Rattle.segments.specs.declared.extent.Extent.{Extent}
 use Rattle.catalogue.specs.declared.entry.Segment.{Segment}
 use Rattle.catalogue.specs.declared.limits.TheConstants.{MAX_NAME_BYTES, MAX_SEGMENT_ROWS, MAX_SEGMENTS, MAX_TABLES}
-use Rattle.catalogue.specs.Schemas.{is_within_limits}
-use Rattle.catalogue.specs.Entries.{PlainEntry, PlainCatalogue, PlainRoot, is_between, is_name_byte, is_name, is_segment, is_filled, has_no_page, is_entry, is_root_entry, segment_count, IsTable, IsRoot, IsCatalogue}
+use Rattle.catalogue.specs.Entries.{PlainEntry, PlainCatalogue, PlainRoot, is_between, is_name_byte, is_name, is_segment, is_filled, is_entry, bare, is_root_entry, segment_count, IsTable, IsRoot, IsCatalogue}
 use Rattle.catalogue.specs.Text.{sized, counted, extent_text, segment_text, table_text, entry_text, list_text, root_entry_text, root_text}
 use Rattle.catalogue.specs.Reading.{◌>>=◌, front_number, sized_at, name_at, many_at, counted_at, extent_in, segment_at, schema_in, body_at, entry_from, entry_at, catalogue_at, page_at, root_entry_at, root_at}
 use Rattle.catalogue.specs.inner.Messages.{AllAgain}
 use Rattle.catalogue.specs.laws.Kept.{is_within, entry_is, passes_catalogue}
+use Rattle.catalogue.specs.laws.Bare.{bare_stands}
 
 -- ---- numbers and sized bytes
 
@@ -182,44 +182,39 @@ pages_apart schemas e f x y h k same =
 
 -- ---- entries
 
--- one without a page has its parts alone
-parts_alone : (e : PlainEntry) → has_no_page e.page ≡ true → entry_from e.name None (e.schema, e.segments) ≡ e
-parts_alone e none = λ i. record { name = e.name; schema = e.schema; segments = e.segments; page = no_page e.page none i }
-  where
-    no_page : (o : Option Extent) → has_no_page o ≡ true → None ≡ o
-    no_page None is = refl
-    no_page (Some p) is = absurd (cc is)
-
-entry_again : AllAgain → (e : PlainEntry) → is_entry e ≡ true → length e.segments ≤ MAX_SEGMENTS → ReadAgain entry_at entry_text e
+-- its text says nothing of its page
+entry_again : AllAgain → (e : PlainEntry) → is_entry e ≡ true → length e.segments ≤ MAX_SEGMENTS → (rest : List ℕ) → entry_at (entry_text e ++ rest) ≡ Some (bare e, rest)
 unfolding entry_at
 entry_again schemas e h few rest =
     let known = entry_is e h in
     let after = table_text e ++ rest in
     let e0 : name_at (entry_text e ++ rest) ≡ Some (e.name, after) = ap name_at (append_assoc (sized e.name) (table_text e) rest) ∙ name_again e.name after known.name in
-    bound_is (name_at (entry_text e ++ rest)) (e.name, after) (λ name. body_at name.1 >>= λ body. Some (entry_from name.0 None body.0, body.1)) (Some (e, rest)) e0
-    (bound_is (body_at after) ((e.schema, e.segments), rest) (λ body. Some (entry_from e.name None body.0, body.1)) (Some (e, rest)) (body_again schemas e rest known.schema few known.segments)
-    (ap (λ (x : PlainEntry). Some (x, rest)) (parts_alone e known.page)))
+    bound_is (name_at (entry_text e ++ rest)) (e.name, after) (λ name. body_at name.1 >>= λ body. Some (entry_from name.0 None body.0, body.1)) (Some (bare e, rest)) e0
+    (bound_is (body_at after) ((e.schema, e.segments), rest) (λ body. Some (entry_from e.name None body.0, body.1)) (Some (bare e, rest)) (body_again schemas e rest known.schema few known.segments) refl)
 
-entries_again : AllAgain → (c : PlainCatalogue) → list_all is_entry c ≡ true → segment_count c ≤ MAX_SEGMENTS → AllByRecursion (ReadAgain entry_at entry_text) c
-entries_again schemas [] all few = tt
-entries_again schemas (e ∷ es) all few =
+entries_again : AllAgain → (c : PlainCatalogue) (rest : List ℕ) → list_all is_entry c ≡ true → segment_count c ≤ MAX_SEGMENTS → many_at entry_at (length c) (flat_map entry_text c ++ rest) ≡ Some (map bare c, rest)
+unfolding many_at
+entries_again schemas [] rest all few = refl
+entries_again schemas (e ∷ es) rest all few =
     let parts = and_parts (is_entry e) (list_all is_entry es) all in
     let count = sum_by-cons (λ (x : PlainEntry). length x.segments) e es in
-    (entry_again schemas e parts.0 (omega (arith, few, count)), entries_again schemas es parts.1 (omega (arith, few, count)))
+    let first = entry_again schemas e parts.0 (omega (arith, few, count)) (flat_map entry_text es ++ rest) in
+    let others = entries_again schemas es rest parts.1 (omega (arith, few, count)) in
+    rw (append_assoc (entry_text e) (flat_map entry_text es) rest, first, others) refl
 
 -- ---- catalogues
 
 -- the entries of a text, and what follows it
-pub front_again : AllAgain → (c : PlainCatalogue) (rest : List ℕ) → IsCatalogue c → counted_at entry_at (list_text c ++ rest) ≡ Some (c, rest)
+pub front_again : AllAgain → (c : PlainCatalogue) (rest : List ℕ) → IsCatalogue c → counted_at entry_at (list_text c ++ rest) ≡ Some (map bare c, rest)
 front_again schemas c rest k =
     let few : length c < 2 ^ 32 = let t = k.tables in omega (arith, t) in
-    counted_again entry_at entry_text c rest few (entries_again schemas c k.entries k.segments)
+    rw (append_assoc (little_bytes 4 (length c)) (flat_map entry_text c) rest, number_again 4 (length c) (flat_map entry_text c ++ rest) (omega (arith, few))) (entries_again schemas c rest k.entries k.segments)
 
-pub catalogue_again : AllAgain → (c : PlainCatalogue) → IsCatalogue c → catalogue_at (list_text c) ≡ Some c
+pub catalogue_again : AllAgain → (c : PlainCatalogue) → IsCatalogue c → catalogue_at (list_text c) ≡ Some (map bare c)
 unfolding catalogue_at
 catalogue_again schemas c k =
-    let alone : counted_at entry_at (list_text c) ≡ Some (c, []) = ap (counted_at entry_at) (sym (append-nil (list_text c))) ∙ front_again schemas c [] k in
-    rw (alone, passes_catalogue c k) refl
+    let alone : counted_at entry_at (list_text c) ≡ Some (map bare c, []) = ap (counted_at entry_at) (sym (append-nil (list_text c))) ∙ front_again schemas c [] k in
+    rw (alone, bare_stands c (passes_catalogue c k)) refl
 
 same_front : (a b : PlainCatalogue × List ℕ) → Some a ≡ Some b → a.0 ≡ b.0
 same_front a b h = ap (λ (o : Option (PlainCatalogue × List ℕ)). front o) h
@@ -228,8 +223,8 @@ same_front a b h = ap (λ (o : Option (PlainCatalogue × List ℕ)). front o) h
     front None = []
     front (Some p) = p.0
 
-pub texts_apart : AllAgain → (c d : PlainCatalogue) (x y : List ℕ) → IsCatalogue c → IsCatalogue d → list_text c ++ x ≡ list_text d ++ y → c ≡ d
-texts_apart schemas c d x y k l same = same_front (c, x) (d, y) (sym (front_again schemas c x k) ∙ ap (counted_at entry_at) same ∙ front_again schemas d y l)
+pub texts_apart : AllAgain → (c d : PlainCatalogue) (x y : List ℕ) → IsCatalogue c → IsCatalogue d → list_text c ++ x ≡ list_text d ++ y → map bare c ≡ map bare d
+texts_apart schemas c d x y k l same = same_front (map bare c, x) (map bare d, y) (sym (front_again schemas c x k) ∙ ap (counted_at entry_at) same ∙ front_again schemas d y l)
 
 -- ---- roots
 

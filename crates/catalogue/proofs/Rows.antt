@@ -58,7 +58,7 @@ rows_fit es i x kept lt is =
 
 -- the runs so far, and those of the next entry
 pub more_runs : (es : List TableEntry) (i : ℕ) (x : TableEntry) → i < length es → x ≡ get_or es i x
-    → runs_of (map plain_entry (take i es)) ++ map (λ (s : Segment). s.place.run) x.segments.items ≡ runs_of (map plain_entry (take (i + 1) es))
+    → runs_of (map plain_entry (take i es)) ++ runs_in (plain_entry x) ≡ runs_of (map plain_entry (take (i + 1) es))
 more_runs es i x lt is =
     let one : runs_of (plain_entry x ∷ []) ≡ runs_in (plain_entry x) = append-nil (runs_in (plain_entry x)) in
     sym (ap (λ (xs : List TableEntry). runs_of (map plain_entry xs)) (take_more es i x lt)

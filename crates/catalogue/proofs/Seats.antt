@@ -1,6 +1,6 @@
 -- Entries of the code, and their places.
-use Rattle.std.proofs.Common.{◌≡◌, ◌≤◌, ◌<◌, ◌+◌, ◌++◌, ℕ, true, false, cond, List, length, get_or, set, insert, remove, take, map, Option, Some, None, Ok, Err, refl, sym, ap, subst, ◌∙◌, arith}
-use Rattle.std.specs.Prelude.{string_bytes, nat_le, Result, is_ok, OnOk, OnErr}
+use Rattle.std.proofs.Common.{◌≡◌, ◌≤◌, ◌<◌, ◌+◌, ◌++◌, ℕ, true, false, List, [], ◌∷◌, length, get_or, set, insert, remove, take, map, Option, Some, None, Ok, Err, refl, sym, ap, subst, ◌∙◌, arith}
+use Rattle.std.specs.Prelude.{string_bytes, nat_le, Result, OnOk, OnErr}
 use Rattle.std.specs.List.{list_all}
 use Rattle.std.proofs.lemmas.Bool.{lt-leb}
 use Rattle.std.proofs.lemmas.List.{length-map, map-set}
@@ -13,7 +13,7 @@ use Rattle.catalogue.specs.Edits.{entry_of, with_entry, without, named, renamed,
 use Rattle.catalogue.specs.inner.Places.{place_of, seat_of}
 use Rattle.catalogue.proofs.Standing.{seated, gap, placed, set_segments, map_insert, map_remove, map_at}
 use Rattle.catalogue.proofs.Rows.{counted_within}
-use Rattle.catalogue.specs.laws.Changed.{renamed_stands, more_is, more_stands, exchanged_is}
+use Rattle.catalogue.specs.laws.Changed.{renamed_stands, more_is, more_none, more_stands, exchanged_is}
 use Rattle.catalogue.specs.laws.Sums.{refilled}
 
 pub record Seated (es : List TableEntry) (e : TableEntry) (place : ℕ) : Type 0 where
@@ -85,8 +85,8 @@ pub more_kept : {A B : Type 0} (r : Result A B) (old new : PlainCatalogue) (name
     → segment_count old + length more ≤ MAX_SEGMENTS → is_catalogue new ≡ true
 more_kept (Ok x) old new name more put err kept each most = ap is_catalogue put ∙ by_entry (entry_of old name) refl
   where
-    by_entry : (o : Option PlainEntry) → entry_of old name ≡ o → is_catalogue (elim o [ None ↦ old | Some e ↦ with_segments old name (e.segments ++ more) ]) ≡ true
-    by_entry None h = kept
+    by_entry : (o : Option PlainEntry) → entry_of old name ≡ o → is_catalogue (with_more old name more) ≡ true
+    by_entry None h = ap is_catalogue (more_none old name more h) ∙ kept
     by_entry (Some e) h = more_stands old name e more kept h each most
 more_kept (Err x) old new name more put err kept each most = ap is_catalogue err ∙ kept
 
@@ -105,11 +105,12 @@ stood_at : (es : List TableEntry) (name : List ℕ) (place : ℕ) (x : TableEntr
 stood_at es name place x h is = (place_in es name place h).stood x ∙ ap (λ (e : TableEntry). Some (plain_entry e)) (sym is)
 
 -- after `append_more`: it has more
-pub more_at : {A B : Type 0} (r : Result A B) (es : List TableEntry) (name : List ℕ) (place : ℕ) (x new : TableEntry) (more : List Segment) → place_of name 0 (map plain_entry es) ≡ Some place → x ≡ get_or es place x
+pub more_at : {A B : Type 0} (r : Result A B) (es : List TableEntry) (name : List ℕ) (place : ℕ) (x new : TableEntry) (more : List Segment) → (length more ≡ 0 → ⊥) → place_of name 0 (map plain_entry es) ≡ Some place → x ≡ get_or es place x
     → OnOk r (plain_entry new ≡ refilled (plain_entry x) ((plain_entry x).segments ++ more)) → OnOk r (map plain_entry (set es place new) ≡ with_more (map plain_entry es) name more)
-more_at (Ok y) es name place x new more h is new_is =
-    refilled_at es name place x new (x.segments.items ++ more) h is new_is ∙ sym (more_is (map plain_entry es) name (plain_entry x) more (stood_at es name place x h is))
-more_at (Err y) es name place x new more h is new_is = tt
+more_at (Ok y) es name place x new [] some h is new_is = absurd (some refl)
+more_at (Ok y) es name place x new (s ∷ more) some h is new_is =
+    refilled_at es name place x new (x.segments.items ++ s ∷ more) h is new_is ∙ sym (more_is (map plain_entry es) name (plain_entry x) s more (stood_at es name place x h is))
+more_at (Err y) es name place x new more some h is new_is = tt
 
 -- after `exchange`: some of them were exchanged
 pub exchanged_at : {A B : Type 0} (r : Result A B) (es : List TableEntry) (name : List ℕ) (at : ℕ) (x new : TableEntry) (place count : ℕ) (others : List Segment) → place_of name 0 (map plain_entry es) ≡ Some at → x ≡ get_or es at x

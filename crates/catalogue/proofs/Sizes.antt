@@ -10,7 +10,7 @@ use Rattle.ipc_write.specs.Written.{schema_message}
 use Rattle.segments.specs.declared.run.Run.{Run}
 use Rattle.catalogue.specs.declared.entry.Segment.{Segment}
 use Rattle.segments.specs.declared.extent.Extent.{Extent}
-use Rattle.catalogue.specs.Entries.{PlainEntry, PlainCatalogue, PlainRoot, is_entry, row_count, runs_in, runs_of, segment_count, IsCatalogue}
+use Rattle.catalogue.specs.Entries.{PlainEntry, PlainCatalogue, PlainRoot, is_entry, row_count, page_runs, runs_in_segments, runs_in, runs_of, segment_count, IsCatalogue}
 use Rattle.catalogue.specs.Text.{sized, counted, extent_text, segment_text, table_text, table_size, entry_text, entry_size, list_text, list_size, root_entry_text, root_text, root_size}
 use Rattle.catalogue.specs.laws.Kept.{entry_is}
 use Rattle.catalogue.proofs.Standing.{map_at}
@@ -84,7 +84,7 @@ run_in ss s has =
 
 run_among : (c : PlainCatalogue) (e : PlainEntry) (s : Segment) (k : ℕ) → k < length c → get_or c k e ≡ e → Contains e.segments s → Contains (runs_of c) s.place.run
 run_among [] e s k lt is has = absurd (omega arith)
-run_among (x ∷ xs) e s zero lt is has = Contains-append_left (runs_in x) (runs_of xs) s.place.run (run_in x.segments s (subst (λ (y : PlainEntry). Contains y.segments s) (sym is) has))
+run_among (x ∷ xs) e s zero lt is has = Contains-append_left (runs_in x) (runs_of xs) s.place.run (Contains-append_right (page_runs x.page) (runs_in_segments x.segments) s.place.run (run_in x.segments s (subst (λ (y : PlainEntry). Contains y.segments s) (sym is) has)))
 run_among (x ∷ xs) e s (suc k) lt is has = Contains-append_right (runs_in x) (runs_of xs) s.place.run (run_among xs e s k (omega arith) is has)
 
 pub run_is_named : (c : PlainCatalogue) (e : PlainEntry) (s : Segment) → Contains c e → Contains e.segments s → Contains (runs_of c) s.place.run

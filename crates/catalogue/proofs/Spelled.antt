@@ -1,5 +1,5 @@
 -- What is read was written so.
-use Rattle.std.proofs.Common.{◌≡◌, ◌≤◌, ◌<◌, ◌+◌, ◌*◌, ◌/◌, ◌%◌, ◌^◌, ◌&&◌, leb, eqb, ℕ, zero, suc, Bool, true, false, cond, List, [], ◌∷◌, ◌++◌, length, take, drop, Option, Some, None, refl, sym, ap, subst, ◌∙◌, append_assoc, arith}
+use Rattle.std.proofs.Common.{◌≡◌, ◌≤◌, ◌<◌, ◌+◌, ◌*◌, ◌/◌, ◌%◌, ◌^◌, ◌&&◌, leb, eqb, ℕ, zero, suc, Bool, true, cond, List, [], ◌∷◌, ◌++◌, length, take, drop, map, Option, Some, None, refl, sym, ap, subst, ◌∙◌, append_assoc, arith}
 use Rattle.std.proofs.Math.Nat.{div-div-eq-div-mul, pow-suc}
 use Rattle.std.specs.Int.{byte_at, bytes_low_first}
 use Rattle.std.specs.List.{flat_map, list_all}
@@ -21,7 +21,7 @@ use Rattle.catalogue.specs.declared.entry.Segment.{Segment}
 use Rattle.segments.specs.declared.extent.Extent.{Extent}
 use Rattle.catalogue.specs.declared.limits.TheConstants.{MAX_TABLES}
 use Rattle.catalogue.specs.Schemas.{is_within_limits}
-use Rattle.catalogue.specs.Entries.{PlainEntry, PlainCatalogue, PlainRoot, is_name, is_segment, ascends, root_names, IsCatalogue, is_catalogue}
+use Rattle.catalogue.specs.Entries.{PlainEntry, PlainCatalogue, PlainRoot, bare, is_name, is_segment, ascends, root_names, IsCatalogue, is_catalogue}
 use Rattle.catalogue.specs.Text.{sized, counted, extent_text, segment_text, table_text, entry_text, list_text, root_entry_text, root_text}
 use Rattle.catalogue.specs.Reading.{◌>>=◌, front_number, sized_at, name_at, many_at, counted_at, extent_in, segment_at, raw_schema_in, schema_in, unfaulted, body_at, entry_from, entry_at, catalogue_at, page_at, root_entry_at, root_at}
 use Rattle.catalogue.specs.laws.Kept.{catalogue_is}
@@ -236,6 +236,38 @@ catalogue_spelled bytes c e =
           let p = counted_takes entry_at entry_text entry_takes bytes a.0 small a.1 in
           p.parts ∙ ap (λ rest. list_text a.0.0 ++ rest) (nil_from_length a.0.1 (eqb-true (length a.0.1) 0 parts.0)) ∙ append-nil (list_text a.0.0) ∙ ap list_text t.1;
     }
+
+-- the entries of a text have no pages
+entry_pageless : (bytes : List ℕ) (r : PlainEntry × List ℕ) → entry_at bytes ≡ Some r → bare r.0 ≡ r.0
+unfolding entry_at
+entry_pageless bytes r e =
+    let a = bound (name_at bytes) (λ name. body_at name.1 >>= λ body. Some (entry_from name.0 None body.0, body.1)) r e in
+    let b = bound (body_at a.0.1) (λ body. Some (entry_from a.0.0 None body.0, body.1)) r a.2 in
+    subst (λ (x : PlainEntry × List ℕ). bare x.0 ≡ x.0) (entry_is (entry_from a.0.0 None b.0.0, b.0.1) r b.2) refl
+
+entries_pageless : (count : ℕ) (bytes : List ℕ) (r : PlainCatalogue × List ℕ) → many_at entry_at count bytes ≡ Some r → map bare r.0 ≡ r.0
+unfolding many_at
+entries_pageless zero bytes r e = subst (λ (x : PlainCatalogue × List ℕ). map bare x.0 ≡ x.0) (some_is ([], bytes) r e) refl
+  where
+    some_is : (x y : PlainCatalogue × List ℕ) → Some x ≡ Some y → x ≡ y
+    some_is x y h = cc
+entries_pageless (suc count) bytes r e =
+    let a = bound (entry_at bytes) (λ first. many_at entry_at count first.1 >>= λ others. Some (first.0 ∷ others.0, others.1)) r e in
+    let b = bound (many_at entry_at count a.0.1) (λ others. Some (a.0.0 ∷ others.0, others.1)) r a.2 in
+    let first = entry_pageless bytes a.0 a.1 in
+    let others = entries_pageless count a.0.1 b.0 b.1 in
+    subst (λ (x : PlainCatalogue × List ℕ). map bare x.0 ≡ x.0) (some_is (a.0.0 ∷ b.0.0, b.0.1) r b.2) (λ i. first i ∷ others i)
+  where
+    some_is : (x y : PlainCatalogue × List ℕ) → Some x ≡ Some y → x ≡ y
+    some_is x y h = cc
+
+pub catalogue_pageless : (bytes : List ℕ) (c : PlainCatalogue) → catalogue_at bytes ≡ Some c → map bare c ≡ c
+unfolding catalogue_at
+catalogue_pageless bytes c e =
+    let a = bound (counted_at entry_at bytes) (λ entries. cond (eqb (length entries.1) 0 && is_catalogue entries.0) (Some entries.0) None) c e in
+    let t = cond_some (eqb (length a.0.1) 0 && is_catalogue a.0.0) a.0.0 c a.2 in
+    let n = bound (front_number 4 bytes) (λ count. many_at entry_at count.0 count.1) a.0 a.1 in
+    subst (λ (x : PlainCatalogue). map bare x ≡ x) t.1 (entries_pageless n.0.0 n.0.1 a.0 n.2)
 
 -- ---- pages
 

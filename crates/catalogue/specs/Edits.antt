@@ -34,8 +34,10 @@ with_segments [] name segments = []
 with_segments (x ∷ xs) name segments =
     if bytes_eq x.name name then record { name = x.name; schema = x.schema; segments = segments; page = None } ∷ xs else x ∷ with_segments xs name segments
 
+-- where there are none, the table stays as it is, and keeps its page
 abbrev pub with_more : PlainCatalogue → List ℕ → List Segment → PlainCatalogue
-with_more c name more = elim (entry_of c name) [ None ↦ c | Some e ↦ with_segments c name (e.segments ++ more) ]
+with_more c name [] = c
+with_more c name (s ∷ more) = elim (entry_of c name) [ None ↦ c | Some e ↦ with_segments c name (e.segments ++ s ∷ more) ]
 
 -- so many segments from a place on, and with others in place of them
 abbrev pub from_place : List Segment → (place count : ℕ) → List Segment

@@ -1,5 +1,5 @@
 -- What a catalogue keeps: the name of each table, its schema, its segments and its page (docs/formats/store.md).
-use Rattle.std.specs.Prelude.{◌≡◌, ◌≤◌, ◌^◌, ◌==◌, ◌&&◌, ◌||◌, ℕ, Bool, true, false, nat_le, nat_lt, List, [], ◌∷◌, length, map, flat_map, sum_by, string_bytes, Option, Some, None}
+use Rattle.std.specs.Prelude.{◌≡◌, ◌≤◌, ◌^◌, ◌==◌, ◌&&◌, ◌||◌, ℕ, Bool, true, nat_le, nat_lt, List, [], ◌∷◌, ◌++◌, length, map, flat_map, sum_by, string_bytes, Option, Some, None}
 use Rattle.std.specs.List.{list_all}
 use Rattle.std.specs.Cmp.Lexicographic.{slice_cmp}
 use Rattle.std.specs.Ordering.{nat_cmp, is_lt}
@@ -60,13 +60,18 @@ is_segment s =
 abbrev pub is_filled : (least : ℕ) → Extent → Bool
 is_filled least e = (nat_lt e.run.start (2 ^ 64) && nat_lt e.bytes (2 ^ 64)) && (nat_le least e.bytes && (e.run.count == sector_count e.bytes))
 
-abbrev pub has_no_page : Option Extent → Bool
-has_no_page None = true
-has_no_page (Some page) = false
+-- a page has eight bytes at least, those of its two numbers
+abbrev pub is_page : Option Extent → Bool
+is_page None = true
+is_page (Some page) = is_filled 8 page
 
--- an entry that may stand: the catalogues of stores are written as lists, whose tables have no pages
+-- an entry that may stand
 abbrev pub is_entry : PlainEntry → Bool
-is_entry e = is_name e.name && (is_within_limits e.schema && (list_all is_segment e.segments && has_no_page e.page))
+is_entry e = is_name e.name && (is_within_limits e.schema && (list_all is_segment e.segments && is_page e.page))
+
+-- the same entry without its page, as a list says it
+abbrev pub bare : PlainEntry → PlainEntry
+bare e = record { name = e.name; schema = e.schema; segments = e.segments; page = None }
 
 abbrev pub names_of : PlainCatalogue → List (List ℕ)
 names_of c = map (λ e. e.name) c
@@ -92,9 +97,13 @@ segment_count c = sum_by (λ e. length e.segments) c
 abbrev pub runs_in_segments : List Segment → List Run
 runs_in_segments segments = map (λ (s : Segment). s.place.run) segments
 
--- the runs that it names, table after table
+abbrev pub page_runs : Option Extent → List Run
+page_runs None = []
+page_runs (Some page) = page.run ∷ []
+
+-- the runs that it names, table after table: that of the page, if there is one, and those of the segments
 abbrev pub runs_in : PlainEntry → List Run
-runs_in e = runs_in_segments e.segments
+runs_in e = page_runs e.page ++ runs_in_segments e.segments
 
 abbrev pub runs_of : PlainCatalogue → List Run
 runs_of c = flat_map runs_in c

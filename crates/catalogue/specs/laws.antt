@@ -3,3 +3,5 @@ pub mod Kept
 pub mod Order
 pub mod Sums
 pub mod Changed
+pub mod Bare
+pub mod Shapes

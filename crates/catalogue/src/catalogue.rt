@@ -3,7 +3,7 @@ ghost use Rattle.std.specs.Prelude.{◌≡◌, true, map};
 ghost use Rattle.catalogue.specs.Entries.{plain_entry, is_catalogue};
 
 use crate::edits::{
-    append_to, copy_entries, exchange_in, put_entry, put_runs, rename_entry, take_entry,
+    append_to, copy_entries, exchange_in, put_entry, put_entry_runs, rename_entry, take_entry,
 };
 use crate::limits::MAX_TABLES;
 use crate::places::place_of;
@@ -49,6 +49,14 @@ impl Catalogue {
         } else {
             None
         }
+    }
+
+    /// These entries, which may stand so: their order, names, schemas, segments and pages are known to be sound.
+    pub fn of_entries(entries: Vec<TableEntry>) -> Self
+        requires { is_catalogue (map plain_entry entries.items) ≡ true }
+        ensures { catalogue_of result ≡ map plain_entry entries.items }
+    {
+        Catalogue { entries }
     }
 
     /// How many tables there are.
@@ -114,7 +122,8 @@ impl Catalogue {
         rename_entry(&mut self.entries, from, to);
     }
 
-    /// Puts segments behind those of a table, which is without a page then. Where there is no table of the name, nothing changes.
+    /// Puts segments behind those of a table, which is without a page then. Where there are none, or no table of the name,
+    /// nothing changes.
     pub fn append_segments(&mut self, name: &str, more: &[Segment]) -> Result<(), AllocError>
         requires segments { list_all is_segment more.now ≡ true }
         requires most { segment_count (catalogue_of self.old) + length more.now ≤ MAX_SEGMENTS }
@@ -162,13 +171,13 @@ impl Catalogue {
         Ok(tables)
     }
 
-    /// The runs that it names, table after table.
+    /// The runs that it names, table after table: that of the page, if it has one, and those of its segments.
     pub fn runs(&self, alloc: Global) -> Result<Vec<Run>, AllocError>
         ensures { IfOk result (λ runs. runs.items ≡ runs_of (catalogue_of self.now)) }
     {
         let mut runs = Vec::new(alloc);
         for entry in &self.entries {
-            put_runs(&mut runs, &entry.segments)?;
+            put_entry_runs(&mut runs, entry)?;
         }
         Ok(runs)
     }

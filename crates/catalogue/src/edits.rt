@@ -1,7 +1,7 @@
 // Changes of a list of entries, and copies of it.
 ghost use Rattle.std.specs.Prelude.{◌≡◌, ◌<◌, ◌++◌, true, map, option_map, string_bytes, vec_len, OnOk, OnErr, IfOk, IsOk, IsSome};
 ghost use Rattle.std.specs.Vec.{vec_capacity};
-ghost use Rattle.catalogue.specs.Entries.{plain_entry, names_of, ascends};
+ghost use Rattle.catalogue.specs.Entries.{plain_entry, names_of, ascends, runs_in};
 ghost use Rattle.catalogue.specs.Edits.{entry_of, with_entry, without, renamed, with_more, with_others, with_exchanged};
 ghost use Rattle.catalogue.specs.laws.Sums.{refilled};
 ghost use Rattle.catalogue.specs.declared.entry.Segment.{Segment};
@@ -81,6 +81,10 @@ pub(crate) fn append_to(
     ensures appended { OnOk result (map plain_entry entries.new.items ≡ with_more (map plain_entry entries.old.items) name.now more.now) }
     ensures err { OnErr result (map plain_entry entries.new.items ≡ map plain_entry entries.old.items) }
 {
+    // A table that gets none keeps its page.
+    if more.is_empty() {
+        return Ok(());
+    }
     match place_of(entries, name) {
         Some(place) => append_more(&mut entries[place], more),
         None => Ok(()),
@@ -138,6 +142,16 @@ pub(crate) fn exchange_in(
         Some(at) => exchange(&mut entries[at], place, count, others),
         None => Ok(()),
     }
+}
+
+// Appends the runs that an entry names.
+pub(crate) fn put_entry_runs(runs: &mut Vec<Run>, entry: &TableEntry) -> Result<(), AllocError>
+    ensures { OnOk result (runs.new.items ≡ runs.old.items ++ runs_in (plain_entry entry.now)) }
+{
+    if let Some(page) = entry.page {
+        runs.push(page.run)?;
+    }
+    put_runs(runs, &entry.segments)
 }
 
 // Appends the runs of these segments.

@@ -5,7 +5,7 @@ ghost use Rattle.arrow_schema.specs.Limits.{IsWithinLimits};
 ghost use Rattle.arrow_schema.specs.View.{schema_of};
 ghost use Rattle.ipc_write.specs.Written.{schema_message};
 ghost use Rattle.catalogue.specs.Entries.{plain_entry, is_entry};
-ghost use Rattle.catalogue.specs.Text.{sized, counted, extent_text, segment_text, table_text, entry_text, list_text};
+ghost use Rattle.catalogue.specs.Text.{sized, counted, extent_text, segment_text, table_text, table_size, entry_text, list_text};
 ghost use Rattle.catalogue.specs.View.{catalogue_of};
 
 use crate::{Catalogue, Segment, TableEntry};
@@ -116,4 +116,15 @@ pub fn encode_page(alloc: Global, entry: &TableEntry) -> Result<Vec<u8>, AllocEr
     let mut out = Vec::new(alloc);
     put_table(alloc, &mut out, entry)?;
     Ok(out)
+}
+
+/// How many bytes the text of the page of a table has. Where its segments lie makes no difference.
+pub fn page_size(alloc: Global, entry: &TableEntry) -> Result<u64, AllocError>
+    requires sound { is_entry (plain_entry entry.now) ≡ true }
+    requires segments { length entry.now.segments.items < 2 ^ 32 }
+    ensures size { IfOk result (λ size. size ≡ table_size (plain_entry entry.now)) }
+    ensures short { IfOk result (λ size. size < 2 ^ 40) }
+{
+    let message = message_of(alloc, &entry.schema)?;
+    Ok(8 + message.len() as u64 + 32 * entry.segments.len() as u64)
 }

@@ -3,7 +3,7 @@ ghost use Rattle.std.specs.Prelude.{◌≡◌, ◌<◌, ◌^◌, IfOk};
 ghost use Rattle.std.specs.List.{list_all};
 ghost use Rattle.arrow_schema.specs.View.{schema_of};
 ghost use Rattle.catalogue.specs.Schemas.{is_within_limits};
-ghost use Rattle.catalogue.specs.Entries.{is_segment, has_no_page, is_entry, plain_entry, row_count, runs_in};
+ghost use Rattle.catalogue.specs.Entries.{is_segment, is_page, is_entry, plain_entry, row_count, runs_in_segments};
 
 use crate::edits::put_runs;
 use crate::limits::MAX_SEGMENT_ROWS;
@@ -48,11 +48,12 @@ impl Segment {
     }
 }
 
-fn has_no_page(page: Option<Extent>) -> bool
-    ensures { result ≡ has_no_page page }
+// Whether a catalogue may name it, if there is one: it has the bytes of its two numbers, and just the sectors that it needs.
+fn is_page(page: Option<Extent>) -> bool
+    ensures { result ≡ is_page page }
 {
     match page {
-        Some(_) => false,
+        Some(page) => page.bytes >= 8 && page.run.count == page.bytes.div_ceil(512),
         None => true,
     }
 }
@@ -94,7 +95,7 @@ impl TableEntry {
 
     /// The runs of its segments, in order.
     pub fn runs(&self, alloc: Global) -> Result<Vec<Run>, AllocError>
-        ensures { IfOk result (λ runs. runs.items ≡ runs_in (plain_entry self.now)) }
+        ensures { IfOk result (λ runs. runs.items ≡ runs_in_segments (plain_entry self.now).segments) }
     {
         let mut runs = Vec::new(alloc);
         put_runs(&mut runs, &self.segments)?;
@@ -108,7 +109,7 @@ impl TableEntry {
         is_name(&self.name)
             && is_within_limits(&self.schema)
             && are_sound(&self.segments)
-            && has_no_page(self.page)
+            && is_page(self.page)
     }
 
     /// The same entry in memory of its own.

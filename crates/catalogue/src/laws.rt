@@ -1,11 +1,11 @@
 // Laws of the definitions, for the crates above: each call does nothing, and its contract is the law.
-ghost use Rattle.std.specs.Prelude.{◌≡◌, ◌≤◌, ◌*◌, ◌++◌, ℕ, true, List, length, Some};
+ghost use Rattle.std.specs.Prelude.{◌≡◌, ◌≤◌, ◌*◌, ◌++◌, ℕ, true, List, length, map, Some};
 ghost use Rattle.std.specs.List.{Contains, list_all};
 ghost use Rattle.facts.specs.Bytes.{AreBytes};
 ghost use Rattle.catalogue.specs.declared.entry.Segment.{Segment};
 ghost use Rattle.catalogue.specs.declared.limits.TheConstants.{MAX_TABLES, MAX_SEGMENTS, MAX_SEGMENT_ROWS};
 ghost use Rattle.catalogue.specs.Schemas.{is_within_limits};
-ghost use Rattle.catalogue.specs.Entries.{PlainEntry, PlainCatalogue, PlainRoot, is_name, is_segment, ascends, root_names, row_count, runs_of, IsTable, IsRoot, IsCatalogue};
+ghost use Rattle.catalogue.specs.Entries.{PlainEntry, PlainCatalogue, PlainRoot, bare, is_name, is_segment, ascends, root_names, row_count, runs_of, IsTable, IsRoot, IsCatalogue};
 ghost use Rattle.catalogue.specs.Edits.{entry_of, with_entry, without};
 ghost use Rattle.catalogue.specs.Counts.{HasMore, HasSame, HasFewer};
 ghost use Rattle.catalogue.specs.Text.{list_text, list_size, table_text, table_size, root_text, root_size};
@@ -21,13 +21,15 @@ fn schemas_are_read_again()
 }
 
 /// One text for each catalogue, and one catalogue for each text. `kept`: what is read is a catalogue;
-/// `found`: it was written so; `again`: what is written is read; `apart`: no text begins another one.
+/// `found`: it was written so; `again`: what is written is read, without the pages, of which a list says nothing;
+/// `pageless`: what is read has none; `apart`: no text begins another one.
 pub fn one_text_each()
     ensures kept { (bytes : List ℕ) (c : PlainCatalogue) → catalogue_at bytes ≡ Some c → IsCatalogue c }
     ensures found { (bytes : List ℕ) (c : PlainCatalogue) → AreBytes bytes → catalogue_at bytes ≡ Some c → bytes ≡ list_text c }
-    ensures again { (c : PlainCatalogue) → IsCatalogue c → catalogue_at (list_text c) ≡ Some c }
+    ensures again { (c : PlainCatalogue) → IsCatalogue c → catalogue_at (list_text c) ≡ Some (map bare c) }
+    ensures pageless { (bytes : List ℕ) (c : PlainCatalogue) → catalogue_at bytes ≡ Some c → map bare c ≡ c }
     ensures apart { (c d : PlainCatalogue) (x y : List ℕ) → IsCatalogue c → IsCatalogue d
-        → list_text c ++ x ≡ list_text d ++ y → c ≡ d }
+        → list_text c ++ x ≡ list_text d ++ y → map bare c ≡ map bare d }
 {
     schemas_are_read_again();
 }

@@ -28,7 +28,7 @@ mod testing;
 
 pub use catalogue::Catalogue;
 pub use decoding::{DecodeError, decode, decode_page};
-pub use encoding::{encode, encode_page};
+pub use encoding::{encode, encode_page, page_size};
 pub use entry::{RootEntry, Segment, TableEntry};
 pub use laws::{
     counts_after_changes, one_page_each, one_root_each, one_text_each, rows_are_few,

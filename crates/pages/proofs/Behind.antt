@@ -1,8 +1,8 @@
 -- Pages that are read one after another.
-use Rattle.std.specs.Prelude.{◌≡◌, ◌≤◌, ◌<◌, ◌+◌, ◌-◌, ◌++◌, ℕ, true, List, [], ◌∷◌, length, map, drop, get_or, string_bytes, Option, Some, Result, Ok, Err, refl}
-use Rattle.std.proofs.Common.{sym, ap, ◌∙◌, subst, arith, append_assoc}
+use Rattle.std.specs.Prelude.{◌≡◌, ◌≤◌, ◌<◌, ◌+◌, ◌-◌, ◌++◌, ℕ, List, [], ◌∷◌, length, map, drop, get_or, string_bytes, Some, Result, Ok, Err, refl}
+use Rattle.std.proofs.Common.{sym, ap, ◌∙◌, append_assoc}
 use Rattle.std.proofs.lemmas.List.{drop_more, drop_all, map-append, append-nil}
-use Rattle.sector_dev.specs.Disk.{Image, Story, now, shown_image}
+use Rattle.sector_dev.specs.Disk.{Image, Story, shown_image}
 use Rattle.sector_dev.specs.Time.{OnlyReads}
 use Rattle.sector_dev.specs.laws.Time.{now_read}
 use Rattle.arrow_schema.specs.Column.{PlainSchema}
@@ -10,7 +10,7 @@ use Rattle.segments.specs.declared.extent.Extent.{Extent}
 use Rattle.catalogue.specs.declared.entry.Segment.{Segment}
 use Rattle.catalogue.specs.declared.entry.TableEntry.{TableEntry}
 use Rattle.catalogue.specs.declared.entry.RootEntry.{RootEntry}
-use Rattle.catalogue.specs.Entries.{PlainEntry, PlainCatalogue, PlainRoot, plain_entry, plain_root}
+use Rattle.catalogue.specs.Entries.{PlainEntry, PlainCatalogue, plain_entry, plain_root}
 use Rattle.catalogue.specs.Reading.{entry_from}
 use Rattle.commit.specs.declared.cause.Cause.{Cause}
 use Rattle.commit.specs.declared.reading.OpenError.{OpenError}

@@ -1,9 +1,8 @@
 -- How a stored catalogue is read: the list that a commit names, or a root, and then page after page.
-use Rattle.std.specs.Prelude.{◌≡◌, ◌-◌, ℕ, List, [], ◌∷◌, ◌++◌, length, flat_map, Option, Some, None, Result, Ok, Err}
-use Rattle.std.specs.List.{AllByRecursion}
+use Rattle.std.specs.Prelude.{◌≡◌, ◌≤◌, ◌-◌, ℕ, true, List, [], ◌∷◌, length, Option, Some, None, Result, Ok, Err}
+use Rattle.std.specs.List.{AllByRecursion, list_all}
 use Rattle.sector_dev.specs.Disk.{Image, Story, now, shown_image}
 use Rattle.arrow_schema.specs.Column.{PlainSchema}
-use Rattle.segments.specs.declared.run.Run.{Run}
 use Rattle.segments.specs.declared.extent.Extent.{Extent}
 use Rattle.commit.specs.declared.cause.Cause.{Cause}
 use Rattle.commit.specs.declared.cause.Cause.TheVariants.{CatalogueText}
@@ -11,8 +10,8 @@ use Rattle.commit.specs.declared.sector.CatalogueKind.{CatalogueKind}
 use Rattle.commit.specs.declared.sector.CatalogueKind.TheVariants.{Whole, Pages}
 use Rattle.commit.specs.Standing.{Reading, extent_at}
 use Rattle.catalogue.specs.declared.entry.Segment.{Segment}
-use Rattle.catalogue.specs.declared.limits.TheConstants.{MAX_SEGMENTS}
-use Rattle.catalogue.specs.Entries.{PlainEntry, PlainCatalogue, PlainRoot, runs_in}
+use Rattle.catalogue.specs.declared.limits.TheConstants.{MAX_SEGMENTS, MAX_TABLES}
+use Rattle.catalogue.specs.Entries.{PlainEntry, PlainCatalogue, PlainRoot, is_name, ascends, root_names, runs_of}
 use Rattle.catalogue.specs.Reading.{catalogue_at, page_at, root_at, entry_from}
 
 -- what is read once something was read; the first cause is told
@@ -28,6 +27,12 @@ or_no_text (Some x) = Ok x
 abbrev pub page_in : ℕ → Image → (most : ℕ) → Extent → Result (PlainSchema × List Segment) Cause
 page_in size image most page = then_read (extent_at size image 8 page) (λ bytes. or_no_text (page_at most bytes))
 
+-- the names of a root's tables may stand, in order, and there are not too many
+pub record AreTables (rs : List PlainRoot) : Type 0 where
+  pub named : list_all (λ (r : PlainRoot). is_name r.name) rs ≡ true
+  pub order : ascends (root_names rs) ≡ true
+  pub tables : length rs ≤ MAX_TABLES
+
 -- page after page in the order of the root, each tested whole before the next; segments are counted over the pages so far
 unfoldable pub pages_at : ℕ → Image → (most : ℕ) → List PlainRoot → Result PlainCatalogue Cause
 pages_at size image most [] = Ok []
@@ -40,19 +45,8 @@ abbrev pub by_kind : CatalogueKind → ℕ → Image → List ℕ → Result Pla
 by_kind Whole size image text = or_no_text (catalogue_at text)
 by_kind Pages size image text = then_read (or_no_text (root_at text)) (pages_at size image MAX_SEGMENTS)
 
--- the runs that it names, table after table: that of the page, if there is one, and those of the segments
-abbrev pub page_runs : Option Extent → List Run
-page_runs None = []
-page_runs (Some page) = page.run ∷ []
-
-abbrev pub stored_runs_in : PlainEntry → List Run
-stored_runs_in e = page_runs e.page ++ runs_in e
-
-abbrev pub stored_runs : PlainCatalogue → List Run
-stored_runs c = flat_map stored_runs_in c
-
 abbrev pub stored_reading : Reading PlainCatalogue
-stored_reading = record { at = λ size image k text. by_kind k.kind size image text; runs = stored_runs }
+stored_reading = record { at = λ size image k text. by_kind k.kind size image text; runs = runs_of }
 
 -- the entry has no page, or its page says what the entry does
 abbrev pub HoldsPage : ℕ → Image → PlainEntry → Type 0

@@ -1,16 +1,46 @@
 // Laws of the definitions, for the crates above: each call does nothing, and its contract is the law.
-ghost use Rattle.std.specs.Prelude.{◌≡◌, ℕ, List, Ok};
+ghost use Rattle.std.specs.Prelude.{◌≡◌, ◌≤◌, ℕ, true, List, length, map, Ok};
+ghost use Rattle.std.specs.List.{AllByRecursion};
 ghost use Rattle.sector_dev.specs.Disk.{Image};
-ghost use Rattle.catalogue.specs.Entries.{PlainCatalogue};
+ghost use Rattle.segments.specs.declared.run.Run.{Run};
+ghost use Rattle.segments.specs.Pieces.{PlainPiece};
+ghost use Rattle.segments.specs.Runs.{OutOf};
+ghost use Rattle.segments.specs.Writing.{runs_of, HoldsEach};
+ghost use Rattle.catalogue.specs.Entries.{PlainCatalogue, IsCatalogue};
+ghost use Rattle.commit.specs.Standing.{is_size};
 ghost use Rattle.commit.specs.declared.sector.Commit.{Commit};
-ghost use Rattle.pages.specs.Stored.{stored_reading, HoldsPages};
+ghost use Rattle.pages.specs.Stored.{stored_reading, by_kind, HoldsPages};
+ghost use Rattle.pages.specs.Paging.{kind_of, page_sizes, text_size, ArePageRuns, settled, page_texts, settled_text};
+ghost use Rattle.pages.specs.laws.Written.{IsFree};
+ghost use Rattle.pages.specs.laws.Made.{GoesTo};
 
-use catalogue::one_text_each;
+use catalogue::{one_page_each, one_root_each, one_text_each, texts_have_these_sizes};
 
-/// Each page that a catalogue names says what the catalogue says of its table.
+/// What is read of a store is a catalogue, and each page that it names says what it says of its table.
 pub fn pages_hold_what_was_read()
-    ensures { (size : ℕ) (image : Image) (k : Commit) (text : List ℕ) (c : PlainCatalogue) → stored_reading.at size image k text ≡ Ok c
+    ensures kept { (size : ℕ) (image : Image) (k : Commit) (text : List ℕ) (c : PlainCatalogue) → is_size size ≡ true
+        → stored_reading.at size image k text ≡ Ok c → IsCatalogue c }
+    ensures held { (size : ℕ) (image : Image) (k : Commit) (text : List ℕ) (c : PlainCatalogue) → stored_reading.at size image k text ≡ Ok c
         → HoldsPages size image c }
 {
     one_text_each();
+    one_page_each();
+    one_root_each();
+}
+
+/// What is written of a catalogue has its sizes, and is read as that catalogue beside the pages that stay: in each image that holds
+/// the pieces, among them its text and its new pages in these runs, and has elsewhere what lay there.
+pub fn kept_catalogues_are_read()
+    ensures pages { (c : PlainCatalogue) → map (λ (text : List ℕ). length text) (page_texts c) ≡ page_sizes c }
+    ensures text { (c : PlainCatalogue) (runs : List Run) → ArePageRuns c runs → length (settled_text c runs) ≡ text_size c }
+    ensures read { (size : ℕ) (before image : Image) (pieces : List PlainPiece) → HoldsEach image pieces
+        → ((n : ℕ) → 2 ≤ n → OutOf (runs_of pieces) n → image n ≡ before n)
+        → (c : PlainCatalogue) (runs : List Run) → IsCatalogue c → ArePageRuns c runs → GoesTo size pieces c runs
+        → HoldsPages size before c → AllByRecursion (IsFree pieces) c
+        → by_kind (kind_of c) size image (settled_text c runs) ≡ Ok (settled c runs) }
+{
+    one_text_each();
+    one_page_each();
+    one_root_each();
+    texts_have_these_sizes();
 }

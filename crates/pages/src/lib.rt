@@ -6,8 +6,10 @@
 #![tactic(auto)]
 
 mod laws;
+mod paging;
 mod reading;
 mod stored;
 
-pub use laws::pages_hold_what_was_read;
+pub use laws::{kept_catalogues_are_read, pages_hold_what_was_read};
+pub use paging::{Layout, layout_of, settle};
 pub use stored::StoredCatalogue;

@@ -1,16 +1,20 @@
 // Pages are read from a device.
-ghost use Rattle.std.specs.Prelude.{◌≡◌, ◌≢◌, ◌≤◌, true, Some, Ok, length, map, string_bytes, IfOk, IfErr};
+ghost use Rattle.std.specs.Prelude.{◌≡◌, ◌≢◌, ◌≤◌, true, Some, Ok, length, map, string_bytes, OnOk, IfOk, IfErr};
+ghost use Rattle.std.specs.List.{list_all};
 ghost use Rattle.sector_dev.specs.Time.{OnlyReads};
 ghost use Rattle.arrow_schema.specs.View.{schema_of};
 ghost use Rattle.catalogue.specs.declared.limits.TheConstants.{MAX_SEGMENTS};
-ghost use Rattle.catalogue.specs.Entries.{plain_entry, plain_root};
+ghost use Rattle.catalogue.specs.Schemas.{is_within_limits};
+ghost use Rattle.catalogue.specs.Entries.{plain_entry, plain_root, is_name, is_segment, is_filled, is_entry, is_catalogue};
 ghost use Rattle.catalogue.specs.Reading.{entry_from};
 ghost use Rattle.commit.specs.Standing.{is_size};
 ghost use Rattle.commit.specs.Opening.{CountsOpen, TellsCause};
-ghost use Rattle.pages.specs.Stored.{page_shown, pages_shown};
+ghost use Rattle.pages.specs.Stored.{page_shown, pages_shown, AreTables};
 
 use arrow_schema::Schema;
-use catalogue::{DecodeError, MAX_SEGMENTS, RootEntry, Segment, TableEntry, decode_page};
+use catalogue::{
+    DecodeError, MAX_SEGMENTS, RootEntry, Segment, TableEntry, decode_page, one_page_each,
+};
 use commit::{Cause, OpenError, read_extent};
 use sector_dev::SectorDevice;
 use segments::Extent;
@@ -31,8 +35,13 @@ fn read_page<D: SectorDevice>(
         → page_shown (D.size device.old) (D.story device.old) most page ≡ Ok (schema_of x.0, x.1.items)) }
     ensures damaged { IfErr result (λ e. D.tells ≡ true → TellsCause e (page_shown (D.size device.old) (D.story device.old) most page)) }
     ensures a_store { IfErr result (λ e. e ≢ OpenError.NotAStore) }
+    // Also of a device that doesn't tell its story.
     ensures few { IfOk result (λ x. length x.1.items ≤ most) }
+    ensures schema { IfOk result (λ x. is_within_limits (schema_of x.0) ≡ true) }
+    ensures segments { IfOk result (λ x. list_all is_segment x.1.items ≡ true) }
+    ensures page { OnOk result (is_filled 8 page ≡ true) }
 {
+    one_page_each();
     match read_extent(alloc, device, 8, page) {
         Ok(bytes) => match decode_page(alloc, most, &bytes) {
             Ok(body) => Ok(body),
@@ -62,6 +71,7 @@ fn read_table<D: SectorDevice>(
     ensures few { IfOk result (λ e. length (plain_entry e).segments ≤ most) }
     ensures entry { IfOk result (λ e. plain_entry e
         ≡ entry_from (string_bytes root.now.name) (Some root.now.page) ((plain_entry e).schema, (plain_entry e).segments)) }
+    ensures sound { IfOk result (λ e. is_name (string_bytes root.now.name) ≡ true → is_entry (plain_entry e) ≡ true) }
 {
     match read_page(alloc, device, most, root.page) {
         Ok((schema, segments)) => match root.name.clone() {
@@ -83,7 +93,8 @@ pub(crate) fn read_pages<D: SectorDevice>(
     device: &mut D,
     roots: &[RootEntry],
 ) -> Result<Vec<TableEntry>, OpenError>
-    requires { is_size (D.size device.old) ≡ true }
+    requires size { is_size (D.size device.old) ≡ true }
+    requires root { AreTables (map plain_root roots.now) }
     ensures size { D.size device.new ≡ D.size device.old }
     ensures count { CountsOpen (D.failed device.old) (D.failed device.new) result }
     ensures moments { D.tells ≡ true → OnlyReads (D.story device.old) (D.story device.new) }
@@ -92,6 +103,7 @@ pub(crate) fn read_pages<D: SectorDevice>(
     ensures damaged { IfErr result (λ e. D.tells ≡ true
         → TellsCause e (pages_shown (D.size device.old) (D.story device.old) MAX_SEGMENTS (map plain_root roots.now))) }
     ensures a_store { IfErr result (λ e. e ≢ OpenError.NotAStore) }
+    ensures sound { IfOk result (λ entries. is_catalogue (map plain_entry entries.items) ≡ true) }
 {
     let mut entries = Vec::new(alloc);
     let mut left = MAX_SEGMENTS;

@@ -20,11 +20,11 @@ use Rattle.tables.specs.Commands.{PlainCommand}
 use Rattle.tables.specs.Verdict.{verdict}
 use Rattle.tables.specs.laws.Steps.{told_by_tables}
 use Rattle.store.specs.declared.store.Store.{Store}
-use Rattle.store.specs.declared.stored.StoredCatalogue.{StoredCatalogue}
+use Rattle.pages.specs.declared.stored.StoredCatalogue.{StoredCatalogue}
 use Rattle.store.specs.Calls.{apply_call, PlainReply, refused, is_failure, is_device_reply, counted}
 use Rattle.store.specs.Changes.{PlainChange}
 use Rattle.store.specs.Deciding.{IsDecided}
-use Rattle.store.specs.Held.{whole_reading}
+use Rattle.pages.specs.Stored.{stored_reading}
 use Rattle.store.specs.Machine.{pinned_by, Setting, Machine, running, halted, tables_now, has_written, AllowsEach, SparesKept}
 use Rattle.store.specs.Reading.{OnlyReadsStore, ended}
 use Rattle.store.specs.Runs.{Goes, TellsFound, TellsRoom}
@@ -199,9 +199,9 @@ module _ {D : Type 0} {g : Ghosts D} (size : D → ℕ) (story : D → Story) (f
 
     pub on_disk_after : IsOnDisk size story old → IsOnDisk size story mid
     on_disk_after on =
-        subst (λ (o : Opened StoredCatalogue). Stands whole_reading (size mid.device) (now (story mid.device)) o.commit (catalogue_of o.catalogue.list)) (sym reads.kept)
-        (subst (λ (n : ℕ). Stands whole_reading n (now (story mid.device)) old.opened.commit (listed_in old)) (sym reads.device.same)
-        (subst (λ (d : Disk). Stands whole_reading (size old.device) d old.opened.commit (listed_in old)) (sym later) on))
+        subst (λ (o : Opened StoredCatalogue). Stands stored_reading (size mid.device) (now (story mid.device)) o.commit (catalogue_of o.catalogue.list)) (sym reads.kept)
+        (subst (λ (n : ℕ). Stands stored_reading n (now (story mid.device)) old.opened.commit (listed_in old)) (sym reads.device.same)
+        (subst (λ (d : Disk). Stands stored_reading (size old.device) d old.opened.commit (listed_in old)) (sym later) on))
 
     pub decided_after : (change : PlainChange) → IsDecided true (shown_image (now (story old.device))) (listed_in old) c (Ok change) → IsDecided true (shown_image (now (story mid.device))) (listed_in mid) c (Ok change)
     decided_after change is =
@@ -216,7 +216,7 @@ module _ {D : Type 0} {g : Ghosts D} (size : D → ℕ) (story : D → Story) (f
         each d is image may =
             let one : image ≡ synced_image (now (story old.device)) = only_image (now (story old.device)) image on.quiet.pending (subst (λ (x : Disk). MayLeave x image) is may) in
             record {
-              which = inl (ap (standing whole_reading (size old.device)) one ∙ on.found);
+              which = inl (ap (standing stored_reading (size old.device)) one ∙ on.found);
               kept = λ n within. ap (λ (i : Image). i n) one;
             }
 

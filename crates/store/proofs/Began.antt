@@ -19,7 +19,8 @@ use Rattle.tables.specs.Commands.{PlainCommand}
 use Rattle.tables.specs.Verdict.{after}
 use Rattle.store.specs.Machine as machines
 use Rattle.store.specs.Machine.{Machine, shut_down, with_doubt, Allows, holds}
-use Rattle.store.specs.Held.{whole_reading, held_of, held_by}
+use Rattle.store.specs.Held.{held_of, held_by}
+use Rattle.pages.specs.Stored.{stored_reading}
 use Rattle.store.specs.Fits.{setting_of, DeviceFits, fresh, resumed, doubting, HoldsNoneOrEmpty, HoldsWithOrWithout}
 use Rattle.store.specs.Beginning.{IsLeftOf, BeginsAnew}
 
@@ -31,10 +32,10 @@ none_rules : (image : Image) → HoldsNoCommit image → ruling image ≡ None
 unfolding ruling
 none_rules image none = ap (λ (x : Option Commit). newer x (commit_at 1 (image 1))) none.0 ∙ none_newer (commit_at 1 (image 1)) ∙ none.1
 
-no_store_stands : (size : ℕ) (image : Image) → is_size size ≡ true → HoldsNoCommit image → standing whole_reading size image ≡ no_store
+no_store_stands : (size : ℕ) (image : Image) → is_size size ≡ true → HoldsNoCommit image → standing stored_reading size image ≡ no_store
 unfolding standing
 no_store_stands size image limits none =
-    ap (λ (t : Bool). if t then by_commit whole_reading size image (ruling image) else damaged DeviceSize) limits ∙ ap (by_commit whole_reading size image) (none_rules image none)
+    ap (λ (t : Bool). if t then by_commit stored_reading size image (ruling image) else damaged DeviceSize) limits ∙ ap (by_commit stored_reading size image) (none_rules image none)
 
 pub fresh_fits : {D : Type 0} (size : D → ℕ) (story : D → Story) (device : D) → is_size (size device) ≡ true → LeavesOnly HoldsNoCommit (now (story device)) → DeviceFits size story no_tables fresh device
 unfolding Allows held_by

@@ -30,12 +30,12 @@ use Rattle.tables.specs.Tables.{Tables}
 use Rattle.tables.specs.Commands.{PlainCommand}
 use Rattle.tables.specs.Verdict.{verdict, after}
 use Rattle.tables.specs.laws.Steps.{accepted, after_one_more}
-use Rattle.store.specs.declared.stored.StoredCatalogue.{StoredCatalogue}
+use Rattle.pages.specs.declared.stored.StoredCatalogue.{StoredCatalogue}
 use Rattle.store.specs.Calls.{apply_call, refused, counted}
 use Rattle.store.specs.Machine.{pinned_by, Machine, running, tables_now, Allows, AllowsEach, has_written, SparesKept}
 use Rattle.store.specs.Steps.{Step, RefusesFrom}
 use Rattle.store.specs.Runs.{Goes}
-use Rattle.store.specs.Held.{whole_reading}
+use Rattle.pages.specs.Stored.{stored_reading}
 use Rattle.store.specs.declared.store.Store.{Store}
 use Rattle.store.specs.Fits.{book_of, setting_of, listed_in}
 use Rattle.store.specs.Changes.{PlainChange, CanChange, IsChange}
@@ -43,7 +43,7 @@ use Rattle.store.specs.Applying.{HasCarried, IsOldOrCarried, IsTaking, IsCarryin
 use Rattle.store.specs.Carrying.{IsCarried, IsCarriedOut, asked_sizes}
 use Rattle.store.specs.inner.Prepared.{IsPrepared}
 use Rattle.store.proofs.Asked.{not_less}
-use Rattle.store.proofs.Prepared.{runs_are, streams_held, can_replace}
+use Rattle.store.proofs.Prepared.{runs_are, placed_is, streams_held, can_replace}
 use Rattle.export_book.specs.Book.{runs_kept}
 use Rattle.store.proofs.Roomed.{room_by}
 
@@ -87,36 +87,36 @@ module _ (size : ℕ) (base : Tables) (m : Machine) (c : PlainCommand) (new : Ta
 -- what the disk holds of a change
 module _ (old new : Space) (k : Commit) (was : PlainCatalogue) (change : PlainChange) (plan : Plan StoredCatalogue) (back : List Run) (p : IsPrepared old new k was change plan back)
     (size : ℕ) (same : old.size ≡ size) (sound : IsChange was change) (d : Disk) where
-  takes : Takes size (IsUsedIn old.entries) (asked_sizes was change) (Ok (runs_of p.pieces ++ p.run ∷ []))
+  takes : Takes size (IsUsedIn old.entries) (asked_sizes was change) (Ok (runs_of (p.pieces ++ p.pages) ++ p.run ∷ []))
   takes =
-      subst (λ (n : ℕ). Takes n (IsUsedIn old.entries) (asked_sizes was change) (Ok (runs_of p.pieces ++ p.run ∷ []))) same
-      (took_takes old.size (IsUsedIn old.entries) (asked_sizes was change) (runs_of p.pieces ++ p.run ∷ []) p.took.took)
+      subst (λ (n : ℕ). Takes n (IsUsedIn old.entries) (asked_sizes was change) (Ok (runs_of (p.pieces ++ p.pages) ++ p.run ∷ []))) same
+      (took_takes old.size (IsUsedIn old.entries) (asked_sizes was change) (runs_of (p.pieces ++ p.pages) ++ p.run ∷ []) p.took.took)
 
-  pub has_carried : (image : Image) → StandsAs whole_reading size plan.commit (catalogue_of plan.catalogue.list) image → HoldsEach image (plain_pieces plan.pieces.items)
+  pub has_carried : (image : Image) → StandsAs stored_reading size plan.commit (catalogue_of plan.catalogue.list) image → HoldsEach image (plain_pieces plan.pieces.items)
       → HasCarried size (IsUsedIn old.entries) k was change image
   has_carried image stands holds_each = record {
-    places = runs_of p.pieces;
+    places = runs_of (p.pieces ++ p.pages);
     text = p.run;
     takes = takes;
-    stands = stands ∙ (λ i. rules (p.commit i) (p.catalogue i));
+    stands = stands ∙ (λ i. rules (p.commit i) ((p.catalogue ∙ placed_is old new k was change plan back p) i));
     holds = streams_held old new k was change plan back p image sound holds_each;
   }
 
-  old_or_carried : CanReplace whole_reading size d (record { old = k; was = was; new = plan.commit; will = catalogue_of plan.catalogue.list; pieces = plain_pieces plan.pieces.items }) → (x : Disk)
-      → IsPublishing d plan.commit (plain_pieces plan.pieces.items) (StandsAs whole_reading size k was) (StandsAs whole_reading size plan.commit (catalogue_of plan.catalogue.list)) x
+  old_or_carried : CanReplace stored_reading size d (record { old = k; was = was; new = plan.commit; will = catalogue_of plan.catalogue.list; pieces = plain_pieces plan.pieces.items }) → (x : Disk)
+      → IsPublishing d plan.commit (plain_pieces plan.pieces.items) (StandsAs stored_reading size k was) (StandsAs stored_reading size plan.commit (catalogue_of plan.catalogue.list)) x
       → LeavesOnly (IsOldOrCarried size (IsUsedIn old.entries) k was d change) x
   old_or_carried can x is image may =
       let either = is.leaves image may in
       record {
-        which = ⊎_elim (λ (stood : StandsAs whole_reading size k was image). inl stood)
-            (λ (both : StandsAs whole_reading size plan.commit (catalogue_of plan.catalogue.list) image × HoldsEach image (plain_pieces plan.pieces.items)). inr (has_carried image both.0 both.1)) either.which;
-        kept = λ n within. either.outside n (can.free n within, λ e. let above = above_used whole_reading size (synced_image d) k was n can.stands.found within in omega (arith, above, e, mod_below plan.commit.epoch 2 (omega arith)));
+        which = ⊎_elim (λ (stood : StandsAs stored_reading size k was image). inl stood)
+            (λ (both : StandsAs stored_reading size plan.commit (catalogue_of plan.catalogue.list) image × HoldsEach image (plain_pieces plan.pieces.items)). inr (has_carried image both.0 both.1)) either.which;
+        kept = λ n within. either.outside n (can.free n within, λ e. let above = above_used stored_reading size (synced_image d) k was n can.stands.found within in omega (arith, above, e, mod_below plan.commit.epoch 2 (omega arith)));
       }
 
   -- the runs of the pieces are those that were taken
   pub taking : (x : Disk) → ((n : ℕ) → IsOutside plan.commit (plain_pieces plan.pieces.items) n → x.at n ≡ d.at n) → IsTaking size (IsUsedIn old.entries) k was d change x
   taking x touches = record {
-    runs = runs_of p.pieces ++ p.run ∷ [];
+    runs = runs_of (p.pieces ++ p.pages) ++ p.run ∷ [];
     takes = takes;
     outside = λ n out other. touches n (
       subst (λ (rs : List Run). OutOf rs n) (sym (runs_are old new k was change plan back p)) out,
@@ -124,8 +124,8 @@ module _ (old new : Space) (k : Commit) (was : PlainCatalogue) (change : PlainCh
     );
   }
 
-  carrying : CanReplace whole_reading size d (record { old = k; was = was; new = plan.commit; will = catalogue_of plan.catalogue.list; pieces = plain_pieces plan.pieces.items }) → (x : Disk)
-      → IsPublishing d plan.commit (plain_pieces plan.pieces.items) (StandsAs whole_reading size k was) (StandsAs whole_reading size plan.commit (catalogue_of plan.catalogue.list)) x
+  carrying : CanReplace stored_reading size d (record { old = k; was = was; new = plan.commit; will = catalogue_of plan.catalogue.list; pieces = plain_pieces plan.pieces.items }) → (x : Disk)
+      → IsPublishing d plan.commit (plain_pieces plan.pieces.items) (StandsAs stored_reading size k was) (StandsAs stored_reading size plan.commit (catalogue_of plan.catalogue.list)) x
       → IsCarrying size (IsUsedIn old.entries) k was d change x
   carrying can x is = record { touches = inr (taking x is.touches); begun = is.begun; leaves = old_or_carried can x is }
 
@@ -134,10 +134,10 @@ pub synced_outside : (k' : Commit) (pieces : List PlainPiece) (d after : Disk) �
 synced_outside k' pieces d after same n out = ap (λ (s : Sector). s.synced) (same n out)
 
 -- what stands on the disk is what the store has then
-pub stands_then : (size size' : ℕ) (image : Image) (k k' : Commit) (list list' : StoredCatalogue) → size' ≡ size → k' ≡ k → list' ≡ list → StandsAs whole_reading size k (catalogue_of list.list) image
-    → standing whole_reading size' image ≡ rules k' (catalogue_of list'.list)
+pub stands_then : (size size' : ℕ) (image : Image) (k k' : Commit) (list list' : StoredCatalogue) → size' ≡ size → k' ≡ k → list' ≡ list → StandsAs stored_reading size k (catalogue_of list.list) image
+    → standing stored_reading size' image ≡ rules k' (catalogue_of list'.list)
 stands_then size size' image k k' list list' sized same listed stands =
-    let number : standing whole_reading size' image ≡ standing whole_reading size image = ap (λ (n : ℕ). standing whole_reading n image) sized in
+    let number : standing stored_reading size' image ≡ standing stored_reading size image = ap (λ (n : ℕ). standing stored_reading n image) sized in
     let own : rules k (catalogue_of list.list) ≡ rules k' (catalogue_of list'.list) = λ i. rules (sym same i) (catalogue_of (sym listed i).list) in
     number ∙ stands ∙ own
 
@@ -149,23 +149,23 @@ made_change c change streams can same short = can (subst (λ (xs : List (List �
 
 -- all of a store that a publishing needs to know
 pub can_publish : {D : Type 0} {g : Ghosts D} (s : Store D g) (mid : Space) (change : PlainChange) (plan : Plan StoredCatalogue) (back : List Run)
-    → IsPrepared s.opened.map mid s.opened.commit (listed_in s) change plan back → IsChange (listed_in s) change → (d : Disk) → Stands whole_reading (g.size s.device) d s.opened.commit (listed_in s)
-    → CanReplace whole_reading (g.size s.device) d (record { old = s.opened.commit; was = listed_in s; new = plan.commit; will = catalogue_of plan.catalogue.list; pieces = plain_pieces plan.pieces.items })
+    → IsPrepared s.opened.map mid s.opened.commit (listed_in s) change plan back → IsChange (listed_in s) change → (d : Disk) → Stands stored_reading (g.size s.device) d s.opened.commit (listed_in s)
+    → CanReplace stored_reading (g.size s.device) d (record { old = s.opened.commit; was = listed_in s; new = plan.commit; will = catalogue_of plan.catalogue.list; pieces = plain_pieces plan.pieces.items })
 can_publish {g = g} s mid change plan back prep sound d stands =
     let old = s.opened.map in
     let k = s.opened.commit in
     let was = listed_in s in
     let on = subst (λ (n : ℕ). is_on_device n k.catalogue.run ≡ true) (sym s.same) s.placed in
     let fit = subst (λ (n : ℕ). runs_fault n k.catalogue.run (runs_in was) ≡ None) (sym s.same) s.fit in
-    subst (λ (n : ℕ). CanReplace whole_reading n d (record { old = k; was = was; new = plan.commit; will = catalogue_of plan.catalogue.list; pieces = plain_pieces plan.pieces.items })) s.same
-    (can_replace old mid k was change plan back prep on fit (runs_kept (book_of s).exports) s.uses sound d (catalogue_is was s.opened.catalogue.list.kept) (s.own ∙ sym s.same) (subst (λ (n : ℕ). Stands whole_reading n d k was) (sym s.same) stands))
+    subst (λ (n : ℕ). CanReplace stored_reading n d (record { old = k; was = was; new = plan.commit; will = catalogue_of plan.catalogue.list; pieces = plain_pieces plan.pieces.items })) s.same
+    (can_replace old mid k was change plan back prep on fit (runs_kept (book_of s).exports) s.uses sound d (catalogue_is was s.opened.catalogue.list.kept) (s.own ∙ sym s.same) (subst (λ (n : ℕ). Stands stored_reading n d k was) (sym s.same) stands))
 
 -- each moment of a publishing
 pub carries : {D : Type 0} {g : Ghosts D} (s : Store D g) (mid : Space) (change : PlainChange) (plan : Plan StoredCatalogue) (back : List Run)
     → IsPrepared s.opened.map mid s.opened.commit (listed_in s) change plan back → IsChange (listed_in s) change → (s1 : Story)
-    → Stands whole_reading (g.size s.device) (now (g.story s.device)) s.opened.commit (listed_in s)
-    → (CanReplace whole_reading (g.size s.device) (now (g.story s.device)) (record { old = s.opened.commit; was = listed_in s; new = plan.commit; will = catalogue_of plan.catalogue.list; pieces = plain_pieces plan.pieces.items })
-    → Grows (IsPublishing (now (g.story s.device)) plan.commit (plain_pieces plan.pieces.items) (StandsAs whole_reading (g.size s.device) s.opened.commit (listed_in s)) (StandsAs whole_reading (g.size s.device) plan.commit (catalogue_of plan.catalogue.list)))
+    → Stands stored_reading (g.size s.device) (now (g.story s.device)) s.opened.commit (listed_in s)
+    → (CanReplace stored_reading (g.size s.device) (now (g.story s.device)) (record { old = s.opened.commit; was = listed_in s; new = plan.commit; will = catalogue_of plan.catalogue.list; pieces = plain_pieces plan.pieces.items })
+    → Grows (IsPublishing (now (g.story s.device)) plan.commit (plain_pieces plan.pieces.items) (StandsAs stored_reading (g.size s.device) s.opened.commit (listed_in s)) (StandsAs stored_reading (g.size s.device) plan.commit (catalogue_of plan.catalogue.list)))
     (g.story s.device) s1)
     → Grows (IsCarrying (g.size s.device) (IsUsedIn s.opened.map.entries) s.opened.commit (listed_in s) (now (g.story s.device)) change) (g.story s.device) s1
 carries {g = g} s mid change plan back prep sound s1 stands moments =

@@ -1,5 +1,5 @@
 -- How many segments there are after each edit, and what the catalogue's own calls ask for.
-use Rattle.std.proofs.Common.{◌≡◌, ◌≤◌, ◌+◌, ◌-◌, ℕ, true, List, length, refl, ap, subst, arith}
+use Rattle.std.proofs.Common.{◌≡◌, ◌≤◌, ◌+◌, ◌-◌, ℕ, true, List, length, Option, Some, refl, sym, ap, ◌∙◌, subst, arith}
 use Rattle.std.specs.Prelude.{String, string_bytes}
 use Rattle.std.specs.Global.{Global}
 use Rattle.std.specs.List.{list_all}
@@ -7,12 +7,14 @@ use Rattle.arrow_schema.specs.declared.types.Schema.{Schema}
 use Rattle.arrow_schema.specs.View.{schema_of}
 use Rattle.catalogue.specs.declared.limits.TheConstants.{MAX_SEGMENTS}
 use Rattle.catalogue.specs.declared.entry.Segment.{Segment}
-use Rattle.catalogue.specs.Entries.{PlainCatalogue, is_segment, is_entry, segment_count, IsCatalogue}
+use Rattle.catalogue.specs.Entries.{PlainEntry, PlainCatalogue, is_segment, is_entry, segment_count, IsCatalogue}
+use Rattle.catalogue.specs.Edits.{entry_of}
 use Rattle.catalogue.specs.laws.Kept.{entry_stands}
 use Rattle.store.specs.declared.change.Edit.{Edit}
 use Rattle.store.specs.declared.change.Edit.TheVariants as edits
-use Rattle.store.specs.Changes.{edit_of, new_entry, edited, IsEdit}
-use Rattle.store.specs.laws.Edited.{segments_at, put_count, more_count, moved_count, removed_count, exchange_count, at_found, segments_within}
+use Rattle.store.specs.Changes.{PlainEdit, put, extend, move, remove, exchange, edit_of, new_entry, page_instead, edited, name_edited, IsEdit}
+use Rattle.store.specs.inner.Prepared.{CanGive}
+use Rattle.store.specs.laws.Edited.{segments_at, instead_sound, put_count, more_count, moved_count, removed_count, exchange_count, at_found, segments_within}
 
 abbrev pub CanEdit : PlainCatalogue → Edit → Type 0
 CanEdit c edit = (streams : List (List ℕ)) × IsEdit c (edit_of edit) streams
@@ -24,7 +26,7 @@ pub after_put : (c : PlainCatalogue) (edit : Edit) (name : String Global) (schem
     → segment_count c - segments_at c (string_bytes name) + new ≡ count_after c edit segments
 after_put c edit name schema new is k segments len =
     let after = ap (λ (x : Edit). count_after c x segments) is in
-    omega (arith, after, len, put_count c (new_entry (string_bytes name) (schema_of schema) segments) k, segments_within c (string_bytes name))
+    omega (arith, after, len, put_count c (new_entry (string_bytes name) (schema_of schema) segments (page_instead (entry_of c (string_bytes name)) (schema_of schema) segments)) k, segments_within c (string_bytes name))
 
 pub after_extend : (c : PlainCatalogue) (edit : Edit) (name : String Global) (new : ℕ) → edit ≡ edits.Extend name → CanEdit c edit → (segments : List Segment) → length segments ≡ new → segment_count c + new ≡ count_after c edit segments
 after_extend c edit name new is can segments len =
@@ -60,13 +62,26 @@ after_exchange c edit name place count new is can segments len =
 
 -- ---- what the catalogue's own calls ask for
 
-pub put_is_entry : (c : PlainCatalogue) (edit : Edit) (name : String Global) (schema : Schema) (segments : List Segment) → edit ≡ edits.Put name schema → CanEdit c edit → list_all is_segment segments ≡ true → is_entry (new_entry (string_bytes name) (schema_of schema) segments) ≡ true
-put_is_entry c edit name schema segments is can each =
+pub put_is_entry : (c : PlainCatalogue) (edit : Edit) (name : String Global) (schema : Schema) (segments : List Segment) → edit ≡ edits.Put name schema → CanEdit c edit → IsCatalogue c → list_all is_segment segments ≡ true
+    → is_entry (new_entry (string_bytes name) (schema_of schema) segments (page_instead (entry_of c (string_bytes name)) (schema_of schema) segments)) ≡ true
+put_is_entry c edit name schema segments is can k each =
     let may = (subst (λ (x : Edit). CanEdit c x) is can).1 in
-    entry_stands (new_entry (string_bytes name) (schema_of schema) segments) may.0 may.1 each refl
+    let page = page_instead (entry_of c (string_bytes name)) (schema_of schema) segments in
+    entry_stands (new_entry (string_bytes name) (schema_of schema) segments page) may.0 may.1 each (instead_sound c (string_bytes name) (schema_of schema) segments k)
 
 pub extend_is_few : (c : PlainCatalogue) (edit : Edit) (name : String Global) (segments : List Segment) → edit ≡ edits.Extend name → CanEdit c edit → IsCatalogue (edited c (edit_of edit) segments) → segment_count c + length segments ≤ MAX_SEGMENTS
 extend_is_few c edit name segments is can stands =
     let most = stands.segments in
     let count = after_extend c edit name (length segments) is can segments refl in
     omega (arith, most, count)
+
+-- what is taken out of the entry that is found
+pub can_give : (c : PlainCatalogue) (edit : PlainEdit) (streams : List (List ℕ)) (e : PlainEntry) → IsEdit c edit streams → entry_of c (name_edited edit) ≡ Some e → CanGive edit e
+can_give c (put name schema) streams e can found = can.1
+can_give c (extend name) streams e can found = tt
+can_give c (move from to) streams e can found = tt
+can_give c (remove name) streams e can found = tt
+can_give c (exchange name place count) streams e can found =
+    let both : Some can.0 ≡ Some e = sym can.1 ∙ found in
+    let same : can.0 ≡ e = cc both in
+    subst (λ (x : PlainEntry). place + count ≤ length x.segments) same can.2

@@ -25,7 +25,7 @@ use Rattle.catalogue.specs.laws.Changed.{found_passes}
 use Rattle.catalogue.specs.laws.Kept.{entry_is}
 use Rattle.commit.specs.declared.sector.Commit.{Commit}
 use Rattle.commit.specs.declared.recovery.Opened.{Opened}
-use Rattle.store.specs.declared.stored.StoredCatalogue.{StoredCatalogue}
+use Rattle.pages.specs.declared.stored.StoredCatalogue.{StoredCatalogue}
 use Rattle.commit.specs.Standing.{is_size, Stands}
 use Rattle.export_book.specs.declared.book.TheConstants.{MAX_EXPORTS}
 use Rattle.export_book.specs.Book as books
@@ -42,7 +42,8 @@ use Rattle.store.specs.Calls.{PlainCall, open_export_call, export_next_call, clo
 use Rattle.store.specs.Machine.{Setting, Machine, Export, running, halted, tables_now, Allows, pinned_by, export_at, gave, is_of}
 use Rattle.store.specs.Steps.{Step, IsExportOf}
 use Rattle.store.specs.Runs.{TellsFound, TellsRoom}
-use Rattle.store.specs.Held.{whole_reading, tables_held, table_held, rows_each, rows_held, pieces_held, segment_rows}
+use Rattle.store.specs.Held.{tables_held, table_held, rows_each, rows_held, pieces_held, segment_rows}
+use Rattle.pages.specs.Stored.{stored_reading}
 use Rattle.store.specs.Fits.{setting_of, StoreFits, IsSound, ExportFits, ExportsFit, book_of, commit_of, listed_in}
 use Rattle.store.specs.Applying.{GoesOn}
 use Rattle.store.specs.Reading.{OnlyReadsDevice, OnlyReadsStore}
@@ -185,10 +186,10 @@ module _ {D : Type 0} {g : Ghosts D} (size : D → ℕ) (story : D → Story) (f
           };
           sound = λ again. record {
             stands =
-                subst (λ (n : ℕ). Stands whole_reading n (now (story new.device)) new.opened.commit (listed_in new)) (sym reads.same)
-                (subst (λ (d : Disk). Stands whole_reading (size old.device) d new.opened.commit (listed_in new)) (sym later)
-                (subst (λ (k : Commit). Stands whole_reading (size old.device) (now (story old.device)) k (listed_in new)) (sym commit)
-                (subst (λ (x : PlainCatalogue). Stands whole_reading (size old.device) (now (story old.device)) old.opened.commit x) (sym listed) sound.stands)));
+                subst (λ (n : ℕ). Stands stored_reading n (now (story new.device)) new.opened.commit (listed_in new)) (sym reads.same)
+                (subst (λ (d : Disk). Stands stored_reading (size old.device) d new.opened.commit (listed_in new)) (sym later)
+                (subst (λ (k : Commit). Stands stored_reading (size old.device) (now (story old.device)) k (listed_in new)) (sym commit)
+                (subst (λ (x : PlainCatalogue). Stands stored_reading (size old.device) (now (story old.device)) old.opened.commit x) (sym listed) sound.stands)));
             tables = (λ i. tables_held (synced_image (later i)) (listed i)) ∙ sound.tables;
             uses = new.uses;
             none = sound.none;

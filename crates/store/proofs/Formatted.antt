@@ -25,7 +25,8 @@ use Rattle.store.specs.Calls.{format_call, PlainReply, done, shut_by, may_be_don
 use Rattle.store.specs.Steps.{Step}
 use Rattle.store.specs.Runs.{Goes}
 use Rattle.store.specs.Machine.{no_store, holds, Machine, opened, shut_down, Allows, AllowsEach, meanwhile, has_written}
-use Rattle.store.specs.Held.{whole_reading, catalogue_or_cause, tables_held, held_tables, held_of, held_by}
+use Rattle.store.specs.Held.{tables_held, held_tables, held_of, held_by}
+use Rattle.pages.specs.Stored.{stored_reading, or_no_text}
 use Rattle.store.specs.Fits.{setting_of, IsFresh}
 use Rattle.store.specs.Opening.{formatting_of, TellsFormatting, IsOfFormatting}
 use Rattle.store.proofs.Asked.{not_less}
@@ -96,7 +97,7 @@ runs_some : (image : Image) (k : Commit) (c : PlainCatalogue) (fault : Option Ca
 runs_some image k c None none = tables_some (tables_held image c) none
 runs_some image k c (Some cause) none = cc none
 
-named_some : (size : ℕ) (image : Image) (k : Commit) (named : Result PlainCatalogue Cause) → held_of image (by_catalogue whole_reading size k named) ≢ no_store
+named_some : (size : ℕ) (image : Image) (k : Commit) (named : Result PlainCatalogue Cause) → held_of image (by_catalogue stored_reading size k named) ≢ no_store
 named_some size image k (Err cause) none = cc none
 named_some size image k (Ok c) none = runs_some image k c (runs_fault size k.catalogue.run (runs_of c)) none
 
@@ -104,17 +105,17 @@ some_store : (size : ℕ) (image : Image) → is_size size ≡ true → ruling i
 unfolding held_by standing
 some_store size image limits some = by_ruling (ruling image) refl
   where
-    found : (o : Option Commit) → ruling image ≡ o → held_by size image ≡ held_of image (by_commit whole_reading size image o)
-    found o is = λ i. held_of image (if limits i then by_commit whole_reading size image (is i) else standings.damaged DeviceSize)
+    found : (o : Option Commit) → ruling image ≡ o → held_by size image ≡ held_of image (by_commit stored_reading size image o)
+    found o is = λ i. held_of image (if limits i then by_commit stored_reading size image (is i) else standings.damaged DeviceSize)
 
     by_ruling : (o : Option Commit) → ruling image ≡ o → held_by size image ≢ no_store
     by_ruling None is = absurd (some is)
-    by_ruling (Some k) is = λ none. named_some size image k (named_by whole_reading size image k) (sym (found (Some k) is) ∙ none)
+    by_ruling (Some k) is = λ none. named_some size image k (named_by stored_reading size image k) (sym (found (Some k) is) ∙ none)
 
 module _ (size : ℕ) (limits : is_size size ≡ true) (spelled : catalogue_at empty_text ≡ Some []) where
   -- the empty store
-  pub new_stands : (image : Image) → IsEmptyStore size image → standing whole_reading size image ≡ rules (first_commit size) []
-  new_stands image empty = empty_stands whole_reading size image [] limits empty (ap catalogue_or_cause spelled) refl
+  pub new_stands : (image : Image) → IsEmptyStore size image → standing stored_reading size image ≡ rules (first_commit size) []
+  new_stands image empty = empty_stands stored_reading size image [] limits empty (ap or_no_text spelled) refl
 
   new_held : (image : Image) → IsEmptyStore size image → held_by size image ≡ holds no_tables
   unfolding held_by tables_held
@@ -128,7 +129,7 @@ module _ (size : ℕ) (limits : is_size size ≡ true) (spelled : catalogue_at e
     -- before the start no store and the empty one are allowed
     allows_new : m.started ≡ false → IsFresh base m → (image : Image) → IsNoneOrEmpty size image → Allows (setting_of size base) m image
     unfolding Allows held_by
-    allows_new early fresh image (inl none) = inr (inr (early, ap (held_of image) (none_stands whole_reading size image limits none)))
+    allows_new early fresh image (inl none) = inr (inr (early, ap (held_of image) (none_stands stored_reading size image limits none)))
     allows_new early fresh image (inr empty) = inl (new_held image empty ∙ ap holds (sym (nothing_yet fresh)))
 
     -- at a moment of a formatting: as it was, or the run has not started and no store or the empty one lies there
@@ -144,7 +145,7 @@ module _ (size : ℕ) (limits : is_size size ≡ true) (spelled : catalogue_at e
         by_ruling : (o : Option Commit) → ruling (shown_image (now s0)) ≡ o → Grows (IsEarly (now s0)) s0 s1
         by_ruling (Some k) is = weaken (λ d same. inl same) (untouched (λ none. let both : Some k ≡ None = sym is ∙ none in cc both))
         by_ruling None is =
-            let early = not_started size base m (shown_image (now s0)) (allows (shown_image (now s0)) shows) (stands_nowhere whole_reading size (shown_image (now s0)) limits is) in
+            let early = not_started size base m (shown_image (now s0)) (allows (shown_image (now s0)) shows) (stands_nowhere stored_reading size (shown_image (now s0)) limits is) in
             weaken (each early) grows
           where
             each : m.started ≡ false → (d : Disk) → IsFormatting size (now s0) d → IsEarly (now s0) d
@@ -153,7 +154,7 @@ module _ (size : ℕ) (limits : is_size size ≡ true) (spelled : catalogue_at e
 
     pub early_none : (s0 : Story) → ShowsImage (now s0) → LeavesOnly (Allows (setting_of size base) m) (now s0) → ruling (shown_image (now s0)) ≡ None → m.started ≡ false
     unfolding ShowsImage
-    early_none s0 shows allows none = not_started size base m (shown_image (now s0)) (allows (shown_image (now s0)) shows) (stands_nowhere whole_reading size (shown_image (now s0)) limits none)
+    early_none s0 shows allows none = not_started size base m (shown_image (now s0)) (allows (shown_image (now s0)) shows) (stands_nowhere stored_reading size (shown_image (now s0)) limits none)
 
     no_command : (b : Bool) → meanwhile format_call m b ≡ m
     no_command true = refl
@@ -226,7 +227,7 @@ module _ (size : ℕ) (limits : is_size size ≡ true) (spelled : catalogue_at e
     -- ---- one that was done
 
     -- all is synced, and it is the empty store
-    pub formatted_stands : (before d : Disk) → IsFormatted size before d → Stands whole_reading size d (first_commit size) []
+    pub formatted_stands : (before d : Disk) → IsFormatted size before d → Stands stored_reading size d (first_commit size) []
     formatted_stands before d is = record { quiet = is.rests.quiet; found = new_stands (synced_image d) (record { rules = is.rests.rules; text = is.text }) }
 
     settled_new : IsFresh base m → (before d : Disk) → IsFormatted size before d → LeavesOnly (Allows (setting_of size base) (opened [])) d

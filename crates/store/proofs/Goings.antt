@@ -14,7 +14,6 @@ use Rattle.catalogue.specs.laws.Kept.{catalogue_is}
 use Rattle.commit.specs.Standing.{is_size, rules, standing, used_runs, InSome, Stands}
 use Rattle.commit.specs.Publishing.{next_commit}
 use Rattle.commit.specs.declared.sector.Commit.{Commit}
-use Rattle.catalogue.specs.Text.{list_size}
 use Rattle.export_book.specs.Book.{PlainBook}
 use Rattle.tables.specs.declared.refusal.Refusal.{Refusal}
 use Rattle.tables.specs.declared.refusal.Refusal.TheVariants as refusals
@@ -27,16 +26,17 @@ use Rattle.store.specs.Calls.{apply_call, done, refused, counted}
 use Rattle.store.specs.Machine.{holds, Setting, Machine, running, halted, tables_now, Allows, meanwhile, has_written, settle, halt}
 use Rattle.store.specs.Steps.{Step}
 use Rattle.store.specs.Runs.{Goes}
-use Rattle.store.specs.Held.{whole_reading, tables_held, held_tables, held_by}
+use Rattle.store.specs.Held.{tables_held, held_tables, held_by}
+use Rattle.pages.specs.Stored.{stored_reading}
 use Rattle.store.specs.Fits.{book_of, setting_of, listed_in, ExportsFit, StoreFits, IsSound}
 use Rattle.store.specs.Changes.{PlainChange, MakesOf, edited, placed_segments}
 use Rattle.store.specs.Deciding.{IsDecided}
 use Rattle.store.specs.Exported.{AreExportable}
-use Rattle.store.specs.Carrying.{IsCarried, outline}
+use Rattle.store.specs.Carrying.{IsCarried, outline, placed, commit_placed}
 use Rattle.store.specs.Reading.{ended}
 use Rattle.store.specs.Applying.{GoesOn, EndsAs, IsKept, HasCarried, IsOldOrCarried, IsTaking, IsCarrying, IsCarryingAtEachMoment, IsCarriedOnDisk, HasDone, IsApplying, IsApplyingAtEachMoment, IsDoneOnDisk}
 use Rattle.store.specs.laws.Frame.{held_is, same_tables}
-use Rattle.store.specs.laws.Changed.{edited_held}
+use Rattle.store.specs.laws.Changed.{edited_held, placed_held}
 use Rattle.store.proofs.Asked.{not_less}
 use Rattle.store.proofs.ReadsStore.{shown_is_synced}
 use Rattle.store.proofs.Roomed.{carried_out, refused_out}
@@ -56,7 +56,7 @@ module _ (size : ℕ) (used : Run → Type 0) (k : Commit) (c : PlainCatalogue) 
     leaves = λ image may.
         let either = is.leaves image may in
         record {
-          which = ⊎_elim (λ (stood : standing whole_reading size image ≡ rules k c). inl stood) (λ (does : HasCarried size used k c change image). inr (has_done image does)) either.which;
+          which = ⊎_elim (λ (stood : standing stored_reading size image ≡ rules k c). inl stood) (λ (does : HasCarried size used k c change image). inr (has_done image does)) either.which;
           kept = either.kept;
         };
   }
@@ -76,20 +76,21 @@ module _ {D : Type 0} {g : Ghosts D} (size : D → ℕ) (story : D → Story) (o
 
 module _ (size : ℕ) (used : Run → Type 0) (k : Commit) (c : PlainCatalogue) (before : Disk) (change : PlainChange) (t u : Tables)
     (catalogue : IsCatalogue c) (held : tables_held (synced_image before) c ≡ Some t) (makes : MakesOf t change u) (image : Image) where
-  still_held : ((n : ℕ) → InSome (used_runs whole_reading k c) n → image n ≡ (before.at n).synced) → tables_held image c ≡ Some t
+  still_held : ((n : ℕ) → InSome (used_runs stored_reading k c) n → image n ≡ (before.at n).synced) → tables_held image c ≡ Some t
   still_held kept = same_tables (synced_image before) image c catalogue.entries (λ n within. kept n (inr within)) ∙ held
 
-  pub made_held : ((n : ℕ) → InSome (used_runs whole_reading k c) n → image n ≡ (before.at n).synced) → (is : HasCarried size used k c change image)
-      → tables_held image (edited c change.edit (placed_segments is.places change.streams change.counts)) ≡ Some u
-  made_held kept is = edited_held image c change t u (placed_segments is.places change.streams change.counts) catalogue (still_held kept) makes is.holds
+  pub made_held : ((n : ℕ) → InSome (used_runs stored_reading k c) n → image n ≡ (before.at n).synced) → (is : HasCarried size used k c change image)
+      → tables_held image (placed c change is.places) ≡ Some u
+  made_held kept is =
+      placed_held image c change is.places ∙ edited_held image c change t u (placed_segments is.places change.streams change.counts) catalogue (still_held kept) makes is.holds
 
   pub either_held : IsOldOrCarried size used k c before change image → (held_by size image ≡ holds t) ⊎ (held_by size image ≡ holds u)
   either_held is = by_which is.which
     where
-      by_which : (standing whole_reading size image ≡ rules k c) ⊎ HasCarried size used k c change image → (held_by size image ≡ holds t) ⊎ (held_by size image ≡ holds u)
+      by_which : (standing stored_reading size image ≡ rules k c) ⊎ HasCarried size used k c change image → (held_by size image ≡ holds t) ⊎ (held_by size image ≡ holds u)
       by_which (inl stood) = inl (held_is size image k c stood ∙ ap held_tables (still_held is.kept))
       by_which (inr does) =
-          inr (held_is size image (next_commit k k.version k.kind does.text (list_size (outline c change))) (edited c change.edit (placed_segments does.places change.streams change.counts)) does.stands ∙ ap held_tables (made_held is.kept does))
+          inr (held_is size image (commit_placed k c change does.text) (placed c change does.places) does.stands ∙ ap held_tables (made_held is.kept does))
 
 -- ---- the machine goes on
 
@@ -176,7 +177,7 @@ module _ {D : Type 0} {g : Ghosts D} (size : D → ℕ) (story : D → Story) (f
           counts = count;
           tells = tt;
           room = carried_out size story base m old sound c change (Ok tt) new.opened.commit (listed_in new) s1 decided
-              (ap (standing whole_reading (size old.device)) (shown_is_synced s1 does.stands.quiet.shown) ∙ stands) carried;
+              (ap (standing stored_reading (size old.device)) (shown_is_synced s1 does.stands.quiet.shown) ∙ stands) carried;
           spares = λ needs. spares_in size story base m old new sound book exportable change carries;
         };
         fits = record {
@@ -191,13 +192,13 @@ module _ {D : Type 0} {g : Ghosts D} (size : D → ℕ) (story : D → Story) (f
         };
       }
     where
-      stands : standing whole_reading (size old.device) (synced_image (now (story new.device))) ≡ rules new.opened.commit (listed_in new)
-      stands = ap (λ (n : ℕ). standing whole_reading n (synced_image (now (story new.device)))) (sym sized) ∙ does.stands.found
+      stands : standing stored_reading (size old.device) (synced_image (now (story new.device))) ≡ rules new.opened.commit (listed_in new)
+      stands = ap (λ (n : ℕ). standing stored_reading n (synced_image (now (story new.device)))) (sym sized) ∙ does.stands.found
 
-      same_rules : rules new.opened.commit (listed_in new) ≡ rules (next_commit old.opened.commit old.opened.commit.version old.opened.commit.kind does.holds.text (list_size (outline (listed_in old) change))) (edited (listed_in old) change.edit (placed_segments does.holds.places change.streams change.counts))
+      same_rules : rules new.opened.commit (listed_in new) ≡ rules (commit_placed old.opened.commit (listed_in old) change does.holds.text) (placed (listed_in old) change does.holds.places)
       same_rules = sym stands ∙ does.holds.stands
 
-      listed : listed_in new ≡ edited (listed_in old) change.edit (placed_segments does.holds.places change.streams change.counts)
+      listed : listed_in new ≡ placed (listed_in old) change does.holds.places
       listed = let is = same_rules in cc is
 
   -- the device failed
@@ -259,10 +260,10 @@ module _ {D : Type 0} {g : Ghosts D} (size : D → ℕ) (story : D → Story) (f
           };
           sound = λ again. record {
             stands =
-                subst (λ (n : ℕ). Stands whole_reading n (now (story new.device)) new.opened.commit (listed_in new)) (sym sized)
-                (subst (λ (d : Disk). Stands whole_reading (size old.device) d new.opened.commit (listed_in new)) (sym disk)
-                (subst (λ (k : Commit). Stands whole_reading (size old.device) (now (story old.device)) k (listed_in new)) (sym kept.0)
-                (subst (λ (x : PlainCatalogue). Stands whole_reading (size old.device) (now (story old.device)) old.opened.commit x) (sym kept.1) sound.stands)));
+                subst (λ (n : ℕ). Stands stored_reading n (now (story new.device)) new.opened.commit (listed_in new)) (sym sized)
+                (subst (λ (d : Disk). Stands stored_reading (size old.device) d new.opened.commit (listed_in new)) (sym disk)
+                (subst (λ (k : Commit). Stands stored_reading (size old.device) (now (story old.device)) k (listed_in new)) (sym kept.0)
+                (subst (λ (x : PlainCatalogue). Stands stored_reading (size old.device) (now (story old.device)) old.opened.commit x) (sym kept.1) sound.stands)));
             tables = (λ i. tables_held (synced_image (disk i)) (kept.1 i)) ∙ sound.tables;
             uses = new.uses;
             none = sound.none;

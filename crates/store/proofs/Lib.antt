@@ -8,6 +8,7 @@ mod EditedCounts
 mod Tested
 mod Decided
 mod Turns
+mod Placed
 mod Prepared
 mod Carried
 mod GivenRows

@@ -17,7 +17,7 @@ use Rattle.cells.specs.Cell.{Cell}
 use Rattle.ipc_write.specs.Written.{end_of_stream}
 use Rattle.canonical_stream.specs.Canonical.{rows_messages, stream_parts}
 use Rattle.catalogue.specs.declared.entry.Segment.{Segment}
-use Rattle.catalogue.specs.Entries.{PlainEntry, PlainCatalogue, is_segment, is_entry, runs_in_segments, runs_in, runs_of, segment_count}
+use Rattle.catalogue.specs.Entries.{PlainEntry, PlainCatalogue, is_segment, is_entry, page_runs, runs_in_segments, runs_in, runs_of, segment_count}
 use Rattle.catalogue.specs.Edits.{entry_of}
 use Rattle.catalogue.specs.laws.Order.{by_found}
 use Rattle.catalogue.specs.laws.Changed.{found_passes}
@@ -339,28 +339,29 @@ unpin_none space = record {
 -- ---- the runs of an entry
 
 -- an entry's runs are among those of its catalogue, each no more often
-times_entry : (c : PlainCatalogue) (name : List ℕ) (e : PlainEntry) (run : Run) → entry_of c name ≡ Some e → times_among (runs_in e) run ≤ times_among (runs_of c) run
+times_entry : (c : PlainCatalogue) (name : List ℕ) (e : PlainEntry) (run : Run) → entry_of c name ≡ Some e → times_among (runs_in_segments e.segments) run ≤ times_among (runs_of c) run
 times_entry [] name e run found = absurd (cc found)
 times_entry (x ∷ xs) name e run found =
     let both = times_both (runs_in x) (runs_of xs) run in
+    let own = times_both (page_runs x.page) (runs_in_segments x.segments) run in
     by_found x xs name e found
-    (λ t stands. let same = ap (λ (y : PlainEntry). times_among (runs_in y) run) stands in omega (arith, both, same))
+    (λ t stands. let same = ap (λ (y : PlainEntry). times_among (runs_in_segments y.segments) run) stands in omega (arith, both, own, same))
     (λ f there. let later = times_entry xs name e run there in omega (arith, both, later))
 
 -- they are in use, and none is listed twice
 module _ (size : ℕ) (text : Run) (c : PlainCatalogue) (name : List ℕ) (e : PlainEntry) (found : entry_of c name ≡ Some e) where
-  entry_among : (run : Run) → is_among (runs_in e) run ≡ true → is_among (runs_of c) run ≡ true
-  entry_among run is = let one = times_some (runs_in e) run is in let fewer = times_entry c name e run found in some_times (runs_of c) run (omega (arith, one, fewer))
+  entry_among : (run : Run) → is_among (runs_in_segments e.segments) run ≡ true → is_among (runs_of c) run ≡ true
+  entry_among run is = let one = times_some (runs_in_segments e.segments) run is in let fewer = times_entry c name e run found in some_times (runs_of c) run (omega (arith, one, fewer))
 
-  pub entry_used : (entries : List UsageEntry) (pinned : List Run) → Uses entries (text ∷ runs_of c) pinned → (run : Run) → is_among (runs_in e) run ≡ true → IsUsedIn entries run
+  pub entry_used : (entries : List UsageEntry) (pinned : List Run) → Uses entries (text ∷ runs_of c) pinned → (run : Run) → is_among (runs_in_segments e.segments) run ≡ true → IsUsedIn entries run
   entry_used entries pinned uses run is =
       ap is_used (uses run) ∙ ap (λ (b : Bool). b || nat_lt 0 (times_among pinned run)) (or_right (same_run text run) (is_among (runs_of c) run) (entry_among run is))
 
-  pub entry_once : runs_fault size text (runs_of c) ≡ None → (run : Run) → times_among (runs_in e) run ≤ 1
-  entry_once fit run = by_listed (is_among (runs_in e) run) refl
+  pub entry_once : runs_fault size text (runs_of c) ≡ None → (run : Run) → times_among (runs_in_segments e.segments) run ≤ 1
+  entry_once fit run = by_listed (is_among (runs_in_segments e.segments) run) refl
     where
-      by_listed : (b : Bool) → is_among (runs_in e) run ≡ b → times_among (runs_in e) run ≤ 1
-      by_listed false is = let none = none_listed (runs_in e) run is in omega (arith, none)
+      by_listed : (b : Bool) → is_among (runs_in_segments e.segments) run ≡ b → times_among (runs_in_segments e.segments) run ≤ 1
+      by_listed false is = let none = none_listed (runs_in_segments e.segments) run is in omega (arith, none)
       by_listed true is =
           let parts = fault_none size text (runs_of c) fit in
           let apart = and_parts (is_apart text (runs_of c)) (are_apart (runs_of c)) parts.1 in

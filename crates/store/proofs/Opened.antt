@@ -20,7 +20,8 @@ use Rattle.store.specs.Steps.{Step}
 use Rattle.store.specs.Runs.{Goes}
 use Rattle.store.specs.Machine as machines
 use Rattle.store.specs.Machine.{broken, holds, Machine, with_doubt, running, opened, shut_down, Allows, AllowsEach, meanwhile, has_written}
-use Rattle.store.specs.Held.{whole_reading, tables_held, held_tables, held_of, held_by}
+use Rattle.store.specs.Held.{tables_held, held_tables, held_of, held_by}
+use Rattle.pages.specs.Stored.{stored_reading}
 use Rattle.store.specs.Fits.{setting_of}
 use Rattle.store.specs.Opening.{opening_of, TellsOpening}
 use Rattle.commit.specs.declared.opening_refusal.OpeningRefusal.TheVariants as refusals
@@ -76,7 +77,7 @@ runs_then base m found f = by_choice f.is
     by_choice (inr is) = (ap (λ (k : Machine). k.phase) is, ap (λ (k : Machine). k.started) is, ap (λ (k : Machine). k.doubt) is, ap (λ (k : Machine). k.exports) is, ap (λ (k : Machine). k.next_id) is)
 
 module _ (size : ℕ) (base : Tables) (m : Machine) where
-  pub found_tables : (image : Image) (k : Commit) (c : PlainCatalogue) → Allows (setting_of size base) m image → standing whole_reading size image ≡ rules k c → Finds base m (tables_held image c)
+  pub found_tables : (image : Image) (k : Commit) (c : PlainCatalogue) → Allows (setting_of size base) m image → standing stored_reading size image ≡ rules k c → Finds base m (tables_held image c)
   unfolding Allows held_by
   found_tables image k c (inl is) stands = record { next = opened m.settled; is = inl refl; tables = held_some (tables_held image c) (after base m.settled) (ap (held_of image) (sym stands) ∙ is) }
   found_tables image k c (inr (inl is)) stands =
@@ -84,7 +85,7 @@ module _ (size : ℕ) (base : Tables) (m : Machine) where
   found_tables image k c (inr (inr none)) stands = held_none (tables_held image c) (ap (held_of image) (sym stands) ∙ none.1)
 
   -- after it each image has these tables
-  pub settled_then : (image : Image) (k : Commit) (c : PlainCatalogue) → standing whole_reading size image ≡ rules k c → (f : Finds base m (tables_held image c)) → Allows (setting_of size base) f.next image
+  pub settled_then : (image : Image) (k : Commit) (c : PlainCatalogue) → standing stored_reading size image ≡ rules k c → (f : Finds base m (tables_held image c)) → Allows (setting_of size base) f.next image
   unfolding Allows held_by
   settled_then image k c stands f = inl (ap (held_of image) stands ∙ ap held_tables f.tables)
 
@@ -113,7 +114,7 @@ module _ (size : ℕ) (base : Tables) (m : Machine) where
   none_written s0 s1 (inr is) = ap (has_written (now s0)) is ∙ not_less (now s0).writes
 
   pub opening_done : (s0 s1 : Story) (f f' : ℕ) (k : Commit) (c : PlainCatalogue) → ShowsImage (now s0) → LeavesOnly (Allows (setting_of size base) m) (now s0) → Grows (IsOpening (now s0)) s0 s1
-      → standing whole_reading size (shown_image (now s0)) ≡ rules k c → now s1 ≡ flushed (now s0) → f' ≡ f → (found : Finds base m (tables_held (shown_image (now s0)) c))
+      → standing stored_reading size (shown_image (now s0)) ≡ rules k c → now s1 ≡ flushed (now s0) → f' ≡ f → (found : Finds base m (tables_held (shown_image (now s0)) c))
       → Goes (setting_of size base) m open_call done s0 s1 f f' found.next
   unfolding Step
   opening_done s0 s1 f f' k c shows allows grows stands synced same found =
@@ -141,20 +142,20 @@ module _ (size : ℕ) (base : Tables) (m : Machine) where
   same_allows d allows image may = allows image may
 
   -- no store is found only before the start, and no damaged one at all
-  pub not_started : (image : Image) → Allows (setting_of size base) m image → standing whole_reading size image ≡ no_store → m.started ≡ false
+  pub not_started : (image : Image) → Allows (setting_of size base) m image → standing stored_reading size image ≡ no_store → m.started ≡ false
   unfolding Allows held_by
   not_started image (inl is) none = let held : machines.no_store ≡ holds (after base m.settled) = ap (held_of image) (sym none) ∙ is in absurd (cc held)
   not_started image (inr (inl is)) none = let held : machines.no_store ≡ holds (after base (with_doubt m.settled m.doubt)) = ap (held_of image) (sym none) ∙ is in absurd (cc held)
   not_started image (inr (inr is)) none = is.0
 
-  not_damaged : (image : Image) (cause : Cause) → Allows (setting_of size base) m image → standing whole_reading size image ≡ damaged cause → ⊥
+  not_damaged : (image : Image) (cause : Cause) → Allows (setting_of size base) m image → standing stored_reading size image ≡ damaged cause → ⊥
   unfolding Allows held_by
   not_damaged image cause (inl is) bad = let held : broken ≡ holds (after base m.settled) = ap (held_of image) (sym bad) ∙ is in cc held
   not_damaged image cause (inr (inl is)) bad = let held : broken ≡ holds (after base (with_doubt m.settled m.doubt)) = ap (held_of image) (sym bad) ∙ is in cc held
   not_damaged image cause (inr (inr is)) bad = let held : broken ≡ machines.no_store = ap (held_of image) (sym bad) ∙ is.1 in cc held
 
   pub opening_refused : (e : OpenError) (s0 s1 : Story) (f f' : ℕ) → ShowsImage (now s0) → LeavesOnly (Allows (setting_of size base) m) (now s0) → Grows (IsOpening (now s0)) s0 s1
-      → TellsStanding e (standing whole_reading size (shown_image (now s0))) → (e ≢ errors.Device → now s1 ≡ now s0) → f' ≡ counted (shut_by (opening_of e)) f
+      → TellsStanding e (standing stored_reading size (shown_image (now s0))) → (e ≢ errors.Device → now s1 ≡ now s0) → f' ≡ counted (shut_by (opening_of e)) f
       → Goes (setting_of size base) m open_call (shut_by (opening_of e)) s0 s1 f f' (shut_down m)
   unfolding Step ShowsImage held_by
   opening_refused errors.NotAStore s0 s1 f f' shows allows grows tells quiet counts =
@@ -199,7 +200,7 @@ module _ (size : ℕ) (base : Tables) (m : Machine) where
   device_after s0 s1 shows allows grows = same_allows (now s1) (allows_after s0 s1 shows allows (now_has {P = IsOpening (now s0)} (inl refl) grows))
 
   -- what reads show is what the machine allows
-  pub found_shown : (s0 : Story) (k : Commit) (c : PlainCatalogue) → ShowsImage (now s0) → LeavesOnly (Allows (setting_of size base) m) (now s0) → standing whole_reading size (shown_image (now s0)) ≡ rules k c
+  pub found_shown : (s0 : Story) (k : Commit) (c : PlainCatalogue) → ShowsImage (now s0) → LeavesOnly (Allows (setting_of size base) m) (now s0) → standing stored_reading size (shown_image (now s0)) ≡ rules k c
       → Finds base m (tables_held (shown_image (now s0)) c)
   unfolding ShowsImage
   found_shown s0 k c shows allows stands = found_tables (shown_image (now s0)) k c (allows (shown_image (now s0)) shows) stands

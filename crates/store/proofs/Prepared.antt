@@ -1,10 +1,11 @@
 -- What was prepared for a change can be published, and then stands.
-use Rattle.std.specs.Prelude.{◌≡◌, ◌≤◌, ◌<◌, ◌+◌, ◌^◌, ◌==◌, ◌&&◌, ◌||◌, ℕ, Bool, true, false, not, nat_le, List, [], ◌∷◌, ◌++◌, length, map, if◌then◌else◌, Option, Some, None, Ok, Err, refl, vec_len}
+use Rattle.std.specs.Prelude.{◌≡◌, ◌≤◌, ◌<◌, ◌+◌, ◌^◌, ◌==◌, ◌&&◌, ◌||◌, ℕ, Bool, true, false, not, nat_le, List, [], ◌∷◌, ◌++◌, length, map, drop, if◌then◌else◌, Option, Some, None, Ok, Err, refl, vec_len}
 use Rattle.std.specs.Global.{Vec}
 use Rattle.std.specs.List.{list_all, AllByRecursion}
-use Rattle.std.proofs.Common.{inl, inr, ⊎_elim, ◌≢◌, sym, ap, ◌∙◌, subst, arith, append-nil}
+use Rattle.std.proofs.Common.{inl, inr, ⊎_elim, ◌≢◌, sym, ap, ◌∙◌, subst, arith, append_assoc}
 use Rattle.std.proofs.lemmas.Bool.{and_parts, or_parts, false_from_ne_true, leb-true, cases_eq}
-use Rattle.std.proofs.lemmas.List.{length-map}
+use Rattle.std.proofs.lemmas.List.{length-map, length-append, map-append, drop_at}
+use Rattle.std.proofs.lemmas.Slice.Eq.{bytes_eq-Decides}
 use Rattle.sector_dev.specs.Disk.{Disk, Image, synced_image}
 use Rattle.array_build.specs.declared.batch.Buffer.{Buffer}
 use Rattle.canonical_write.specs.View.{joined_parts, streams_in}
@@ -13,7 +14,8 @@ use Rattle.segments.specs.declared.errors.TakeError.{TakeError}
 use Rattle.segments.specs.declared.errors.TakeError.TheVariants as takings
 use Rattle.segments.specs.declared.run.Run.{Run}
 use Rattle.segments.specs.declared.piece.Piece.{Piece}
-use Rattle.segments.specs.Pieces.{PlainPiece, plain_piece, plain_pieces}
+use Rattle.segments.specs.declared.piece.Part.{Part}
+use Rattle.segments.specs.Pieces.{PlainPiece, plain_piece, plain_pieces, bytes_of_parts}
 use Rattle.segments.specs.Runs.{OutOf}
 use Rattle.segments.specs.Sectors.{sector_count}
 use Rattle.segments.specs.declared.extent.Extent.{Extent}
@@ -22,35 +24,43 @@ use Rattle.segments.specs.Usages.{Space, same_run, IsUsedIn, SameUsages, GivesAl
 use Rattle.segments.specs.laws.Usages.{same_run_is, among_both}
 use Rattle.segments.specs.Writing.{runs_of, HoldsEach}
 use Rattle.segments.specs.laws.ReadBack.{read_back}
+use Rattle.ipc_write.specs.Written.{schema_message}
 use Rattle.catalogue.specs.declared.limits.TheConstants.{MAX_SEGMENTS}
-use Rattle.catalogue.specs.Entries.{PlainCatalogue, is_segment, IsCatalogue, segment_count}
+use Rattle.catalogue.specs.declared.entry.Segment.{Segment}
+use Rattle.catalogue.specs.Entries.{PlainEntry, PlainCatalogue, is_segment, IsTable, IsCatalogue, segment_count}
 use Rattle.catalogue.specs.Entries as entries
-use Rattle.catalogue.specs.Text.{list_size}
-use Rattle.catalogue.specs.Reading.{catalogue_at}
+use Rattle.catalogue.specs.Text.{sized, counted, segment_text, table_text, table_size}
+use Rattle.catalogue.specs.Reading.{entry_from}
+use Rattle.catalogue.specs.laws.Kept.{passes_limits}
+use Rattle.catalogue.specs.laws.Shapes.{shapes}
 use Rattle.catalogue.specs.View.{catalogue_of}
+use Rattle.commit.specs.declared.sector.CatalogueKind.{CatalogueKind}
 use Rattle.commit.specs.declared.sector.Commit.{Commit}
 use Rattle.commit.specs.declared.publishing.Plan.{Plan}
-use Rattle.commit.specs.Placing.{is_among, times_among, Uses, sectors_of, counts_of, contents_of, Takes}
-use Rattle.commit.specs.Publishing.{next_commit}
+use Rattle.commit.specs.Placing.{is_among, times_among, Uses, AreWritten, sectors_of, counts_of, contents_of, plain_contents, Takes}
+use Rattle.commit.specs.Publishing.{IsPlan, next_commit}
 use Rattle.commit.specs.Replacing as replacing
 use Rattle.commit.specs.Replacing.{IsPieceOf, CanReplace}
-use Rattle.commit.specs.Standing.{is_size, is_extent, is_on_device, is_apart, are_apart, runs_fault, Stands}
+use Rattle.commit.specs.Standing.{is_size, is_extent, is_on_device, is_apart, are_apart, runs_fault, Stands, InSome}
 use Rattle.commit.specs.laws.Taking.{TookAll, all_given_back}
 use Rattle.commit.specs.laws.Apart.{on_device_is}
-use Rattle.commit.specs.laws.Frame.{fault_none}
-use Rattle.commit.specs.laws.Placed.{text_last, plan_follows, placed_extent, taken_free, uses_used, taken_uses, given_uses}
+use Rattle.commit.specs.laws.Frame.{fault_none, rules_found}
+use Rattle.commit.specs.laws.Placed.{plan_of, counts_are, text_last, placed_extent, taken_free, uses_used, taken_uses, given_uses}
 use Rattle.commit.specs.laws.Fit.{fit_again, times_both, times_some, some_times, once, all_on}
+use Rattle.pages.specs.declared.stored.StoredCatalogue.{StoredCatalogue}
+use Rattle.pages.specs.Stored.{stored_reading, by_kind, HoldsPages}
+use Rattle.pages.specs.Paging.{kind_of, pageless, page_sizes, text_size, ArePageRuns, settled, dropped_pages, page_texts, settled_text}
+use Rattle.pages.specs.laws.Alike.{kind_alike, text_alike, sizes_alike}
+use Rattle.pages.specs.laws.Written.{ArePages, IsFree}
+use Rattle.pages.specs.laws.Made.{GoesTo}
+use Rattle.pages.specs.laws.Taken.{AreTaken, taken_length, text_least, sizes_written, pages_are, piece_left, piece_right}
 use Rattle.tables.specs.declared.refusal.Refusal.TheVariants as refusals
-use Rattle.store.specs.declared.stored.StoredCatalogue.{StoredCatalogue}
-use Rattle.store.specs.Held.{whole_reading, catalogue_or_cause, list_or_cause}
-use Rattle.commit.specs.declared.sector.CatalogueKind.{CatalogueKind}
-use Rattle.commit.specs.declared.sector.CatalogueKind.TheVariants.{Whole, Pages}
-use Rattle.commit.specs.laws.Frame.{rules_found}
 use Rattle.store.specs.Changes.{PlainChange, PlainEdit, IsChange, edited, given_up, placed_segments, HoldsStreams}
-use Rattle.store.specs.Carrying.{HasNext, unplaced, outline, asked_sizes, IsCarried}
-use Rattle.store.specs.inner.Prepared.{placed, taking_refusal, IsPrepared}
-use Rattle.store.specs.laws.Segments.{are_streams, placed_number, placed_runs, placed_sound, took_front, unplaced_number, unplaced_sound}
-use Rattle.store.specs.laws.Edited.{edited_stands, edited_size, edited_count, edited_times, given_up_times, edited_runs}
+use Rattle.store.specs.Carrying.{HasNext, unplaced, outline, asked_sizes, placed, commit_placed, IsCarried}
+use Rattle.store.specs.inner.Prepared.{unpaged, taking_refusal, ReadsAgain, IsPrepared}
+use Rattle.store.specs.laws.Segments.{placed_front, unplaced_number}
+use Rattle.store.specs.laws.EditedEach.{OneSchema, IsPageAmong, edited_holds, edited_pages, among_sectors}
+use Rattle.store.proofs.Placed.{unpaged_shapes, segments_sound, unpaged_stands, made_times, gone_named, made_among, as_many, taken_streams, taken_own_pages, page_runs_are}
 
 -- ---- the catalogues of a change
 
@@ -68,46 +78,8 @@ as_many_rows pieces rows change contents counts each =
     sym (length-map pieces plain_piece) ∙ sym (length-map (plain_pieces pieces) (λ (p : PlainPiece). p.bytes)) ∙ ap (λ (xs : List (List ℕ)). length xs) contents ∙ each ∙ ap (λ (ns : List ℕ). length ns) (sym counts)
 
 -- the text of a catalogue is not empty
-pub some_bytes : (c : PlainCatalogue) (bytes : ℕ) → bytes ≡ list_size c → 1 ≤ bytes
-some_bytes c bytes is = omega (arith, is)
-
-module _ (c : PlainCatalogue) (change : PlainChange) (sound : IsChange c change) where
-  -- its outline may stand, where it has few enough segments
-  pub outline_stands : IsCatalogue c → segment_count (outline c change) ≤ MAX_SEGMENTS → IsCatalogue (outline c change)
-  outline_stands stands few =
-      edited_stands c change (unplaced change.streams change.counts) stands sound (unplaced_sound change.streams change.counts (are_streams change.streams sound.some sound.short) sound.rows) few
-
-  module _ (places : List Run) (many : length places ≡ length change.streams) where
-    same_length : length (placed_segments places change.streams change.counts) ≡ length (unplaced change.streams change.counts)
-    same_length = placed_number places change.streams change.counts many sound.each ∙ sym (unplaced_number change.streams change.counts sound.each)
-
-    -- what is placed has the size of the outline
-    pub placed_size : list_size (placed c change places) ≡ list_size (outline c change)
-    placed_size = edited_size c change.edit (placed_segments places change.streams change.counts) (unplaced change.streams change.counts) same_length
-
-    -- each new segment may stand, and the catalogue with them
-    pub placed_segments_sound : (old new : Space) (text : Run) → old.size < 2 ^ 64 → TookAll old new (asked_sizes c change) (places ++ text ∷ []) → list_all is_segment (placed_segments places change.streams change.counts) ≡ true
-    placed_segments_sound old new text low all =
-        placed_sound old.size (IsUsedIn old.entries) places change.streams change.counts low
-        (took_front old.size (IsUsedIn old.entries) (map sectors_of change.streams) places (sector_count (list_size (outline c change))) text all.took) (are_streams change.streams sound.some sound.short) sound.rows
-
-    pub placed_stands : (old new : Space) (text : Run) → IsCatalogue c → segment_count (outline c change) ≤ MAX_SEGMENTS → old.size < 2 ^ 64 → TookAll old new (asked_sizes c change) (places ++ text ∷ []) → IsCatalogue (placed c change places)
-    placed_stands old new text stands few low all =
-        edited_stands c change (placed_segments places change.streams change.counts) stands sound (placed_segments_sound old new text low all)
-        (let e = edited_count c change.edit (placed_segments places change.streams change.counts) (unplaced change.streams change.counts) same_length in omega (arith, e, few))
-
-    -- no run is named more often than it was or was taken
-    placed_times : (run : Run) → IsCatalogue c → times_among (entries.runs_of (placed c change places)) run ≤ times_among (entries.runs_of c) run + times_among places run
-    placed_times run stands =
-        subst (λ (rs : List Run). times_among (entries.runs_of (placed c change places)) run ≤ times_among (entries.runs_of c) run + times_among rs run) (placed_runs places change.streams change.counts many sound.each)
-        (edited_times c change (placed_segments places change.streams change.counts) run stands sound (placed_number places change.streams change.counts many sound.each))
-
-    placed_among : (run : Run) → IsCatalogue c → times_among (entries.runs_of c) run ≤ 1 → (is_among places run ≡ true → is_among (entries.runs_of c) run ≡ false)
-        → is_among (entries.runs_of (placed c change places)) run ≡ ((is_among (entries.runs_of c) run && not (is_among (given_up c change.edit) run)) || is_among places run)
-    placed_among run stands one other =
-        subst (λ (rs : List Run). is_among (entries.runs_of (placed c change places)) run ≡ ((is_among (entries.runs_of c) run && not (is_among (given_up c change.edit) run)) || is_among rs run)) (placed_runs places change.streams change.counts many sound.each)
-        (edited_runs c change (placed_segments places change.streams change.counts) run stands sound (placed_number places change.streams change.counts many sound.each) one
-        (subst (λ (rs : List Run). is_among rs run ≡ true → is_among (entries.runs_of c) run ≡ false) (sym (placed_runs places change.streams change.counts many sound.each)) other))
+pub some_bytes : (c : PlainCatalogue) (bytes : ℕ) → bytes ≡ text_size c → 1 ≤ bytes
+some_bytes c bytes is = omega (arith, is, text_least c)
 
 -- ---- pieces
 
@@ -125,13 +97,18 @@ holds_streams image [] more counts many holds = refl
 holds_streams image (x ∷ xs) more [] many holds = absurd (omega arith)
 holds_streams image (x ∷ xs) more (count ∷ counts) many holds = (read_back image x.run.start x.bytes holds.0, refl, holds_streams image xs more counts (omega arith) holds.1)
 
-some_sizes : (streams : List (List ℕ)) (n : ℕ) → AllByRecursion (λ (stream : List ℕ). 1 ≤ length stream) streams → 1 ≤ n → AllByRecursion (λ (m : ℕ). 1 ≤ m) (map sectors_of streams ++ n ∷ [])
-some_sizes [] n some one = (one, tt)
-some_sizes (stream ∷ streams) n some one = (omega (arith, some.0), some_sizes streams n some.1 one)
+page_sectors : (pages : List ℕ) (n : ℕ) → AreWritten pages → 1 ≤ n → AllByRecursion (λ (m : ℕ). 1 ≤ m) (map sector_count pages ++ n ∷ [])
+page_sectors [] n written one = (one, tt)
+page_sectors (bytes ∷ pages) n written one = (omega (arith, written.0), page_sectors pages n written.1 one)
 
--- what is given up was named
-given_named : (c : PlainCatalogue) (edit : PlainEdit) (run : Run) → is_among (given_up c edit) run ≡ true → is_among (entries.runs_of c) run ≡ true
-given_named c edit run is = let some = times_some (given_up c edit) run is in let few = given_up_times c edit run in some_times (entries.runs_of c) run (omega (arith, some, few))
+some_sizes : (streams : List (List ℕ)) (pages : List ℕ) (n : ℕ) → AllByRecursion (λ (stream : List ℕ). 1 ≤ length stream) streams → AreWritten pages → 1 ≤ n
+    → AllByRecursion (λ (m : ℕ). 1 ≤ m) ((map sectors_of streams ++ map sector_count pages) ++ n ∷ [])
+some_sizes [] pages n some written one = page_sectors pages n written one
+some_sizes (stream ∷ streams) pages n some written one = (omega (arith, some.0), some_sizes streams pages n some.1 written one)
+
+-- the sectors of a text
+some_sectors : (c : PlainCatalogue) → 1 ≤ sector_count (text_size c)
+some_sectors c = omega (arith, text_least c)
 
 -- of runs in use that were taken or given up, which are left
 left_over : (w r g l t : Bool) → (w ≡ true → r ≡ false) → (g ≡ true → r ≡ true) → ((l || (t || false)) ≡ true → (w || r) ≡ false)
@@ -151,55 +128,76 @@ left_over false false false true false apart named fresh = refl
 left_over false false false false true apart named fresh = refl
 left_over false false false false false apart named fresh = refl
 
--- a catalogue that was read is kept as a list
-kept_whole : (kind : CatalogueKind) (o : Option PlainCatalogue) (c : PlainCatalogue) → list_or_cause kind o ≡ Ok c → kind ≡ Whole
-kept_whole Whole o c is = refl
-kept_whole Pages o c is = absurd (cc is)
-
 -- ---- what was prepared
 
 module _ (old new : Space) (k : Commit) (c : PlainCatalogue) (change : PlainChange) (plan : Plan StoredCatalogue) (back : List Run) (p : IsPrepared old new k c change plan back) where
   abbrev taken : List Run
-  taken = runs_of p.pieces ++ p.run ∷ []
+  taken = runs_of (p.pieces ++ p.pages) ++ p.run ∷ []
+
+  -- the runs for the streams, and those for the pages
+  both_runs : runs_of (p.pieces ++ p.pages) ≡ runs_of p.pieces ++ runs_of p.pages
+  both_runs = map-append (λ (x : PlainPiece). x.run) p.pieces p.pages
 
   -- the pieces lie in the runs that were taken
   pub runs_are : runs_of (plain_pieces plan.pieces.items) ≡ taken
-  runs_are = ap runs_of p.whole ∙ runs_more p.pieces (record { run = p.run; bytes = p.text })
+  runs_are = ap runs_of p.whole ∙ runs_more (p.pieces ++ p.pages) (record { run = p.run; bytes = p.text })
 
   many : length (runs_of p.pieces) ≡ length change.streams
   many = length-map p.pieces (λ (x : PlainPiece). x.run) ∙ sym (length-map p.pieces (λ (x : PlainPiece). x.bytes)) ∙ ap (λ (xs : List (List ℕ)). length xs) p.streams
+
+  -- the catalogue is the one whose places these runs are
+  pub placed_is : settled (unpaged c change (runs_of p.pieces)) (runs_of p.pages) ≡ placed c change (runs_of (p.pieces ++ p.pages))
+  placed_is =
+      let segments : placed_segments (runs_of p.pieces) change.streams change.counts ≡ placed_segments (runs_of p.pieces ++ runs_of p.pages) change.streams change.counts =
+      placed_front (runs_of p.pieces) (runs_of p.pages) change.streams change.counts many in
+      let rest : runs_of p.pages ≡ drop (length change.streams) (runs_of p.pieces ++ runs_of p.pages) =
+      sym (drop_at (runs_of p.pieces) (runs_of p.pages) (length change.streams) many) in
+      (λ i. settled (edited c change.edit (segments i)) (rest i)) ∙ ap (placed c change) (sym both_runs)
 
   -- given back, each run is used for what it was
   pub failed_usages : (last : Space) → GivesAll new last plan.runs.items → SameUsages old.entries last.entries
   failed_usages last gives = all_given_back old new last (asked_sizes c change) taken p.took (subst (λ (rs : List Run). GivesAll new last rs) p.runs gives)
 
-  extent : is_extent old.size 4 (record { run = p.run; bytes = list_size (outline c change) }) ≡ true
-  extent = placed_extent old new (map sectors_of change.streams) (runs_of p.pieces) p.run (list_size (outline c change)) (omega arith) p.took
+  extent : is_extent old.size 4 (record { run = p.run; bytes = text_size (outline c change) }) ≡ true
+  extent =
+      placed_extent old new (map sectors_of change.streams ++ map sector_count (page_sizes (outline c change))) (runs_of (p.pieces ++ p.pages)) p.run (text_size (outline c change)) (text_least (outline c change)) p.took
 
   pub placed_then : is_on_device old.size plan.commit.catalogue.run ≡ true
   placed_then =
-      let e : Extent = record { run = p.run; bytes = list_size (outline c change) } in
+      let e : Extent = record { run = p.run; bytes = text_size (outline c change) } in
       let parts = and_parts (nat_le 4 e.bytes) ((e.run.count == sector_count e.bytes) && is_on_device old.size e.run) extent in
       subst (λ (x : Commit). is_on_device old.size x.catalogue.run ≡ true) (sym p.commit) (and_parts (e.run.count == sector_count e.bytes) (is_on_device old.size e.run) parts.1).1
 
   module _ (on : is_on_device old.size k.catalogue.run ≡ true) (fit : runs_fault old.size k.catalogue.run (entries.runs_of c) ≡ None) (pinned : List Run) (uses : Uses old.entries (k.catalogue.run ∷ entries.runs_of c) pinned) (sound : IsChange c change) where
+    -- what goes back beside the text's run
+    abbrev given : List Run
+    given = given_up c change.edit (unplaced change.streams change.counts)
+
+    abbrev dropped : List Run
+    dropped = dropped_pages (outline c change)
+
+    abbrev gone : List Run
+    gone = given ++ dropped
+
     pub fit_then : IsCatalogue c → runs_fault old.size plan.commit.catalogue.run (entries.runs_of (catalogue_of plan.catalogue.list)) ≡ None
     fit_then stands =
         (λ i. runs_fault old.size (p.commit i).catalogue.run (entries.runs_of (p.catalogue i)))
-        ∙ fit_again old new (asked_sizes c change) taken k.catalogue.run (entries.runs_of c) p.run (entries.runs_of (placed c change (runs_of p.pieces))) pinned on fit uses p.took (some_sizes change.streams (sector_count (list_size (outline c change))) sound.some (omega arith))
+        ∙ fit_again old new (asked_sizes c change) taken k.catalogue.run (entries.runs_of c) p.run (entries.runs_of (settled (unpaged c change (runs_of p.pieces)) (runs_of p.pages))) pinned on fit uses p.took
+        (some_sizes change.streams (page_sizes (outline c change)) (sector_count (text_size (outline c change))) sound.some (sizes_written (outline c change)) (some_sectors (outline c change)))
         (λ run.
-        let t = placed_times c change sound (runs_of p.pieces) many run stands in
+        let t = made_times c change sound (runs_of p.pieces) many (runs_of p.pages) p.placed run stands in
         let one = times_both (k.catalogue.run ∷ entries.runs_of c) taken run in
-        let two = times_both (runs_of p.pieces) (p.run ∷ []) run in
-        omega (arith, t, one, two))
+        let two = times_both (runs_of (p.pieces ++ p.pages)) (p.run ∷ []) run in
+        let both : times_among (runs_of (p.pieces ++ p.pages)) run ≡ times_among (runs_of p.pieces ++ runs_of p.pages) run = ap (λ (rs : List Run). times_among rs run) both_runs in
+        omega (arith, t, one, two, both))
 
     -- published and given back, the runs in use are those of the new catalogue
     pub uses_then : (last : Space) → IsCatalogue c → GivesAll new last back → Uses last.entries (plan.commit.catalogue.run ∷ entries.runs_of (catalogue_of plan.catalogue.list)) pinned
     uses_then last stands gives =
         subst (λ (x : PlainCatalogue). Uses last.entries (plan.commit.catalogue.run ∷ entries.runs_of x) pinned) (sym p.catalogue)
-        (subst (λ (x : Commit). Uses last.entries (x.catalogue.run ∷ entries.runs_of (placed c change (runs_of p.pieces))) pinned) (sym p.commit)
-        (given_uses new last (given_up c change.edit ++ k.catalogue.run ∷ []) ((k.catalogue.run ∷ entries.runs_of c) ++ taken) (p.run ∷ entries.runs_of (placed c change (runs_of p.pieces))) pinned
-        (subst (λ (rs : List Run). GivesAll new last rs) p.gives gives) (taken_uses old new (asked_sizes c change) taken (k.catalogue.run ∷ entries.runs_of c) pinned p.took uses) others))
+        (subst (λ (x : Commit). Uses last.entries (x.catalogue.run ∷ entries.runs_of (settled (unpaged c change (runs_of p.pieces)) (runs_of p.pages))) pinned) (sym p.commit)
+        (given_uses new last (gone ++ k.catalogue.run ∷ []) ((k.catalogue.run ∷ entries.runs_of c) ++ taken) (p.run ∷ entries.runs_of (settled (unpaged c change (runs_of p.pieces)) (runs_of p.pages))) pinned
+        (subst (λ (rs : List Run). GivesAll new last rs) (p.gives ∙ sym (append_assoc given dropped (k.catalogue.run ∷ []))) gives) (taken_uses old new (asked_sizes c change) taken (k.catalogue.run ∷ entries.runs_of c) pinned p.took uses) others))
       where
         apart : are_apart (k.catalogue.run ∷ entries.runs_of c) ≡ true
         apart = (fault_none old.size k.catalogue.run (entries.runs_of c) fit).1
@@ -216,15 +214,15 @@ module _ (old new : Space) (k : Commit) (c : PlainCatalogue) (change : PlainChan
             by_naming false is = ⊎_elim (λ (none : times_among (entries.runs_of c) run ≡ 0). omega arith)
                 (λ (more : times_among (entries.runs_of c) run ≢ 0). let no = some_times (entries.runs_of c) run (omega arith) in absurd (cc (is, no))) (cases_eq (times_among (entries.runs_of c) run) 0)
 
-        some_sectors : 1 ≤ k.catalogue.run.count
-        some_sectors = (on_device_is old.size k.catalogue.run on).some
+        own_sectors : 1 ≤ k.catalogue.run.count
+        own_sectors = (on_device_is old.size k.catalogue.run on).some
 
         not_named : (run : Run) → same_run k.catalogue.run run ≡ true → is_among (entries.runs_of c) run ≡ false
         not_named run same =
             false_from_ne_true (is_among (entries.runs_of c) run)
             (λ (is : is_among (entries.runs_of c) run ≡ true).
             let one = times_some (entries.runs_of c) run is in
-            let count : 1 ≤ run.count = subst (λ (r : Run). 1 ≤ r.count) (same_run_is k.catalogue.run run same) some_sectors in
+            let count : 1 ≤ run.count = subst (λ (r : Run). 1 ≤ r.count) (same_run_is k.catalogue.run run same) own_sectors in
             let most = once (k.catalogue.run ∷ entries.runs_of c) run apart count in
             let first : times_among (k.catalogue.run ∷ entries.runs_of c) run ≡ 1 + times_among (entries.runs_of c) run = ap (λ (t : Bool). (if t then 1 else 0) + times_among (entries.runs_of c) run) same in
             omega (arith, one, most, first))
@@ -232,46 +230,61 @@ module _ (old new : Space) (k : Commit) (c : PlainCatalogue) (change : PlainChan
         unused : (run : Run) → is_among taken run ≡ true → is_among (k.catalogue.run ∷ entries.runs_of c) run ≡ false
         unused run is = ap (λ (u : Usage). u.taken) (sym (uses run) ∙ p.took.fresh run is)
 
-        not_taken : (run : Run) → is_among (runs_of p.pieces) run ≡ true → is_among (entries.runs_of c) run ≡ false
-        not_taken run is = (or_parts (same_run k.catalogue.run run) (is_among (entries.runs_of c) run) (unused run (among_both (runs_of p.pieces) (p.run ∷ []) run ∙ ap (λ (t : Bool). t || is_among (p.run ∷ []) run) is))).1
+        not_taken : (run : Run) → is_among (runs_of (p.pieces ++ p.pages)) run ≡ true → is_among (entries.runs_of c) run ≡ false
+        not_taken run is = (or_parts (same_run k.catalogue.run run) (is_among (entries.runs_of c) run) (unused run (among_both (runs_of (p.pieces ++ p.pages)) (p.run ∷ []) run ∙ ap (λ (t : Bool). t || is_among (p.run ∷ []) run) is))).1
 
-        others : (run : Run) → is_among (p.run ∷ entries.runs_of (placed c change (runs_of p.pieces))) run ≡ (is_among ((k.catalogue.run ∷ entries.runs_of c) ++ taken) run && not (is_among (given_up c change.edit ++ k.catalogue.run ∷ []) run))
+        -- what stands then: what did and what was taken, but for what goes
+        which : (run : Run) → is_among (entries.runs_of (settled (unpaged c change (runs_of p.pieces)) (runs_of p.pages))) run ≡ ((is_among (entries.runs_of c) run && not (is_among gone run)) || is_among (runs_of (p.pieces ++ p.pages)) run)
+        which run =
+            made_among c change sound (runs_of p.pieces) many (runs_of p.pages) p.placed p.messages run stands (named_once run) (λ is. not_taken run (ap (λ (rs : List Run). is_among rs run) both_runs ∙ is))
+            ∙ ap (λ (rs : List Run). (is_among (entries.runs_of c) run && not (is_among gone run)) || is_among rs run) (sym both_runs)
+
+        others : (run : Run) → is_among (p.run ∷ entries.runs_of (settled (unpaged c change (runs_of p.pieces)) (runs_of p.pages))) run ≡ (is_among ((k.catalogue.run ∷ entries.runs_of c) ++ taken) run && not (is_among (gone ++ k.catalogue.run ∷ []) run))
         others run =
-            ap (λ (t : Bool). same_run p.run run || t) (placed_among c change sound (runs_of p.pieces) many run stands (named_once run) (not_taken run))
-            ∙ left_over (same_run k.catalogue.run run) (is_among (entries.runs_of c) run) (is_among (given_up c change.edit) run) (is_among (runs_of p.pieces) run) (same_run p.run run)
-            (not_named run) (given_named c change.edit run) (λ is. unused run (among_both (runs_of p.pieces) (p.run ∷ []) run ∙ is))
-            ∙ sym (λ i. (among_both (k.catalogue.run ∷ entries.runs_of c) taken run ∙ ap (λ (t : Bool). is_among (k.catalogue.run ∷ entries.runs_of c) run || t) (among_both (runs_of p.pieces) (p.run ∷ []) run)) i
-            && not (among_both (given_up c change.edit) (k.catalogue.run ∷ []) run i))
+            ap (λ (t : Bool). same_run p.run run || t) (which run)
+            ∙ left_over (same_run k.catalogue.run run) (is_among (entries.runs_of c) run) (is_among gone run) (is_among (runs_of (p.pieces ++ p.pages)) run) (same_run p.run run)
+            (not_named run) (gone_named c change sound (runs_of p.pieces) many (runs_of p.pages) p.placed p.messages run stands) (λ is. unused run (among_both (runs_of (p.pieces ++ p.pages)) (p.run ∷ []) run ∙ is))
+            ∙ sym (λ i. (among_both (k.catalogue.run ∷ entries.runs_of c) taken run ∙ ap (λ (t : Bool). is_among (k.catalogue.run ∷ entries.runs_of c) run || t) (among_both (runs_of (p.pieces ++ p.pages)) (p.run ∷ []) run)) i
+            && not (among_both gone (k.catalogue.run ∷ []) run i))
 
     abbrev replacement : replacing.Change PlainCatalogue
     replacement = record { old = k; was = c; new = plan.commit; will = catalogue_of plan.catalogue.list; pieces = plain_pieces plan.pieces.items }
 
-    pub can_replace : (d : Disk) → IsCatalogue c → k.device_sectors ≡ old.size → Stands whole_reading old.size d k c → CanReplace whole_reading old.size d replacement
+    -- no piece lies over what stands
+    spared : (n : ℕ) → InSome (k.catalogue.run ∷ entries.runs_of c) n → OutOf (runs_of (plain_pieces plan.pieces.items)) n
+    spared n within = subst (λ (rs : List Run). OutOf rs n) (sym runs_are) (taken_free old new (asked_sizes c change) taken (k.catalogue.run ∷ entries.runs_of c) p.took (uses_used old.entries (k.catalogue.run ∷ entries.runs_of c) pinned uses) n within)
+
+    pub can_replace : (d : Disk) → IsCatalogue c → k.device_sectors ≡ old.size → Stands stored_reading old.size d k c → CanReplace stored_reading old.size d replacement
     can_replace d listed own stands = record {
       stands = stands;
-      free = λ n within. subst (λ (rs : List Run). OutOf rs n) (sym runs_are) (taken_free old new (asked_sizes c change) taken (k.catalogue.run ∷ entries.runs_of c) p.took (uses_used old.entries (k.catalogue.run ∷ entries.runs_of c) pinned uses) n within);
+      free = spared;
       made = record {
         device = ap (λ (x : Commit). x.device_sectors) p.commit ∙ own;
         extent = subst (λ (x : Commit). is_extent old.size 4 x.catalogue ≡ true) (sym p.commit) extent;
         text = p.text;
         whole = p.size ∙ sym (ap (λ (x : Commit). x.catalogue.bytes) p.commit);
         written = subst (λ (ps : List PlainPiece). IsPieceOf ps plan.commit.catalogue.run p.text) (sym p.whole)
-            (subst (λ (x : Commit). IsPieceOf (p.pieces ++ record { run = p.run; bytes = p.text } ∷ []) x.catalogue.run p.text) (sym p.commit) (last_piece p.pieces (record { run = p.run; bytes = p.text })));
+            (subst (λ (x : Commit). IsPieceOf ((p.pieces ++ p.pages) ++ record { run = p.run; bytes = p.text } ∷ []) x.catalogue.run p.text) (sym p.commit) (last_piece (p.pieces ++ p.pages) (record { run = p.run; bytes = p.text })));
         read = λ image holds same.
-            let found = rules_found whole_reading old.size (synced_image d) k c stands.found in
-            let kind : plan.commit.kind ≡ Whole = ap (λ (x : Commit). x.kind) p.commit ∙ kept_whole k.kind (catalogue_at found.text) c found.spelled in
-            ap (λ (x : CatalogueKind). list_or_cause x (catalogue_at p.text)) kind ∙ ap catalogue_or_cause p.found;
+            let kind : plan.commit.kind ≡ kind_of (unpaged c change (runs_of p.pieces)) =
+            ap (λ (x : Commit). x.kind) p.commit ∙ sym (kind_alike (unpaged c change (runs_of p.pieces)) (outline c change) (unpaged_shapes c change sound (runs_of p.pieces) many)) in
+            ap (λ (x : CatalogueKind). by_kind x old.size image p.text) kind
+            ∙ p.reads (synced_image d) image stands.found holds same (λ n within. spared n (inr within)) ∙ ap Ok (sym p.catalogue);
         fit = fit_then listed;
       };
     }
 
   -- an image that holds the pieces has the streams in the new segments
-  pub streams_held : (image : Image) → IsChange c change → HoldsEach image (plain_pieces plan.pieces.items) → HoldsStreams image (placed_segments (runs_of p.pieces) change.streams change.counts) change.streams change.counts
+  pub streams_held : (image : Image) → IsChange c change → HoldsEach image (plain_pieces plan.pieces.items)
+      → HoldsStreams image (placed_segments (runs_of (p.pieces ++ p.pages)) change.streams change.counts) change.streams change.counts
   streams_held image sound holds =
-      subst (λ (streams : List (List ℕ)). HoldsStreams image (placed_segments (runs_of p.pieces) streams change.counts) streams change.counts) p.streams
-      (holds_streams image p.pieces (record { run = p.run; bytes = p.text } ∷ []) change.counts
+      let whole : (p.pieces ++ p.pages) ++ record { run = p.run; bytes = p.text } ∷ [] ≡ p.pieces ++ (p.pages ++ record { run = p.run; bytes = p.text } ∷ []) = append_assoc p.pieces p.pages (record { run = p.run; bytes = p.text } ∷ []) in
+      subst (λ (rs : List Run). HoldsStreams image (placed_segments rs change.streams change.counts) change.streams change.counts) (sym both_runs)
+      (subst (λ (gs : List Segment). HoldsStreams image gs change.streams change.counts) (placed_front (runs_of p.pieces) (runs_of p.pages) change.streams change.counts many)
+      (subst (λ (streams : List (List ℕ)). HoldsStreams image (placed_segments (runs_of p.pieces) streams change.counts) streams change.counts) p.streams
+      (holds_streams image p.pieces (p.pages ++ record { run = p.run; bytes = p.text } ∷ []) change.counts
       (let l = length-map p.pieces (λ (x : PlainPiece). x.run) in let e = sound.each in omega (arith, l, many, e))
-      (subst (λ (ps : List PlainPiece). HoldsEach image ps) p.whole holds))
+      (subst (λ (ps : List PlainPiece). HoldsEach image ps) (p.whole ∙ whole) holds))))
 
 -- ---- how it is prepared
 
@@ -290,62 +303,211 @@ pub taking_carried : (size : ℕ) (used : Run → Type 0) (k : Commit) (c : Plai
 taking_carried size used k c change (takings.NoRoom n) next few takes = (next, few, takes n refl)
 taking_carried size used k c change takings.OutOfMemory next few takes = tt
 
-module _ (c : PlainCatalogue) (change : PlainChange) (sound : IsChange c change) (contents : List (List ℕ)) (plain_is : contents ≡ change.streams) (bytes : ℕ) (bytes_is : bytes ≡ list_size (outline c change)) where
-  pub asked : counts_of contents [] bytes ≡ asked_sizes c change
-  asked = λ i. append-nil (map sectors_of (plain_is i)) i ++ sector_count (bytes_is i) ∷ []
+-- ---- from what the calls of a plan ensure
 
-  module _ (old new : Space) (limits : is_size old.size ≡ true) (few : segment_count (outline c change) ≤ MAX_SEGMENTS) (pieces ps : List PlainPiece) (run : Run) (runs : List Run) (counts : List ℕ)
-      (all : TookAll old new (counts_of contents [] bytes) runs) (runs_is : runs ≡ runs_of pieces ++ run ∷ []) (contents_is : contents_of pieces ≡ contents) (ps_is : ps ≡ pieces) (counts_is : counts ≡ change.counts) where
-    streams_is : contents_of pieces ≡ change.streams
-    streams_is = contents_is ∙ plain_is
+-- each text in a run
+abbrev paired : List Run → List (List ℕ) → List PlainPiece
+paired [] texts = []
+paired (r ∷ rs) [] = []
+paired (r ∷ rs) (text ∷ texts) = record { run = r; bytes = text } ∷ paired rs texts
 
-    took : TookAll old new (asked_sizes c change) (runs_of pieces ++ run ∷ [])
-    took = subst (λ (ns : List ℕ). TookAll old new ns (runs_of pieces ++ run ∷ [])) asked (subst (λ (rs : List Run). TookAll old new (counts_of contents [] bytes) rs) runs_is all)
+paired_runs : (rs : List Run) (texts : List (List ℕ)) → length rs ≡ length texts → runs_of (paired rs texts) ≡ rs
+paired_runs [] texts same = refl
+paired_runs (r ∷ rs) [] same = absurd (omega (arith, same))
+paired_runs (r ∷ rs) (text ∷ texts) same = ap (λ (xs : List Run). r ∷ xs) (paired_runs rs texts (omega (arith, same)))
 
-    as_many : length (runs_of pieces) ≡ length change.streams
-    as_many = length-map pieces (λ (x : PlainPiece). x.run) ∙ sym (length-map pieces (λ (x : PlainPiece). x.bytes)) ∙ ap (λ (xs : List (List ℕ)). length xs) streams_is
+paired_contents : (rs : List Run) (texts : List (List ℕ)) → length rs ≡ length texts → contents_of (paired rs texts) ≡ texts
+paired_contents [] [] same = refl
+paired_contents [] (text ∷ texts) same = absurd (omega (arith, same))
+paired_contents (r ∷ rs) [] same = absurd (omega (arith, same))
+paired_contents (r ∷ rs) (text ∷ texts) same = ap (λ (xs : List (List ℕ)). text ∷ xs) (paired_contents rs texts (omega (arith, same)))
 
-    -- the same catalogue, by what the call is given
-    given_is : edited c change.edit (placed_segments (runs_of ps) (contents_of ps) counts) ≡ placed c change (runs_of pieces)
-    given_is = λ i. edited c change.edit (placed_segments (runs_of (ps_is i)) ((ap contents_of ps_is ∙ streams_is) i) (counts_is i))
+-- the laws that it stands on
+pub record PageLaws : Type 0 where
+  pub messages : OneSchema
+  pub held : (size : ℕ) (image : Image) (k : Commit) (text : List ℕ) (c : PlainCatalogue) → stored_reading.at size image k text ≡ Ok c → HoldsPages size image c
+  pub pages : (c : PlainCatalogue) → map (λ (text : List ℕ). length text) (page_texts c) ≡ page_sizes c
+  pub text : (c : PlainCatalogue) (runs : List Run) → ArePageRuns c runs → length (settled_text c runs) ≡ text_size c
+  pub read : (size : ℕ) (before image : Image) (pieces : List PlainPiece) → HoldsEach image pieces → ((n : ℕ) → 2 ≤ n → OutOf (runs_of pieces) n → image n ≡ before n)
+      → (c : PlainCatalogue) (runs : List Run) → IsCatalogue c → ArePageRuns c runs → GoesTo size pieces c runs → HoldsPages size before c → AllByRecursion (IsFree pieces) c
+      → by_kind (kind_of c) size image (settled_text c runs) ≡ Ok (settled c runs)
 
-    small : old.size < 2 ^ 64
-    small = let most : old.size ≤ 4194304 = leb-true _ _ (and_parts (nat_le 16 old.size) (nat_le old.size 4194304) limits).1 in omega (arith, most)
+-- one message, one schema, by the texts of pages
+pub one_schema : ((e f : PlainEntry) (x y : List ℕ) → IsTable e → IsTable f → table_text e ++ x ≡ table_text f ++ y → (e.schema ≡ f.schema) × (e.segments ≡ f.segments)) → OneSchema
+unfolding table_text
+one_schema apart a b within other same =
+    let e : PlainEntry = entry_from [] None (a, []) in
+    let f : PlainEntry = entry_from [] None (b, []) in
+    (apart e f [] [] (record { schema = passes_limits a within; segments = refl; few = omega arith }) (record { schema = passes_limits b other; segments = refl; few = omega arith })
+    (ap (λ (m : List ℕ). (sized m ++ counted segment_text []) ++ []) ((bytes_eq-Decides (schema_message a) (schema_message b)).0 same))).0
 
-    pub given_sound : list_all is_segment (placed_segments (runs_of ps) (contents_of ps) counts) ≡ true
-    given_sound =
-        (λ i. list_all is_segment (placed_segments (runs_of (ps_is i)) ((ap contents_of ps_is ∙ streams_is) i) (counts_is i)))
-        ∙ placed_segments_sound c change sound (runs_of pieces) as_many old new run small took
+-- no piece lies over a page that stays
+each_spared : (c : PlainCatalogue) (pieces : List PlainPiece) (rs : List Run) → ((n : ℕ) → InSome rs n → OutOf (runs_of pieces) n) → AllByRecursion (IsPageAmong rs) c → AllByRecursion (IsFree pieces) c
+each_spared [] pieces rs spared all = tt
+each_spared (e ∷ es) pieces rs spared all = ((λ p here n low high. spared n (among_sectors rs p.run n (all.0 p here) low high)), each_spared es pieces rs spared all.1)
 
-    pub given_stands : IsCatalogue c → IsCatalogue (edited c change.edit (placed_segments (runs_of ps) (contents_of ps) counts))
-    given_stands stands = subst (λ (x : PlainCatalogue). IsCatalogue x) (sym given_is) (placed_stands c change sound (runs_of pieces) as_many old new run stands few small took)
+-- as many sectors for each text
+text_sectors : (texts : List (List ℕ)) → map sector_count (map (λ (text : List ℕ). length text) texts) ≡ map sectors_of texts
+text_sectors [] = refl
+text_sectors (text ∷ texts) = ap (λ (ns : List ℕ). sectors_of text ∷ ns) (text_sectors texts)
 
-    pub given_change : IsChange c (record { edit = change.edit; streams = contents_of ps; counts = counts })
-    given_change =
-        subst (λ (x : List ℕ). IsChange c (record { edit = change.edit; streams = contents_of ps; counts = x })) (sym counts_is)
-        (subst (λ (x : List (List ℕ)). IsChange c (record { edit = change.edit; streams = x; counts = change.counts })) (sym (ap contents_of ps_is ∙ streams_is)) sound)
+pub asked : (c : PlainCatalogue) (change : PlainChange) (contents : List (List ℕ)) (pages : List ℕ) (bytes : ℕ) → contents ≡ change.streams → pages ≡ page_sizes (outline c change) → bytes ≡ text_size (outline c change)
+    → counts_of contents pages bytes ≡ asked_sizes c change
+asked c change contents pages bytes plain_is pages_are bytes_is = λ i. counts_of (plain_is i) (pages_are i) (bytes_is i)
 
-    pub prepared : (k : Commit) (text : List ℕ) (next : StoredCatalogue) (plan : Plan StoredCatalogue) (back : List Run) → k.device_sectors ≡ old.size → HasNext k
-        → catalogue_of next.list ≡ edited c change.edit (placed_segments (runs_of ps) (contents_of ps) counts) → catalogue_at text ≡ Some (catalogue_of next.list) → length text ≡ list_size (catalogue_of next.list)
-        → plan.commit ≡ next_commit k k.version k.kind run bytes → plan.catalogue ≡ next → runs_of (plain_pieces plan.pieces.items) ≡ runs → contents_of (plain_pieces plan.pieces.items) ≡ contents_of pieces ++ text ∷ []
-        → plan.runs.items ≡ runs → back ≡ given_up c change.edit ++ k.catalogue.run ∷ []
-        → IsPrepared old new k c change plan back
-    prepared k text next plan back own epoch list_is text_is size_is commit_is catalogue_is placed_is written_is taken_is back_is =
-        let long : length text ≡ list_size (outline c change) = size_is ∙ ap list_size (list_is ∙ given_is) ∙ placed_size c change sound (runs_of pieces) as_many in
+-- the runs that were taken, as those of the pieces, of the pages and of the text
+pub took_for : (old new : Space) (c : PlainCatalogue) (change : PlainChange) (contents : List (List ℕ)) (pages : List ℕ) (bytes : ℕ) (runs all : List Run) → contents ≡ change.streams → pages ≡ page_sizes (outline c change)
+    → bytes ≡ text_size (outline c change) → TookAll old new (counts_of contents pages bytes) runs → runs ≡ all → TookAll old new (asked_sizes c change) all
+took_for old new c change contents pages bytes runs all plain_is pages_are bytes_is took runs_are =
+    subst (λ (ns : List ℕ). TookAll old new ns all) (asked c change contents pages bytes plain_is pages_are bytes_is) (subst (λ (rs : List Run). TookAll old new (counts_of contents pages bytes) rs) runs_are took)
+
+-- the same catalogue, by what the call is given
+module _ (c : PlainCatalogue) (change : PlainChange) (pieces ps : List PlainPiece) (counts : List ℕ) (ps_is : ps ≡ pieces) (counts_is : counts ≡ change.counts) (streams : contents_of pieces ≡ change.streams) where
+  pub given_segments : placed_segments (runs_of ps) (contents_of ps) counts ≡ placed_segments (runs_of pieces) change.streams change.counts
+  given_segments = λ i. placed_segments (runs_of (ps_is i)) ((ap contents_of ps_is ∙ streams) i) (counts_is i)
+
+  pub given_is : edited c change.edit (placed_segments (runs_of ps) (contents_of ps) counts) ≡ unpaged c change (runs_of pieces)
+  given_is = ap (edited c change.edit) given_segments
+
+  pub given_change : IsChange c change → IsChange c (record { edit = change.edit; streams = contents_of ps; counts = counts })
+  given_change sound =
+      subst (λ (x : List ℕ). IsChange c (record { edit = change.edit; streams = contents_of ps; counts = x })) (sym counts_is)
+      (subst (λ (x : List (List ℕ)). IsChange c (record { edit = change.edit; streams = x; counts = change.counts })) (sym (ap contents_of ps_is ∙ streams)) sound)
+
+-- as many texts as pages, and the one of the catalogue
+pub texts_count : PageLaws → (made outline_is : PlainCatalogue) (texts : List (Vec Part)) (pages : List ℕ) (text : List ℕ) → shapes made ≡ shapes outline_is → plain_contents texts ≡ page_texts made ++ text ∷ [] → pages ≡ page_sizes outline_is
+    → length texts ≡ length pages + 1
+texts_count laws made outline_is texts pages text alike texts_are pages_are =
+    let sizes : length (map (λ (t : List ℕ). length t) (page_texts made)) ≡ length (page_sizes made) = ap (λ (ns : List ℕ). length ns) (laws.pages made) in
+    let same : length (page_sizes made) ≡ length pages = ap (λ (ns : List ℕ). length ns) (sizes_alike made outline_is alike ∙ sym pages_are) in
+    let all : length (plain_contents texts) ≡ length (page_texts made ++ text ∷ []) = ap (λ (vs : List (List ℕ)). length vs) texts_are in
+    omega (arith, sizes, same, all, length-map texts (λ (parts : Vec Part). bytes_of_parts parts.items), length-map (page_texts made) (λ (t : List ℕ). length t), length-append (page_texts made) (text ∷ []))
+
+module _ (laws : PageLaws) (old new : Space) (limits : is_size old.size ≡ true) (c : PlainCatalogue) (stands : IsCatalogue c) (change : PlainChange) (sound : IsChange c change) (few : segment_count (outline c change) ≤ MAX_SEGMENTS)
+    (pieces : List PlainPiece) (pages : List Run) (run : Run) (took : TookAll old new (asked_sizes c change) ((runs_of pieces ++ pages) ++ run ∷ [])) (streams : contents_of pieces ≡ change.streams) where
+  most : old.size ≤ 4194304
+  most = leb-true _ _ (and_parts (nat_le 16 old.size) (nat_le old.size 4194304) limits).1
+
+  small : old.size < 2 ^ 64
+  small = omega (arith, most)
+
+  enough : length (runs_of pieces) ≡ length change.streams
+  enough = as_many old new c change sound pieces pages run took streams
+
+  pub made_sound : list_all is_segment (placed_segments (runs_of pieces) change.streams change.counts) ≡ true
+  made_sound = segments_sound c change sound (runs_of pieces) enough old.size small (taken_streams old new c change sound pieces pages run took streams)
+
+  pub made_stands : IsCatalogue (unpaged c change (runs_of pieces))
+  made_stands = unpaged_stands c change sound (runs_of pieces) enough old.size stands few small (taken_streams old new c change sound pieces pages run took streams)
+
+  pub made_runs : ArePageRuns (unpaged c change (runs_of pieces)) pages
+  made_runs = page_runs_are old new c change sound pieces pages run took streams most
+
+  pub made_kind : kind_of (unpaged c change (runs_of pieces)) ≡ kind_of (outline c change)
+  made_kind = kind_alike (unpaged c change (runs_of pieces)) (outline c change) (unpaged_shapes c change sound (runs_of pieces) enough)
+
+  -- the text that is written
+  made_text : List ℕ
+  made_text = settled_text (unpaged c change (runs_of pieces)) pages
+
+  text_is_long : length (settled_text (unpaged c change (runs_of pieces)) pages) ≡ text_size (outline c change)
+  text_is_long = laws.text (unpaged c change (runs_of pieces)) pages made_runs ∙ text_alike (unpaged c change (runs_of pieces)) (outline c change) (unpaged_shapes c change sound (runs_of pieces) enough)
+
+  page_pieces : List PlainPiece
+  page_pieces = paired pages (page_texts (unpaged c change (runs_of pieces)))
+
+  as_many_texts : length pages ≡ length (page_texts (unpaged c change (runs_of pieces)))
+  as_many_texts =
+      let made = unpaged c change (runs_of pieces) in
+      let sizes : length (map (λ (text : List ℕ). length text) (page_texts made)) ≡ length (page_sizes made) = ap (λ (ns : List ℕ). length ns) (laws.pages made) in
+      let taken = taken_length old.size (map sector_count (page_sizes made)) pages (taken_own_pages old new c change sound pieces pages run took streams) in
+      omega (arith, sizes, taken, length-map (page_texts made) (λ (text : List ℕ). length text), length-map (page_sizes made) sector_count)
+
+  pages_in : runs_of (paired pages (page_texts (unpaged c change (runs_of pieces)))) ≡ pages
+  pages_in = paired_runs pages (page_texts (unpaged c change (runs_of pieces))) as_many_texts
+
+  texts_in : contents_of (paired pages (page_texts (unpaged c change (runs_of pieces)))) ≡ page_texts (unpaged c change (runs_of pieces))
+  texts_in = paired_contents pages (page_texts (unpaged c change (runs_of pieces))) as_many_texts
+
+  module _ (k : Commit) (next : StoredCatalogue) (plan : Plan StoredCatalogue) (back : List Run) (own : k.device_sectors ≡ old.size) (epoch : HasNext k)
+      (next_is : catalogue_of next.list ≡ settled (unpaged c change (runs_of pieces)) pages)
+      (commit_is : plan.commit ≡ commit_placed k c change run) (catalogue_is : plan.catalogue ≡ next)
+      (placed_are : runs_of (plain_pieces plan.pieces.items) ≡ (runs_of pieces ++ pages) ++ run ∷ [])
+      (written_is : contents_of (plain_pieces plan.pieces.items) ≡ contents_of pieces ++ (page_texts (unpaged c change (runs_of pieces)) ++ settled_text (unpaged c change (runs_of pieces)) pages ∷ []))
+      (taken_is : plan.runs.items ≡ (runs_of pieces ++ pages) ++ run ∷ [])
+      (back_is : back ≡ given_up c change.edit (unplaced change.streams change.counts) ++ (dropped_pages (outline c change) ++ k.catalogue.run ∷ [])) where
+    front : List PlainPiece
+    front = pieces ++ paired pages (page_texts (unpaged c change (runs_of pieces)))
+
+    front_runs : runs_of (pieces ++ paired pages (page_texts (unpaged c change (runs_of pieces)))) ≡ runs_of pieces ++ pages
+    front_runs = map-append (λ (x : PlainPiece). x.run) pieces (paired pages (page_texts (unpaged c change (runs_of pieces)))) ∙ ap (λ (rs : List Run). runs_of pieces ++ rs) pages_in
+
+    front_contents : contents_of (pieces ++ paired pages (page_texts (unpaged c change (runs_of pieces)))) ≡ contents_of pieces ++ page_texts (unpaged c change (runs_of pieces))
+    front_contents = map-append (λ (x : PlainPiece). x.bytes) pieces (paired pages (page_texts (unpaged c change (runs_of pieces)))) ∙ ap (λ (vs : List (List ℕ)). contents_of pieces ++ vs) texts_in
+
+    whole_is : plain_pieces plan.pieces.items ≡ (pieces ++ paired pages (page_texts (unpaged c change (runs_of pieces)))) ++ record { run = run; bytes = settled_text (unpaged c change (runs_of pieces)) pages } ∷ []
+    whole_is =
+        text_last (pieces ++ paired pages (page_texts (unpaged c change (runs_of pieces)))) (plain_pieces plan.pieces.items) ((runs_of pieces ++ pages) ++ run ∷ []) run (settled_text (unpaged c change (runs_of pieces)) pages) placed_are
+        (ap (λ (rs : List Run). rs ++ run ∷ []) (sym front_runs))
+        (written_is ∙ sym (append_assoc (contents_of pieces) (page_texts (unpaged c change (runs_of pieces))) (settled_text (unpaged c change (runs_of pieces)) pages ∷ []))
+        ∙ ap (λ (vs : List (List ℕ)). vs ++ settled_text (unpaged c change (runs_of pieces)) pages ∷ []) (sym front_contents))
+
+    -- each page is one of the pieces
+    goes : GoesTo old.size (plain_pieces plan.pieces.items) (unpaged c change (runs_of pieces)) pages
+    goes = record {
+      pages = λ long.
+          let made = unpaged c change (runs_of pieces) in
+          let ps = paired pages (page_texts made) in
+          let last : List PlainPiece = record { run = run; bytes = settled_text made pages } ∷ [] in
+          let texts : contents_of ps ≡ map table_text (pageless made) = texts_in ∙ ap (λ (t : Bool). if t then [] else map table_text (pageless made)) long in
+          let sizes : page_sizes made ≡ map table_size (pageless made) = ap (λ (t : Bool). if t then [] else map table_size (pageless made)) long in
+          let taken = subst (λ (rs : List Run). AreTaken old.size (map sector_count (map table_size (pageless made))) rs) (sym pages_in)
+          (subst (λ (ns : List ℕ). AreTaken old.size (map sector_count ns) pages) sizes (taken_own_pages old new c change sound pieces pages run took streams)) in
+          subst (λ (rs : List Run). ArePages old.size (plain_pieces plan.pieces.items) (pageless made) rs) pages_in
+          (pages_are old.size most (plain_pieces plan.pieces.items) (pageless made) ps texts taken
+          (λ r bytes is. subst (λ (xs : List PlainPiece). IsPieceOf xs r bytes) (sym whole_is) (piece_left (pieces ++ ps) last r bytes (piece_right pieces ps r bytes is))));
+    }
+
+    reads_again : ReadsAgain old.size k c (unpaged c change (runs_of pieces)) pages (settled_text (unpaged c change (runs_of pieces)) pages) (plain_pieces plan.pieces.items)
+    reads_again before image stood holds same spared =
+        let found = rules_found stored_reading old.size before k c stood in
+        let segments = placed_segments (runs_of pieces) change.streams change.counts in
+        laws.read old.size before image (plain_pieces plan.pieces.items) holds same (unpaged c change (runs_of pieces)) pages made_stands made_runs goes
+        (edited_holds old.size before laws.messages c change.edit change.streams segments stands sound.edit (laws.held old.size before k found.text c found.spelled))
+        (each_spared (unpaged c change (runs_of pieces)) (plain_pieces plan.pieces.items) (entries.runs_of c) spared (edited_pages laws.messages c change.edit change.streams segments stands sound.edit))
+
+    counted_are : asked_sizes c change ≡ map sectors_of (contents_of (plain_pieces plan.pieces.items))
+    counted_are =
+        let made = unpaged c change (runs_of pieces) in
+        let sizes : page_sizes (outline c change) ≡ map (λ (text : List ℕ). length text) (page_texts made) =
+        sym (sizes_alike made (outline c change) (unpaged_shapes c change sound (runs_of pieces) enough)) ∙ sym (laws.pages made) in
+        counts_are change.streams (page_sizes (outline c change)) (page_texts made) (text_size (outline c change)) (settled_text made pages) (ap (map sector_count) sizes ∙ text_sectors (page_texts made)) (ap sector_count (sym text_is_long))
+        ∙ ap (map sectors_of) ((λ i. (sym streams i ++ page_texts made) ++ settled_text made pages ∷ []) ∙ append_assoc (contents_of pieces) (page_texts made) (settled_text made pages ∷ []) ∙ sym written_is)
+
+    pub prepared : IsPrepared old new k c change plan back
+    prepared =
+        let made = unpaged c change (runs_of pieces) in
+        let took_front : TookAll old new (asked_sizes c change) (runs_of (pieces ++ paired pages (page_texts made)) ++ run ∷ []) = subst (λ (rs : List Run). TookAll old new (asked_sizes c change) (rs ++ run ∷ [])) (sym front_runs) took in
+        let took_plan : TookAll old new (asked_sizes c change) (runs_of (plain_pieces plan.pieces.items)) = subst (λ (rs : List Run). TookAll old new (asked_sizes c change) rs) (sym placed_are) took in
+        let published = plan_of old new (asked_sizes c change) (pieces ++ paired pages (page_texts made)) run (settled_text made pages) (plain_pieces plan.pieces.items) k k.version (kind_of (outline c change)) limits own (omega (arith, epoch))
+        took_plan counted_are whole_is in
         record {
           next = epoch;
           few = few;
+          messages = laws.messages;
           pieces = pieces;
+          pages = paired pages (page_texts made);
           run = run;
-          text = text;
-          took = took;
-          streams = streams_is;
-          whole = text_last pieces (plain_pieces plan.pieces.items) runs run text placed_is runs_is written_is;
-          runs = taken_is ∙ runs_is;
-          catalogue = ap (λ (s : StoredCatalogue). catalogue_of s.list) catalogue_is ∙ list_is ∙ given_is;
-          found = text_is ∙ ap (λ (s : StoredCatalogue). Some (catalogue_of s.list)) (sym catalogue_is);
-          size = long;
-          commit = commit_is ∙ ap (next_commit k k.version k.kind run) bytes_is;
+          text = settled_text made pages;
+          took = took_front;
+          streams = streams;
+          placed = subst (λ (rs : List Run). ArePageRuns made rs) (sym pages_in) made_runs;
+          whole = whole_is;
+          runs = taken_is ∙ ap (λ (rs : List Run). rs ++ run ∷ []) (sym front_runs);
+          catalogue = ap (λ (s : StoredCatalogue). catalogue_of s.list) catalogue_is ∙ next_is ∙ ap (settled made) (sym pages_in);
+          size = text_is_long;
+          commit = commit_is;
           gives = back_is;
-          publishes = plan_follows old new contents bytes pieces (plain_pieces plan.pieces.items) runs run text k plan.commit k.version k.kind limits own (omega (arith, epoch)) all runs_is contents_is (bytes_is ∙ sym long) commit_is placed_is written_is;
+          reads = subst (λ (rs : List Run). ReadsAgain old.size k c made rs (settled_text made pages) (plain_pieces plan.pieces.items)) (sym pages_in) reads_again;
+          publishes = subst (λ (x : Commit). IsPlan old.size k x (plain_pieces plan.pieces.items)) (sym (commit_is ∙ ap (next_commit k k.version (kind_of (outline c change)) run) (sym text_is_long))) published;
         }

@@ -18,7 +18,7 @@ use Rattle.cells.specs.Weight.{table_weight}
 use Rattle.cells.specs.declared.limits.TheConstants.{MAX_TABLE_WEIGHT}
 use Rattle.values.specs.Table.{Refusal, IsTable, table_from}
 use Rattle.catalogue.specs.declared.entry.Segment.{Segment}
-use Rattle.catalogue.specs.Entries.{PlainEntry, PlainCatalogue, runs_in, runs_of}
+use Rattle.catalogue.specs.Entries.{PlainEntry, PlainCatalogue, page_runs, runs_in_segments, runs_in, runs_of}
 use Rattle.catalogue.specs.Edits.{entry_of}
 use Rattle.catalogue.specs.laws.Order.{by_found}
 use Rattle.commit.specs.Standing.{is_on_device, all_on_device}
@@ -126,11 +126,11 @@ on_left size (r ∷ rs) ss on =
     let more = on_left size rs ss parts.1 in
     (ap (λ (b : Bool). b && all_on_device size rs) parts.0 ∙ more.0, more.1)
 
-pub runs_on_device : (size : ℕ) (c : PlainCatalogue) (name : List ℕ) (e : PlainEntry) → all_on_device size (runs_of c) ≡ true → entry_of c name ≡ Some e → all_on_device size (runs_in e) ≡ true
+pub runs_on_device : (size : ℕ) (c : PlainCatalogue) (name : List ℕ) (e : PlainEntry) → all_on_device size (runs_of c) ≡ true → entry_of c name ≡ Some e → all_on_device size (runs_in_segments e.segments) ≡ true
 runs_on_device size [] name e on found = absurd (cc found)
 runs_on_device size (x ∷ xs) name e on found =
     let parts = on_left size (runs_in x) (runs_of xs) (ap (all_on_device size) (sym (flat_map-cons runs_in x xs)) ∙ on) in
-    by_found x xs name e found (λ t stands. subst (λ (y : PlainEntry). all_on_device size (runs_in y) ≡ true) stands parts.0) (λ f there. runs_on_device size xs name e parts.1 there)
+    by_found x xs name e found (λ t stands. subst (λ (y : PlainEntry). all_on_device size (runs_in_segments y.segments) ≡ true) stands (on_left size (page_runs x.page) (runs_in_segments x.segments) parts.0).1) (λ f there. runs_on_device size xs name e parts.1 there)
 
 -- the run of the segment at a place
 pub run_at : (size : ℕ) (segments : List Segment) (place : ℕ) (segment : Segment) → all_on_device size (map (λ (s : Segment). s.place.run) segments) ≡ true → place < length segments → segment ≡ get_or segments place segment

@@ -15,7 +15,7 @@ use Rattle.catalogue.specs.laws.Changed.{found_passes}
 use Rattle.catalogue.specs.laws.Kept.{entry_is}
 use Rattle.commit.specs.declared.recovery.Opened.{Opened}
 use Rattle.export_book.specs.Book.{PlainBook}
-use Rattle.store.specs.declared.stored.StoredCatalogue.{StoredCatalogue}
+use Rattle.pages.specs.declared.stored.StoredCatalogue.{StoredCatalogue}
 use Rattle.commit.specs.Standing.{is_size, Stands}
 use Rattle.tables.specs.declared.refusal.Refusal.{Refusal}
 use Rattle.tables.specs.declared.refusal.Refusal.TheVariants as refusals
@@ -27,7 +27,8 @@ use Rattle.store.specs.Calls.{PlainCall, read_call, export_call, PlainReply, ref
 use Rattle.store.specs.Machine.{pinned_by, SparesKept, Setting, Machine, running, halted, halt, meanwhile, has_written, tables_now, Allows, AllowsEach}
 use Rattle.store.specs.Steps.{Step, Stays, RefusesReading}
 use Rattle.store.specs.Runs.{TellsFound, TellsRoom}
-use Rattle.store.specs.Held.{whole_reading, tables_held, table_held}
+use Rattle.store.specs.Held.{tables_held, table_held}
+use Rattle.pages.specs.Stored.{stored_reading}
 use Rattle.store.specs.Fits.{book_of, setting_of, StoreFits, DeviceFits, ExportsFit, IsSound, listed_in}
 use Rattle.store.specs.Applying.{GoesOn}
 use Rattle.store.specs.Reading.{IsUnread, Unreads, RefusesRead, ReadsTable, OnlyReadsStore}
@@ -77,10 +78,10 @@ module _ {D : Type 0} {g : Ghosts D} (size : D → ℕ) (story : D → Story) (f
   sound_after : (ends : PlainReply) → OnlyReadsStore size story failed tells ends old new → IsSound size story base m old → IsSound size story base m new
   sound_after ends reads sound =
       let later : now (story new.device) ≡ now (story old.device) = now_read (story old.device) (story new.device) (reads.device.moments told) in
-      let at : Stands whole_reading (size new.device) (now (story new.device)) old.opened.commit (listed_in old) =
-      subst (λ (n : ℕ). Stands whole_reading n (now (story new.device)) old.opened.commit (listed_in old)) (sym reads.device.same) (subst (λ (d : Disk). Stands whole_reading (size old.device) d old.opened.commit (listed_in old)) (sym later) sound.stands) in
+      let at : Stands stored_reading (size new.device) (now (story new.device)) old.opened.commit (listed_in old) =
+      subst (λ (n : ℕ). Stands stored_reading n (now (story new.device)) old.opened.commit (listed_in old)) (sym reads.device.same) (subst (λ (d : Disk). Stands stored_reading (size old.device) d old.opened.commit (listed_in old)) (sym later) sound.stands) in
       record {
-        stands = subst (λ (o : Opened StoredCatalogue). Stands whole_reading (size new.device) (now (story new.device)) o.commit (catalogue_of o.catalogue.list)) (sym reads.kept) at;
+        stands = subst (λ (o : Opened StoredCatalogue). Stands stored_reading (size new.device) (now (story new.device)) o.commit (catalogue_of o.catalogue.list)) (sym reads.kept) at;
         tables = (λ i. tables_held (synced_image (later i)) (catalogue_of (reads.kept i).catalogue.list)) ∙ sound.tables;
         uses = new.uses;
         none = sound.none;

@@ -18,7 +18,7 @@ use Rattle.store.specs.declared.store.Store.{Store}
 use Rattle.store.specs.Machine.{Machine, pinned_by}
 use Rattle.store.specs.laws.Edited.{none_listed}
 use Rattle.store.specs.laws.Exported.{kept_pinned}
-use Rattle.store.specs.Held.{whole_reading}
+use Rattle.pages.specs.Stored.{stored_reading}
 use Rattle.store.specs.Runs.{RoomFrom}
 use Rattle.store.specs.Fits.{book_of, listed_in, IsSound}
 use Rattle.store.specs.Changes.{PlainChange}
@@ -44,20 +44,20 @@ pins_are pinned run = by_case (is_among pinned run) refl
 
 module _ {D : Type 0} {g : Ghosts D} (size : D → ℕ) (story : D → Story) (base : Tables) (m : Machine) (store : Store D g) (sound : IsSound size story base m store) where
   -- those that the store keeps for exports are those of the machine
-  pub pins : Uses store.opened.map.entries (used_runs whole_reading store.opened.commit (listed_in store)) (pinned_by m)
-  pins = subst (λ (rs : List Run). Uses store.opened.map.entries (used_runs whole_reading store.opened.commit (listed_in store)) rs) (kept_pinned (synced_image (now (story store.device))) (book_of store).exports m.exports sound.exports) sound.uses
+  pub pins : Uses store.opened.map.entries (used_runs stored_reading store.opened.commit (listed_in store)) (pinned_by m)
+  pins = subst (λ (rs : List Run). Uses store.opened.map.entries (used_runs stored_reading store.opened.commit (listed_in store)) rs) (kept_pinned (synced_image (now (story store.device))) (book_of store).exports m.exports sound.exports) sound.uses
 
   -- the runs in use are those of the commit and its catalogue, and those that exports keep
-  same_used : (run : Run) → is_used (usage_of store.opened.map.entries run) ≡ (is_among (used_runs whole_reading store.opened.commit (listed_in store)) run || is_among (pinned_by m) run)
-  same_used run = ap is_used (pins run) ∙ ap (λ (b : Bool). is_among (used_runs whole_reading store.opened.commit (listed_in store)) run || b) (pins_are (pinned_by m) run)
+  same_used : (run : Run) → is_used (usage_of store.opened.map.entries run) ≡ (is_among (used_runs stored_reading store.opened.commit (listed_in store)) run || is_among (pinned_by m) run)
+  same_used run = ap is_used (pins run) ∙ ap (λ (b : Bool). is_among (used_runs stored_reading store.opened.commit (listed_in store)) run || b) (pins_are (pinned_by m) run)
 
   pub carried_out : (c : PlainCommand) (change : PlainChange) (result : Result (Unit {0}) Refusal) (k' : Commit) (c' : PlainCatalogue) (after : Disk)
-      → IsDecided true (shown_image (now (story store.device))) (listed_in store) c (Ok change) → standing whole_reading (size store.device) (shown_image after) ≡ rules k' c'
+      → IsDecided true (shown_image (now (story store.device))) (listed_in store) c (Ok change) → standing stored_reading (size store.device) (shown_image after) ≡ rules k' c'
       → IsCarried (size store.device) (IsUsedIn store.opened.map.entries) store.opened.commit (listed_in store) change result k' c' → IsCarriedOut (size store.device) (pinned_by m) (now (story store.device)) after c result
   carried_out c change result k' c' after decided stands carried = record {
     commit = store.opened.commit;
     catalogue = listed_in store;
-    stood = ap (standing whole_reading (size store.device)) (shown_is_synced (now (story store.device)) sound.stands.quiet.shown) ∙ sound.stands.found;
+    stood = ap (standing stored_reading (size store.device)) (shown_is_synced (now (story store.device)) sound.stands.quiet.shown) ∙ sound.stands.found;
     change = change;
     decides = decided;
     new_commit = k';
@@ -73,4 +73,4 @@ module _ {D : Type 0} {g : Ghosts D} (size : D → ℕ) (story : D → Story) (b
       → IsCarriedOut (size store.device) (pinned_by m) (now (story store.device)) (now (story store.device)) c (Err r)
   refused_out c change r decided carried =
       carried_out c change (Err r) store.opened.commit (listed_in store) (now (story store.device)) decided
-      (ap (standing whole_reading (size store.device)) (shown_is_synced (now (story store.device)) sound.stands.quiet.shown) ∙ sound.stands.found) carried
+      (ap (standing stored_reading (size store.device)) (shown_is_synced (now (story store.device)) sound.stands.quiet.shown) ∙ sound.stands.found) carried

@@ -13,7 +13,7 @@ use Rattle.export_book.specs.Book.{PlainBook, runs_kept}
 use Rattle.tables.specs.Tables.{Tables}
 use Rattle.store.specs.declared.store.Store.{Store}
 use Rattle.store.specs.Machine.{Machine, SparesKept, pinned_by}
-use Rattle.store.specs.Held.{whole_reading}
+use Rattle.pages.specs.Stored.{stored_reading}
 use Rattle.store.specs.Fits.{book_of, listed_in, ExportsFit, IsSound}
 use Rattle.store.specs.Exported.{AreExportable}
 use Rattle.store.specs.Changes.{PlainChange}
@@ -31,7 +31,7 @@ module _ {D : Type 0} {g : Ghosts D} (size : D → ℕ) (story : D → Story) (b
     begun = inl refl;
     leaves = λ image may.
         let one : image ≡ synced_image (now (story old.device)) = only_image (now (story old.device)) image sound.stands.quiet.pending may in
-        record { which = inl (ap (standing whole_reading (size old.device)) one ∙ sound.stands.found); kept = λ n within. ap (λ (i : Image). i n) one };
+        record { which = inl (ap (standing stored_reading (size old.device)) one ∙ sound.stands.found); kept = λ n within. ap (λ (i : Image). i n) one };
   }
 
   pub last_moment : (change : PlainChange) → IsCarryingAtEachMoment size story old change new → IsCarrying (size old.device) (IsUsedIn old.opened.map.entries) old.opened.commit (listed_in old) (now (story old.device)) change (now (story new.device))
@@ -48,7 +48,7 @@ module _ {D : Type 0} {g : Ghosts D} (size : D → ℕ) (story : D → Story) (b
         (λ (t : IsTaking (size old.device) (IsUsedIn old.opened.map.entries) old.opened.commit (listed_in old) (now (story old.device)) change d).
         let behind = kept_behind (size old.device) (book_of old).exports n exportable (subst (λ (rs : List Run). InSome rs n) (sym pinned) within) in
         t.outside n
-        (pins_spared (size old.device) old.opened.map.entries (used_runs whole_reading old.opened.commit (listed_in old)) (pinned_by m) (asked_sizes (listed_in old) change) t.runs (pins size story base m old sound) t.takes n within)
+        (pins_spared (size old.device) old.opened.map.entries (used_runs stored_reading old.opened.commit (listed_in old)) (pinned_by m) (asked_sizes (listed_in old) change) t.runs (pins size story base m old sound) t.takes n within)
         (λ at. omega (arith, behind, at)))
         is.touches
 

@@ -1,7 +1,7 @@
 -- What the change of a step is and does: it can be made, it keeps the tables, and it shrinks the catalogue.
-use Rattle.std.specs.Prelude.{◌≡◌, ◌≤◌, ◌<◌, ◌+◌, ◌^◌, ◌++◌, ◌&&◌, ◌==◌, ℕ, zero, suc, Bool, true, false, nat_le, nat_lt, List, [], ◌∷◌, length, map, take, drop, sum_by, slice_get, Some, Ok, refl, if◌then◌else◌}
+use Rattle.std.specs.Prelude.{◌≡◌, ◌≤◌, ◌<◌, ◌+◌, ◌^◌, ◌++◌, ◌&&◌, ◌==◌, ℕ, zero, suc, Bool, true, false, nat_le, nat_lt, List, [], ◌∷◌, length, map, flat_map, take, drop, sum_by, slice_get, Some, Ok, refl, if◌then◌else◌}
 use Rattle.std.specs.List.{list_all, AllByRecursion}
-use Rattle.std.proofs.Common.{inr, sym, ap, ◌∙◌, subst, arith, take-append-drop, length-append}
+use Rattle.std.proofs.Common.{inl, inr, sym, ap, ◌∙◌, subst, arith, take-append-drop, length-append}
 use Rattle.std.proofs.lemmas.Bool.{and_parts, leb-true}
 use Rattle.std.proofs.lemmas.List.{length-map, map-append}
 use Rattle.std.proofs.lemmas.List.Sums.{sum_by-cons, sum_by-append}
@@ -19,17 +19,18 @@ use Rattle.table_cut.specs.Cut.{pieces, pieces_from}
 use Rattle.table_cut.specs.Piece.{pieces_of, within_piece}
 use Rattle.catalogue.specs.declared.entry.Segment.{Segment}
 use Rattle.catalogue.specs.declared.limits.TheConstants.{MAX_SEGMENTS, MAX_SEGMENT_ROWS}
-use Rattle.catalogue.specs.Entries.{PlainEntry, PlainCatalogue, is_segment, is_entry, is_between, runs_in, runs_of, segment_count, IsCatalogue}
+use Rattle.catalogue.specs.Entries.{PlainEntry, PlainCatalogue, is_segment, is_entry, is_between, runs_in_segments, runs_in, runs_of, segment_count, IsCatalogue}
 use Rattle.catalogue.specs.Edits.{entry_of, with_segments, from_place, with_others, with_exchanged}
 use Rattle.catalogue.specs.laws.Kept.{entry_is}
-use Rattle.catalogue.specs.laws.Sums.{refilled_sum}
+use Rattle.catalogue.specs.laws.Sums.{refilled_sum, segments_in}
 use Rattle.catalogue.specs.laws.Changed.{found_passes, exchanged_is}
-use Rattle.commit.specs.Placing.{Takes}
+use Rattle.commit.specs.Placing.{Takes, sectors_of as sectors_in}
 use Rattle.commit.specs.Standing.{InSome}
 use Rattle.commit.specs.laws.Placed.{took_length}
 use Rattle.store.specs.declared.compacting.Compaction.{Compaction}
 use Rattle.store.specs.declared.compacting.Compaction.TheVariants as compactions
-use Rattle.catalogue.specs.Text.{list_size}
+use Rattle.pages.specs.Paging.{page_sizes, text_size, settled}
+use Rattle.pages.specs.laws.Sizes.{settled_sum}
 use Rattle.store.specs.Held.{rows_held, tables_held}
 use Rattle.store.specs.Changes.{PlainChange, CanChange, edited, exchange, placed_segments, stream_rows, HoldsStreams}
 use Rattle.commit.specs.declared.sector.Commit.{Commit}
@@ -46,7 +47,7 @@ use Rattle.store.specs.laws.Frame.{same_rows, sectors_of}
 use Rattle.store.specs.laws.Named.{held_has}
 use Rattle.store.specs.laws.Pieces.{pieces_each, pieces_some, pieces_few}
 use Rattle.store.specs.laws.Same.{moved_same}
-use Rattle.store.specs.laws.Segments.{placed_number, unplaced_number}
+use Rattle.store.specs.laws.Segments.{placed_few, placed_none, unplaced_number}
 use Rattle.store.specs.laws.Spared.{takes_took}
 use Rattle.store.proofs.StepParts.{at_name, entry_sectors, segment_sectors, front_sectors, back_sectors, front_passes, back_passes, one_from, segment_passes}
 
@@ -178,7 +179,11 @@ abbrev starts : List Run → ℕ
 starts rs = sum_by (λ (r : Run). r.start) rs
 
 starts_in : PlainEntry → ℕ
-starts_in e = starts (runs_in e)
+starts_in e = starts (runs_in_segments e.segments)
+
+-- the runs of all segments
+abbrev segment_runs : PlainCatalogue → List Run
+segment_runs c = flat_map (λ (e : PlainEntry). runs_in_segments e.segments) c
 
 starts_both : (a b : List Run) → starts (a ++ b) ≡ starts a + starts b
 starts_both a b = sum_by-append (λ (r : Run). r.start) a b
@@ -186,7 +191,7 @@ starts_both a b = sum_by-append (λ (r : Run). r.start) a b
 starts_of : (c : PlainCatalogue) → starts_sum c ≡ sum_by starts_in c
 unfolding starts_in
 starts_of [] = refl
-starts_of (x ∷ xs) = omega (arith, starts_of xs, starts_both (runs_in x) (runs_of xs), sum_by-cons starts_in x xs)
+starts_of (x ∷ xs) = omega (arith, starts_of xs, starts_both (runs_in_segments x.segments) (segment_runs xs), sum_by-cons starts_in x xs)
 
 abbrev starts_at : List Segment → ℕ
 starts_at ss = starts (map (λ (s : Segment). s.place.run) ss)
@@ -238,16 +243,17 @@ one_stream t some one =
     omega (arith, most, pieces_some_rows (within_piece t.schema) t.rows some, length-map (pieces_of t) (piece_stream t.schema))
 
 module _ (c : PlainCatalogue) (k : IsCatalogue c) (tells : Bool) (image : Image) (size : ℕ) (used : Run → Type 0) where
-  -- as many runs are taken as there are streams, and one for the text
-  as_many : (change : PlainChange) (places : List Run) (text : Run) → Takes size used (asked_sizes c change) (Ok (places ++ text ∷ [])) → length places ≡ length change.streams
+  -- as many runs are taken as there are streams, those for pages, and one for the text
+  as_many : (change : PlainChange) (places : List Run) (text : Run) → Takes size used (asked_sizes c change) (Ok (places ++ text ∷ [])) → length change.streams ≤ length places
   as_many change places text takes =
       let took = took_length size used (asked_sizes c change) (places ++ text ∷ []) (takes_took size used (asked_sizes c change) (places ++ text ∷ []) takes) in
       omega (
         arith,
         took,
         length-append places (text ∷ []),
-        length-append (map (λ (stream : List ℕ). sector_count (length stream)) change.streams) (sector_count (list_size (outline c change)) ∷ []),
-        length-map change.streams (λ (stream : List ℕ). sector_count (length stream)),
+        length-append (map sectors_in change.streams ++ map sector_count (page_sizes (outline c change))) (sector_count (text_size (outline c change)) ∷ []),
+        length-append (map sectors_in change.streams) (map sector_count (page_sizes (outline c change))),
+        length-map change.streams sectors_in,
       )
 
   merge_found : (change : PlainChange) → (m : IsMerge tells image c change) → entry_of c m.entry.name ≡ Some m.entry
@@ -268,7 +274,7 @@ module _ (c : PlainCatalogue) (k : IsCatalogue c) (tells : Bool) (image : Image)
       subst (λ (x : PlainChange). Takes size used (asked_sizes c x) (Ok (places ++ text ∷ [])) → Shrinks c (edited c x.edit (placed_segments places x.streams x.counts))) (sym m.merge.is)
       (λ takes. merged_shrinks c m.entry.name m.entry (merge_found change m) m.merge.place 2 (placed_segments places (piece_streams m.merge.table) (piece_counts m.merge.table))
       (length_from m.entry.segments m.merge.place 2 m.merge.within)
-      (placed_number places (piece_streams m.merge.table) (piece_counts m.merge.table) (as_many (pieces_put (exchange m.entry.name m.merge.place 2) m.merge.table) places text takes) (pieces_each m.merge.table)
+      (placed_few places (piece_streams m.merge.table) (piece_counts m.merge.table) (as_many (pieces_put (exchange m.entry.name m.merge.place 2) m.merge.table) places text takes) (pieces_each m.merge.table)
       ∙ merge_one change m))
 
   move_shrinks : (change : PlainChange) → IsMove tells image size used c change → (places : List Run) (text : Run) → Takes size used (asked_sizes c change) (Ok (places ++ text ∷ []))
@@ -293,9 +299,8 @@ module _ (c : PlainCatalogue) (k : IsCatalogue c) (tells : Bool) (image : Image)
 
       by_places : (rs : List Run) → Takes size used (asked_sizes c copied) (Ok (rs ++ text ∷ [])) → Shrinks c (edited c copied.edit (placed_segments rs copied.streams copied.counts))
       by_places [] takes = absurd (let none = as_many copied [] text takes in omega (arith, none))
-      by_places (p ∷ (q ∷ rs)) takes = absurd (let many = as_many copied (p ∷ (q ∷ rs)) text takes in omega (arith, many))
-      by_places (p ∷ []) takes =
-          let took = takes_took size used (asked_sizes c copied) ((p ∷ []) ++ text ∷ []) takes in
+      by_places (p ∷ rs) takes =
+          let took = takes_took size used (asked_sizes c copied) ((p ∷ rs) ++ text ∷ []) takes in
           let other : Segment = record { place = record { run = p; bytes = length m.bytes }; rows = g.rows } in
           let alike : Some p ≡ Some m.run = one_lowest size used (sector_count (length m.bytes)) (Some p) (Some m.run) took.0 (subst (λ (n : ℕ). IsLowest size used n (Some m.run)) fits m.lowest) in
           let same : p ≡ m.run = cc alike in
@@ -304,7 +309,8 @@ module _ (c : PlainCatalogue) (k : IsCatalogue c) (tells : Bool) (image : Image)
           let one : length (from_place e.segments m.place 1) ≡ 1 = ap (λ (ss : List Segment). length ss) gone in
           let was : starts_at (from_place e.segments m.place 1) ≡ starts_at (g ∷ []) = ap starts_at gone in
           let below = m.below in
-          inr (
+          subst (λ (gs : List Segment). Shrinks c (edited c copied.edit (other ∷ gs))) (sym (placed_none rs []))
+          (inr (
             omega (arith, one, exchanged_count c e.name e found m.place 1 (other ∷ [])),
             omega (
               arith,
@@ -315,7 +321,7 @@ module _ (c : PlainCatalogue) (k : IsCatalogue c) (tells : Bool) (image : Image)
               sum_by-cons (λ (r : Run). r.start) p [],
               sum_by-cons (λ (r : Run). r.start) g.place.run [],
             ),
-          )
+          ))
 
   pub step_shrinks : (done : Compaction) (change : PlainChange) → IsStep tells image size used c done (Some change) → (places : List Run) (text : Run)
       → Takes size used (asked_sizes c change) (Ok (places ++ text ∷ [])) → Shrinks c (edited c change.edit (placed_segments places change.streams change.counts))
@@ -346,8 +352,20 @@ module _ (c : PlainCatalogue) (k : IsCatalogue c) (tells : Bool) (image : Image)
   step_few compactions.Moved change step = move_few change step.1
   step_few compactions.Nothing change step = absurd step
 
+-- pages make no difference to it
+settled_starts : (c : PlainCatalogue) (runs : List Run) → starts_sum (settled c runs) ≡ starts_sum c
+unfolding starts_in
+settled_starts c runs = starts_of (settled c runs) ∙ settled_sum starts_in (λ e o. refl) c runs ∙ sym (starts_of c)
+
+settled_shrinks : (c d : PlainCatalogue) (runs : List Run) → Shrinks c d → Shrinks c (settled d runs)
+settled_shrinks c d runs (inl fewer) = let count = settled_sum segments_in (λ e o. refl) d runs in inl (omega (arith, fewer, count))
+settled_shrinks c d runs (inr (same, lower)) =
+    let count = settled_sum segments_in (λ e o. refl) d runs in
+    inr (omega (arith, same, count), omega (arith, lower, settled_starts d runs))
+
 -- what was carried out shrinks the catalogue
 pub carried_shrinks : (c : PlainCatalogue) → IsCatalogue c → (tells : Bool) (image : Image) (size : ℕ) (used : Run → Type 0) (done : Compaction) (change : PlainChange) → IsStep tells image size used c done (Some change)
     → (k k' : Commit) (c' : PlainCatalogue) → IsCarried size used k c change (Ok tt) k' c' → Shrinks c c'
 carried_shrinks c kept tells image size used done change step k k' c' (next, few, (places, text, takes, is, commit)) =
-    subst (Shrinks c) (sym is) (step_shrinks c kept tells image size used done change step places text takes)
+    subst (Shrinks c) (sym is)
+    (settled_shrinks c (edited c change.edit (placed_segments places change.streams change.counts)) (drop (length change.streams) places) (step_shrinks c kept tells image size used done change step places text takes))

@@ -10,7 +10,7 @@ use Rattle.std.proofs.lemmas.Bool.{cond-true, cond-false, and_parts}
 use Rattle.std.proofs.lemmas.Cmp.{nat_list_cmp_total}
 use Rattle.std.proofs.lemmas.Map.Text.{is_eq-slice_cmp}
 use Rattle.catalogue.specs.declared.entry.Segment.{Segment}
-use Rattle.catalogue.specs.Entries.{PlainEntry, PlainCatalogue, names_of, comes_before, ascends, is_segment, runs_in, runs_of}
+use Rattle.catalogue.specs.Entries.{PlainEntry, PlainCatalogue, names_of, comes_before, ascends, is_segment, page_runs, runs_in_segments, runs_in, runs_of}
 use Rattle.catalogue.specs.Edits.{entry_of}
 use Rattle.catalogue.specs.laws.Order.{order, less_is}
 use Rattle.commit.specs.Standing.{InSome, is_on_device, all_on_device}
@@ -44,9 +44,10 @@ at_name (x ∷ xs) (suc i) e rises at =
 -- ---- runs
 
 -- the sectors of an entry are sectors of the catalogue
-pub entry_sectors : (c : PlainCatalogue) (i : ℕ) (e : PlainEntry) (n : ℕ) → slice_get c i ≡ Some e → InSome (runs_in e) n → InSome (runs_of c) n
+pub entry_sectors : (c : PlainCatalogue) (i : ℕ) (e : PlainEntry) (n : ℕ) → slice_get c i ≡ Some e → InSome (runs_in_segments e.segments) n → InSome (runs_of c) n
 entry_sectors [] i e n at within = absurd (cc at)
-entry_sectors (x ∷ xs) zero e n at within = let same : x ≡ e = cc at in in_left (runs_in x) (runs_of xs) n (subst (λ (y : PlainEntry). InSome (runs_in y) n) (sym same) within)
+entry_sectors (x ∷ xs) zero e n at within = let same : x ≡ e = cc at in
+    in_left (runs_in x) (runs_of xs) n (in_right (page_runs x.page) (runs_in_segments x.segments) n (subst (λ (y : PlainEntry). InSome (runs_in_segments y.segments) n) (sym same) within))
 entry_sectors (x ∷ xs) (suc i) e n at within = in_right (runs_in x) (runs_of xs) n (entry_sectors xs i e n at within)
 
 -- those of a segment are sectors of its entry

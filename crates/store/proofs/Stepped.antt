@@ -13,14 +13,13 @@ use Rattle.catalogue.specs.declared.entry.Segment.{Segment}
 use Rattle.catalogue.specs.declared.limits.TheConstants.{MAX_SEGMENTS}
 use Rattle.catalogue.specs.Entries.{PlainCatalogue, IsCatalogue, runs_of, segment_count}
 use Rattle.catalogue.specs.laws.Kept.{catalogue_is}
-use Rattle.catalogue.specs.Text.{list_size}
 use Rattle.export_book.specs.Book.{PlainBook}
 use Rattle.commit.specs.Standing.{is_size, rules, standing, used_runs, InSome, Stands}
 use Rattle.commit.specs.Publishing.{next_commit}
 use Rattle.commit.specs.declared.sector.Commit.{Commit}
 use Rattle.commit.specs.declared.recovery.Opened.{Opened}
 use Rattle.catalogue.specs.View.{catalogue_of}
-use Rattle.store.specs.declared.stored.StoredCatalogue.{StoredCatalogue}
+use Rattle.pages.specs.declared.stored.StoredCatalogue.{StoredCatalogue}
 use Rattle.tables.specs.declared.refusal.Refusal.{Refusal}
 use Rattle.tables.specs.declared.refusal.Refusal.TheVariants as refusals
 use Rattle.tables.specs.declared.refusal.Limit.TheVariants as limits
@@ -33,11 +32,13 @@ use Rattle.store.specs.Calls.{PlainReply, compact_call, done, nothing, refused, 
 use Rattle.store.specs.Machine.{holds, Setting, Machine, running, halted, Allows, AllowsEach, SparesKept, meanwhile, has_written, halt}
 use Rattle.store.specs.Steps.{Step}
 use Rattle.store.specs.Runs.{Goes, TellsFound}
-use Rattle.store.specs.Held.{whole_reading, tables_held, held_tables, held_by}
+use Rattle.store.specs.Held.{tables_held, held_tables, held_by}
+use Rattle.pages.specs.Stored.{stored_reading}
 use Rattle.store.specs.Fits.{book_of, setting_of, listed_in, ExportsFit, StoreFits, IsSound}
 use Rattle.store.specs.Changes.{PlainChange, edited, placed_segments, HoldsStreams}
 use Rattle.store.specs.Exported.{AreExportable}
-use Rattle.store.specs.Carrying.{outline}
+use Rattle.store.specs.laws.Changed.{placed_held}
+use Rattle.store.specs.Carrying.{outline, placed, commit_placed}
 use Rattle.store.specs.Reading.{OnlyReadsStore}
 use Rattle.store.specs.Applying.{GoesOn, EndsAs, IsKept, HasCarried, IsOldOrCarried, IsCarrying, IsCarryingAtEachMoment, IsCarriedOnDisk}
 use Rattle.store.specs.Compacting.{reply_of, IsStep, UnreadsStep}
@@ -118,21 +119,21 @@ module _ {D : Type 0} {g : Ghosts D} (size : D → ℕ) (story : D → Story) (f
 
   -- ---- what its images hold
 
-  still_held : (image : Image) → ((n : ℕ) → InSome (used_runs whole_reading old.opened.commit (listed_in old)) n → image n ≡ (before.at n).synced) → tables_held image (listed_in old) ≡ Some (after base m.settled)
+  still_held : (image : Image) → ((n : ℕ) → InSome (used_runs stored_reading old.opened.commit (listed_in old)) n → image n ≡ (before.at n).synced) → tables_held image (listed_in old) ≡ Some (after base m.settled)
   still_held image kept = same_tables (synced_image before) image (listed_in old) catalogue.entries (λ n within. kept n (inr within)) ∙ sound.tables
 
-  new_held : (image : Image) → ((n : ℕ) → InSome (used_runs whole_reading old.opened.commit (listed_in old)) n → image n ≡ (before.at n).synced) → (is : HasCarried (size old.device) used old.opened.commit (listed_in old) change image)
-      → tables_held image (edited (listed_in old) change.edit (placed_segments is.places change.streams change.counts)) ≡ Some (after base m.settled)
-  new_held image kept is = keeps image (λ n within. kept n (inr within)) (placed_segments is.places change.streams change.counts) is.holds ∙ still_held image kept
+  new_held : (image : Image) → ((n : ℕ) → InSome (used_runs stored_reading old.opened.commit (listed_in old)) n → image n ≡ (before.at n).synced) → (is : HasCarried (size old.device) used old.opened.commit (listed_in old) change image)
+      → tables_held image (placed (listed_in old) change is.places) ≡ Some (after base m.settled)
+  new_held image kept is = placed_held image (listed_in old) change is.places ∙ keeps image (λ n within. kept n (inr within)) (placed_segments is.places change.streams change.counts) is.holds ∙ still_held image kept
 
   each : (image : Image) → IsOldOrCarried (size old.device) used old.opened.commit (listed_in old) before change image → held_by (size old.device) image ≡ holds (after base m.settled)
   each image is = by_which is.which
     where
-      by_which : (standing whole_reading (size old.device) image ≡ rules old.opened.commit (listed_in old)) ⊎ HasCarried (size old.device) used old.opened.commit (listed_in old) change image
+      by_which : (standing stored_reading (size old.device) image ≡ rules old.opened.commit (listed_in old)) ⊎ HasCarried (size old.device) used old.opened.commit (listed_in old) change image
           → held_by (size old.device) image ≡ holds (after base m.settled)
       by_which (inl stood) = held_is (size old.device) image old.opened.commit (listed_in old) stood ∙ ap held_tables (still_held image is.kept)
       by_which (inr does) =
-          held_is (size old.device) image (next_commit old.opened.commit old.opened.commit.version old.opened.commit.kind does.text (list_size (outline (listed_in old) change))) (edited (listed_in old) change.edit (placed_segments does.places change.streams change.counts)) does.stands
+          held_is (size old.device) image (commit_placed old.opened.commit (listed_in old) change does.text) (placed (listed_in old) change does.places) does.stands
           ∙ ap held_tables (new_held image is.kept does)
 
   each_allows : (image : Image) → IsOldOrCarried (size old.device) used old.opened.commit (listed_in old) before change image → Allows s m image
@@ -152,7 +153,7 @@ module _ {D : Type 0} {g : Ghosts D} (size : D → ℕ) (story : D → Story) (f
     begun = inl refl;
     leaves = λ image may.
         let one : image ≡ synced_image before = only_image before image sound.stands.quiet.pending may in
-        record { which = inl (ap (standing whole_reading (size old.device)) one ∙ sound.stands.found); kept = λ n within. ap (λ (i : Image). i n) one };
+        record { which = inl (ap (standing stored_reading (size old.device)) one ∙ sound.stands.found); kept = λ n within. ap (λ (i : Image). i n) one };
   }
 
   last_moment : IsCarryingAtEachMoment size story old change new → Carrying (now (story new.device))
@@ -202,14 +203,14 @@ module _ {D : Type 0} {g : Ghosts D} (size : D → ℕ) (story : D → Story) (f
         };
       }
     where
-      stands : standing whole_reading (size old.device) (synced_image (now (story new.device))) ≡ rules new.opened.commit (listed_in new)
-      stands = ap (λ (n : ℕ). standing whole_reading n (synced_image (now (story new.device)))) (sym sized) ∙ does.stands.found
+      stands : standing stored_reading (size old.device) (synced_image (now (story new.device))) ≡ rules new.opened.commit (listed_in new)
+      stands = ap (λ (n : ℕ). standing stored_reading n (synced_image (now (story new.device)))) (sym sized) ∙ does.stands.found
 
       same_rules : rules new.opened.commit (listed_in new)
-          ≡ rules (next_commit old.opened.commit old.opened.commit.version old.opened.commit.kind does.holds.text (list_size (outline (listed_in old) change))) (edited (listed_in old) change.edit (placed_segments does.holds.places change.streams change.counts))
+          ≡ rules (commit_placed old.opened.commit (listed_in old) change does.holds.text) (placed (listed_in old) change does.holds.places)
       same_rules = sym stands ∙ does.holds.stands
 
-      listed : listed_in new ≡ edited (listed_in old) change.edit (placed_segments does.holds.places change.streams change.counts)
+      listed : listed_in new ≡ placed (listed_in old) change does.holds.places
       listed = let both = same_rules in cc both
 
   failed_goes : failed new.device ≡ min (failed old.device + 1) (2 ^ 64 - 1) → new.halted ≡ true → IsCarryingAtEachMoment size story old change new → GoesOn size story failed base m compact_call (refused refusals.Device) old new
@@ -272,10 +273,10 @@ module _ {D : Type 0} {g : Ghosts D} (size : D → ℕ) (story : D → Story) (f
           };
           sound = λ again. record {
             stands =
-                subst (λ (n : ℕ). Stands whole_reading n (now (story new.device)) new.opened.commit (listed_in new)) (sym sized)
-                (subst (λ (d : Disk). Stands whole_reading (size old.device) d new.opened.commit (listed_in new)) (sym disk)
-                (subst (λ (k : Commit). Stands whole_reading (size old.device) before k (listed_in new)) (sym kept.0)
-                (subst (λ (x : PlainCatalogue). Stands whole_reading (size old.device) before old.opened.commit x) (sym kept.1) sound.stands)));
+                subst (λ (n : ℕ). Stands stored_reading n (now (story new.device)) new.opened.commit (listed_in new)) (sym sized)
+                (subst (λ (d : Disk). Stands stored_reading (size old.device) d new.opened.commit (listed_in new)) (sym disk)
+                (subst (λ (k : Commit). Stands stored_reading (size old.device) before k (listed_in new)) (sym kept.0)
+                (subst (λ (x : PlainCatalogue). Stands stored_reading (size old.device) before old.opened.commit x) (sym kept.1) sound.stands)));
             tables = (λ i. tables_held (synced_image (disk i)) (kept.1 i)) ∙ sound.tables;
             uses = new.uses;
             none = sound.none;

@@ -199,7 +199,7 @@ room_by c e (Some old) is counts sound h = omega (arith, sound.tables, (counts.s
 pub put_is_edit : (c : PlainCatalogue) (name : List ℕ) (schema : PlainSchema) (streams : List (List ℕ)) → Counts c → IsCatalogue c → bad_name name ≡ None → full_in c name ≡ None
     → IsWithinLimits schema → IsEdit c (put name schema) streams
 put_is_edit c name schema streams counts sound named room within =
-    (name_passed name named, within, room_by c (new_entry name schema []) (entry_of c name) refl counts sound room)
+    (name_passed name named, within, room_by c (new_entry name schema [] None) (entry_of c name) refl counts sound room)
 
 pub record CreatePassed (c : PlainCatalogue) (name : List ℕ) : Type 0 where
   pub named : bad_name name ≡ None

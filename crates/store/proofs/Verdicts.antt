@@ -14,7 +14,6 @@ use Rattle.ipc_stream.specs.Meaning.{meaning}
 use Rattle.catalogue.specs.Entries.{PlainEntry, PlainCatalogue, is_entry, IsCatalogue}
 use Rattle.catalogue.specs.Edits.{entry_of}
 use Rattle.catalogue.specs.Reading.{catalogue_at}
-use Rattle.catalogue.specs.Text.{list_size}
 use Rattle.catalogue.specs.laws.Changed.{found_passes}
 use Rattle.catalogue.specs.laws.Kept.{entry_is}
 use Rattle.commit.specs.declared.sector.Commit.{Commit}
@@ -29,15 +28,16 @@ use Rattle.tables.specs.Commands.{PlainCommand, create, import_stream, append_st
 use Rattle.tables.specs.Tables.{Tables, table_at, with_table, without_table}
 use Rattle.tables.specs.Verdict.{import_tests, of_meaning, empty_table, verdict}
 use Rattle.store.specs.Machine.{holds}
-use Rattle.store.specs.Held.{list_or_cause, whole_reading, tables_held, held_tables, held_by}
+use Rattle.store.specs.Held.{tables_held, held_tables, held_by}
+use Rattle.pages.specs.Stored.{stored_reading}
 use Rattle.store.specs.Changes.{put, move, remove, PlainChange, edited, placed_segments, stream_rows, MakesOf}
 use Rattle.store.specs.Reading.{Unreads}
 use Rattle.store.specs.Deciding.{missing_in, full_in, create_tests, rename_tests, names_changed, pieces_put, decided_create, decided_table, of_entry, Addition, given_rows, streamed_rows, unselected, entry_added, entry_selected, entry_read, reads_device, IsNotRead, IsDecided, IsAnswered}
-use Rattle.store.specs.Carrying.{outline}
+use Rattle.store.specs.Carrying.{outline, placed, commit_placed}
 use Rattle.store.specs.Applying.{HasDone}
 use Rattle.store.specs.inner.LawsBelow.{LawsBelow}
 use Rattle.store.specs.Verdicts.{Lists, AreListed, IsVerdict, IsUndecided, HoldsVerdict}
-use Rattle.store.specs.laws.Changed.{edited_held}
+use Rattle.store.specs.laws.Changed.{edited_held, placed_held}
 use Rattle.store.specs.laws.Frame.{held_is, same_tables}
 use Rattle.store.specs.laws.Listed.{held_lists}
 use Rattle.store.specs.laws.Named.{entry_has}
@@ -180,19 +180,14 @@ answered laws image c t command d catalogue held brings (inr (inr is)) = inr (de
 -- ---- what is done
 
 -- a catalogue that stands was read
-pub standing_catalogue : LawsBelow → (size : ℕ) (image : Image) (k : Commit) (c : PlainCatalogue) → standing whole_reading size image ≡ rules k c → IsCatalogue c
+pub standing_catalogue : LawsBelow → (size : ℕ) (image : Image) (k : Commit) (c : PlainCatalogue) → standing stored_reading size image ≡ rules k c → IsCatalogue c
 standing_catalogue laws size image k c is =
-    let found = rules_found whole_reading size image k c is in
-    laws.catalogues found.text c (by_text k.kind (catalogue_at found.text) found.spelled)
-  where
-    by_text : (kind : CatalogueKind) (o : Option PlainCatalogue) → list_or_cause kind o ≡ Ok c → o ≡ Some c
-    by_text Whole None h = absurd (cc h)
-    by_text Whole (Some x) h = let same : x ≡ c = cc h in ap Some same
-    by_text Pages o h = absurd (cc h)
+    let found = rules_found stored_reading size image k c is in
+    laws.catalogues size image k found.text c found.size_is found.spelled
 
 module _ (laws : LawsBelow) (size : ℕ) (entries : List UsageEntry) (k : Commit) (c : PlainCatalogue) (before : Disk) (t : Tables) (command : PlainCommand) (image : Image)
-    (stands : Stands whole_reading size before k c) (held : tables_held (synced_image before) c ≡ Some t) (brings : BringsTables command)
-    (kept : (n : ℕ) → InSome (used_runs whole_reading k c) n → image n ≡ (before.at n).synced) where
+    (stands : Stands stored_reading size before k c) (held : tables_held (synced_image before) c ≡ Some t) (brings : BringsTables command)
+    (kept : (n : ℕ) → InSome (used_runs stored_reading k c) n → image n ≡ (before.at n).synced) where
   catalogue : IsCatalogue c
   catalogue = standing_catalogue laws size (synced_image before) k c stands.found
 
@@ -205,10 +200,11 @@ module _ (laws : LawsBelow) (size : ℕ) (entries : List UsageEntry) (k : Commit
       let shown : tables_held (shown_image before) c ≡ Some t = ap (λ (i : Image). tables_held i c) (shown_is_synced before stands.quiet.shown) ∙ held in
       let says = decided laws (shown_image before) c t command (Ok done.change) (are_listed (shown_image before) c t catalogue shown) brings done.decides in
       let segments = placed_segments done.places done.change.streams done.change.counts in
-      let made = edited_held image c done.change t says.0 segments catalogue still_held says.2 done.holds in
-      (says.0, says.1, held_is size image (next_commit k k.version k.kind done.text (list_size (outline c done.change))) (edited c done.change.edit segments) done.stands ∙ ap held_tables made)
+      let edited_is = edited_held image c done.change t says.0 segments catalogue still_held says.2 done.holds in
+      let made = placed_held image c done.change done.places ∙ edited_is in
+      (says.0, says.1, held_is size image (commit_placed k c done.change done.text) (placed c done.change done.places) done.stands ∙ ap held_tables made)
 
-  pub left_verdict : (which : (standing whole_reading size image ≡ rules k c) ⊎ HasDone size (IsUsedIn entries) k c before command image)
+  pub left_verdict : (which : (standing stored_reading size image ≡ rules k c) ⊎ HasDone size (IsUsedIn entries) k c before command image)
       → (held_by size image ≡ holds t) ⊎ HoldsVerdict size image t command
   left_verdict (inl stood) = inl (held_is size image k c stood ∙ ap held_tables still_held)
   left_verdict (inr done) = inr (done_verdict done)

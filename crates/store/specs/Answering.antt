@@ -25,7 +25,7 @@ use Rattle.commit.specs.declared.opening_refusal.OpeningRefusal.TheVariants as o
 use Rattle.store.specs.Calls.{PlainCall, apply_call, format_call, open_call, close_call, tables_call, schema_call, read_call, export_call, stream_call, open_export_call, export_next_call, close_export_call, compact_call}
 use Rattle.store.specs.Calls.{PlainReply, done, counts, schema_is, table_is, bytes_are, export_is, piece_is, nothing, refused, shut_by, counted}
 use Rattle.store.specs.Opening.{TellsOpening, TellsFormatting, IsOfFormatting}
-use Rattle.store.specs.Held.{whole_reading}
+use Rattle.pages.specs.Stored.{stored_reading}
 use Rattle.store.specs.Machine.{Machine}
 use Rattle.store.specs.Fits.{StoreFits, book_of, device_of, listed_in, is_halted, IsOnDisk, FindsStore, FormatsStore, IsNewStore}
 use Rattle.store.specs.Deciding.{reads_device}
@@ -58,7 +58,7 @@ RefusesSize size story device refusal back = is_size (size device) ≡ false →
 
 -- a device that was not opened: what is told of it is so, and no moment has a write
 pub record LeavesUnopened {D : Type 0} (size : D → ℕ) (story : D → Story) (tells : Bool) (device : D) (refusal : OpeningRefusal) (back : D) : Type 0 where
-  pub told : tells ≡ true → TellsOpening refusal (standing_shown whole_reading (size device) (story device))
+  pub told : tells ≡ true → TellsOpening refusal (standing_shown stored_reading (size device) (story device))
   pub not_already : refusal ≢ openings.AlreadyAStore
   pub quiet : refusal ≢ openings.Device → tells ≡ true → now (story back) ≡ now (story device)
   pub moments : tells ≡ true → Grows (IsOpening (now (story device))) (story device) (story back)

@@ -7,9 +7,7 @@ use Rattle.segments.specs.Runs.{OutOf}
 use Rattle.segments.specs.Usages.{IsUsedIn, SameUsages}
 use Rattle.segments.specs.declared.run.Run.{Run}
 use Rattle.catalogue.specs.Entries.{PlainCatalogue}
-use Rattle.catalogue.specs.Text.{list_size}
 use Rattle.commit.specs.declared.sector.Commit.{Commit}
-use Rattle.commit.specs.Publishing.{next_commit}
 use Rattle.commit.specs.Placing.{Takes}
 use Rattle.commit.specs.Standing.{rules, standing, used_runs, InSome}
 use Rattle.tables.specs.declared.refusal.Refusal.{Refusal}
@@ -18,12 +16,12 @@ use Rattle.tables.specs.Commands.{PlainCommand}
 use Rattle.store.specs.declared.store.Store.{Store}
 use Rattle.store.specs.Calls.{PlainCall, PlainReply}
 use Rattle.store.specs.Machine.{Machine}
-use Rattle.store.specs.Held.{whole_reading}
+use Rattle.pages.specs.Stored.{stored_reading}
 use Rattle.store.specs.Runs.{Goes}
 use Rattle.store.specs.Fits.{setting_of, StoreFits, device_of, commit_of, listed_in, IsOnDisk}
 use Rattle.store.specs.Deciding.{IsDecided, IsAnswered}
-use Rattle.store.specs.Changes.{PlainChange, edited, placed_segments, HoldsStreams}
-use Rattle.store.specs.Carrying.{outline, asked_sizes, IsCarried}
+use Rattle.store.specs.Changes.{PlainChange, placed_segments, HoldsStreams}
+use Rattle.store.specs.Carrying.{asked_sizes, placed, commit_placed, IsCarried}
 
 -- how a decision ends on a store: a change is carried out, and a refusal is told
 abbrev pub EndsAs : {D : Type 0} {g : Ghosts D} → (size : D → ℕ) → (old : Store D g) → Result PlainChange Refusal → Result (Unit {0}) Refusal → (new : Store D g) → Type 0
@@ -49,15 +47,14 @@ pub record HasCarried (size : ℕ) (used : Run → Type 0) (k : Commit) (c : Pla
   pub places : List Run
   pub text : Run
   pub takes : Takes size used (asked_sizes c change) (Ok (places ++ text ∷ []))
-  pub stands : standing whole_reading size image
-      ≡ rules (next_commit k k.version k.kind text (list_size (outline c change))) (edited c change.edit (placed_segments places change.streams change.counts))
+  pub stands : standing stored_reading size image ≡ rules (commit_placed k c change text) (placed c change places)
   pub holds : HoldsStreams image (placed_segments places change.streams change.counts) change.streams change.counts
 
 -- what a stop in it leaves: the commit and the catalogue that stood, or the change carried out; and what lay in the runs of that catalogue lies
 -- there still
 pub record IsOldOrCarried (size : ℕ) (used : Run → Type 0) (k : Commit) (c : PlainCatalogue) (before : Disk) (change : PlainChange) (image : Image) : Type 0 where
-  pub which : (standing whole_reading size image ≡ rules k c) ⊎ HasCarried size used k c change image
-  pub kept : (n : ℕ) → InSome (used_runs whole_reading k c) n → image n ≡ (before.at n).synced
+  pub which : (standing stored_reading size image ≡ rules k c) ⊎ HasCarried size used k c change image
+  pub kept : (n : ℕ) → InSome (used_runs stored_reading k c) n → image n ≡ (before.at n).synced
 
 -- runs were taken for it, and outside them no sector was touched but the one of the next commit
 pub record IsTaking (size : ℕ) (used : Run → Type 0) (k : Commit) (c : PlainCatalogue) (before : Disk) (change : PlainChange) (d : Disk) : Type 0 where
@@ -92,15 +89,14 @@ pub record HasDone (size : ℕ) (used : Run → Type 0) (k : Commit) (c : PlainC
   pub places : List Run
   pub text : Run
   pub takes : Takes size used (asked_sizes c change) (Ok (places ++ text ∷ []))
-  pub stands : standing whole_reading size image
-      ≡ rules (next_commit k k.version k.kind text (list_size (outline c change))) (edited c change.edit (placed_segments places change.streams change.counts))
+  pub stands : standing stored_reading size image ≡ rules (commit_placed k c change text) (placed c change places)
   pub holds : HoldsStreams image (placed_segments places change.streams change.counts) change.streams change.counts
 
 -- what a stop in a command leaves: the commit and the catalogue that stood, or a command that was carried out; and what lay in the runs of
 -- that catalogue lies there still
 pub record IsOldOrDone (size : ℕ) (used : Run → Type 0) (k : Commit) (c : PlainCatalogue) (before : Disk) (command : PlainCommand) (image : Image) : Type 0 where
-  pub which : (standing whole_reading size image ≡ rules k c) ⊎ HasDone size used k c before command image
-  pub kept : (n : ℕ) → InSome (used_runs whole_reading k c) n → image n ≡ (before.at n).synced
+  pub which : (standing stored_reading size image ≡ rules k c) ⊎ HasDone size used k c before command image
+  pub kept : (n : ℕ) → InSome (used_runs stored_reading k c) n → image n ≡ (before.at n).synced
 
 -- a command writes: runs were taken for what was decided of it, and outside them no sector was touched but the one of the next commit
 pub record IsWriting (size : ℕ) (used : Run → Type 0) (k : Commit) (c : PlainCatalogue) (before : Disk) (command : PlainCommand) (d : Disk) : Type 0 where

@@ -1,21 +1,21 @@
 -- How a change of a catalogue is carried out: which runs it asks for, and how it ends.
-use Rattle.std.specs.Prelude.{◌≡◌, ◌<◌, ◌≤◌, ◌-◌, ◌^◌, ◌++◌, ◌||◌, ℕ, true, List, [], ◌∷◌, length, map, Result, Ok, Err}
+use Rattle.std.specs.Prelude.{◌≡◌, ◌<◌, ◌≤◌, ◌-◌, ◌^◌, ◌++◌, ◌||◌, ℕ, true, List, [], ◌∷◌, length, drop, Result, Ok, Err}
 use Rattle.sector_dev.specs.Disk.{Disk, shown_image}
 use Rattle.segments.specs.Sectors.{sector_count}
 use Rattle.segments.specs.declared.run.Run.{Run}
 use Rattle.catalogue.specs.declared.limits.TheConstants.{MAX_SEGMENTS}
 use Rattle.catalogue.specs.declared.entry.Segment.{Segment}
 use Rattle.catalogue.specs.Entries.{PlainCatalogue, segment_count}
-use Rattle.catalogue.specs.Text.{list_size}
 use Rattle.commit.specs.declared.sector.Commit.{Commit}
 use Rattle.commit.specs.Publishing.{next_commit}
-use Rattle.commit.specs.Placing.{Takes, is_among}
+use Rattle.commit.specs.Placing.{Takes, is_among, counts_of}
 use Rattle.commit.specs.Standing.{rules, standing, used_runs}
 use Rattle.tables.specs.declared.refusal.Refusal.{Refusal}
 use Rattle.tables.specs.declared.refusal.Refusal.TheVariants as refusals
 use Rattle.tables.specs.declared.refusal.Limit.TheVariants as limits
 use Rattle.tables.specs.Commands.{PlainCommand}
-use Rattle.store.specs.Held.{whole_reading}
+use Rattle.pages.specs.Stored.{stored_reading}
+use Rattle.pages.specs.Paging.{kind_of, page_sizes, text_size, settled}
 use Rattle.store.specs.Changes.{PlainChange, edited, placed_segments}
 use Rattle.store.specs.Deciding.{IsDecided}
 
@@ -30,9 +30,18 @@ unplaced (stream ∷ streams) (count ∷ counts) =
 abbrev pub outline : PlainCatalogue → PlainChange → PlainCatalogue
 outline c change = edited c change.edit (unplaced change.streams change.counts)
 
--- the sectors that are asked for: those of each stream in order, and then those of the catalogue's text
+-- the sectors that are asked for: those of each stream in order, then those of each page that is written, by name, and then those of the
+-- catalogue's text
 abbrev pub asked_sizes : PlainCatalogue → PlainChange → List ℕ
-asked_sizes c change = map (λ (stream : List ℕ). sector_count (length stream)) change.streams ++ sector_count (list_size (outline c change)) ∷ []
+asked_sizes c change = counts_of change.streams (page_sizes (outline c change)) (text_size (outline c change))
+
+-- the catalogue that it makes, where its new segments lie in the first of these runs, and its new pages in the others
+abbrev pub placed : PlainCatalogue → PlainChange → List Run → PlainCatalogue
+placed c change places = settled (edited c change.edit (placed_segments places change.streams change.counts)) (drop (length change.streams) places)
+
+-- the commit that it makes, where its text lies in this run
+abbrev pub commit_placed : Commit → PlainCatalogue → PlainChange → Run → Commit
+commit_placed k c change text = next_commit k k.version (kind_of (outline c change)) text (text_size (outline c change))
 
 -- an epoch behind this one has 64 bits
 abbrev pub HasNext : Commit → Type 0
@@ -44,8 +53,7 @@ abbrev pub IsCarried : (size : ℕ) → (used : Run → Type 0) → Commit → P
 IsCarried size used k c change (Ok unit) k' c' =
     HasNext k × (segment_count (outline c change) ≤ MAX_SEGMENTS)
     × ((places : List Run) × (text : Run) × Takes size used (asked_sizes c change) (Ok (places ++ text ∷ []))
-    × (c' ≡ edited c change.edit (placed_segments places change.streams change.counts))
-    × (k' ≡ next_commit k k.version k.kind text (list_size (outline c change))))
+    × (c' ≡ placed c change places) × (k' ≡ commit_placed k c change text))
 IsCarried size used k c change (Err (refusals.TooMany limits.Epochs)) k' c' = k.epoch ≡ 2 ^ 64 - 1
 IsCarried size used k c change (Err (refusals.TooMany limits.Segments)) k' c' = HasNext k × (MAX_SEGMENTS < segment_count (outline c change))
 IsCarried size used k c change (Err (refusals.NoRoom count)) k' c' =
@@ -57,16 +65,16 @@ IsCarried size used k c change (Err _) k' c' = ⊥
 
 -- a run is that of the catalogue's text, one that the catalogue names, or pinned by an open export
 abbrev pub IsInUse : Commit → PlainCatalogue → (pinned : List Run) → Run → Type 0
-IsInUse k c pinned run = (is_among (used_runs whole_reading k c) run || is_among pinned run) ≡ true
+IsInUse k c pinned run = (is_among (used_runs stored_reading k c) run || is_among pinned run) ≡ true
 
 -- how a command ended that is decided as a change, by what reads showed when it was called, and what they show after it
 pub record IsCarriedOut (size : ℕ) (pinned : List Run) (before after : Disk) (command : PlainCommand) (result : Result (Unit {0}) Refusal) : Type 0 where
   pub commit : Commit
   pub catalogue : PlainCatalogue
-  pub stood : standing whole_reading size (shown_image before) ≡ rules commit catalogue
+  pub stood : standing stored_reading size (shown_image before) ≡ rules commit catalogue
   pub change : PlainChange
   pub decides : IsDecided true (shown_image before) catalogue command (Ok change)
   pub new_commit : Commit
   pub new_catalogue : PlainCatalogue
-  pub stands : standing whole_reading size (shown_image after) ≡ rules new_commit new_catalogue
+  pub stands : standing stored_reading size (shown_image after) ≡ rules new_commit new_catalogue
   pub carried : IsCarried size (IsInUse commit catalogue pinned) commit catalogue change result new_commit new_catalogue

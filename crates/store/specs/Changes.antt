@@ -1,19 +1,22 @@
 -- What a command changes: the catalogue, by an edit, and the segments that are new in it. They have no places yet.
-use Rattle.std.specs.Prelude.{◌≡◌, ◌≤◌, ◌<◌, ◌+◌, ◌^◌, ℕ, true, List, [], ◌∷◌, ◌++◌, length, map, Option, Some, None, Ok, string_bytes}
+use Rattle.std.specs.Prelude.{◌≡◌, ◌≤◌, ◌<◌, ◌+◌, ◌^◌, ℕ, true, List, [], ◌∷◌, ◌++◌, length, Option, Some, None, if◌then◌else◌, Ok, string_bytes}
+use Rattle.std.specs.Str.{bytes_eq}
 use Rattle.std.specs.List.{list_all, AllByRecursion}
 use Rattle.sector_dev.specs.Disk.{Image}
 use Rattle.segments.specs.Sectors.{bytes_at}
 use Rattle.segments.specs.declared.run.Run.{Run}
+use Rattle.segments.specs.declared.extent.Extent.{Extent}
 use Rattle.arrow_schema.specs.Column.{PlainSchema}
 use Rattle.arrow_schema.specs.View.{schema_of}
 use Rattle.arrow_schema.specs.Limits.{IsWithinLimits}
+use Rattle.ipc_write.specs.Written.{schema_message}
 use Rattle.cells.specs.Cell.{Cell, PlainTable}
 use Rattle.values.specs.Table.{table_from}
 use Rattle.canonical_write.specs.Pieces.{piece_streams, piece_counts}
 use Rattle.commit.specs.Placing.{AreShort}
 use Rattle.catalogue.specs.declared.limits.TheConstants.{MAX_TABLES, MAX_SEGMENT_ROWS}
 use Rattle.catalogue.specs.declared.entry.Segment.{Segment}
-use Rattle.catalogue.specs.Entries.{PlainEntry, PlainCatalogue, is_name, is_between, runs_in}
+use Rattle.catalogue.specs.Entries.{PlainEntry, PlainCatalogue, is_name, is_between, page_runs, runs_in_segments, runs_in}
 use Rattle.catalogue.specs.Edits.{entry_of, with_entry, without, renamed, with_more, from_place, with_exchanged}
 use Rattle.tables.specs.Tables.{Tables, table_at, with_table, without_table}
 use Rattle.tables.specs.Verdict.{joined}
@@ -67,31 +70,59 @@ change_of change = record { edit = edit_of change.edit; streams = new_streams ch
 -- ---- the catalogue
 
 -- a new entry
-abbrev pub new_entry : List ℕ → PlainSchema → List Segment → PlainEntry
-new_entry name schema segments = record { name = name; schema = schema; segments = segments; page = None }
+abbrev pub new_entry : List ℕ → PlainSchema → List Segment → Option Extent → PlainEntry
+new_entry name schema segments page = record { name = name; schema = schema; segments = segments; page = page }
+
+-- the page of a table that gets segments: it stays where there are none
+abbrev pub page_behind : {A : Type 0} → List A → Option Extent → Option Extent
+page_behind [] page = page
+page_behind (x ∷ xs) page = None
+
+-- of one that takes the place of another one: it stays where neither has segments, and their schemas have one message
+abbrev pub page_over : PlainEntry → PlainSchema → List Segment → Option Extent
+page_over old schema (s ∷ ss) = None
+page_over old schema [] = if bytes_eq (schema_message old.schema) (schema_message schema) then page_behind old.segments old.page else None
+
+abbrev pub page_instead : Option PlainEntry → PlainSchema → List Segment → Option Extent
+page_instead None schema segments = None
+page_instead (Some old) schema segments = page_over old schema segments
 
 -- after an edit with these new segments
 abbrev pub edited : PlainCatalogue → PlainEdit → List Segment → PlainCatalogue
-edited c (put name schema) segments = with_entry c (new_entry name schema segments)
+edited c (put name schema) segments = with_entry c (new_entry name schema segments (page_instead (entry_of c name) schema segments))
 edited c (extend name) segments = with_more c name segments
 edited c (move from to) segments = renamed c from to
 edited c (remove name) segments = without c name
 edited c (exchange name place count) segments = with_exchanged c name place count segments
 
--- the runs of the segments that an edit takes out
-abbrev pub runs_at : PlainCatalogue → List ℕ → List Run
-runs_at c name = elim (entry_of c name) [ None ↦ [] | Some e ↦ runs_in e ]
+-- the run of a page, where another one, or none, takes its place
+abbrev pub page_lost : (old new : Option Extent) → List Run
+page_lost old None = page_runs old
+page_lost old (Some page) = []
 
--- and of so many segments from a place on
-abbrev pub runs_from : PlainCatalogue → List ℕ → (place count : ℕ) → List Run
-runs_from c name place count = elim (entry_of c name) [ None ↦ [] | Some e ↦ map (λ (s : Segment). s.place.run) (from_place e.segments place count) ]
+-- what an edit with these new segments takes out of the entry that it finds: its page, if it no longer says what the table is, and segments
+abbrev pub given_by : PlainEdit → List Segment → PlainEntry → List Run
+given_by (put name schema) segments e = page_lost e.page (page_over e schema segments) ++ runs_in_segments e.segments
+given_by (extend name) segments e = page_lost e.page (page_behind segments e.page)
+given_by (move from to) segments e = []
+given_by (remove name) segments e = runs_in e
+given_by (exchange name place count) segments e = page_runs e.page ++ runs_in_segments (from_place e.segments place count)
 
-abbrev pub given_up : PlainCatalogue → PlainEdit → List Run
-given_up c (put name schema) = runs_at c name
-given_up c (extend name) = []
-given_up c (move from to) = []
-given_up c (remove name) = runs_at c name
-given_up c (exchange name place count) = runs_from c name place count
+-- the name of the entry that an edit changes
+abbrev pub name_edited : PlainEdit → List ℕ
+name_edited (put name schema) = name
+name_edited (extend name) = name
+name_edited (move from to) = from
+name_edited (remove name) = name
+name_edited (exchange name place count) = name
+
+-- the runs that an edit with these new segments takes out
+abbrev pub given_from : PlainEdit → List Segment → Option PlainEntry → List Run
+given_from edit segments None = []
+given_from edit segments (Some e) = given_by edit segments e
+
+abbrev pub given_up : PlainCatalogue → PlainEdit → List Segment → List Run
+given_up c edit segments = given_from edit segments (entry_of c (name_edited edit))
 
 -- the catalogue can be edited so: with these numbers of new segments only their number is still to be tested
 abbrev pub HasEntry : PlainCatalogue → List ℕ → Type 0
@@ -99,7 +130,7 @@ HasEntry c name = (e : PlainEntry) × (entry_of c name ≡ Some e)
 
 abbrev pub IsEdit : PlainCatalogue → PlainEdit → List (List ℕ) → Type 0
 IsEdit c (put name schema) streams =
-    (is_name name ≡ true) × IsWithinLimits schema × (length (with_entry c (new_entry name schema [])) ≤ MAX_TABLES)
+    (is_name name ≡ true) × IsWithinLimits schema × (length (with_entry c (new_entry name schema [] None)) ≤ MAX_TABLES)
 IsEdit c (extend name) streams = HasEntry c name
 IsEdit c (move from to) streams = (is_name to ≡ true) × (entry_of c to ≡ None) × HasEntry c from × (streams ≡ [])
 IsEdit c (remove name) streams = HasEntry c name × (streams ≡ [])

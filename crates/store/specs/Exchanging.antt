@@ -1,10 +1,10 @@
 -- Segments of a table that are exchanged for others, and how catalogues shrink.
-use Rattle.std.specs.Prelude.{◌≡◌, ◌⊎◌, ◌<◌, ◌+◌, ℕ, true, List, [], ◌∷◌, sum_by, Some}
+use Rattle.std.specs.Prelude.{◌≡◌, ◌⊎◌, ◌<◌, ◌+◌, ℕ, true, List, [], ◌∷◌, flat_map, sum_by, Some}
 use Rattle.std.specs.List.{AllByRecursion}
 use Rattle.sector_dev.specs.Disk.{Image}
 use Rattle.segments.specs.declared.run.Run.{Run}
 use Rattle.catalogue.specs.declared.entry.Segment.{Segment}
-use Rattle.catalogue.specs.Entries.{PlainEntry, PlainCatalogue, runs_of, segment_count}
+use Rattle.catalogue.specs.Entries.{PlainEntry, PlainCatalogue, runs_in_segments, runs_of, segment_count}
 use Rattle.catalogue.specs.Edits.{entry_of, from_place}
 use Rattle.commit.specs.Standing.{all_on_device}
 use Rattle.store.specs.Held.{rows_held}
@@ -17,8 +17,9 @@ pub record HoldsSame (image : Image) (c : PlainCatalogue) (name : List ℕ) (pla
 
 -- ---- catalogues that shrink
 
+-- where segments start; pages don't count
 abbrev pub starts_sum : PlainCatalogue → ℕ
-starts_sum c = sum_by (λ (r : Run). r.start) (runs_of c)
+starts_sum c = sum_by (λ (r : Run). r.start) (flat_map (λ (e : PlainEntry). runs_in_segments e.segments) c)
 
 -- one segment fewer, or as many with a lower sum of their starts
 abbrev pub Shrinks : (old new : PlainCatalogue) → Type 0

@@ -22,7 +22,8 @@ use Rattle.commit.specs.declared.opening_refusal.OpeningRefusal.{OpeningRefusal}
 use Rattle.store.specs.Calls.{PlainCall, done, shut_by}
 use Rattle.store.specs.Machine.{Export, no_store, holds, Setting, Machine, shut, running, halted, shut_down, Allows}
 use Rattle.store.specs.Runs.{Goes}
-use Rattle.store.specs.Held.{whole_reading, pieces_held, tables_held, held_by}
+use Rattle.store.specs.Held.{pieces_held, tables_held, held_by}
+use Rattle.pages.specs.Stored.{stored_reading}
 
 -- how a run on a device of this size is judged
 abbrev pub setting_of : ℕ → Tables → Setting
@@ -54,7 +55,7 @@ listed_in store = catalogue_of store.opened.catalogue.list
 
 -- all of a store lies on its disk: its commit and its catalogue are found, and all is synced
 abbrev pub IsOnDisk : {D : Type 0} {g : Ghosts D} → (size : D → ℕ) → (story : D → Story) → Store D g → Type 0
-IsOnDisk size story store = Stands whole_reading (size (device_of store)) (now (story (device_of store))) (commit_of store) (listed_in store)
+IsOnDisk size story store = Stands stored_reading (size (device_of store)) (now (story (device_of store))) (commit_of store) (listed_in store)
 
 -- the exports that are open
 abbrev pub book_of : {D : Type 0} {g : Ghosts D} → Store D g → PlainBook
@@ -82,7 +83,7 @@ ExportsFit image (b ∷ bs) [] = ⊥
 pub record IsSound {D : Type 0} {g : Ghosts D} (size : D → ℕ) (story : D → Story) (base : Tables) (m : Machine) (store : Store D g) : Type 0 where
   pub stands : IsOnDisk size story store
   pub tables : tables_held (synced_image (now (story store.device))) (listed_in store) ≡ Some (after base m.settled)
-  pub uses : Uses store.opened.map.entries (used_runs whole_reading store.opened.commit (listed_in store)) (runs_kept (book_of store).exports)
+  pub uses : Uses store.opened.map.entries (used_runs stored_reading store.opened.commit (listed_in store)) (runs_kept (book_of store).exports)
   pub none : m.doubt ≡ None
   pub exports : ExportsFit (synced_image (now (story store.device))) (book_of store).exports m.exports
   pub next : (book_of store).next ≡ m.next_id
@@ -96,11 +97,11 @@ pub record StoreFits {D : Type 0} {g : Ghosts D} (size : D → ℕ) (story : D �
 -- an opening of any device that was done: it found what stood there, by what reads gave, and has synced it, with no write, so that the store lies on
 -- its disk; and the store is not halted
 pub record FindsStore {D : Type 0} {g : Ghosts D} (size : D → ℕ) (story : D → Story) (device : D) (store : Store D g) : Type 0 where
-  pub found : standing_shown whole_reading (size device) (story device) ≡ rules store.opened.commit (listed_in store)
+  pub found : standing_shown stored_reading (size device) (story device) ≡ rules store.opened.commit (listed_in store)
   pub moments : Grows (IsOpening (now (story device))) (story device) (story (device_of store))
   pub synced : now (story (device_of store)) ≡ flushed (now (story device))
   pub stands : IsOnDisk size story store
-  pub uses : Uses store.opened.map.entries (used_runs whole_reading store.opened.commit (listed_in store)) []
+  pub uses : Uses store.opened.map.entries (used_runs stored_reading store.opened.commit (listed_in store)) []
   pub none_open : book_of store ≡ no_exports
   pub on : store.halted ≡ false
 
@@ -117,7 +118,7 @@ pub record FormatsStore {D : Type 0} {g : Ghosts D} (size : D → ℕ) (story : 
 pub record IsNewStore {D : Type 0} {g : Ghosts D} (size : ℕ) (store : Store D g) : Type 0 where
   pub empty : listed_in store ≡ []
   pub commit : commit_of store ≡ first_commit size
-  pub uses : Uses store.opened.map.entries (used_runs whole_reading (commit_of store) (listed_in store)) []
+  pub uses : Uses store.opened.map.entries (used_runs stored_reading (commit_of store) (listed_in store)) []
   pub none_open : book_of store ≡ no_exports
   pub on : store.halted ≡ false
 

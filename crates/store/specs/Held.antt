@@ -12,14 +12,10 @@ use Rattle.ipc_write.specs.Written.{schema_message}
 use Rattle.canonical_stream.specs.Canonical.{stream_parts}
 use Rattle.ipc_stream.specs.Meaning.{meaning}
 use Rattle.catalogue.specs.declared.entry.Segment.{Segment}
-use Rattle.catalogue.specs.Entries.{PlainEntry, PlainCatalogue, runs_of}
-use Rattle.catalogue.specs.Reading.{catalogue_at}
-use Rattle.commit.specs.declared.cause.Cause.{Cause}
-use Rattle.commit.specs.declared.cause.Cause.TheVariants.{CatalogueText}
-use Rattle.commit.specs.declared.sector.CatalogueKind.{CatalogueKind}
-use Rattle.commit.specs.declared.sector.CatalogueKind.TheVariants.{Whole, Pages}
+use Rattle.catalogue.specs.Entries.{PlainEntry, PlainCatalogue}
 use Rattle.commit.specs.Standing as standings
-use Rattle.commit.specs.Standing.{Reading, Standing, standing, IsLocal}
+use Rattle.commit.specs.Standing.{Standing, standing}
+use Rattle.pages.specs.Stored.{stored_reading}
 use Rattle.tables.specs.Tables.{Tables, no_tables, with_table}
 use Rattle.store.specs.Machine.{Held, no_store, broken, holds}
 
@@ -89,19 +85,6 @@ unfoldable pub tables_held : Image → PlainCatalogue → Option Tables
 tables_held image [] = Some no_tables
 tables_held image (entry ∷ entries) = with_held entry.name (table_held image entry) (tables_held image entries)
 
--- how the catalogue is read: its whole text lies where the commit says
-abbrev pub catalogue_or_cause : Option PlainCatalogue → Result PlainCatalogue Cause
-catalogue_or_cause None = Err CatalogueText
-catalogue_or_cause (Some c) = Ok c
-
--- only lists are read as yet
-abbrev pub list_or_cause : CatalogueKind → Option PlainCatalogue → Result PlainCatalogue Cause
-list_or_cause Whole o = catalogue_or_cause o
-list_or_cause Pages o = Err CatalogueText
-
-abbrev pub whole_reading : Reading PlainCatalogue
-whole_reading = record { at = λ size image k text. list_or_cause k.kind (catalogue_at text); runs = runs_of }
-
 abbrev pub held_tables : Option Tables → Held
 held_tables None = broken
 held_tables (Some tables) = holds tables
@@ -113,8 +96,4 @@ held_of image (standings.rules k c) = held_tables (tables_held image c)
 
 -- what one who opens an image on a device of this size finds
 unfoldable pub held_by : ℕ → Image → Held
-held_by size image = held_of image (standing whole_reading size image)
-
--- the catalogue's text alone says what it is
-pub whole_is_local : IsLocal whole_reading
-whole_is_local size a b k text c is same = is
+held_by size image = held_of image (standing stored_reading size image)

@@ -10,6 +10,7 @@ pub mod Named
 pub mod Listed
 pub mod Changed
 pub mod Edited
+pub mod EditedEach
 pub mod Segments
 pub mod Pieces
 pub mod Snapshots

@@ -1,5 +1,5 @@
 // A change is carried out: the one place where a command writes.
-ghost use Rattle.std.specs.Prelude.{◌≡◌, ◌≢◌, ◌≤◌, ◌++◌, ◌∷◌, [], ℕ, List, Ok, Err, Some, OnErr, IfOk, IfErr, length, true};
+ghost use Rattle.std.specs.Prelude.{◌≡◌, ◌≢◌, ◌≤◌, ◌++◌, ◌∷◌, [], ℕ, List, Ok, Err, OnErr, IfOk, IfErr, length, drop, vec_len, true};
 ghost use Rattle.std.specs.List.{list_all};
 ghost use Rattle.segments.specs.Usages.{IsUsedIn, SameUsages, GivesAll};
 ghost use Rattle.segments.specs.Pieces.{bytes_of_parts, plain_pieces};
@@ -7,23 +7,24 @@ ghost use Rattle.segments.specs.Writing.{runs_of};
 ghost use Rattle.canonical_write.specs.View.{joined_parts, streams_in};
 ghost use Rattle.catalogue.specs.declared.limits.TheConstants.{MAX_SEGMENTS};
 ghost use Rattle.catalogue.specs.Entries.{is_segment, IsCatalogue, segment_count};
-ghost use Rattle.catalogue.specs.Text.{list_size, list_text};
-ghost use Rattle.catalogue.specs.Reading.{catalogue_at};
 ghost use Rattle.catalogue.specs.View.{catalogue_of};
-ghost use Rattle.commit.specs.Placing.{Takes, contents_of, plain_contents};
+ghost use Rattle.commit.specs.Placing.{Takes, HasRoom, contents_of, plain_contents};
 ghost use Rattle.commit.specs.Standing.{is_size};
+ghost use Rattle.pages.specs.Paging.{kind_of, page_sizes, text_size, ArePageRuns, settled, dropped_pages, page_texts, settled_text};
 ghost use Rattle.store.specs.Changes.{change_of, edit_of, CanChange, IsChange, IsEdit, edited, given_up, placed_segments};
-ghost use Rattle.store.specs.Carrying.{HasNext, asked_sizes, IsCarried, outline};
+ghost use Rattle.store.specs.Carrying.{HasNext, asked_sizes, IsCarried, unplaced, outline};
 ghost use Rattle.store.specs.inner.Prepared.{taking_refusal, IsPrepared};
 
 use crate::Store;
 use crate::change::{Change, Edit};
 use crate::editing::{edited, given_up, segments_after, segments_of, unplaced};
-use crate::stored::StoredCatalogue;
 use array_build::Buffer;
 use canonical_write::EncodedPieces;
-use catalogue::{MAX_SEGMENTS, encode, one_text_each, texts_have_these_sizes};
-use commit::{Commit, Opened, Plan, place, plan_next, publish};
+use catalogue::{MAX_SEGMENTS, one_page_each};
+use commit::{CatalogueKind, Commit, Opened, Places, Plan, place, plan_next, publish};
+use pages::{
+    Layout, StoredCatalogue, kept_catalogues_are_read, layout_of, pages_hold_what_was_read,
+};
 use sector_dev::SectorDevice;
 use segments::{FreeMap, Part, Piece, Run, TakeError};
 use std::alloc::{AllocError, Global};
@@ -36,19 +37,19 @@ struct Prepared<'a> {
     back: Vec<Run>,
 }
 
-// What goes back once an edit was published: what it gives up, and the run of the text that rules now.
-fn back_after(
-    alloc: Global,
-    commit: Commit,
-    stored: &StoredCatalogue,
-    edit: &Edit,
-) -> Result<Vec<Run>, AllocError>
-    requires edit { (streams : List (List ℕ)) × IsEdit (catalogue_of stored.now.list) (edit_of edit.now) streams }
-    ensures { IfOk result (λ back. back.items ≡ given_up (catalogue_of stored.now.list) (edit_of edit.now) ++ commit.catalogue.run ∷ []) }
+// What a change asks for beside its streams, and what goes back once it was published.
+#[derive(Drop)]
+struct Asked {
+    layout: Layout,
+    back: Vec<Run>,
+}
+
+// The runs that were taken for pages: those behind the pieces', before the text's.
+fn page_runs<'a>(places: &'a Places<'_>) -> &'a [Run]
+    requires { (pages : ℕ) × HasRoom pages places.now }
+    ensures { places.now.runs.items ≡ (runs_of (plain_pieces places.now.pieces.items) ++ result.now) ++ places.now.text ∷ [] }
 {
-    let mut back = given_up(alloc, &stored.list, edit)?;
-    back.push(commit.catalogue.run)?;
-    Ok(back)
+    &places.runs[places.pieces.len()..places.runs.len() - 1]
 }
 
 // Bytes and more parts behind them, where they stand.
@@ -81,45 +82,45 @@ fn borrowed_streams<'a>(
     Ok(borrowed)
 }
 
-// How many bytes the text of the new catalogue has. Where its new segments lie makes no difference.
-fn text_size(
+// What a change asks for beside its streams, and what goes back once it was published: what its edit gives up, the pages of a
+// catalogue that is kept whole from then on, and the run of the text that rules now. Where its new segments lie makes no difference.
+fn ask(
     alloc: Global,
+    commit: Commit,
     stored: &StoredCatalogue,
     change: &Change,
     streams: &[Vec<Part<'_>>],
     rows: &[u64],
-) -> Result<usize, AllocError>
+) -> Result<Asked, AllocError>
     requires sound { IsChange (catalogue_of stored.now.list) (change_of change.now) }
     requires streams { plain_contents streams.now ≡ (change_of change.now).streams }
     requires rows { rows.now ≡ (change_of change.now).counts }
     requires stands { IsCatalogue (outline (catalogue_of stored.now.list) (change_of change.now)) }
-    ensures { IfOk result (λ size. size ≡ list_size (outline (catalogue_of stored.now.list) (change_of change.now))) }
+    ensures kind { IfOk result (λ asked. asked.layout.kind ≡ kind_of (outline (catalogue_of stored.now.list) (change_of change.now))) }
+    ensures pages { IfOk result (λ asked. asked.layout.pages.items ≡ page_sizes (outline (catalogue_of stored.now.list) (change_of change.now))) }
+    ensures text { IfOk result (λ asked. asked.layout.text_bytes ≡ text_size (outline (catalogue_of stored.now.list) (change_of change.now))) }
+    ensures back { IfOk result (λ asked. asked.back.items
+        ≡ given_up (catalogue_of stored.now.list) (change_of change.now).edit (unplaced (change_of change.now).streams (change_of change.now).counts)
+        ++ (dropped_pages (outline (catalogue_of stored.now.list) (change_of change.now)) ++ commit.catalogue.run ∷ [])) }
 {
-    texts_have_these_sizes();
     let segments = unplaced(alloc, streams, rows)?;
     let list = edited(alloc, &stored.list, &change.edit, &segments)?;
-    let text = encode(alloc, &list)?;
-    Ok(text.len())
+    let layout = layout_of(alloc, &list)?;
+    let mut back = given_up(alloc, &stored.list, &change.edit, &segments)?;
+    back.extend_from_slice(&layout.dropped)?;
+    back.push(commit.catalogue.run)?;
+    Ok(Asked { layout, back })
 }
 
-// A text, as what is written of its own.
-fn text_alone<'a>(alloc: Global, text: Vec<u8>) -> Result<Vec<Vec<Part<'a>>>, AllocError>
-    ensures { IfOk result (λ texts. plain_contents texts.items ≡ text.items ∷ []) }
-{
-    let mut parts = Vec::new(alloc);
-    parts.push(Part::Made(text))?;
-    let mut texts = Vec::new(alloc);
-    texts.push(parts)?;
-    Ok(texts)
-}
-
-// The new catalogue, its new segments in these pieces, and its text.
+// The new catalogue, its new segments in these pieces and its new pages in these runs, and the texts that are written for it.
 fn next_catalogue<'a>(
     alloc: Global,
     stored: &StoredCatalogue,
     edit: &Edit,
     pieces: &[Piece<'_>],
     rows: &[u64],
+    kind: CatalogueKind,
+    pages: &[Run],
 ) -> Result<(StoredCatalogue, Vec<Vec<Part<'a>>>), AllocError>
     requires rows { length pieces.now ≡ length rows.now }
     requires sound { list_all is_segment
@@ -128,19 +129,22 @@ fn next_catalogue<'a>(
         (placed_segments (runs_of (plain_pieces pieces.now)) (contents_of (plain_pieces pieces.now)) rows.now)) }
     requires change { IsChange (catalogue_of stored.now.list)
         (record { edit = edit_of edit.now; streams = contents_of (plain_pieces pieces.now); counts = rows.now }) }
-    ensures catalogue { IfOk result (λ next. catalogue_of next.0.list
-        ≡ edited (catalogue_of stored.now.list) (edit_of edit.now)
+    requires kind { kind ≡ kind_of (edited (catalogue_of stored.now.list) (edit_of edit.now)
         (placed_segments (runs_of (plain_pieces pieces.now)) (contents_of (plain_pieces pieces.now)) rows.now)) }
-    ensures text { IfOk result (λ next. plain_contents next.1.items ≡ list_text (catalogue_of next.0.list) ∷ []) }
-    ensures found { IfOk result (λ next. catalogue_at (list_text (catalogue_of next.0.list)) ≡ Some (catalogue_of next.0.list)) }
-    ensures size { IfOk result (λ next. length (list_text (catalogue_of next.0.list)) ≡ list_size (catalogue_of next.0.list)) }
+    requires pages { ArePageRuns (edited (catalogue_of stored.now.list) (edit_of edit.now)
+        (placed_segments (runs_of (plain_pieces pieces.now)) (contents_of (plain_pieces pieces.now)) rows.now)) pages.now }
+    ensures catalogue { IfOk result (λ next. catalogue_of next.0.list
+        ≡ settled (edited (catalogue_of stored.now.list) (edit_of edit.now)
+        (placed_segments (runs_of (plain_pieces pieces.now)) (contents_of (plain_pieces pieces.now)) rows.now)) pages.now) }
+    ensures texts { IfOk result (λ next. plain_contents next.1.items
+        ≡ page_texts (edited (catalogue_of stored.now.list) (edit_of edit.now)
+        (placed_segments (runs_of (plain_pieces pieces.now)) (contents_of (plain_pieces pieces.now)) rows.now))
+        ++ settled_text (edited (catalogue_of stored.now.list) (edit_of edit.now)
+        (placed_segments (runs_of (plain_pieces pieces.now)) (contents_of (plain_pieces pieces.now)) rows.now)) pages.now ∷ []) }
 {
-    one_text_each();
-    texts_have_these_sizes();
     let segments = segments_of(alloc, pieces, rows)?;
     let list = edited(alloc, &stored.list, edit, &segments)?;
-    let text = encode(alloc, &list)?;
-    let texts = text_alone(alloc, text)?;
+    let (list, texts) = pages::settle(alloc, list, kind, pages)?;
     Ok((StoredCatalogue { list }, texts))
 }
 
@@ -154,7 +158,7 @@ fn taking_refusal(error: TakeError) -> Refusal
     }
 }
 
-// Takes runs for the streams and for the text of the new catalogue, and makes the plan. After an error each run is used for what it was.
+// Takes runs for the streams, the pages and the text of the new catalogue, and makes the plan. After an error each run is used for what it was.
 fn plan_change<'a>(
     alloc: Global,
     map: &mut FreeMap,
@@ -176,22 +180,38 @@ fn plan_change<'a>(
     ensures size { map.new.size ≡ map.old.size }
     ensures err { OnErr result (SameUsages map.old.entries map.new.entries) }
 {
-    let back = back_after(alloc, commit, stored, &change.edit)?;
+    kept_catalogues_are_read();
+    pages_hold_what_was_read();
+    one_page_each();
     let streams = borrowed_streams(alloc, pieces)?;
-    let text_bytes = text_size(alloc, stored, change, &streams, &pieces.rows)?;
-    let places = place(alloc, map, streams, &[], text_bytes)?;
-    match next_catalogue(alloc, stored, &change.edit, &places.pieces, &pieces.rows) {
+    let asked = ask(alloc, commit, stored, change, &streams, &pieces.rows)?;
+    let places = place(
+        alloc,
+        map,
+        streams,
+        &asked.layout.pages,
+        asked.layout.text_bytes,
+    )?;
+    match next_catalogue(
+        alloc,
+        stored,
+        &change.edit,
+        &places.pieces,
+        &pieces.rows,
+        asked.layout.kind,
+        page_runs(&places),
+    ) {
         Ok((next, texts)) => Ok(Prepared {
             plan: plan_next(
                 commit,
                 commit.version,
-                commit.kind,
+                asked.layout.kind,
                 next,
                 places,
                 texts,
-                text_bytes as u64,
+                asked.layout.text_bytes as u64,
             ),
-            back,
+            back: asked.back,
         }),
         Err(error) => {
             map.give_each(&places.runs);

@@ -1,16 +1,20 @@
 // Edits of a catalogue, and the segments that are new in it.
 ghost use Rattle.std.specs.Prelude.{◌≡◌, ◌<◌, ◌≤◌, ◌+◌, ◌^◌, ◌++◌, ℕ, true, List, Some, map, length, string_bytes, IfOk, OnOk};
 ghost use Rattle.std.specs.List.{list_all};
+ghost use Rattle.std.specs.Str.{bytes_eq};
+ghost use Rattle.arrow_schema.specs.Limits.{IsWithinLimits};
 ghost use Rattle.arrow_schema.specs.View.{schema_of};
+ghost use Rattle.ipc_write.specs.Written.{schema_message};
 ghost use Rattle.segments.specs.Pieces.{plain_pieces};
 ghost use Rattle.segments.specs.Writing.{runs_of};
 ghost use Rattle.commit.specs.Placing.{contents_of, plain_contents};
 ghost use Rattle.catalogue.specs.declared.entry.Segment.{Segment};
 ghost use Rattle.catalogue.specs.Edits.{entry_of, from_place};
-ghost use Rattle.catalogue.specs.Entries.{PlainEntry, plain_entry, is_segment, segment_count, IsCatalogue};
+ghost use Rattle.catalogue.specs.Entries.{plain_entry, is_segment, is_entry, segment_count, IsCatalogue};
 ghost use Rattle.catalogue.specs.View.{catalogue_of};
-ghost use Rattle.store.specs.Changes.{edit_of, new_entry, edited, runs_at, runs_from, given_up, placed_segments, IsEdit};
+ghost use Rattle.store.specs.Changes.{edit_of, new_entry, page_behind, page_over, page_instead, edited, page_lost, given_by, name_edited, given_up, placed_segments, IsEdit};
 ghost use Rattle.store.specs.Carrying.{unplaced};
+ghost use Rattle.store.specs.inner.Prepared.{CanGive};
 ghost use Rattle.store.specs.laws.Edited.{segments_at};
 ghost use Rattle.store.specs.laws.ExchangedRuns.{run_of};
 
@@ -18,6 +22,7 @@ use crate::change::Edit;
 use arrow_schema::Schema;
 use catalogue::{Catalogue, MAX_SEGMENT_ROWS, Segment, TableEntry};
 use cells::MAX_PIECE_ROWS;
+use ipc_write::write_schema;
 use sector_dev::SECTOR_BYTES;
 use segments::{Extent, Part, Piece, Run, byte_count};
 use std::alloc::{AllocError, Global};
@@ -25,19 +30,76 @@ use std::alloc::{AllocError, Global};
 // A segment holds the rows of one piece.
 const _: () = prove!(MAX_SEGMENT_ROWS == MAX_PIECE_ROWS as u64);
 
+// Whether two schemas have one message.
+fn have_one_message(alloc: Global, a: &Schema, b: &Schema) -> Result<bool, AllocError>
+    requires first { IsWithinLimits (schema_of a.now) }
+    requires second { IsWithinLimits (schema_of b.now) }
+    ensures { IfOk result (λ same. same ≡ bytes_eq (schema_message (schema_of a.now)) (schema_message (schema_of b.now))) }
+{
+    let mut one = Vec::new(alloc);
+    write_schema(alloc, &mut one, a)?;
+    let mut other = Vec::new(alloc);
+    write_schema(alloc, &mut other, b)?;
+    Ok(one.as_slice() == other.as_slice())
+}
+
+// The page of a table that gets these segments behind its others: it stays where there are none.
+fn page_behind(segments: &[Segment], page: Option<Extent>) -> Option<Extent>
+    ensures { result ≡ page_behind segments.now page }
+{
+    if segments.is_empty() { page } else { None }
+}
+
+// The page of a table that takes the place of this one: it stays where its text does.
+fn page_over(
+    alloc: Global,
+    old: &TableEntry,
+    schema: &Schema,
+    segments: &[Segment],
+) -> Result<Option<Extent>, AllocError>
+    requires old { is_entry (plain_entry old.now) ≡ true }
+    requires schema { IsWithinLimits (schema_of schema.now) }
+    ensures { IfOk result (λ page. page ≡ page_over (plain_entry old.now) (schema_of schema.now) segments.now) }
+{
+    if segments.is_empty() && have_one_message(alloc, &old.schema, schema)? {
+        Ok(page_behind(&old.segments, old.page))
+    } else {
+        Ok(None)
+    }
+}
+
+// The page of a table of this name, which takes the place of one that stands there.
+fn page_instead(
+    alloc: Global,
+    catalogue: &Catalogue,
+    name: &str,
+    schema: &Schema,
+    segments: &[Segment],
+) -> Result<Option<Extent>, AllocError>
+    requires { IsWithinLimits (schema_of schema.now) }
+    ensures { IfOk result (λ page. page
+        ≡ page_instead (entry_of (catalogue_of catalogue.now) name.now) (schema_of schema.now) segments.now) }
+{
+    match catalogue.get(name) {
+        Some(old) => page_over(alloc, old, schema, segments),
+        None => Ok(None),
+    }
+}
+
 fn new_entry(
     alloc: Global,
     name: &String,
     schema: &Schema,
     segments: &[Segment],
+    page: Option<Extent>,
 ) -> Result<TableEntry, AllocError>
-    ensures { IfOk result (λ e. plain_entry e ≡ new_entry (string_bytes name.now) (schema_of schema.now) segments.now) }
+    ensures { IfOk result (λ e. plain_entry e ≡ new_entry (string_bytes name.now) (schema_of schema.now) segments.now page) }
 {
     Ok(TableEntry {
         name: name.clone()?,
         schema: schema.copy(alloc)?,
         segments: Vec::from_slice(alloc, segments)?,
-        page: None,
+        page,
     })
 }
 
@@ -56,7 +118,8 @@ pub(crate) fn edited(
     let mut changed = catalogue.copy(alloc)?;
     match edit {
         Edit::Put { name, schema } => {
-            changed.put(new_entry(alloc, name, schema, segments)?)?;
+            let page = page_instead(alloc, catalogue, name, schema, segments)?;
+            changed.put(new_entry(alloc, name, schema, segments, page)?)?;
         }
         Edit::Extend { name } => changed.append_segments(name, segments)?,
         Edit::Move { from, to } => changed.rename(from, to.clone()?),
@@ -68,16 +131,6 @@ pub(crate) fn edited(
         }
     }
     Ok(changed)
-}
-
-// The runs of a table, if it is there.
-fn runs_at(alloc: Global, catalogue: &Catalogue, name: &str) -> Result<Vec<Run>, AllocError>
-    ensures { IfOk result (λ runs. runs.items ≡ runs_at (catalogue_of catalogue.now) name.now) }
-{
-    match catalogue.get(name) {
-        Some(entry) => entry.runs(alloc),
-        None => Ok(Vec::new(alloc)),
-    }
 }
 
 fn put_runs(runs: &mut Vec<Run>, segments: &[Segment]) -> Result<(), AllocError>
@@ -97,42 +150,84 @@ fn segments_from(entry: &TableEntry, place: usize, count: usize) -> &[Segment]
     &entry.segments[place..place + count]
 }
 
-// The runs of so many segments of a table, from a place on.
-fn runs_from(
+// Appends the run of a page, where another one, or none, takes its place.
+fn put_lost(runs: &mut Vec<Run>, old: Option<Extent>, new: Option<Extent>) -> Result<(), AllocError>
+    ensures { OnOk result (runs.new.items ≡ runs.old.items ++ page_lost old new) }
+{
+    match (old, new) {
+        (Some(page), None) => Ok(runs.push(page.run)?),
+        _ => Ok(()),
+    }
+}
+
+// The name of the table that an edit changes.
+fn name_edited(edit: &Edit) -> &str
+    ensures { result.now ≡ name_edited (edit_of edit.now) }
+{
+    match edit {
+        Edit::Put { name, schema: _ } => name,
+        Edit::Extend { name } => name,
+        Edit::Move { from, to: _ } => from,
+        Edit::Remove { name } => name,
+        Edit::Exchange {
+            name,
+            place: _,
+            count: _,
+        } => name,
+    }
+}
+
+// What an edit with these new segments takes out of the table that it changes.
+fn given_by(
     alloc: Global,
-    catalogue: &Catalogue,
-    name: &str,
-    place: usize,
-    count: usize,
+    edit: &Edit,
+    segments: &[Segment],
+    entry: &TableEntry,
 ) -> Result<Vec<Run>, AllocError>
-    requires there { (e : PlainEntry) → entry_of (catalogue_of catalogue.now) name.now ≡ Some e → place + count ≤ length e.segments }
-    ensures { IfOk result (λ runs. runs.items ≡ runs_from (catalogue_of catalogue.now) name.now place count) }
+    requires sound { is_entry (plain_entry entry.now) ≡ true }
+    requires edit { CanGive (edit_of edit.now) (plain_entry entry.now) }
+    ensures { IfOk result (λ runs. runs.items ≡ given_by (edit_of edit.now) segments.now (plain_entry entry.now)) }
 {
     let mut runs = Vec::new(alloc);
-    match catalogue.get(name) {
-        Some(entry) => put_runs(&mut runs, segments_from(entry, place, count))?,
-        None => {}
+    match edit {
+        Edit::Put { name: _, schema } => {
+            let page = page_over(alloc, entry, schema, segments)?;
+            put_lost(&mut runs, entry.page, page)?;
+            put_runs(&mut runs, &entry.segments)?;
+        }
+        Edit::Extend { name: _ } => {
+            put_lost(&mut runs, entry.page, page_behind(segments, entry.page))?;
+        }
+        Edit::Move { from: _, to: _ } => {}
+        Edit::Remove { name: _ } => {
+            put_lost(&mut runs, entry.page, None)?;
+            put_runs(&mut runs, &entry.segments)?;
+        }
+        Edit::Exchange {
+            name: _,
+            place,
+            count,
+        } => {
+            put_lost(&mut runs, entry.page, None)?;
+            put_runs(&mut runs, segments_from(entry, *place, *count))?;
+        }
     }
     Ok(runs)
 }
 
-// The runs of the segments that an edit takes out.
+// The runs that an edit with these new segments takes out.
 pub(crate) fn given_up(
     alloc: Global,
     catalogue: &Catalogue,
     edit: &Edit,
+    segments: &[Segment],
 ) -> Result<Vec<Run>, AllocError>
     requires edit { (streams : List (List ℕ)) × IsEdit (catalogue_of catalogue.now) (edit_of edit.now) streams }
-    ensures { IfOk result (λ runs. runs.items ≡ given_up (catalogue_of catalogue.now) (edit_of edit.now)) }
+    ensures { IfOk result (λ runs. runs.items ≡ given_up (catalogue_of catalogue.now) (edit_of edit.now) segments.now) }
 {
-    match edit {
-        Edit::Put { name, schema: _ } => runs_at(alloc, catalogue, name),
-        Edit::Extend { name: _ } => Ok(Vec::new(alloc)),
-        Edit::Move { from: _, to: _ } => Ok(Vec::new(alloc)),
-        Edit::Remove { name } => runs_at(alloc, catalogue, name),
-        Edit::Exchange { name, place, count } => {
-            runs_from(alloc, catalogue, name, *place, *count)
-        }
+    match catalogue.get(name_edited(edit)) {
+        Some(entry) => given_by(alloc, edit, segments, entry),
+        None => Ok(Vec::new(alloc)),
     }
 }
 

@@ -4,11 +4,11 @@ ghost use Rattle.commit.specs.Formatting.{empty_text};
 ghost use Rattle.catalogue.specs.Reading.{catalogue_at};
 ghost use Rattle.store.specs.Opening.{formatting_of};
 
-use crate::stored::StoredCatalogue;
 use crate::{OpeningRefusal, Store};
 use catalogue::{Catalogue, one_text_each};
 use commit::{FormatError, Opened};
 use export_book::ExportBook;
+use pages::StoredCatalogue;
 use sector_dev::SectorDevice;
 use std::alloc::Global;
 

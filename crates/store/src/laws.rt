@@ -17,7 +17,8 @@ ghost use Rattle.tables.specs.Commands.{PlainCommand, BringsTables};
 ghost use Rattle.store.specs.Calls.{PlainCall, open_export_call, PlainReply, export_is, is_device_reply};
 ghost use Rattle.store.specs.Snapshots.{given, has_ended, stays_open, GivesTable};
 ghost use Rattle.store.specs.Machine.{Setting, Machine, halted, Allows, holds};
-ghost use Rattle.store.specs.Held.{whole_reading, tables_held, held_by};
+ghost use Rattle.store.specs.Held.{tables_held, held_by};
+ghost use Rattle.pages.specs.Stored.{stored_reading};
 ghost use Rattle.store.specs.Changes.{PlainChange};
 ghost use Rattle.store.specs.Deciding.{IsDecided, IsAnswered};
 ghost use Rattle.store.specs.Applying.{HasDone, IsOldOrDone};
@@ -29,8 +30,8 @@ ghost use Rattle.store.specs.Halting.{phase_where, tells_halt_while_open};
 ghost use Rattle.store.specs.History.{any_change, begun, acknowledged, Settles, SettlesAll, Keeps, tells_damage, tells_no_store};
 
 use canonical_write::pieces_are_tables;
-use catalogue::one_text_each;
 use ipc_stream::meaning_is_a_table;
+use pages::pages_hold_what_was_read;
 use query::{rows_refuse_no_query, selection_is_a_table};
 use values::{accepted_rows_are_a_table, tables_are_joined_and_cut};
 
@@ -140,7 +141,7 @@ pub(crate) fn laws_below()
     selection_is_a_table();
     rows_refuse_no_query();
     meaning_is_a_table();
-    one_text_each();
+    pages_hold_what_was_read();
 }
 
 /// What is decided of a command by a catalogue, and by what reads show, is the verdict on the tables that the catalogue lists: a change that makes
@@ -153,7 +154,7 @@ pub fn decisions_are_verdicts()
     ensures answered { (image : Image) (c : PlainCatalogue) (t : Tables) (command : PlainCommand) (d : Result PlainChange Refusal)
         → IsCatalogue c → tables_held image c ≡ Some t → BringsTables command → IsAnswered true image c command d
         → IsUndecided command d ⊎ IsVerdict t command d }
-    ensures catalogues { (size : ℕ) (image : Image) (k : Commit) (c : PlainCatalogue) → standing whole_reading size image ≡ rules k c → IsCatalogue c }
+    ensures catalogues { (size : ℕ) (image : Image) (k : Commit) (c : PlainCatalogue) → standing stored_reading size image ≡ rules k c → IsCatalogue c }
 {
     laws_below();
 }
@@ -162,11 +163,11 @@ pub fn decisions_are_verdicts()
 /// the runs of the catalogue lies there still (`done`); so what a stop leaves has those tables, or the ones that stood (`left`).
 pub fn what_is_done_is_the_verdict()
     ensures done { (size : ℕ) (entries : List UsageEntry) (k : Commit) (c : PlainCatalogue) (before : Disk) (t : Tables) (command : PlainCommand)
-        (image : Image) → Stands whole_reading size before k c → tables_held (synced_image before) c ≡ Some t → BringsTables command
-        → ((n : ℕ) → InSome (used_runs whole_reading k c) n → image n ≡ (before.at n).synced)
+        (image : Image) → Stands stored_reading size before k c → tables_held (synced_image before) c ≡ Some t → BringsTables command
+        → ((n : ℕ) → InSome (used_runs stored_reading k c) n → image n ≡ (before.at n).synced)
         → HasDone size (IsUsedIn entries) k c before command image → HoldsVerdict size image t command }
     ensures left { (size : ℕ) (entries : List UsageEntry) (k : Commit) (c : PlainCatalogue) (before : Disk) (t : Tables) (command : PlainCommand)
-        (image : Image) → Stands whole_reading size before k c → tables_held (synced_image before) c ≡ Some t → BringsTables command
+        (image : Image) → Stands stored_reading size before k c → tables_held (synced_image before) c ≡ Some t → BringsTables command
         → IsOldOrDone size (IsUsedIn entries) k c before command image → (held_by size image ≡ holds t) ⊎ HoldsVerdict size image t command }
 {
     laws_below();

@@ -38,7 +38,6 @@ mod reading;
 mod running;
 mod saving;
 mod store;
-mod stored;
 
 pub use beginning::{crashed_devices_are_left, devices_fit, left_devices_fit, new_devices_fit};
 pub use call::{Call, Place, Reply};
@@ -51,6 +50,6 @@ pub use laws::{
     snapshots_give_their_table, undisturbed_runs_settle_what_was_acknowledged,
     undisturbed_runs_tell_no_failure, undisturbed_runs_tell_no_halt, what_is_done_is_the_verdict,
 };
+pub use pages::StoredCatalogue;
 pub use running::{answer, run};
 pub use store::Store;
-pub use stored::StoredCatalogue;

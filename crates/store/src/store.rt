@@ -10,9 +10,9 @@ ghost use Rattle.store.specs.Exported.{AreExportable, exportable_prop};
 
 use crate::OpeningRefusal;
 use crate::opening_refusal::opening_refusal;
-use crate::stored::StoredCatalogue;
 use commit::{Opened, recover};
 use export_book::ExportBook;
+use pages::StoredCatalogue;
 use sector_dev::SectorDevice;
 use std::alloc::Global;
 
@@ -42,7 +42,7 @@ impl<D: SectorDevice> Store<D> {
     ghost use Rattle.store.specs.Calls.{open_call, shut_by, counted};
     ghost use Rattle.store.specs.Machine.{Machine};
     ghost use Rattle.store.specs.Fits.{DeviceFits, FindsStore, Opens, Shuts, device_of, is_halted};
-    ghost use Rattle.store.specs.Held.{whole_reading};
+    ghost use Rattle.pages.specs.Stored.{stored_reading};
     ghost use Rattle.store.specs.Opening.{TellsOpening};
 
     /// Opens the store that stands on a device: what its commit sectors and its catalogue say, after a sync. Where it is refused
@@ -59,7 +59,7 @@ impl<D: SectorDevice> Store<D> {
             → Shuts D.size D.story D.failed base m open_call device e.0 e.1) }
         // On any device: what is found or told is so, and no moment has a write.
         ensures found { IfOk result (λ store. D.tells ≡ true → FindsStore D.size D.story device store) }
-        ensures told { IfErr result (λ e. D.tells ≡ true → TellsOpening e.0 (standing_shown whole_reading (D.size device) (D.story device))) }
+        ensures told { IfErr result (λ e. D.tells ≡ true → TellsOpening e.0 (standing_shown stored_reading (D.size device) (D.story device))) }
         ensures not_already { IfErr result (λ e. e.0 ≢ OpeningRefusal.AlreadyAStore) }
         ensures quiet { IfErr result (λ e. e.0 ≢ OpeningRefusal.Device → D.tells ≡ true → now (D.story e.1) ≡ now (D.story device)) }
         ensures moments { IfErr result (λ e. D.tells ≡ true → Grows (IsOpening (now (D.story device))) (D.story device) (D.story e.1)) }

@@ -34,8 +34,8 @@ fn reading() -> Steps {
     READING
 }
 
-// How many sectors were read after each step: both commits and two of the catalogue, and those of the table's segments.
-const READS: &[u64] = &[4, 6, 6, 8, 10, 12, 14, 14, 16, 16];
+// How many sectors were read after each step: both commits, the root and three pages, and those of the table's segments.
+const READS: &[u64] = &[6, 8, 8, 10, 12, 14, 16, 16, 18, 18];
 
 // Whether just so many steps are answered as they are to, and the others refused.
 fn are_answered(alloc: Global, replies: &[Reply], done: usize) -> Result<bool, NotMade> {
@@ -75,7 +75,7 @@ fn survives(alloc: Global, k: u64, way: Way) -> Result<bool, NotMade> {
 
 // The first read after whose failure something is wrong. In the last run none fails.
 fn wrong_read(alloc: Global, way: Way) -> Result<Option<usize>, NotMade> {
-    for k in 1..=17u64 {
+    for k in 1..=19u64 {
         if !survives(alloc, k, way)? {
             return Ok(Some(k as usize));
         }
@@ -89,7 +89,7 @@ fn each_read_of_the_device_fails_in_turn(rt: HostRuntime) {
     assert_no_row(&rt, wrong_read(rt.alloc(), Way::OneRun));
 }
 
-// The segments of t are the fifth and the sixth sector that is read, and where they became one those of u the seventh and the eighth.
+// The segments of t are the seventh and the eighth sector that is read, and where they became one those of u the ninth and the tenth.
 const IN_PIECES: Steps = &[
     (Open, "ok"),
     (OpenExport("t"), "export 0"),
@@ -133,11 +133,11 @@ const MOVING: Steps = &[
 // Which read fails, and what is asked.
 fn step_by_step(number: usize) -> Option<(u64, Steps)> {
     Some(match number {
-        0 => (6, IN_PIECES),
-        1 => (5, MERGING),
-        2 => (6, MERGING),
-        3 => (7, MOVING),
-        4 => (8, MOVING),
+        0 => (8, IN_PIECES),
+        1 => (7, MERGING),
+        2 => (8, MERGING),
+        3 => (9, MOVING),
+        4 => (10, MOVING),
         _ => return None,
     })
 }
@@ -174,7 +174,7 @@ const EXPORTING: Steps = &[
 
 // The first read of a segment that fails and lets something be written.
 fn wrong_export(alloc: Global) -> Result<Option<usize>, NotMade> {
-    for k in 5..=6u64 {
+    for k in 7..=8u64 {
         if !is_played(alloc, &mut Some(Place::Shut(failing(alloc, k)?)), EXPORTING)? {
             return Ok(Some(k as usize));
         }

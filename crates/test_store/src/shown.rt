@@ -92,10 +92,15 @@ pub fn contents(alloc: Global, device: &mut ModelDevice) -> Result<String, NotMa
     Ok(text)
 }
 
-// As `t: 3+1 5+2`: the first sector of each segment, and how many there are.
+// As `t: 3+1 5+2`: the first sector of each segment, and how many there are. Where the table has a page, also its first sector and its
+// bytes, as `t page 4 of 192: 3+1`.
 fn add_places_of(text: &mut String, entry: &TableEntry) -> Result<(), NotMade> {
-    let name = entry.name.as_str();
-    write!(text, "{name}:")?;
+    text.push_str(&entry.name)?;
+    if let Some(page) = entry.page {
+        let (start, bytes) = (page.run.start, page.bytes);
+        write!(text, " page {start} of {bytes}")?;
+    }
+    text.push_str(":")?;
     for segment in &entry.segments {
         let (start, count) = (segment.place.run.start, segment.place.run.count);
         write!(text, " {start}+{count}")?;
@@ -103,7 +108,7 @@ fn add_places_of(text: &mut String, entry: &TableEntry) -> Result<(), NotMade> {
     Ok(())
 }
 
-// As `epoch 2, 201 in 4, t: 3+1`.
+// As `epoch 2, 201 in 4, t: 3+1`: the bytes of the list or the root, and where it lies.
 fn add_places(text: &mut String, commit: Commit, entries: &[TableEntry]) -> Result<(), NotMade> {
     let (epoch, place) = (commit.epoch, commit.catalogue);
     let (bytes, start) = (place.bytes, place.run.start);

@@ -94,12 +94,13 @@ refilled_all p (x ∷ xs) name segments alike all =
     cond_both (bytes_eq x.name name) (refilled x segments ∷ xs) (x ∷ with_segments xs name segments) (λ d. list_all p d ≡ true) (λ _. and_from (p (refilled x segments)) (list_all p xs) (alike x parts.0) parts.1)
     (λ _. and_from (p x) (list_all p (with_segments xs name segments)) parts.0 (refilled_all p xs name segments alike parts.1))
 
--- what an appending makes of the entry that was found
-pub more_is : (c : PlainCatalogue) (name : List ℕ) (e : PlainEntry) (more : List Segment) → entry_of c name ≡ Some e → with_more c name more ≡ with_segments c name (e.segments ++ more)
-more_is c name e more h = ap (λ (o : Option PlainEntry). elim o [ None ↦ c | Some x ↦ with_segments c name (x.segments ++ more) ]) h
+-- what an appending of a segment at least makes of the entry that was found
+pub more_is : (c : PlainCatalogue) (name : List ℕ) (e : PlainEntry) (s : Segment) (more : List Segment) → entry_of c name ≡ Some e → with_more c name (s ∷ more) ≡ with_segments c name (e.segments ++ s ∷ more)
+more_is c name e s more h = ap (λ (o : Option PlainEntry). elim o [ None ↦ c | Some x ↦ with_segments c name (x.segments ++ s ∷ more) ]) h
 
 pub more_none : (c : PlainCatalogue) (name : List ℕ) (more : List Segment) → entry_of c name ≡ None → with_more c name more ≡ c
-more_none c name more h = ap (λ (o : Option PlainEntry). elim o [ None ↦ c | Some x ↦ with_segments c name (x.segments ++ more) ]) h
+more_none c name [] h = refl
+more_none c name (s ∷ more) h = ap (λ (o : Option PlainEntry). elim o [ None ↦ c | Some x ↦ with_segments c name (x.segments ++ s ∷ more) ]) h
 
 -- any new segments of a table
 pub refilled_stands : (c : PlainCatalogue) (name : List ℕ) (e : PlainEntry) (segments : List Segment) → is_catalogue c ≡ true → entry_of c name ≡ Some e → list_all is_segment segments ≡ true
@@ -117,14 +118,16 @@ refilled_stands c name e segments kept found all most =
     })
 
 pub more_stands : (c : PlainCatalogue) (name : List ℕ) (e : PlainEntry) (more : List Segment) → is_catalogue c ≡ true → entry_of c name ≡ Some e → list_all is_segment more ≡ true → segment_count c + length more ≤ MAX_SEGMENTS
-    → is_catalogue (with_segments c name (e.segments ++ more)) ≡ true
-more_stands c name e more kept found each most =
+    → is_catalogue (with_more c name more) ≡ true
+more_stands c name e [] kept found each most = kept
+more_stands c name e (s ∷ ss) kept found each most =
+    let more : List Segment = s ∷ ss in
     let k = catalogue_is c kept in
     let sum = refilled_sum segments_in c name e (e.segments ++ more) found in
     let len = length-append e.segments more in
     let stood = entry_is e (found_passes is_entry c name e k.entries found) in
     let all : list_all is_segment (e.segments ++ more) ≡ true = list_all-append is_segment e.segments more ∙ and_from (list_all is_segment e.segments) (list_all is_segment more) stood.segments each in
-    refilled_stands c name e (e.segments ++ more) kept found all (omega (arith, sum, len, most))
+    ap is_catalogue (more_is c name e s ss found) ∙ refilled_stands c name e (e.segments ++ more) kept found all (omega (arith, sum, len, most))
 
 -- ---- exchange
 

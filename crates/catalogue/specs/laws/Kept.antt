@@ -11,7 +11,7 @@ use Rattle.arrow_schema.specs.Preorder.{every_column, depth_all}
 use Rattle.arrow_schema.specs.Limits.{count_of_pairs, count_of_bytes, has_number_in_range, has_flat_dictionary, has_bit_widths, has_utf8_texts, texts_of_pairs, IsWithinLimits}
 use Rattle.catalogue.specs.declared.limits.TheConstants.{MAX_TABLES, MAX_SEGMENTS}
 use Rattle.catalogue.specs.Schemas.{is_small, has_sound_columns, is_within_limits}
-use Rattle.catalogue.specs.Entries.{PlainEntry, PlainCatalogue, is_name, is_segment, has_no_page, is_entry, names_of, ascends, segment_count, IsCatalogue, is_catalogue}
+use Rattle.catalogue.specs.Entries.{PlainEntry, PlainCatalogue, is_name, is_segment, is_page, is_entry, names_of, ascends, segment_count, IsCatalogue, is_catalogue}
 
 pub passes_limits : (s : PlainSchema) → IsWithinLimits s → is_within_limits s ≡ true
 unfolding is_within_limits
@@ -51,24 +51,24 @@ pub fails_limits : (s : PlainSchema) → (IsWithinLimits s → ⊥) → is_withi
 fails_limits s past = false_from_ne_true (is_within_limits s) (λ h. past (is_within s h))
 
 -- an entry of these parts may stand
-pub entry_stands : (e : PlainEntry) → is_name e.name ≡ true → IsWithinLimits e.schema → list_all is_segment e.segments ≡ true → has_no_page e.page ≡ true → is_entry e ≡ true
+pub entry_stands : (e : PlainEntry) → is_name e.name ≡ true → IsWithinLimits e.schema → list_all is_segment e.segments ≡ true → is_page e.page ≡ true → is_entry e ≡ true
 entry_stands e name schema segments page =
-    let rest = list_all is_segment e.segments && has_no_page e.page in
+    let rest = list_all is_segment e.segments && is_page e.page in
     and_from (is_name e.name) (is_within_limits e.schema && rest) name
-    (and_from (is_within_limits e.schema) rest (passes_limits e.schema schema) (and_from (list_all is_segment e.segments) (has_no_page e.page) segments page))
+    (and_from (is_within_limits e.schema) rest (passes_limits e.schema schema) (and_from (list_all is_segment e.segments) (is_page e.page) segments page))
 
 -- what is known of one that stands
 pub record IsEntry (e : PlainEntry) : Type 0 where
   pub name : is_name e.name ≡ true
   pub schema : IsWithinLimits e.schema
   pub segments : list_all is_segment e.segments ≡ true
-  pub page : has_no_page e.page ≡ true
+  pub page : is_page e.page ≡ true
 
 pub entry_is : (e : PlainEntry) → is_entry e ≡ true → IsEntry e
 entry_is e h =
-    let parts = and_parts (is_name e.name) (is_within_limits e.schema && (list_all is_segment e.segments && has_no_page e.page)) h in
-    let rest = and_parts (is_within_limits e.schema) (list_all is_segment e.segments && has_no_page e.page) parts.1 in
-    let own = and_parts (list_all is_segment e.segments) (has_no_page e.page) rest.1 in
+    let parts = and_parts (is_name e.name) (is_within_limits e.schema && (list_all is_segment e.segments && is_page e.page)) h in
+    let rest = and_parts (is_within_limits e.schema) (list_all is_segment e.segments && is_page e.page) parts.1 in
+    let own = and_parts (list_all is_segment e.segments) (is_page e.page) rest.1 in
     record { name = parts.0; schema = is_within e.schema rest.0; segments = own.0; page = own.1 }
 
 pub passes_catalogue : (c : PlainCatalogue) → IsCatalogue c → is_catalogue c ≡ true

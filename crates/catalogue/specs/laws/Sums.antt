@@ -53,16 +53,22 @@ module _ (f : PlainEntry → ℕ) where
       let other = other_name x.name e.name Greater is refl in
       absurd (by_found x xs e.name old h (λ t stands. cc) (λ t later. cc)))
 
-  -- segments make no difference to it where they make none to the value
-  pub put_alike : (c : PlainCatalogue) (e : PlainEntry) (segments : List Segment) → f (refilled e segments) ≡ f e → sum_by f (with_entry c (refilled e segments)) ≡ sum_by f (with_entry c e)
-  put_alike [] e segments same = omega (arith, same, sum_by-cons f e [], sum_by-cons f (refilled e segments) [])
-  put_alike (x ∷ xs) e segments same =
-      let r : PlainEntry = refilled e segments in
-      let later = put_alike xs e segments same in
+  -- what makes no difference to it but the name
+  pub put_alike : (c : PlainCatalogue) (e g : PlainEntry) → e.name ≡ g.name → f e ≡ f g → sum_by f (with_entry c e) ≡ sum_by f (with_entry c g)
+  put_alike [] e g named same = omega (arith, same, sum_by-cons f e [], sum_by-cons f g [])
+  put_alike (x ∷ xs) e g named same =
+      let later = put_alike xs e g named same in
+      let other : order x.name g.name ≡ order x.name e.name = ap (order x.name) (sym named) in
       by_order (order x.name e.name)
-      (λ is. subst (λ o. sum_by f (match_ordering o (x ∷ with_entry xs r) (r ∷ xs) (r ∷ (x ∷ xs))) ≡ sum_by f (match_ordering o (x ∷ with_entry xs e) (e ∷ xs) (e ∷ (x ∷ xs)))) (sym is) (omega (arith, later, sum_by-cons f x (with_entry xs r), sum_by-cons f x (with_entry xs e))))
-      (λ is. subst (λ o. sum_by f (match_ordering o (x ∷ with_entry xs r) (r ∷ xs) (r ∷ (x ∷ xs))) ≡ sum_by f (match_ordering o (x ∷ with_entry xs e) (e ∷ xs) (e ∷ (x ∷ xs)))) (sym is) (omega (arith, same, sum_by-cons f r xs, sum_by-cons f e xs)))
-      (λ is. subst (λ o. sum_by f (match_ordering o (x ∷ with_entry xs r) (r ∷ xs) (r ∷ (x ∷ xs))) ≡ sum_by f (match_ordering o (x ∷ with_entry xs e) (e ∷ xs) (e ∷ (x ∷ xs)))) (sym is) (omega (arith, same, sum_by-cons f r (x ∷ xs), sum_by-cons f e (x ∷ xs))))
+      (λ is.
+      ap (λ o. sum_by f (match_ordering o (x ∷ with_entry xs e) (e ∷ xs) (e ∷ (x ∷ xs)))) is ∙ omega (arith, later, sum_by-cons f x (with_entry xs e), sum_by-cons f x (with_entry xs g))
+      ∙ sym (ap (λ o. sum_by f (match_ordering o (x ∷ with_entry xs g) (g ∷ xs) (g ∷ (x ∷ xs)))) (other ∙ is)))
+      (λ is.
+      ap (λ o. sum_by f (match_ordering o (x ∷ with_entry xs e) (e ∷ xs) (e ∷ (x ∷ xs)))) is ∙ omega (arith, same, sum_by-cons f e xs, sum_by-cons f g xs)
+      ∙ sym (ap (λ o. sum_by f (match_ordering o (x ∷ with_entry xs g) (g ∷ xs) (g ∷ (x ∷ xs)))) (other ∙ is)))
+      (λ is.
+      ap (λ o. sum_by f (match_ordering o (x ∷ with_entry xs e) (e ∷ xs) (e ∷ (x ∷ xs)))) is ∙ omega (arith, same, sum_by-cons f e (x ∷ xs), sum_by-cons f g (x ∷ xs))
+      ∙ sym (ap (λ o. sum_by f (match_ordering o (x ∷ with_entry xs g) (g ∷ xs) (g ∷ (x ∷ xs)))) (other ∙ is)))
 
   -- ---- one is taken out
 

@@ -1,17 +1,16 @@
 -- What is read of a stored catalogue depends on the runs that it names alone.
-use Rattle.std.specs.Prelude.{◌≡◌, ◌≤◌, ◌<◌, ◌+◌, ◌-◌, ◌++◌, ℕ, List, [], ◌∷◌, length, map, flat_map, Option, Some, None, Result, Ok, Err, refl}
-use Rattle.std.proofs.Common.{inl, inr, sym, ap, ◌∙◌, subst}
+use Rattle.std.specs.Prelude.{◌≡◌, ◌-◌, ◌++◌, ℕ, List, [], ◌∷◌, length, Some, Ok}
+use Rattle.std.proofs.Common.{inl, inr, ap, subst}
 use Rattle.sector_dev.specs.Disk.{Image}
 use Rattle.segments.specs.declared.run.Run.{Run}
-use Rattle.segments.specs.declared.extent.Extent.{Extent}
 use Rattle.catalogue.specs.declared.limits.TheConstants.{MAX_SEGMENTS}
 use Rattle.commit.specs.Standing.{InSome}
 use Rattle.commit.specs.declared.sector.CatalogueKind.{CatalogueKind}
 use Rattle.commit.specs.declared.sector.CatalogueKind.TheVariants.{Whole, Pages}
 use Rattle.commit.specs.Standing.{IsLocal}
-use Rattle.catalogue.specs.Entries.{PlainEntry, PlainCatalogue, PlainRoot}
-use Rattle.catalogue.specs.Reading.{catalogue_at, root_at, entry_from}
-use Rattle.pages.specs.Stored.{then_read, or_no_text, page_in, pages_at, by_kind, stored_runs_in, stored_runs, stored_reading}
+use Rattle.catalogue.specs.Entries.{PlainEntry, PlainCatalogue, PlainRoot, runs_in, runs_of}
+use Rattle.catalogue.specs.Reading.{root_at, entry_from}
+use Rattle.pages.specs.Stored.{then_read, or_no_text, page_in, pages_at, by_kind, stored_reading}
 use Rattle.pages.specs.laws.Read.{bound_ok, then_ok, same_page}
 
 pub in_left : (rs ss : List Run) (n : ℕ) → InSome rs n → InSome (rs ++ ss) n
@@ -24,7 +23,7 @@ in_right [] ss n some = some
 in_right (r ∷ rs) ss n some = inr (in_right rs ss n some)
 
 module _ (size : ℕ) (a b : Image) where
-  same_pages : (most : ℕ) (rs : List PlainRoot) (c : PlainCatalogue) → pages_at size a most rs ≡ Ok c → ((n : ℕ) → InSome (stored_runs c) n → b n ≡ a n) → pages_at size b most rs ≡ Ok c
+  same_pages : (most : ℕ) (rs : List PlainRoot) (c : PlainCatalogue) → pages_at size a most rs ≡ Ok c → ((n : ℕ) → InSome (runs_of c) n → b n ≡ a n) → pages_at size b most rs ≡ Ok c
   unfolding pages_at
   same_pages most [] c is same = is
   same_pages most (r ∷ rs) c is same =
@@ -32,13 +31,13 @@ module _ (size : ℕ) (a b : Image) where
       let y = bound_ok (pages_at size a (most - length x.0.1) rs) (λ others. Ok (entry_from r.name (Some r.page) x.0 ∷ others)) c x.2 in
       let e : PlainEntry = entry_from r.name (Some r.page) x.0 in
       let whole : e ∷ y.0 ≡ c = cc y.2 in
-      let all : (n : ℕ) → InSome (stored_runs_in e ++ stored_runs y.0) n → b n ≡ a n = λ n some. same n (subst (λ (d : PlainCatalogue). InSome (stored_runs d) n) whole some) in
+      let all : (n : ℕ) → InSome (runs_in e ++ runs_of y.0) n → b n ≡ a n = λ n some. same n (subst (λ (d : PlainCatalogue). InSome (runs_of d) n) whole some) in
       then_ok (page_in size b most r.page) (λ body. then_read (pages_at size b (most - length body.1) rs) (λ others. Ok (entry_from r.name (Some r.page) body ∷ others))) x.0 (Ok c)
-      (same_page size a b most r.page x.0 x.1 (λ n low high. all n (in_left (stored_runs_in e) (stored_runs y.0) n (inl (low, high)))))
+      (same_page size a b most r.page x.0 x.1 (λ n low high. all n (in_left (runs_in e) (runs_of y.0) n (inl (low, high)))))
       (then_ok (pages_at size b (most - length x.0.1) rs) (λ others. Ok (entry_from r.name (Some r.page) x.0 ∷ others)) y.0 (Ok c)
-      (same_pages (most - length x.0.1) rs y.0 y.1 (λ n some. all n (in_right (stored_runs_in e) (stored_runs y.0) n some))) (ap Ok whole))
+      (same_pages (most - length x.0.1) rs y.0 y.1 (λ n some. all n (in_right (runs_in e) (runs_of y.0) n some))) (ap Ok whole))
 
-  pub same_by_kind : (kind : CatalogueKind) (text : List ℕ) (c : PlainCatalogue) → by_kind kind size a text ≡ Ok c → ((n : ℕ) → InSome (stored_runs c) n → b n ≡ a n) → by_kind kind size b text ≡ Ok c
+  pub same_by_kind : (kind : CatalogueKind) (text : List ℕ) (c : PlainCatalogue) → by_kind kind size a text ≡ Ok c → ((n : ℕ) → InSome (runs_of c) n → b n ≡ a n) → by_kind kind size b text ≡ Ok c
   same_by_kind Whole text c is same = is
   same_by_kind Pages text c is same =
       let x = bound_ok (or_no_text (root_at text)) (pages_at size a MAX_SEGMENTS) c is in

@@ -1,5 +1,5 @@
 -- What was read of pages says what they hold, and is read again.
-use Rattle.std.specs.Prelude.{◌≡◌, ◌≤◌, ◌<◌, ◌+◌, ◌-◌, ◌&&◌, ◌==◌, ℕ, Bool, true, false, nat_le, List, [], ◌∷◌, ◌++◌, length, sum_by, Option, Some, None, Result, Ok, Err, if◌then◌else◌, refl}
+use Rattle.std.specs.Prelude.{◌≡◌, ◌≤◌, ◌<◌, ◌+◌, ◌-◌, ◌&&◌, ◌==◌, ℕ, Bool, true, false, nat_le, List, [], ◌∷◌, ◌++◌, length, Option, Some, None, Result, Ok, Err, if◌then◌else◌, refl}
 use Rattle.std.specs.List.{list_all, AllByRecursion}
 use Rattle.std.proofs.Common.{sym, ap, ◌∙◌, subst, arith}
 use Rattle.std.proofs.lemmas.Bool.{and_parts, and_from, leb-true, le-leb, eqb-true, cond-true}
@@ -16,7 +16,8 @@ use Rattle.catalogue.specs.Reading.{◌>>=◌, body_at, page_at, entry_from}
 use Rattle.commit.specs.declared.cause.Cause.{Cause}
 use Rattle.commit.specs.declared.cause.Cause.TheVariants.{CatalogueRange}
 use Rattle.commit.specs.Standing.{is_extent, is_on_device, readable, extent_at}
-use Rattle.pages.specs.Stored.{then_read, or_no_text, page_in, pages_at, by_kind, HoldsPage, HoldsPages}
+use Rattle.pages.specs.Paging.{root_of}
+use Rattle.pages.specs.Stored.{then_read, or_no_text, page_in, pages_at, HoldsPage, HoldsPages}
 
 -- the value of a step that was made
 pub bound_ok : {A B : Type 0} (o : Result A Cause) (f : A → Result B Cause) (y : B) → then_read o f ≡ Ok y → (x : A) × (o ≡ Ok x) × (f x ≡ Ok y)
@@ -104,6 +105,27 @@ read_holds size image most (r ∷ rs) c is =
     let same : r.page ≡ p = cc here in
     subst (λ (q : Extent). page_in size image (length x.0.1) q ≡ Ok x.0) same (page_in_most size image most (length x.0.1) r.page x.0 x.1 (omega arith)) in
     subst (λ (d : PlainCatalogue). HoldsPages size image d) whole (first, read_holds size image (most - length x.0.1) rs y.0 y.1)
+
+-- ---- and are read again
+
+-- the entry has a page, which says what it does
+abbrev pub HasPage : ℕ → Image → PlainEntry → Type 0
+HasPage size image e = (p : Extent) × (e.page ≡ Some p) × (page_in size image (length e.segments) p ≡ Ok (e.schema, e.segments))
+
+pub pages_again : (size : ℕ) (image : Image) (most : ℕ) (c : PlainCatalogue) → AllByRecursion (HasPage size image) c → segment_count c ≤ most → pages_at size image most (root_of c) ≡ Ok c
+unfolding pages_at
+pages_again size image most [] all few = refl
+pages_again size image most (e ∷ es) all few =
+    let p : Extent = all.0.0 in
+    let here : e.page ≡ Some p = all.0.1 in
+    let count : segment_count (e ∷ es) ≡ length e.segments + segment_count es = sum_by-cons (λ (x : PlainEntry). length x.segments) e es in
+    let root : root_of (e ∷ es) ≡ record { name = e.name; page = p } ∷ root_of es = ap (λ (o : Option Extent). elim o [ None ↦ [] | Some q ↦ record { name = e.name; page = q } ∷ [] ] ++ root_of es) here in
+    let one : page_in size image most p ≡ Ok (e.schema, e.segments) = page_in_most size image (length e.segments) most p (e.schema, e.segments) all.0.2 (omega (arith, count, few)) in
+    let rest = pages_again size image (most - length e.segments) es all.1 (omega (arith, count, few)) in
+    let entry : entry_from e.name (Some p) (e.schema, e.segments) ≡ e = λ i. record { name = e.name; schema = e.schema; segments = e.segments; page = sym here i } in
+    ap (pages_at size image most) root
+    ∙ then_ok (page_in size image most p) (λ body. then_read (pages_at size image (most - length body.1) (root_of es)) (λ others. Ok (entry_from e.name (Some p) body ∷ others))) (e.schema, e.segments) (Ok (e ∷ es)) one
+    (then_ok (pages_at size image (most - length e.segments) (root_of es)) (λ others. Ok (entry_from e.name (Some p) (e.schema, e.segments) ∷ others)) es (Ok (e ∷ es)) rest (λ i. Ok (entry i ∷ es)))
 
 -- ---- in another image that has the same in its sectors
 

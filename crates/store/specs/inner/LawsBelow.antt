@@ -1,6 +1,7 @@
 -- What the laws below the store say.
-use Rattle.std.specs.Prelude.{◌≡◌, ◌≤◌, ◌++◌, ℕ, List, Some, Ok, Err}
+use Rattle.std.specs.Prelude.{◌≡◌, ◌≤◌, ◌++◌, ℕ, true, List, Some, Ok, Err}
 use Rattle.facts.specs.Bytes.{AreBytes}
+use Rattle.sector_dev.specs.Disk.{Image}
 use Rattle.arrow_schema.specs.Column.{PlainSchema}
 use Rattle.arrow_schema.specs.Limits.{IsWithinLimits}
 use Rattle.cells.specs.Cell.{Cell, PlainTable}
@@ -14,7 +15,9 @@ use Rattle.query.specs.Query.{PlainQuery}
 use Rattle.query.specs.Selection.{selection}
 use Rattle.canonical_write.specs.Pieces.{piece_streams, piece_counts}
 use Rattle.catalogue.specs.Entries.{PlainCatalogue, IsCatalogue}
-use Rattle.catalogue.specs.Reading.{catalogue_at}
+use Rattle.commit.specs.declared.sector.Commit.{Commit}
+use Rattle.commit.specs.Standing.{is_size}
+use Rattle.pages.specs.Stored.{stored_reading}
 use Rattle.store.specs.Changes.{rows_under, stream_rows}
 
 -- of tables, and rows of them
@@ -32,4 +35,4 @@ pub record LawsBelow : Type 0 where
   pub selects : (t : PlainTable) (q : PlainQuery) (s : PlainTable) → IsTable t → selection t q ≡ Ok s → IsTable s
   pub alike : (t u : PlainTable) (q : PlainQuery) (r : Refusal) → t.schema ≡ u.schema → selection t q ≡ Err r → selection u q ≡ Err r
   pub means : (bytes : List ℕ) (table : PlainTable) → AreBytes bytes → meaning supported_codes bytes ≡ Ok table → IsTable table
-  pub catalogues : (bytes : List ℕ) (c : PlainCatalogue) → catalogue_at bytes ≡ Some c → IsCatalogue c
+  pub catalogues : (size : ℕ) (image : Image) (k : Commit) (text : List ℕ) (c : PlainCatalogue) → is_size size ≡ true → stored_reading.at size image k text ≡ Ok c → IsCatalogue c

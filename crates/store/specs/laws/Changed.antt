@@ -1,6 +1,6 @@
 -- What an image holds of a catalogue that was edited: the tables that the change makes.
-use Rattle.std.specs.Prelude.{◌≡◌, ◌≢◌, ◌+◌, ℕ, suc, Bool, true, false, cond, List, [], ◌∷◌, ◌++◌, Option, Some, None, is_some, Ok, if◌then◌else◌, refl}
-use Rattle.std.proofs.Common.{sym, ap, ◌∙◌, arith, append_assoc}
+use Rattle.std.specs.Prelude.{◌≡◌, ◌≢◌, ◌+◌, ℕ, suc, Bool, true, false, cond, List, [], ◌∷◌, ◌++◌, length, map, Option, Some, None, is_some, Ok, if◌then◌else◌, refl}
+use Rattle.std.proofs.Common.{sym, ap, ◌∙◌, arith, append_assoc, append-nil, drop}
 use Rattle.std.proofs.lemmas.Bool.{and_parts}
 use Rattle.std.proofs.lemmas.Cmp.{nat_list_cmp_total}
 use Rattle.std.proofs.lemmas.Slice.Eq.{bytes_eq-Decides}
@@ -13,17 +13,39 @@ use Rattle.sector_dev.specs.Disk.{Image}
 use Rattle.arrow_schema.specs.Column.{PlainSchema}
 use Rattle.cells.specs.Cell.{Cell, PlainTable}
 use Rattle.values.specs.Table.{table_from}
+use Rattle.segments.specs.declared.run.Run.{Run}
+use Rattle.segments.specs.declared.extent.Extent.{Extent}
 use Rattle.catalogue.specs.declared.entry.Segment.{Segment}
-use Rattle.catalogue.specs.Entries.{PlainEntry, PlainCatalogue, names_of, comes_before, ascends, IsCatalogue}
+use Rattle.catalogue.specs.Entries.{PlainEntry, PlainCatalogue, names_of, comes_before, ascends, bare, IsCatalogue}
 use Rattle.catalogue.specs.Edits.{entry_of, with_entry, without, named, renamed, with_segments, with_more}
+use Rattle.catalogue.specs.laws.Changed.{more_is}
 use Rattle.catalogue.specs.laws.Order.{order, by_order}
 use Rattle.tables.specs.Tables.{Tables, no_tables, table_at, with_table, without_table, table_count}
 use Rattle.tables.specs.Verdict.{joined}
 use Rattle.tables.specs.laws.Maps.{put_apart, put_over, put_and_taken, put_not_taken, none_taken}
 use Rattle.store.specs.Held.{rows_in_bytes, segment_rows, joined_rows, rows_held, table_where, table_of_rows, table_held, with_held, tables_held}
-use Rattle.store.specs.Changes.{PlainEdit, put, extend, move, remove, exchange, PlainChange, new_entry, edited, HasEntry, stream_rows, rows_under, Makes, MakesOf, HoldsStreams}
+use Rattle.store.specs.Changes.{PlainEdit, put, extend, move, remove, exchange, PlainChange, new_entry, page_instead, edited, placed_segments, HasEntry, stream_rows, rows_under, Makes, MakesOf, HoldsStreams}
+use Rattle.pages.specs.Paging.{is_whole, in_first, tail_of, with_pages, settled}
+use Rattle.pages.specs.laws.Paged.{by_page, kept_first, made_first}
+use Rattle.store.specs.Carrying.{placed}
 use Rattle.store.specs.laws.Named.{entry_has, entry_lacks, held_has}
 use Rattle.store.specs.laws.Listed.{count_held}
+
+-- with segments of the same rows for a table
+pub same_with : (image : Image) (c : PlainCatalogue) (name : List ℕ) (e : PlainEntry) (segments : List Segment) → entry_of c name ≡ Some e → rows_held e.schema segments image ≡ rows_held e.schema e.segments image
+    → tables_held image (with_segments c name segments) ≡ tables_held image c
+unfolding tables_held
+same_with image [] name e segments found same = refl
+same_with image (x ∷ xs) name e segments found same = by_name (bytes_eq x.name name) found (λ h. same_with image xs name e segments h same)
+  where
+    by_name : (b : Bool) → (if b then Some x else entry_of xs name) ≡ Some e → (entry_of xs name ≡ Some e → tables_held image (with_segments xs name segments) ≡ tables_held image xs)
+        → tables_held image (if b then record { name = x.name; schema = x.schema; segments = segments; page = None } ∷ xs else x ∷ with_segments xs name segments) ≡ tables_held image (x ∷ xs)
+    by_name true h later =
+        let is : x ≡ e = cc h in
+        let rows : rows_held x.schema segments image ≡ rows_held x.schema x.segments image =
+        ap (λ (y : PlainEntry). rows_held y.schema segments image) is ∙ same ∙ ap (λ (y : PlainEntry). rows_held y.schema y.segments image) (sym is) in
+        ap (λ (o : Option (List (List Cell))). with_held x.name (table_of_rows x.schema o) (tables_held image xs)) rows
+    by_name false h later = ap (with_held x.name (table_held image x)) (later h)
 
 -- ---- the rows of new segments
 
@@ -149,7 +171,7 @@ module _ (image : Image) where
   -- ---- with other segments
 
   held_changed : (c : PlainCatalogue) (t : Tables) (name : List ℕ) (segments : List Segment) (e : PlainEntry) (table : PlainTable) → tables_held image c ≡ Some t → entry_of c name ≡ Some e
-      → table_held image (new_entry name e.schema segments) ≡ Some table → tables_held image (with_segments c name segments) ≡ Some (with_table t name table)
+      → table_held image (new_entry name e.schema segments None) ≡ Some table → tables_held image (with_segments c name segments) ≡ Some (with_table t name table)
   held_changed [] t name segments e table is found own = absurd (cc found)
   held_changed (x ∷ xs) t name segments e table is found own = parted x xs t is (λ was u first others same. by_name was u first others same (bytes_eq x.name name) refl found (λ h. held_changed xs u name segments e table others h own))
     where
@@ -159,7 +181,7 @@ module _ (image : Image) where
       by_name was u first others same true here h later =
           let named : x.name ≡ name = bytes_same x.name name here in
           let stood : x ≡ e = cc h in
-          in_front (new_entry x.name x.schema segments) xs table u (ap (λ (y : PlainEntry). table_held image (new_entry x.name y.schema segments)) stood ∙ own) others
+          in_front (new_entry x.name x.schema segments None) xs table u (ap (λ (y : PlainEntry). table_held image (new_entry x.name y.schema segments None)) stood ∙ own) others
           ∙ ap Some (sym (put_over u x.name was table) ∙ ap (λ (v : Tables). with_table v x.name table) (sym same) ∙ ap (λ (n : List ℕ). with_table t n table) named)
       by_name was u first others same false other h later =
           in_front x (with_segments xs name segments) was (with_table u name table) first (later h)
@@ -168,15 +190,21 @@ module _ (image : Image) where
   -- ---- a change
 
   -- the table of a new entry
-  held_new : (name : List ℕ) (schema : PlainSchema) (segments : List Segment) (rows : List (List Cell)) (table : PlainTable) → rows_held schema segments image ≡ Some rows → table_from schema rows ≡ Ok table
-      → table_held image (new_entry name schema segments) ≡ Some table
-  held_new name schema segments rows table read made = ap (table_of_rows schema) read ∙ ap table_where made
+  held_new : (name : List ℕ) (schema : PlainSchema) (segments : List Segment) (page : Option Extent) (rows : List (List Cell)) (table : PlainTable) → rows_held schema segments image ≡ Some rows → table_from schema rows ≡ Ok table
+      → table_held image (new_entry name schema segments page) ≡ Some table
+  held_new name schema segments page rows table read made = ap (table_of_rows schema) read ∙ ap table_where made
 
   held_put : (c : PlainCatalogue) (t new : Tables) (name : List ℕ) (schema : PlainSchema) (segments : List Segment) (streams : List (List ℕ)) (counts : List ℕ) → tables_held image c ≡ Some t
-      → Makes t (put name schema) streams counts new → HoldsStreams image segments streams counts → tables_held image (with_entry c (new_entry name schema segments)) ≡ Some new
+      → Makes t (put name schema) streams counts new → HoldsStreams image segments streams counts → tables_held image (with_entry c (new_entry name schema segments (page_instead (entry_of c name) schema segments))) ≡ Some new
   held_put c t new name schema segments streams counts is makes holds =
       let read = streams_held image schema segments streams counts holds ∙ makes.1 in
-      held_with c t (new_entry name schema segments) (rows_under schema makes.0) is (held_new name schema segments makes.0 (rows_under schema makes.0) read makes.2) ∙ ap Some (sym makes.3)
+      let page = page_instead (entry_of c name) schema segments in
+      held_with c t (new_entry name schema segments page) (rows_under schema makes.0) is (held_new name schema segments page makes.0 (rows_under schema makes.0) read makes.2) ∙ ap Some (sym makes.3)
+
+  -- segments behind those of a table, also where there are none
+  more_held : (c : PlainCatalogue) (name : List ℕ) (e : PlainEntry) (more : List Segment) → entry_of c name ≡ Some e → tables_held image (with_more c name more) ≡ tables_held image (with_segments c name (e.segments ++ more))
+  more_held c name e [] found = sym (same_with image c name e (e.segments ++ []) found (ap (λ (ss : List Segment). rows_held e.schema ss image) (append-nil e.segments)))
+  more_held c name e (s ∷ ss) found = ap (tables_held image) (more_is c name e s ss found)
 
   held_extended : (c : PlainCatalogue) (t new : Tables) (name : List ℕ) (segments : List Segment) (streams : List (List ℕ)) (counts : List ℕ) → tables_held image c ≡ Some t → HasEntry c name
       → Makes t (extend name) streams counts new → HoldsStreams image segments streams counts → tables_held image (with_more c name segments) ≡ Some new
@@ -189,8 +217,8 @@ module _ (image : Image) where
       let more : rows_held e.schema segments image ≡ Some rows = streams_held image e.schema segments streams counts holds ∙ ap (λ (s : PlainSchema). stream_rows s streams counts) (sym schema) ∙ read in
       let both : rows_held e.schema (e.segments ++ segments) image ≡ Some (table.rows ++ rows) = rows_behind e.schema e.segments segments image ∙ (λ i. joined_rows (old i) (more i)) in
       let from : table_from e.schema (table.rows ++ rows) ≡ Ok (joined table rows) = ap (λ (s : PlainSchema). table_from s (table.rows ++ rows)) (sym schema) ∙ made in
-      ap (λ (o : Option PlainEntry). tables_held image (elim o [ None ↦ c | Some x ↦ with_segments c name (x.segments ++ segments) ])) found
-      ∙ held_changed c t name (e.segments ++ segments) e (joined table rows) is found (held_new name e.schema (e.segments ++ segments) (table.rows ++ rows) (joined table rows) both from)
+      more_held c name e segments found
+      ∙ held_changed c t name (e.segments ++ segments) e (joined table rows) is found (held_new name e.schema (e.segments ++ segments) None (table.rows ++ rows) (joined table rows) both from)
       ∙ ap Some (sym becomes)
 
   held_moved : (c : PlainCatalogue) (t new : Tables) (from to : List ℕ) → ascends (names_of c) ≡ true → tables_held image c ≡ Some t → HasEntry c from → Makes t (move from to) [] [] new
@@ -218,3 +246,33 @@ module _ (image : Image) where
       by_edit (move from to) made = held_moved c t new from to catalogue.order is (has_entry from made.0 (entry_of c from) refl made.1) made
       by_edit (remove name) made = held_without c t name catalogue.order is ∙ ap Some (sym made)
       by_edit (exchange name place count) made = absurd made
+
+-- ---- pages make no difference to what the tables are
+
+bare_held : (image : Image) (c : PlainCatalogue) → tables_held image (map bare c) ≡ tables_held image c
+unfolding tables_held
+bare_held image [] = refl
+bare_held image (e ∷ es) = ap (with_held e.name (table_held image e)) (bare_held image es)
+
+first_held : (image : Image) (e : PlainEntry) (runs : List Run) (es : PlainCatalogue) → tables_held image (in_first e runs ∷ es) ≡ with_held e.name (table_held image e) (tables_held image es)
+unfolding tables_held
+first_held image e [] es = refl
+first_held image e (run ∷ runs) es = refl
+
+pages_held : (image : Image) (c : PlainCatalogue) (runs : List Run) → tables_held image (with_pages c runs) ≡ tables_held image c
+unfolding tables_held
+pages_held image [] runs = refl
+pages_held image (e ∷ es) runs =
+    by_page e.page
+    (λ p here. ap (tables_held image) (kept_first e es runs p here) ∙ ap (with_held e.name (table_held image e)) (pages_held image es runs))
+    (λ none. ap (tables_held image) (made_first e es runs none) ∙ first_held image e runs (with_pages es (tail_of runs)) ∙ ap (with_held e.name (table_held image e)) (pages_held image es (tail_of runs)))
+
+pub settled_held : (image : Image) (c : PlainCatalogue) (runs : List Run) → tables_held image (settled c runs) ≡ tables_held image c
+settled_held image c runs = by_whole (is_whole c)
+  where
+    by_whole : (t : Bool) → tables_held image (if t then map bare c else with_pages c runs) ≡ tables_held image c
+    by_whole true = bare_held image c
+    by_whole false = pages_held image c runs
+
+pub placed_held : (image : Image) (c : PlainCatalogue) (change : PlainChange) (places : List Run) → tables_held image (placed c change places) ≡ tables_held image (edited c change.edit (placed_segments places change.streams change.counts))
+placed_held image c change places = settled_held image (edited c change.edit (placed_segments places change.streams change.counts)) (drop (length change.streams) places)

@@ -10,7 +10,7 @@ use Rattle.catalogue.specs.Entries.{PlainEntry, PlainCatalogue}
 use Rattle.catalogue.specs.Edits.{entry_of, with_segments, from_place, with_others, with_exchanged}
 use Rattle.store.specs.Held.{joined_rows, rows_held, table_of_rows, table_held, with_held, tables_held}
 use Rattle.store.specs.Exchanging.{HoldsSame}
-use Rattle.store.specs.laws.Changed.{rows_behind}
+use Rattle.store.specs.laws.Changed.{rows_behind, same_with}
 
 module _ (image : Image) where
   -- the rows of all
@@ -27,25 +27,9 @@ module _ (image : Image) where
       ∙ sym (rows_behind schema front (drop place segments) image)
       ∙ ap (λ (ss : List Segment). rows_held schema ss image) (take-append-drop place segments)
 
-  -- the tables of a catalogue
-  same_with : (c : PlainCatalogue) (name : List ℕ) (e : PlainEntry) (segments : List Segment) → entry_of c name ≡ Some e → rows_held e.schema segments image ≡ rows_held e.schema e.segments image
-      → tables_held image (with_segments c name segments) ≡ tables_held image c
-  unfolding tables_held
-  same_with [] name e segments found same = refl
-  same_with (x ∷ xs) name e segments found same = by_name (bytes_eq x.name name) found (λ h. same_with xs name e segments h same)
-    where
-      by_name : (b : Bool) → (if b then Some x else entry_of xs name) ≡ Some e → (entry_of xs name ≡ Some e → tables_held image (with_segments xs name segments) ≡ tables_held image xs)
-          → tables_held image (if b then record { name = x.name; schema = x.schema; segments = segments; page = None } ∷ xs else x ∷ with_segments xs name segments) ≡ tables_held image (x ∷ xs)
-      by_name true h later =
-          let is : x ≡ e = cc h in
-          let rows : rows_held x.schema segments image ≡ rows_held x.schema x.segments image =
-          ap (λ (y : PlainEntry). rows_held y.schema segments image) is ∙ same ∙ ap (λ (y : PlainEntry). rows_held y.schema y.segments image) (sym is) in
-          ap (λ (o : Option (List (List Cell))). with_held x.name (table_of_rows x.schema o) (tables_held image xs)) rows
-      by_name false h later = ap (with_held x.name (table_held image x)) (later h)
-
   pub exchanged_held : (c : PlainCatalogue) (name : List ℕ) (place count : ℕ) (others : List Segment) → HoldsSame image c name place count others
       → tables_held image (with_exchanged c name place count others) ≡ tables_held image c
   exchanged_held c name place count others has =
       let e = has.entry in
       ap (λ (o : Option PlainEntry). tables_held image (elim o [ None ↦ c | Some x ↦ with_segments c name (with_others x.segments place count others) ])) has.found
-      ∙ same_with c name e (with_others e.segments place count others) has.found (same_rows e.schema e.segments others place count has.same)
+      ∙ same_with image c name e (with_others e.segments place count others) has.found (same_rows e.schema e.segments others place count has.same)

@@ -5,17 +5,13 @@ use Rattle.std.proofs.lemmas.List.{length-append, map-append}
 use Rattle.std.proofs.lemmas.List.Sums.{sum_by-cons}
 use Rattle.segments.specs.declared.run.Run.{Run}
 use Rattle.catalogue.specs.declared.entry.Segment.{Segment}
-use Rattle.catalogue.specs.Entries.{PlainEntry, PlainCatalogue, runs_in, runs_of, segment_count}
+use Rattle.catalogue.specs.Entries.{PlainEntry, PlainCatalogue, page_runs, runs_in, runs_of, segment_count}
 use Rattle.catalogue.specs.Edits.{entry_of, with_segments, from_place, with_others, with_exchanged}
 use Rattle.catalogue.specs.laws.Sums.{refilled, taken_out, refilled_sum, segments_in}
 use Rattle.catalogue.specs.laws.Changed.{parted, exchanged_is}
 use Rattle.commit.specs.Placing.{times_among}
 use Rattle.commit.specs.laws.Fit.{times_both}
 use Rattle.store.specs.Exchanging.{Shrinks}
-
--- what has a value by the number of its segments
-abbrev pub IsByNumber : (PlainEntry → ℕ) → Type 0
-IsByNumber f = (e : PlainEntry) (a b : List Segment) → length a ≡ length b → f (refilled e a) ≡ f (refilled e b)
 
 abbrev pub run_of : Segment → Run
 run_of s = s.place.run
@@ -43,7 +39,16 @@ module _ (c : PlainCatalogue) (name : List ℕ) (e : PlainEntry) (found : entry_
     stood_times : times_at e.segments ≡ times_at (take place e.segments) + times_at (from_place e.segments place count) + times_at (drop count (drop place e.segments))
     stood_times = ap times_at (parted e.segments place count) ∙ three_times (take place e.segments) (from_place e.segments place count) (drop count (drop place e.segments))
 
-    pub exchanged_times : (others : List Segment) → times_among (runs_of (with_exchanged c name place count others)) run + times_at (from_place e.segments place count) ≡ times_among (runs_of c) run + times_at others
+    -- those that it gives up: its page's and those of the segments that go
+    given_times : times_among (page_runs e.page ++ map run_of (from_place e.segments place count)) run ≡ times_among (page_runs e.page) run + times_at (from_place e.segments place count)
+    given_times = times_both (page_runs e.page) (map run_of (from_place e.segments place count)) run
+
+    whole_times : times_in e ≡ times_among (page_runs e.page) run + times_at e.segments
+    unfolding times_in
+    whole_times = times_both (page_runs e.page) (map run_of e.segments) run
+
+    pub exchanged_times : (others : List Segment)
+        → times_among (runs_of (with_exchanged c name place count others)) run + times_among (page_runs e.page ++ map run_of (from_place e.segments place count)) run ≡ times_among (runs_of c) run + times_at others
     unfolding times_in
     exchanged_times others =
         let d = with_segments c name (with_others e.segments place count others) in
@@ -51,6 +56,8 @@ module _ (c : PlainCatalogue) (name : List ℕ) (e : PlainEntry) (found : entry_
         omega (
           arith,
           is,
+          given_times,
+          whole_times,
           stood_times,
           three_times (take place e.segments) others (drop count (drop place e.segments)),
           times_of c,
@@ -58,9 +65,9 @@ module _ (c : PlainCatalogue) (name : List ℕ) (e : PlainEntry) (found : entry_
           refilled_sum times_in c name e (with_others e.segments place count others) found,
         )
 
-    pub exchanged_given : times_at (from_place e.segments place count) ≤ times_among (runs_of c) run
+    pub exchanged_given : times_among (page_runs e.page ++ map run_of (from_place e.segments place count)) run ≤ times_among (runs_of c) run
     unfolding times_in
-    exchanged_given = omega (arith, stood_times, times_of c, taken_out times_in c name e found)
+    exchanged_given = omega (arith, given_times, whole_times, stood_times, times_of c, taken_out times_in c name e found)
 
   -- numbers
   length_others : (others : List Segment) → length (with_others e.segments place count others) + length (from_place e.segments place count) ≡ length e.segments + length others
@@ -70,13 +77,6 @@ module _ (c : PlainCatalogue) (name : List ℕ) (e : PlainEntry) (found : entry_
       ap (λ (ss : List Segment). length ss) (parted e.segments place count) ∙ length-append (take place e.segments) (from_place e.segments place count ++ rest)
       ∙ ap (λ (n : ℕ). length (take place e.segments) + n) (length-append (from_place e.segments place count) rest) in
       omega (arith, whole, length-append (take place e.segments) (others ++ rest), length-append others rest)
-
-  pub exchanged_alike : (f : PlainEntry → ℕ) → IsByNumber f → (a b : List Segment) → length a ≡ length b → sum_by f (with_exchanged c name place count a) ≡ sum_by f (with_exchanged c name place count b)
-  exchanged_alike f by_number a b same =
-      let one = refilled_sum f c name e (with_others e.segments place count a) found in
-      let other = refilled_sum f c name e (with_others e.segments place count b) found in
-      let alike = by_number e (with_others e.segments place count a) (with_others e.segments place count b) (omega (arith, same, length_others a, length_others b)) in
-      ap (sum_by f) (exchanged_is c name e found place count a) ∙ omega (arith, one, other, alike) ∙ sym (ap (sum_by f) (exchanged_is c name e found place count b))
 
   pub exchanged_count : (others : List Segment) → segment_count (with_exchanged c name place count others) + length (from_place e.segments place count) ≡ segment_count c + length others
   exchanged_count others =

@@ -10,11 +10,12 @@ use Rattle.segments.specs.declared.run.Run.{Run}
 use Rattle.arrow_schema.specs.Column.{PlainSchema}
 use Rattle.catalogue.specs.declared.entry.Segment.{Segment}
 use Rattle.catalogue.specs.declared.limits.TheConstants.{MAX_SEGMENT_ROWS}
-use Rattle.catalogue.specs.Entries.{PlainEntry, PlainCatalogue, is_between, is_segment, is_entry, runs_in, runs_of}
+use Rattle.catalogue.specs.Entries.{PlainEntry, PlainCatalogue, is_between, is_segment, is_entry, page_runs, runs_in_segments, runs_in, runs_of}
 use Rattle.catalogue.specs.laws.Kept.{entry_is}
 use Rattle.commit.specs.declared.sector.Commit.{Commit}
 use Rattle.commit.specs.Standing.{rules, standing, InSome}
-use Rattle.store.specs.Held.{rows_in_bytes, segment_rows, joined_rows, rows_held, table_of_rows, table_held, with_held, tables_held, whole_reading, held_of, held_by}
+use Rattle.store.specs.Held.{rows_in_bytes, segment_rows, joined_rows, rows_held, table_of_rows, table_held, with_held, tables_held, held_of, held_by}
+use Rattle.pages.specs.Stored.{stored_reading}
 
 pub in_left : (rs ss : List Run) (n : ℕ) → InSome rs n → InSome (rs ++ ss) n
 in_left [] ss n none = absurd none
@@ -53,7 +54,7 @@ module _ (a b : Image) where
       λ i. joined_rows (first i) (others i)
 
   same_table : (entry : PlainEntry) → is_entry entry ≡ true → ((n : ℕ) → InSome (runs_in entry) n → b n ≡ a n) → table_held b entry ≡ table_held a entry
-  same_table entry sound same = ap (table_of_rows entry.schema) (same_rows entry.schema entry.segments (entry_is entry sound).segments same)
+  same_table entry sound same = ap (table_of_rows entry.schema) (same_rows entry.schema entry.segments (entry_is entry sound).segments (λ n some. same n (in_right (page_runs entry.page) (runs_in_segments entry.segments) n some)))
 
   -- images that agree on the runs of a catalogue hold the same tables of it
   pub same_tables : (c : PlainCatalogue) → list_all is_entry c ≡ true → ((n : ℕ) → InSome (runs_of c) n → b n ≡ a n) → tables_held b c ≡ tables_held a c
@@ -66,6 +67,6 @@ module _ (a b : Image) where
       λ i. with_held entry.name (first i) (others i)
 
 -- what an image holds that a commit and its catalogue rule
-pub held_is : (size : ℕ) (image : Image) (k : Commit) (c : PlainCatalogue) → standing whole_reading size image ≡ rules k c → held_by size image ≡ held_of image (rules k c)
+pub held_is : (size : ℕ) (image : Image) (k : Commit) (c : PlainCatalogue) → standing stored_reading size image ≡ rules k c → held_by size image ≡ held_of image (rules k c)
 unfolding held_by
 held_is size image k c is = ap (held_of image) is

@@ -9,7 +9,7 @@ use Rattle.commit.specs.Placing.{sectors_of}
 use Rattle.catalogue.specs.declared.limits.TheConstants.{MAX_SEGMENT_ROWS}
 use Rattle.catalogue.specs.declared.entry.Segment.{Segment}
 use Rattle.catalogue.specs.Entries.{is_between, is_segment}
-use Rattle.commit.specs.laws.Taking.{Took}
+use Rattle.pages.specs.laws.Taken.{AreTaken}
 use Rattle.store.specs.Changes.{placed_segments}
 use Rattle.store.specs.Carrying.{unplaced}
 
@@ -42,27 +42,40 @@ placed_number (r ∷ rs) [] counts a b = absurd (omega (arith, a))
 placed_number (r ∷ rs) (s ∷ ss) [] a b = absurd (omega (arith, b))
 placed_number (r ∷ rs) (s ∷ ss) (n ∷ ns) a b = let more = placed_number rs ss ns (omega (arith, a)) (omega (arith, b)) in omega (arith, more)
 
+-- where there are more runs, those of the streams are the first
+pub placed_few : (runs : List Run) (streams : List (List ℕ)) (counts : List ℕ) → length streams ≤ length runs → length streams ≡ length counts → length (placed_segments runs streams counts) ≡ length streams
+placed_few [] [] counts few same = refl
+placed_few [] (s ∷ ss) counts few same = absurd (omega (arith, few))
+placed_few (r ∷ rs) [] counts few same = refl
+placed_few (r ∷ rs) (s ∷ ss) [] few same = absurd (omega (arith, same))
+placed_few (r ∷ rs) (s ∷ ss) (n ∷ ns) few same = let more = placed_few rs ss ns (omega (arith, few)) (omega (arith, same)) in omega (arith, more)
+
+pub placed_none : (runs : List Run) (counts : List ℕ) → placed_segments runs [] counts ≡ []
+placed_none [] counts = refl
+placed_none (r ∷ rs) counts = refl
+
 -- each may stand in a catalogue, in runs that were taken for them
-pub placed_sound : (size : ℕ) (used : Run → Type 0) (runs : List Run) (streams : List (List ℕ)) (counts : List ℕ) → size < 2 ^ 64 → Took size used (map sectors_of streams) runs → AllByRecursion IsStream streams
+pub placed_sound : (size : ℕ) (runs : List Run) (streams : List (List ℕ)) (counts : List ℕ) → size < 2 ^ 64 → AreTaken size (map sectors_of streams) runs → AllByRecursion IsStream streams
     → list_all (is_between 1 MAX_SEGMENT_ROWS) counts ≡ true → list_all is_segment (placed_segments runs streams counts) ≡ true
-placed_sound size used [] streams counts limit took are rows = refl
-placed_sound size used (r ∷ rs) [] counts limit took are rows = absurd took
-placed_sound size used (r ∷ rs) (s ∷ ss) [] limit took are rows = refl
-placed_sound size used (r ∷ rs) (s ∷ ss) (n ∷ ns) limit took are rows =
+placed_sound size [] streams counts limit took are rows = refl
+placed_sound size (r ∷ rs) [] counts limit took are rows = absurd took
+placed_sound size (r ∷ rs) (s ∷ ss) [] limit took are rows = refl
+placed_sound size (r ∷ rs) (s ∷ ss) (n ∷ ns) limit took are rows =
     let segment : Segment = record { place = record { run = r; bytes = length s }; rows = n } in
     let parts = and_parts (is_between 1 MAX_SEGMENT_ROWS n) (list_all (is_between 1 MAX_SEGMENT_ROWS) ns) rows in
-    let within = took.0.1.within in
-    and_from (is_segment segment) (list_all is_segment (placed_segments rs ss ns)) (segment_is segment (omega (arith, within, limit)) are.0.1 are.0.0 took.0.0 parts.0)
-    (placed_sound size (λ other. used other ⊎ (other ≡ r)) rs ss ns limit took.1 are.1 parts.1)
+    let within = took.0.within in
+    and_from (is_segment segment) (list_all is_segment (placed_segments rs ss ns)) (segment_is segment (omega (arith, within, limit)) are.0.1 are.0.0 took.0.count_is parts.0)
+    (placed_sound size rs ss ns limit took.1 are.1 parts.1)
 
--- the runs that were taken before the last one
-pub took_front : (size : ℕ) (used : Run → Type 0) (ns : List ℕ) (rs : List Run) (n : ℕ) (r : Run) → Took size used (ns ++ n ∷ []) (rs ++ r ∷ []) → Took size used ns rs
-took_front size used [] [] n r took = tt
-took_front size used [] (x ∷ []) n r took = absurd took.1
-took_front size used [] (x ∷ y ∷ ys) n r took = absurd took.1
-took_front size used (m ∷ []) [] n r took = absurd took.1
-took_front size used (m ∷ l ∷ ls) [] n r took = absurd took.1
-took_front size used (m ∷ ms) (x ∷ xs) n r took = (took.0, took_front size (λ other. used other ⊎ (other ≡ x)) ms xs n r took.1)
+-- runs behind them make no difference
+pub placed_front : (places more : List Run) (streams : List (List ℕ)) (counts : List ℕ) → length places ≡ length streams → placed_segments places streams counts ≡ placed_segments (places ++ more) streams counts
+placed_front [] [] [] counts same = refl
+placed_front [] (m ∷ ms) [] counts same = refl
+placed_front [] more (s ∷ ss) counts same = absurd (omega (arith, same))
+placed_front (r ∷ rs) more [] counts same = absurd (omega (arith, same))
+placed_front (r ∷ rs) more (s ∷ ss) [] same = refl
+placed_front (r ∷ rs) more (s ∷ ss) (n ∷ ns) same =
+    ap (λ (gs : List Segment). record { place = record { run = r; bytes = length s }; rows = n } ∷ gs) (placed_front rs more ss ns (omega (arith, same)))
 
 -- ---- without places
 

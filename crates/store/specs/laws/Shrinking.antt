@@ -1,22 +1,46 @@
 -- Catalogues that shrink in turn are few.
-use Rattle.std.specs.Prelude.{◌≡◌, ◌≤◌, ◌<◌, ◌+◌, ◌*◌, ◌&&◌, ℕ, zero, suc, true, nat_le, List, [], ◌∷◌, length, sum_by, refl}
+use Rattle.std.specs.Prelude.{◌≡◌, ◌≤◌, ◌<◌, ◌+◌, ◌*◌, ◌&&◌, ℕ, zero, suc, true, nat_le, List, [], ◌∷◌, ◌++◌, length, flat_map, sum_by, refl}
 use Rattle.std.proofs.Common.{⊎_elim, ap, ◌∙◌, subst, arith, length-append}
-use Rattle.std.proofs.lemmas.Bool.{and_parts, leb-true}
+use Rattle.std.proofs.lemmas.Bool.{and_parts, and_from, leb-true}
 use Rattle.std.proofs.lemmas.List.{length-map}
 use Rattle.std.proofs.lemmas.List.Sums.{sum_by-cons}
 use Rattle.std.proofs.lemmas.Nat.{mul-le}
 use Rattle.segments.specs.declared.run.Run.{Run}
 use Rattle.catalogue.specs.declared.entry.Segment.{Segment}
-use Rattle.catalogue.specs.Entries.{PlainEntry, PlainCatalogue, runs_in, runs_of, segment_count}
+use Rattle.catalogue.specs.Entries.{PlainEntry, PlainCatalogue, page_runs, runs_in_segments, runs_in, runs_of, segment_count}
 use Rattle.commit.specs.Standing.{is_on_device, all_on_device}
 use Rattle.store.specs.Exchanging.{starts_sum, ShrinkInTurn, AreOnDevice}
 
 abbrev starts : List Run → ℕ
 starts rs = sum_by (λ (r : Run). r.start) rs
 
-count_is : (c : PlainCatalogue) → length (runs_of c) ≡ segment_count c
+-- the runs of all segments
+abbrev segment_runs : PlainCatalogue → List Run
+segment_runs c = flat_map (λ (e : PlainEntry). runs_in_segments e.segments) c
+
+-- some of the runs that are named
+on_parts : (size : ℕ) (rs ss : List Run) → all_on_device size (rs ++ ss) ≡ true → (all_on_device size rs ≡ true) × (all_on_device size ss ≡ true)
+on_parts size [] ss on = (refl, on)
+on_parts size (r ∷ rs) ss on =
+    let parts = and_parts (is_on_device size r) (all_on_device size (rs ++ ss)) on in
+    let more = on_parts size rs ss parts.1 in
+    (and_from (is_on_device size r) (all_on_device size rs) parts.0 more.0, more.1)
+
+on_both : (size : ℕ) (rs ss : List Run) → all_on_device size rs ≡ true → all_on_device size ss ≡ true → all_on_device size (rs ++ ss) ≡ true
+on_both size [] ss first others = others
+on_both size (r ∷ rs) ss first others =
+    let parts = and_parts (is_on_device size r) (all_on_device size rs) first in
+    and_from (is_on_device size r) (all_on_device size (rs ++ ss)) parts.0 (on_both size rs ss parts.1 others)
+
+segments_on : (size : ℕ) (c : PlainCatalogue) → all_on_device size (runs_of c) ≡ true → all_on_device size (segment_runs c) ≡ true
+segments_on size [] on = refl
+segments_on size (x ∷ xs) on =
+    let parts = on_parts size (runs_in x) (runs_of xs) on in
+    on_both size (runs_in_segments x.segments) (segment_runs xs) (on_parts size (page_runs x.page) (runs_in_segments x.segments) parts.0).1 (segments_on size xs parts.1)
+
+count_is : (c : PlainCatalogue) → length (segment_runs c) ≡ segment_count c
 count_is [] = refl
-count_is (x ∷ xs) = omega (arith, length-append (runs_in x) (runs_of xs), length-map x.segments (λ (s : Segment). s.place.run), count_is xs, sum_by-cons (λ (e : PlainEntry). length e.segments) x xs)
+count_is (x ∷ xs) = omega (arith, length-append (runs_in_segments x.segments) (segment_runs xs), length-map x.segments (λ (s : Segment). s.place.run), count_is xs, sum_by-cons (λ (e : PlainEntry). length e.segments) x xs)
 
 -- each run starts behind the commit sectors, and on the device
 low : (size : ℕ) (rs : List Run) → all_on_device size rs ≡ true → length rs ≤ starts rs
@@ -43,10 +67,10 @@ bound each zero sum = 0
 bound each (suc k) sum = k * each + sum
 
 sums_low : (size : ℕ) (c : PlainCatalogue) → all_on_device size (runs_of c) ≡ true → segment_count c ≤ starts_sum c
-sums_low size c on = let l = low size (runs_of c) on in omega (arith, l, count_is c)
+sums_low size c on = let l = low size (segment_runs c) (segments_on size c on) in omega (arith, l, count_is c)
 
 sums_high : (size : ℕ) (c : PlainCatalogue) → all_on_device size (runs_of c) ≡ true → starts_sum c ≤ segment_count c * size
-sums_high size c on = subst (λ (n : ℕ). starts_sum c ≤ n * size) (count_is c) (high size (runs_of c) on)
+sums_high size c on = subst (λ (n : ℕ). starts_sum c ≤ n * size) (count_is c) (high size (segment_runs c) (segments_on size c on))
 
 times_le : (a b k : ℕ) → a ≤ b → a * k ≤ b * k
 times_le a b k le = mul-le a k b k le (omega arith)

@@ -1,12 +1,12 @@
-use Rattle.std.proofs.Common.{◌≡◌, ◌≤◌, ◌<◌, ◌+◌, ◌++◌, ◌∙◌, ℕ, zero, suc, true, List, [], ◌∷◌, length, get_or, take, map, sym, ap, subst, arith}
+use Rattle.std.proofs.Common.{◌≡◌, ◌<◌, ◌+◌, ◌++◌, ◌∙◌, ℕ, zero, suc, true, List, [], ◌∷◌, length, get_or, take, map, sym, ap, subst, arith}
 use Rattle.std.proofs.lemmas.List.{length-map, take_all}
 use Rattle.std.proofs.lemmas.Bool.{and_parts}
 use Rattle.std.specs.List.{flat_map, list_all}
 use Rattle.byteorder.specs.Endian.{little_bytes}
 use Rattle.facts.specs.laws.Lists.{flat_map-push}
 use Rattle.catalogue.specs.declared.entry.RootEntry.{RootEntry}
-use Rattle.catalogue.specs.Entries.{PlainRoot, plain_root, is_name, is_filled, is_root_entry, IsRoot}
-use Rattle.catalogue.specs.Text.{root_entry_text, root_text}
+use Rattle.catalogue.specs.Entries.{plain_root, is_name, is_filled, is_root_entry}
+use Rattle.catalogue.specs.Text.{root_entry_text}
 use Rattle.catalogue.proofs.Again.{name_short}
 use Rattle.catalogue.proofs.Rows.{next_put, map-item}
 use Rattle.catalogue.proofs.roots.encode_root.Goals as goal

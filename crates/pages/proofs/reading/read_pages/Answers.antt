@@ -1,10 +1,11 @@
-use Rattle.std.proofs.Common.{◌≡◌, ◌+◌, ◌-◌, ◌∙◌, ℕ, ap, sym, map, drop, length, Ok, arith}
+use Rattle.std.proofs.Common.{◌≡◌, ◌+◌, ◌-◌, ◌∙◌, ℕ, ap, sym, map, drop, length, arith}
 use Rattle.sector_dev.specs.Disk.{now, shown_image}
 use Rattle.sector_dev.specs.laws.Time.{read_on}
 use Rattle.catalogue.specs.declared.limits.TheConstants.{MAX_SEGMENTS}
 use Rattle.catalogue.specs.Entries.{plain_entry, plain_root}
 use Rattle.pages.specs.Stored.{pages_shown}
 use Rattle.pages.proofs.Behind.{behind, next_read, not_read, all_read, page_then, told_of_all}
+use Rattle.pages.proofs.Gathered.{named_at, one_sound, one_named, one_counted, all_sound}
 use Rattle.pages.proofs.reading.read_pages.Goals as goal
 
 pub returns-in-Err-clause-moments : goal.returns-in-Err-clause-moments
@@ -48,4 +49,11 @@ loop-root-preserved g c =
           (sym (page_then size (D.size c.loop-root.device) old (D.story c.loop-root.device) c.loop-root.left x.page c.loop-root.invariant.same (c.loop-root.invariant.moments told)) ∙ c.in-Ok.ensures.found told)
           c.in-Ok.ensures.entry c.in-Ok-push.ensures.items
           ∙ ap (λ (n : ℕ). behind (map plain_entry c.push.new.self.items) (pages_shown size old (c.loop-root.left - n) (map plain_root (drop (i + 1) c.args.roots.now)))) count;
+      entries = one_sound c.loop-root.entries.items c.push.new.self.items c.in-Ok.entry c.in-Ok-push.ensures.items c.loop-root.invariant.entries
+          (c.in-Ok.ensures.sound (named_at c.args.roots.now i x c.requires.root.named c.loop-root-test.true c.root-item.is));
+      names = one_named c.args.roots.now i x c.loop-root.entries.items c.push.new.self.items c.in-Ok.entry c.loop-root-test.true c.root-item.is c.in-Ok-push.ensures.items c.in-Ok.ensures.entry c.loop-root.invariant.names;
+      few = one_counted c.loop-root.entries.items c.push.new.self.items c.in-Ok.entry c.loop-root.left c.len.result c.in-Ok-push.ensures.items count c.in-Ok.ensures.few c.loop-root.invariant.few;
     }
+
+pub returns-clause-sound : goal.returns-clause-sound
+returns-clause-sound g c = all_sound c.args.roots.now c.loop-root.root-index c.loop-root.entries.items c.loop-root.left (omega (arith, c.loop-root-test.false)) c.requires.root c.loop-root.invariant.entries c.loop-root.invariant.names c.loop-root.invariant.few

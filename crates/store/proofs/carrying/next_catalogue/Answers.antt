@@ -1,11 +1,11 @@
-use Rattle.std.proofs.Common.{◌≡◌, ◌∙◌, true, ℕ, List, ◌∷◌, [], ap, sym, subst}
+use Rattle.std.proofs.Common.{◌≡◌, ◌++◌, ◌∙◌, true, List, ◌∷◌, [], ap, sym, subst}
 use Rattle.std.specs.List.{list_all}
 use Rattle.segments.specs.Pieces.{plain_pieces}
 use Rattle.catalogue.specs.declared.entry.Segment.{Segment}
-use Rattle.catalogue.specs.Entries.{is_segment, IsCatalogue}
+use Rattle.catalogue.specs.Entries.{PlainCatalogue, is_segment, IsCatalogue}
 use Rattle.catalogue.specs.View.{catalogue_of}
-use Rattle.catalogue.specs.laws.Kept.{catalogue_is}
 use Rattle.commit.specs.Placing.{contents_of}
+use Rattle.pages.specs.Paging.{kind_of, ArePageRuns, settled, page_texts, settled_text}
 use Rattle.store.specs.Changes.{edit_of, edited}
 use Rattle.store.proofs.carrying.next_catalogue.Goals as goal
 
@@ -19,16 +19,20 @@ pub edited-requires-clause-stands : goal.edited-requires-clause-stands
 edited-requires-clause-stands c =
     subst (λ (gs : List Segment). IsCatalogue (edited (catalogue_of c.args.stored.now.list) (edit_of c.args.edit.now) gs)) (sym (c.deref.ensures.value ∙ c.in_ok-segments.ensures)) c.requires.stands
 
+-- the list that is settled is the edited one
+pub settle-requires-clause-kind : goal.settle-requires-clause-kind
+settle-requires-clause-kind c = c.requires.kind ∙ ap kind_of (sym (c.in_ok-list.ensures ∙ ap (edited (catalogue_of c.args.stored.now.list) (edit_of c.args.edit.now)) (c.deref.ensures.value ∙ c.in_ok-segments.ensures)))
+
+pub settle-requires-clause-runs : goal.settle-requires-clause-runs
+settle-requires-clause-runs c =
+    subst (λ (d : PlainCatalogue). ArePageRuns d c.args.pages.now) (sym (c.in_ok-list.ensures ∙ ap (edited (catalogue_of c.args.stored.now.list) (edit_of c.args.edit.now)) (c.deref.ensures.value ∙ c.in_ok-segments.ensures))) c.requires.pages
+
 pub returns-clause-catalogue : goal.returns-clause-catalogue
-returns-clause-catalogue c = c.in_ok-list.ensures ∙ ap (edited (catalogue_of c.args.stored.now.list) (edit_of c.args.edit.now)) (c.deref.ensures.value ∙ c.in_ok-segments.ensures)
+returns-clause-catalogue c =
+    c.in_ok-list-2.ensures.catalogue
+    ∙ ap (λ (d : PlainCatalogue). settled d c.args.pages.now) (c.in_ok-list.ensures ∙ ap (edited (catalogue_of c.args.stored.now.list) (edit_of c.args.edit.now)) (c.deref.ensures.value ∙ c.in_ok-segments.ensures))
 
-pub returns-clause-found : goal.returns-clause-found
-returns-clause-found c =
-    let next = c.in_ok-list.list in
-    c.one_text_each.ensures.again (catalogue_of next) (catalogue_is (catalogue_of next) next.kept)
-
-pub returns-clause-size : goal.returns-clause-size
-returns-clause-size c = c.texts_have_these_sizes.ensures (catalogue_of c.in_ok-list.list)
-
-pub returns-clause-text : goal.returns-clause-text
-returns-clause-text c = c.in_ok-texts.ensures ∙ ap (λ (text : List ℕ). text ∷ []) c.in_ok-text.ensures.text
+pub returns-clause-texts : goal.returns-clause-texts
+returns-clause-texts c =
+    c.in_ok-list-2.ensures.texts
+    ∙ ap (λ (d : PlainCatalogue). page_texts d ++ settled_text d c.args.pages.now ∷ []) (c.in_ok-list.ensures ∙ ap (edited (catalogue_of c.args.stored.now.list) (edit_of c.args.edit.now)) (c.deref.ensures.value ∙ c.in_ok-segments.ensures))

@@ -1,55 +1,63 @@
-use Rattle.std.proofs.Common.{◌≡◌, ◌∙◌, ◌++◌, ℕ, List, [], refl, ap, sym, subst}
+use Rattle.std.proofs.Common.{◌≡◌, ◌∙◌, ◌++◌, ◌∷◌, ◌+◌, ℕ, true, List, [], length, refl, ap, sym, subst}
 use Rattle.std.specs.Prelude.{Err}
-use Rattle.std.proofs.lemmas.Result.{err_from_is_err_and}
 use Rattle.std.specs.Global.{Vec}
+use Rattle.std.specs.List.{list_all}
+use Rattle.std.proofs.lemmas.Result.{err_from_is_err_and}
 use Rattle.segments.specs.declared.piece.Piece.{Piece}
 use Rattle.segments.specs.declared.run.Run.{Run}
-use Rattle.segments.specs.Pieces.{plain_pieces}
+use Rattle.segments.specs.Pieces.{PlainPiece, plain_pieces}
 use Rattle.segments.specs.Usages.{IsUsedIn, GivesAll}
-use Rattle.catalogue.specs.Text.{list_text}
+use Rattle.segments.specs.Writing.{runs_of}
+use Rattle.catalogue.specs.declared.entry.Segment.{Segment}
+use Rattle.catalogue.specs.Entries.{PlainCatalogue, is_segment, IsCatalogue}
 use Rattle.catalogue.specs.View.{catalogue_of}
 use Rattle.catalogue.specs.laws.Kept.{catalogue_is}
-use Rattle.commit.specs.Placing.{Takes, AreSome, plain_contents, contents_of, counts_of}
-use Rattle.commit.specs.laws.Placed.{placed_alone, one_text}
-use Rattle.commit.specs.laws.Taking.{all_given_back}
-use Rattle.store.specs.Carrying.{outline}
-use Rattle.store.specs.Changes.{PlainChange, change_of}
-use Rattle.store.proofs.Prepared.{memory_alone, some_bytes, as_many_rows, outline_stands, asked, given_sound, given_stands, given_change, prepared}
+use Rattle.commit.specs.declared.sector.CatalogueKind.{CatalogueKind}
+use Rattle.commit.specs.declared.sector.Commit.{Commit}
+use Rattle.commit.specs.Placing.{Takes, AreSome, AreWritten, plain_contents, contents_of, counts_of}
+use Rattle.commit.specs.Publishing.{next_commit}
+use Rattle.commit.specs.laws.Taking.{TookAll, all_given_back}
+use Rattle.pages.specs.Paging.{kind_of, ArePageRuns, settled, page_texts, settled_text}
+use Rattle.pages.specs.laws.Taken.{sizes_written}
+use Rattle.store.specs.Carrying.{outline, asked_sizes}
+use Rattle.store.specs.Changes.{PlainChange, change_of, IsChange, edited, placed_segments}
+use Rattle.store.specs.inner.Prepared.{unpaged}
+use Rattle.store.proofs.Placed.{unpaged_shapes, as_many, outline_stands}
+use Rattle.store.proofs.Prepared.{PageLaws, one_schema, memory_alone, some_bytes, as_many_rows, asked, took_for, given_segments, given_is, given_change, texts_count, made_sound, made_stands, made_runs, made_kind, prepared}
 use Rattle.store.proofs.carrying.plan_change.Goals as goal
 
-pub returns-in_err-back-clause-no_room : goal.returns-in_err-back-clause-no_room
-returns-in_err-back-clause-no_room c = let p = err_from_is_err_and c.from_residual.result c.from_residual.ensures.1 in rw (p.1, p.2) (λ n is. absurd (memory_alone n is))
-
-pub returns-in_err-back-clause-err : goal.returns-in_err-back-clause-err
-returns-in_err-back-clause-err c = let p = err_from_is_err_and c.from_residual.result c.from_residual.ensures.1 in rw p.1 (λ run. refl)
-
 pub returns-in_err-streams-clause-no_room : goal.returns-in_err-streams-clause-no_room
-returns-in_err-streams-clause-no_room c = let p = err_from_is_err_and c.from_residual-in_err-streams.result c.from_residual-in_err-streams.ensures.1 in rw (p.1, p.2) (λ n is. absurd (memory_alone n is))
+returns-in_err-streams-clause-no_room c = let p = err_from_is_err_and c.from_residual.result c.from_residual.ensures.1 in rw (p.1, p.2) (λ n is. absurd (memory_alone n is))
 
 pub returns-in_err-streams-clause-err : goal.returns-in_err-streams-clause-err
-returns-in_err-streams-clause-err c = let p = err_from_is_err_and c.from_residual-in_err-streams.result c.from_residual-in_err-streams.ensures.1 in rw p.1 (λ run. refl)
+returns-in_err-streams-clause-err c = let p = err_from_is_err_and c.from_residual.result c.from_residual.ensures.1 in rw p.1 (λ run. refl)
 
-pub text_size-requires-clause-stands : goal.text_size-requires-clause-stands
-text_size-requires-clause-stands c =
+pub ask-requires-clause-stands : goal.ask-requires-clause-stands
+ask-requires-clause-stands c =
     let listed = catalogue_of c.args.stored.now.list in
     outline_stands listed (change_of c.args.change.now) c.requires.sound (catalogue_is listed c.args.stored.now.list.kept) c.requires.few
 
-pub text_size-requires-clause-streams : goal.text_size-requires-clause-streams
-text_size-requires-clause-streams c = ap plain_contents c.deref.ensures.value ∙ c.in_ok-streams.ensures ∙ c.requires.streams
+pub ask-requires-clause-streams : goal.ask-requires-clause-streams
+ask-requires-clause-streams c = ap plain_contents c.deref.ensures.value ∙ c.in_ok-streams.ensures ∙ c.requires.streams
 
-pub text_size-requires-clause-rows : goal.text_size-requires-clause-rows
-text_size-requires-clause-rows c = c.deref-2.ensures.value ∙ c.requires.counts
+pub ask-requires-clause-rows : goal.ask-requires-clause-rows
+ask-requires-clause-rows c = c.deref-2.ensures.value ∙ c.requires.counts
 
-pub returns-in_err-text_bytes-clause-no_room : goal.returns-in_err-text_bytes-clause-no_room
-returns-in_err-text_bytes-clause-no_room c = let p = err_from_is_err_and c.from_residual-in_err-text_bytes.result c.from_residual-in_err-text_bytes.ensures.1 in rw (p.1, p.2) (λ n is. absurd (memory_alone n is))
+pub returns-in_err-asked-clause-no_room : goal.returns-in_err-asked-clause-no_room
+returns-in_err-asked-clause-no_room c = let p = err_from_is_err_and c.from_residual-in_err-asked.result c.from_residual-in_err-asked.ensures.1 in rw (p.1, p.2) (λ n is. absurd (memory_alone n is))
 
-pub returns-in_err-text_bytes-clause-err : goal.returns-in_err-text_bytes-clause-err
-returns-in_err-text_bytes-clause-err c = let p = err_from_is_err_and c.from_residual-in_err-text_bytes.result c.from_residual-in_err-text_bytes.ensures.1 in rw p.1 (λ run. refl)
+pub returns-in_err-asked-clause-err : goal.returns-in_err-asked-clause-err
+returns-in_err-asked-clause-err c = let p = err_from_is_err_and c.from_residual-in_err-asked.result c.from_residual-in_err-asked.ensures.1 in rw p.1 (λ run. refl)
 
 pub place-requires-clause-text : goal.place-requires-clause-text
 place-requires-clause-text c =
     let listed = catalogue_of c.args.stored.now.list in
-    some_bytes (outline listed (change_of c.args.change.now)) c.in_ok-text_bytes.text_bytes c.in_ok-text_bytes.ensures
+    some_bytes (outline listed (change_of c.args.change.now)) c.in_ok-asked.asked.layout.text_bytes c.in_ok-asked.ensures.text
+
+pub place-requires-clause-pages : goal.place-requires-clause-pages
+place-requires-clause-pages c =
+    let listed = catalogue_of c.args.stored.now.list in
+    subst (λ (ns : List ℕ). AreWritten ns) (sym (c.deref-3.ensures.value ∙ c.in_ok-asked.ensures.pages)) (sizes_written (outline listed (change_of c.args.change.now)))
 
 pub place-requires-clause-some : goal.place-requires-clause-some
 place-requires-clause-some c = subst (λ (xs : List (List ℕ)). AreSome xs) (sym (c.in_ok-streams.ensures ∙ c.requires.streams)) c.requires.sound.some
@@ -59,60 +67,187 @@ returns-in_err-places-clause-no_room c =
     let p = err_from_is_err_and c.from_residual-in_err-places.result c.from_residual-in_err-places.ensures.1 in
     let listed = catalogue_of c.args.stored.now.list in
     let change : PlainChange = change_of c.args.change.now in
-    let made : plain_contents c.in_ok-streams.streams.items ≡ (change_of c.args.change.now).streams = c.in_ok-streams.ensures ∙ c.requires.streams in
-    let sizes = asked listed change c.requires.sound (plain_contents c.in_ok-streams.streams.items) made c.in_ok-text_bytes.text_bytes c.in_ok-text_bytes.ensures in
+    let sizes = asked listed change (plain_contents c.in_ok-streams.streams.items) c.deref-3.result.now c.in_ok-asked.asked.layout.text_bytes (c.in_ok-streams.ensures ∙ c.requires.streams)
+    (c.deref-3.ensures.value ∙ c.in_ok-asked.ensures.pages) c.in_ok-asked.ensures.text in
     rw (p.1, p.2) (λ n is. subst (λ (ns : List ℕ). Takes c.args.map.now.size (IsUsedIn c.args.map.now.entries) ns (Err n)) sizes (c.in_err-places.ensures.no_room n is))
 
 pub returns-in_err-places-clause-err : goal.returns-in_err-places-clause-err
 returns-in_err-places-clause-err c = let p = err_from_is_err_and c.from_residual-in_err-places.result c.from_residual-in_err-places.ensures.1 in rw p.1 c.in_err-places.ensures.err
 
+pub page_runs-requires : goal.page_runs-requires
+page_runs-requires c = (length c.deref-3.result.now, c.in_ok-places.ensures.room)
+
 pub next_catalogue-requires-clause-rows : goal.next_catalogue-requires-clause-rows
 next_catalogue-requires-clause-rows c =
     let change : PlainChange = change_of c.args.change.now in
     let made : plain_contents c.in_ok-streams.streams.items ≡ change.streams = c.in_ok-streams.ensures ∙ c.requires.streams in
-    as_many_rows c.deref-3.result.now c.deref-4.result.now change (ap (λ (ps : List Piece). contents_of (plain_pieces ps)) c.deref-3.ensures.value ∙ c.in_ok-places.ensures.contents ∙ made) (c.deref-4.ensures.value ∙ c.requires.counts) c.requires.sound.each
-
-pub next_catalogue-requires-clause-stands : goal.next_catalogue-requires-clause-stands
-next_catalogue-requires-clause-stands c =
-    let listed = catalogue_of c.args.stored.now.list in
-    let made : plain_contents c.in_ok-streams.streams.items ≡ (change_of c.args.change.now).streams = c.in_ok-streams.ensures ∙ c.requires.streams in
-    given_stands listed (change_of c.args.change.now) c.requires.sound (plain_contents c.in_ok-streams.streams.items) made c.in_ok-text_bytes.text_bytes c.in_ok-text_bytes.ensures
-    c.args.map.now c.place.new.map c.requires.limits c.requires.few (plain_pieces c.in_ok-places.places.pieces.items) (plain_pieces c.deref-3.result.now) c.in_ok-places.places.text c.in_ok-places.places.runs.items c.deref-4.result.now
-    c.in_ok-places.ensures.taken (placed_alone c.in_ok-places.places c.in_ok-places.ensures.room) c.in_ok-places.ensures.contents (ap plain_pieces c.deref-3.ensures.value) (c.deref-4.ensures.value ∙ c.requires.counts) (catalogue_is listed c.args.stored.now.list.kept)
-
-pub next_catalogue-requires-clause-sound : goal.next_catalogue-requires-clause-sound
-next_catalogue-requires-clause-sound c =
-    let listed = catalogue_of c.args.stored.now.list in
-    let made : plain_contents c.in_ok-streams.streams.items ≡ (change_of c.args.change.now).streams = c.in_ok-streams.ensures ∙ c.requires.streams in
-    given_sound listed (change_of c.args.change.now) c.requires.sound (plain_contents c.in_ok-streams.streams.items) made c.in_ok-text_bytes.text_bytes c.in_ok-text_bytes.ensures
-    c.args.map.now c.place.new.map c.requires.limits c.requires.few (plain_pieces c.in_ok-places.places.pieces.items) (plain_pieces c.deref-3.result.now) c.in_ok-places.places.text c.in_ok-places.places.runs.items c.deref-4.result.now
-    c.in_ok-places.ensures.taken (placed_alone c.in_ok-places.places c.in_ok-places.ensures.room) c.in_ok-places.ensures.contents (ap plain_pieces c.deref-3.ensures.value) (c.deref-4.ensures.value ∙ c.requires.counts)
+    as_many_rows c.deref-4.result.now c.deref-5.result.now change (ap (λ (xs : List Piece). contents_of (plain_pieces xs)) c.deref-4.ensures.value ∙ c.in_ok-places.ensures.contents ∙ made) (c.deref-5.ensures.value ∙ c.requires.counts) c.requires.sound.each
 
 pub next_catalogue-requires-clause-change : goal.next_catalogue-requires-clause-change
 next_catalogue-requires-clause-change c =
     let listed = catalogue_of c.args.stored.now.list in
-    let made : plain_contents c.in_ok-streams.streams.items ≡ (change_of c.args.change.now).streams = c.in_ok-streams.ensures ∙ c.requires.streams in
-    given_change listed (change_of c.args.change.now) c.requires.sound (plain_contents c.in_ok-streams.streams.items) made c.in_ok-text_bytes.text_bytes c.in_ok-text_bytes.ensures
-    c.args.map.now c.place.new.map c.requires.limits c.requires.few (plain_pieces c.in_ok-places.places.pieces.items) (plain_pieces c.deref-3.result.now) c.in_ok-places.places.text c.in_ok-places.places.runs.items c.deref-4.result.now
-    c.in_ok-places.ensures.taken (placed_alone c.in_ok-places.places c.in_ok-places.ensures.room) c.in_ok-places.ensures.contents (ap plain_pieces c.deref-3.ensures.value) (c.deref-4.ensures.value ∙ c.requires.counts)
+    let change : PlainChange = change_of c.args.change.now in
+    let pieces = plain_pieces c.in_ok-places.places.pieces.items in
+    let ps = plain_pieces c.deref-4.result.now in
+    let made : plain_contents c.in_ok-streams.streams.items ≡ change.streams = c.in_ok-streams.ensures ∙ c.requires.streams in
+    let streams = c.in_ok-places.ensures.contents ∙ made in
+    let same = ap plain_pieces c.deref-4.ensures.value in
+    let counts = c.deref-5.ensures.value ∙ c.requires.counts in
+    given_change listed change pieces ps c.deref-5.result.now same counts streams c.requires.sound
+
+pub next_catalogue-requires-clause-sound : goal.next_catalogue-requires-clause-sound
+next_catalogue-requires-clause-sound c =
+    let listed = catalogue_of c.args.stored.now.list in
+    let change : PlainChange = change_of c.args.change.now in
+    let pieces = plain_pieces c.in_ok-places.places.pieces.items in
+    let ps = plain_pieces c.deref-4.result.now in
+    let made : plain_contents c.in_ok-streams.streams.items ≡ change.streams = c.in_ok-streams.ensures ∙ c.requires.streams in
+    let streams = c.in_ok-places.ensures.contents ∙ made in
+    let same = ap plain_pieces c.deref-4.ensures.value in
+    let counts = c.deref-5.ensures.value ∙ c.requires.counts in
+    let took = took_for c.args.map.now c.place.new.map listed change (plain_contents c.in_ok-streams.streams.items) c.deref-3.result.now c.in_ok-asked.asked.layout.text_bytes c.in_ok-places.places.runs.items
+    ((runs_of pieces ++ c.page_runs.result.now) ++ c.in_ok-places.places.text ∷ []) made (c.deref-3.ensures.value ∙ c.in_ok-asked.ensures.pages) c.in_ok-asked.ensures.text c.in_ok-places.ensures.taken c.page_runs.ensures in
+    let laws : PageLaws = record {
+      messages = one_schema c.one_page_each.ensures.apart;
+      held = c.pages_hold_what_was_read.ensures.held;
+      pages = c.kept_catalogues_are_read.ensures.pages;
+      text = c.kept_catalogues_are_read.ensures.text;
+      read = c.kept_catalogues_are_read.ensures.read;
+    } in
+    let stands = catalogue_is listed c.args.stored.now.list.kept in
+    subst (λ (gs : List Segment). list_all is_segment gs ≡ true) (sym (given_segments listed change pieces ps c.deref-5.result.now same counts streams))
+    (made_sound laws c.args.map.now c.place.new.map c.requires.limits listed stands change c.requires.sound c.requires.few pieces c.page_runs.result.now c.in_ok-places.places.text took streams)
+
+pub next_catalogue-requires-clause-stands : goal.next_catalogue-requires-clause-stands
+next_catalogue-requires-clause-stands c =
+    let listed = catalogue_of c.args.stored.now.list in
+    let change : PlainChange = change_of c.args.change.now in
+    let pieces = plain_pieces c.in_ok-places.places.pieces.items in
+    let ps = plain_pieces c.deref-4.result.now in
+    let made : plain_contents c.in_ok-streams.streams.items ≡ change.streams = c.in_ok-streams.ensures ∙ c.requires.streams in
+    let streams = c.in_ok-places.ensures.contents ∙ made in
+    let same = ap plain_pieces c.deref-4.ensures.value in
+    let counts = c.deref-5.ensures.value ∙ c.requires.counts in
+    let took = took_for c.args.map.now c.place.new.map listed change (plain_contents c.in_ok-streams.streams.items) c.deref-3.result.now c.in_ok-asked.asked.layout.text_bytes c.in_ok-places.places.runs.items
+    ((runs_of pieces ++ c.page_runs.result.now) ++ c.in_ok-places.places.text ∷ []) made (c.deref-3.ensures.value ∙ c.in_ok-asked.ensures.pages) c.in_ok-asked.ensures.text c.in_ok-places.ensures.taken c.page_runs.ensures in
+    let laws : PageLaws = record {
+      messages = one_schema c.one_page_each.ensures.apart;
+      held = c.pages_hold_what_was_read.ensures.held;
+      pages = c.kept_catalogues_are_read.ensures.pages;
+      text = c.kept_catalogues_are_read.ensures.text;
+      read = c.kept_catalogues_are_read.ensures.read;
+    } in
+    let stands = catalogue_is listed c.args.stored.now.list.kept in
+    subst (λ (d : PlainCatalogue). IsCatalogue d) (sym (given_is listed change pieces ps c.deref-5.result.now same counts streams))
+    (made_stands laws c.args.map.now c.place.new.map c.requires.limits listed stands change c.requires.sound c.requires.few pieces c.page_runs.result.now c.in_ok-places.places.text took streams)
+
+pub next_catalogue-requires-clause-kind : goal.next_catalogue-requires-clause-kind
+next_catalogue-requires-clause-kind c =
+    let listed = catalogue_of c.args.stored.now.list in
+    let change : PlainChange = change_of c.args.change.now in
+    let pieces = plain_pieces c.in_ok-places.places.pieces.items in
+    let ps = plain_pieces c.deref-4.result.now in
+    let made : plain_contents c.in_ok-streams.streams.items ≡ change.streams = c.in_ok-streams.ensures ∙ c.requires.streams in
+    let streams = c.in_ok-places.ensures.contents ∙ made in
+    let same = ap plain_pieces c.deref-4.ensures.value in
+    let counts = c.deref-5.ensures.value ∙ c.requires.counts in
+    let took = took_for c.args.map.now c.place.new.map listed change (plain_contents c.in_ok-streams.streams.items) c.deref-3.result.now c.in_ok-asked.asked.layout.text_bytes c.in_ok-places.places.runs.items
+    ((runs_of pieces ++ c.page_runs.result.now) ++ c.in_ok-places.places.text ∷ []) made (c.deref-3.ensures.value ∙ c.in_ok-asked.ensures.pages) c.in_ok-asked.ensures.text c.in_ok-places.ensures.taken c.page_runs.ensures in
+    let laws : PageLaws = record {
+      messages = one_schema c.one_page_each.ensures.apart;
+      held = c.pages_hold_what_was_read.ensures.held;
+      pages = c.kept_catalogues_are_read.ensures.pages;
+      text = c.kept_catalogues_are_read.ensures.text;
+      read = c.kept_catalogues_are_read.ensures.read;
+    } in
+    let stands = catalogue_is listed c.args.stored.now.list.kept in
+    c.in_ok-asked.ensures.kind ∙ sym (made_kind laws c.args.map.now c.place.new.map c.requires.limits listed stands change c.requires.sound c.requires.few pieces c.page_runs.result.now c.in_ok-places.places.text took streams)
+    ∙ ap kind_of (sym (given_is listed change pieces ps c.deref-5.result.now same counts streams))
+
+pub next_catalogue-requires-clause-pages : goal.next_catalogue-requires-clause-pages
+next_catalogue-requires-clause-pages c =
+    let listed = catalogue_of c.args.stored.now.list in
+    let change : PlainChange = change_of c.args.change.now in
+    let pieces = plain_pieces c.in_ok-places.places.pieces.items in
+    let ps = plain_pieces c.deref-4.result.now in
+    let made : plain_contents c.in_ok-streams.streams.items ≡ change.streams = c.in_ok-streams.ensures ∙ c.requires.streams in
+    let streams = c.in_ok-places.ensures.contents ∙ made in
+    let same = ap plain_pieces c.deref-4.ensures.value in
+    let counts = c.deref-5.ensures.value ∙ c.requires.counts in
+    let took = took_for c.args.map.now c.place.new.map listed change (plain_contents c.in_ok-streams.streams.items) c.deref-3.result.now c.in_ok-asked.asked.layout.text_bytes c.in_ok-places.places.runs.items
+    ((runs_of pieces ++ c.page_runs.result.now) ++ c.in_ok-places.places.text ∷ []) made (c.deref-3.ensures.value ∙ c.in_ok-asked.ensures.pages) c.in_ok-asked.ensures.text c.in_ok-places.ensures.taken c.page_runs.ensures in
+    let laws : PageLaws = record {
+      messages = one_schema c.one_page_each.ensures.apart;
+      held = c.pages_hold_what_was_read.ensures.held;
+      pages = c.kept_catalogues_are_read.ensures.pages;
+      text = c.kept_catalogues_are_read.ensures.text;
+      read = c.kept_catalogues_are_read.ensures.read;
+    } in
+    let stands = catalogue_is listed c.args.stored.now.list.kept in
+    subst (λ (d : PlainCatalogue). ArePageRuns d c.page_runs.result.now) (sym (given_is listed change pieces ps c.deref-5.result.now same counts streams))
+    (made_runs laws c.args.map.now c.place.new.map c.requires.limits listed stands change c.requires.sound c.requires.few pieces c.page_runs.result.now c.in_ok-places.places.text took streams)
 
 pub plan_next-requires-clause-room : goal.plan_next-requires-clause-room
-plan_next-requires-clause-room c = (0, one_text c.in-Ok.texts (list_text (catalogue_of c.in-Ok.next.list)) c.in-Ok.ensures.text, c.in_ok-places.ensures.room)
+plan_next-requires-clause-room c =
+    let listed = catalogue_of c.args.stored.now.list in
+    let change : PlainChange = change_of c.args.change.now in
+    let pieces = plain_pieces c.in_ok-places.places.pieces.items in
+    let ps = plain_pieces c.deref-4.result.now in
+    let made : plain_contents c.in_ok-streams.streams.items ≡ change.streams = c.in_ok-streams.ensures ∙ c.requires.streams in
+    let streams = c.in_ok-places.ensures.contents ∙ made in
+    let same = ap plain_pieces c.deref-4.ensures.value in
+    let counts = c.deref-5.ensures.value ∙ c.requires.counts in
+    let took = took_for c.args.map.now c.place.new.map listed change (plain_contents c.in_ok-streams.streams.items) c.deref-3.result.now c.in_ok-asked.asked.layout.text_bytes c.in_ok-places.places.runs.items
+    ((runs_of pieces ++ c.page_runs.result.now) ++ c.in_ok-places.places.text ∷ []) made (c.deref-3.ensures.value ∙ c.in_ok-asked.ensures.pages) c.in_ok-asked.ensures.text c.in_ok-places.ensures.taken c.page_runs.ensures in
+    let laws : PageLaws = record {
+      messages = one_schema c.one_page_each.ensures.apart;
+      held = c.pages_hold_what_was_read.ensures.held;
+      pages = c.kept_catalogues_are_read.ensures.pages;
+      text = c.kept_catalogues_are_read.ensures.text;
+      read = c.kept_catalogues_are_read.ensures.read;
+    } in
+    let stands = catalogue_is listed c.args.stored.now.list.kept in
+    let edited_is = given_is listed change pieces ps c.deref-5.result.now same counts streams in
+    let texts = c.in-Ok.ensures.texts ∙ ap (λ (d : PlainCatalogue). page_texts d ++ settled_text d c.page_runs.result.now ∷ []) edited_is in
+    let many = as_many c.args.map.now c.place.new.map listed change c.requires.sound pieces c.page_runs.result.now c.in_ok-places.places.text took streams in
+    let number = texts_count laws (unpaged listed change (runs_of pieces)) (outline listed change) c.in-Ok.texts.items c.deref-3.result.now (settled_text (unpaged listed change (runs_of pieces)) c.page_runs.result.now)
+    (unpaged_shapes listed change c.requires.sound (runs_of pieces) many) texts (c.deref-3.ensures.value ∙ c.in_ok-asked.ensures.pages) in
+    (length c.deref-3.result.now, c.in-Ok.texts.ok.0 ∙ number, c.in_ok-places.ensures.room)
 
 pub returns-clause-err : goal.returns-clause-err
 returns-clause-err c =
-    let runs : List Run = c.in_ok-places.places.runs.items in
-    let sizes = counts_of (plain_contents c.in_ok-streams.streams.items) [] c.in_ok-text_bytes.text_bytes in
-    all_given_back c.args.map.now c.place.new.map c.give_each.new.self sizes runs c.in_ok-places.ensures.taken
+    let sizes = counts_of (plain_contents c.in_ok-streams.streams.items) c.deref-3.result.now c.in_ok-asked.asked.layout.text_bytes in
+    all_given_back c.args.map.now c.place.new.map c.give_each.new.self sizes c.in_ok-places.places.runs.items c.in_ok-places.ensures.taken
     (subst (GivesAll c.place.new.map c.give_each.new.self) c.deref-in-Err.ensures.value c.give_each.ensures)
 
 pub returns-in-Ok-clause-ok : goal.returns-in-Ok-clause-ok
 returns-in-Ok-clause-ok c =
     let listed = catalogue_of c.args.stored.now.list in
-    let made : plain_contents c.in_ok-streams.streams.items ≡ (change_of c.args.change.now).streams = c.in_ok-streams.ensures ∙ c.requires.streams in
-    prepared listed (change_of c.args.change.now) c.requires.sound (plain_contents c.in_ok-streams.streams.items) made c.in_ok-text_bytes.text_bytes c.in_ok-text_bytes.ensures
-    c.args.map.now c.place.new.map c.requires.limits c.requires.few (plain_pieces c.in_ok-places.places.pieces.items) (plain_pieces c.deref-3.result.now) c.in_ok-places.places.text c.in_ok-places.places.runs.items c.deref-4.result.now
-    c.in_ok-places.ensures.taken (placed_alone c.in_ok-places.places c.in_ok-places.ensures.room) c.in_ok-places.ensures.contents (ap plain_pieces c.deref-3.ensures.value) (c.deref-4.ensures.value ∙ c.requires.counts)
-    c.args.commit (list_text (catalogue_of c.in-Ok.next.list)) c.in-Ok.next c.plan_next.result c.in_ok-back.back.items c.requires.own c.requires.next c.in-Ok.ensures.catalogue c.in-Ok.ensures.found c.in-Ok.ensures.size
-    c.plan_next.ensures.commit c.plan_next.ensures.catalogue c.plan_next.ensures.placed (c.plan_next.ensures.contents ∙ ap (λ (vs : List (List ℕ)). contents_of (plain_pieces c.in_ok-places.places.pieces.items) ++ vs) c.in-Ok.ensures.text)
-    (ap (λ (v : Vec Run). v.items) c.plan_next.ensures.runs) c.in_ok-back.ensures
+    let change : PlainChange = change_of c.args.change.now in
+    let pieces = plain_pieces c.in_ok-places.places.pieces.items in
+    let ps = plain_pieces c.deref-4.result.now in
+    let made : plain_contents c.in_ok-streams.streams.items ≡ change.streams = c.in_ok-streams.ensures ∙ c.requires.streams in
+    let streams = c.in_ok-places.ensures.contents ∙ made in
+    let same = ap plain_pieces c.deref-4.ensures.value in
+    let counts = c.deref-5.ensures.value ∙ c.requires.counts in
+    let took = took_for c.args.map.now c.place.new.map listed change (plain_contents c.in_ok-streams.streams.items) c.deref-3.result.now c.in_ok-asked.asked.layout.text_bytes c.in_ok-places.places.runs.items
+    ((runs_of pieces ++ c.page_runs.result.now) ++ c.in_ok-places.places.text ∷ []) made (c.deref-3.ensures.value ∙ c.in_ok-asked.ensures.pages) c.in_ok-asked.ensures.text c.in_ok-places.ensures.taken c.page_runs.ensures in
+    let laws : PageLaws = record {
+      messages = one_schema c.one_page_each.ensures.apart;
+      held = c.pages_hold_what_was_read.ensures.held;
+      pages = c.kept_catalogues_are_read.ensures.pages;
+      text = c.kept_catalogues_are_read.ensures.text;
+      read = c.kept_catalogues_are_read.ensures.read;
+    } in
+    let stands = catalogue_is listed c.args.stored.now.list.kept in
+    let edited_is = given_is listed change pieces ps c.deref-5.result.now same counts streams in
+    let k = c.args.commit in
+    let kind = c.in_ok-asked.ensures.kind in
+    let bytes = c.in_ok-asked.ensures.text in
+    prepared laws c.args.map.now c.place.new.map c.requires.limits listed stands change c.requires.sound c.requires.few pieces c.page_runs.result.now c.in_ok-places.places.text took streams
+    k c.in-Ok.next c.plan_next.result c.in_ok-asked.asked.back.items c.requires.own c.requires.next
+    (c.in-Ok.ensures.catalogue ∙ ap (λ (d : PlainCatalogue). settled d c.page_runs.result.now) edited_is)
+    (c.plan_next.ensures.commit ∙ (λ i. next_commit k k.version (kind i) c.in_ok-places.places.text (bytes i)))
+    c.plan_next.ensures.catalogue (c.plan_next.ensures.placed ∙ c.page_runs.ensures)
+    (c.plan_next.ensures.contents ∙ ap (λ (vs : List (List ℕ)). contents_of pieces ++ vs) (c.in-Ok.ensures.texts ∙ ap (λ (d : PlainCatalogue). page_texts d ++ settled_text d c.page_runs.result.now ∷ []) edited_is))
+    (ap (λ (v : Vec Run). v.items) c.plan_next.ensures.runs ∙ c.page_runs.ensures) c.in_ok-asked.ensures.back

@@ -4,14 +4,18 @@ use Rattle.catalogue.specs.View.{catalogue_of}
 use Rattle.catalogue.specs.Entries.{PlainCatalogue, IsCatalogue, is_entry, segment_count}
 use Rattle.catalogue.specs.declared.limits.TheConstants.{MAX_SEGMENTS}
 use Rattle.store.specs.declared.change.Edit.{Edit}
-use Rattle.store.specs.Changes.{edit_of, edited}
+use Rattle.arrow_schema.specs.View.{schema_of}
+use Rattle.catalogue.specs.Edits.{entry_of}
+use Rattle.catalogue.specs.laws.Kept.{catalogue_is}
+use Rattle.store.specs.Changes.{edit_of, new_entry, page_instead, edited}
 use Rattle.store.proofs.EditedCounts.{put_is_entry, extend_is_few}
 use Rattle.store.proofs.editing.edited.Goals as goal
 
 pub put-requires-clause-entry : goal.put-requires-clause-entry
 put-requires-clause-entry c =
-    ap is_entry c.in_ok-new_entry-in-Put.ensures
-    ∙ put_is_entry (catalogue_of c.args.catalogue.now) c.args.edit.now c.in-Put.name c.in-Put.schema c.args.segments.now c.in-Put.is c.requires.edit c.requires.sound
+    let listed = catalogue_of c.args.catalogue.now in
+    ap is_entry (c.in_ok-new_entry-in-Put.ensures ∙ ap (new_entry (string_bytes c.in-Put.name) (schema_of c.in-Put.schema) c.args.segments.now) (c.in_ok-page-in-Put.ensures ∙ ap (λ (n : List ℕ). page_instead (entry_of listed n) (schema_of c.in-Put.schema) c.args.segments.now) c.deref.ensures))
+    ∙ put_is_entry listed c.args.edit.now c.in-Put.name c.in-Put.schema c.args.segments.now c.in-Put.is c.requires.edit (catalogue_is listed c.args.catalogue.now.kept) c.requires.sound
 
 pub append_segments-requires-clause-most : goal.append_segments-requires-clause-most
 append_segments-requires-clause-most c =

@@ -9,5 +9,5 @@ returns c = record {
   selects = c.selection_is_a_table.ensures;
   alike = c.rows_refuse_no_query.ensures;
   means = c.meaning_is_a_table.ensures supported_codes;
-  catalogues = c.one_text_each.ensures.kept;
+  catalogues = c.pages_hold_what_was_read.ensures.kept;
 }

@@ -1,6 +1,6 @@
 use Rattle.std.proofs.Common.{◌≡◌, true, length, map, sym, subst, ℕ}
 use Rattle.sector_dev.specs.Disk.{now, shown_image}
-use Rattle.catalogue.specs.Entries.{plain_entry, is_entry, runs_in}
+use Rattle.catalogue.specs.Entries.{plain_entry, is_entry, runs_in_segments}
 use Rattle.catalogue.specs.laws.Changed.{found_passes}
 use Rattle.commit.specs.Standing.{all_on_device}
 use Rattle.store.specs.Calls.{done, refused}
@@ -16,7 +16,7 @@ first_pair_of-requires-clause-placed g c =
     let listed = map plain_entry c.args.entries.now in
     let item = c.entry-item.result in
     let at = item_at c.args.entries.now c.loop-entry.entry-index item c.loop-entry-test.true c.entry-item.is in
-    subst (λ (n : ℕ). all_on_device n (runs_in (plain_entry item)) ≡ true) (sym c.loop-entry.invariant.reads.same)
+    subst (λ (n : ℕ). all_on_device n (runs_in_segments (plain_entry item).segments) ≡ true) (sym c.loop-entry.invariant.reads.same)
     (runs_on_device (D.size c.args.device.now) listed (plain_entry item).name (plain_entry item) c.requires.placed (at_name listed c.loop-entry.entry-index (plain_entry item) c.requires.stands.order at))
 
 pub first_pair_of-requires-clause-sound : goal.first_pair_of-requires-clause-sound

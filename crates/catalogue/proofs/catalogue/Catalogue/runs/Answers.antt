@@ -1,8 +1,7 @@
 use Rattle.std.proofs.Common.{◌≡◌, ◌≤◌, ◌<◌, ◌++◌, ◌∙◌, List, length, get_or, subst, map, ap, arith}
 use Rattle.std.proofs.lemmas.List.{take_all}
 use Rattle.catalogue.specs.declared.entry.TableEntry.{TableEntry}
-use Rattle.catalogue.specs.declared.entry.Segment.{Segment}
-use Rattle.catalogue.specs.Entries.{plain_entry, runs_of}
+use Rattle.catalogue.specs.Entries.{plain_entry, runs_in, runs_of}
 use Rattle.catalogue.proofs.Rows.{more_runs}
 use Rattle.catalogue.proofs.catalogue.Catalogue.runs.Goals as goal
 
@@ -12,8 +11,8 @@ loop-entry-preserved c =
     let same = c.deref-entry-items.ensures.value in
     let lt = subst (λ (xs : List TableEntry). c.loop-entry.entry-index < length xs) same c.loop-entry-test.true in
     let is = subst (λ (xs : List TableEntry). c.entry-item.result ≡ get_or xs c.loop-entry.entry-index c.entry-item.result) same c.entry-item.is in
-    c.in_ok-put_runs.ensures
-    ∙ (λ i. c.loop-entry.invariant i ++ map (λ (s : Segment). s.place.run) (c.deref.ensures.value i))
+    c.in_ok-put_entry_runs.ensures
+    ∙ (λ i. c.loop-entry.invariant i ++ runs_in (plain_entry c.entry-item.result))
     ∙ more_runs es c.loop-entry.entry-index c.entry-item.result lt is
 
 pub returns : goal.returns

@@ -13,7 +13,7 @@ use Rattle.store.specs.Calls.{done, refused, counted}
 use Rattle.catalogue.specs.View.{catalogue_of}
 use Rattle.commit.specs.declared.recovery.Opened.{Opened}
 use Rattle.segments.specs.laws.Usages.{or_false}
-use Rattle.store.specs.declared.stored.StoredCatalogue.{StoredCatalogue}
+use Rattle.pages.specs.declared.stored.StoredCatalogue.{StoredCatalogue}
 use Rattle.store.specs.Changes.{change_of, CanChange}
 use Rattle.store.specs.Held.{tables_held}
 use Rattle.store.specs.Machine.{tables_now}

@@ -15,7 +15,7 @@ use Rattle.commit.specs.declared.sector.Commit.{Commit}
 use Rattle.commit.specs.Placing.{Uses, Takes}
 use Rattle.commit.specs.Standing.{is_size, is_on_device, runs_fault}
 use Rattle.commit.specs.laws.Taking.{took_takes}
-use Rattle.store.specs.declared.stored.StoredCatalogue.{StoredCatalogue}
+use Rattle.pages.specs.declared.stored.StoredCatalogue.{StoredCatalogue}
 use Rattle.store.specs.Calls.{is_failure, is_device_reply}
 use Rattle.store.specs.Machine.{halted, running}
 use Rattle.export_book.specs.Book.{runs_kept}
@@ -25,7 +25,7 @@ use Rattle.store.specs.Changes.{PlainChange, change_of}
 use Rattle.store.specs.Applying.{IsCarrying}
 use Rattle.store.specs.Carrying.{IsCarried, asked_sizes}
 use Rattle.store.specs.Reading.{ended}
-use Rattle.store.proofs.Prepared.{failed_usages, placed_then, fit_then, uses_then}
+use Rattle.store.proofs.Prepared.{placed_is, failed_usages, placed_then, fit_then, uses_then}
 use Rattle.tables.specs.declared.refusal.Refusal.{Refusal}
 use Rattle.tables.specs.declared.refusal.Refusal.TheVariants as refusals
 use Rattle.canonical_write.specs.View.{streams_in}
@@ -99,14 +99,15 @@ returns-in-Ok-clause-carried g c =
     let change : PlainChange = change_of c.args.change.now in
     let prep = c.in_ok-prepared.ensures.ok in
     let sizes = asked_sizes (listed_in s) change in
-    let takes = took_takes s.opened.map.size (IsUsedIn s.opened.map.entries) sizes (runs_of prep.pieces ++ prep.run ∷ []) prep.took.took in (
+    let takes = took_takes s.opened.map.size (IsUsedIn s.opened.map.entries) sizes (runs_of (prep.pieces ++ prep.pages) ++ prep.run ∷ []) prep.took.took in (
       prep.next,
       prep.few,
       (
-        runs_of prep.pieces,
+        runs_of (prep.pieces ++ prep.pages),
         prep.run,
-        subst (λ (n : ℕ). Takes n (IsUsedIn s.opened.map.entries) sizes (Ok (runs_of prep.pieces ++ prep.run ∷ []))) s.same takes,
-        ap (λ (x : StoredCatalogue). catalogue_of x.list) c.settle.ensures.catalogue ∙ prep.catalogue,
+        subst (λ (n : ℕ). Takes n (IsUsedIn s.opened.map.entries) sizes (Ok (runs_of (prep.pieces ++ prep.pages) ++ prep.run ∷ []))) s.same takes,
+        ap (λ (x : StoredCatalogue). catalogue_of x.list) c.settle.ensures.catalogue ∙ prep.catalogue
+            ∙ placed_is s.opened.map c.prepare.new.map s.opened.commit (listed_in s) change c.in_ok-prepared.prepared.plan c.in_ok-prepared.prepared.back.items prep,
         c.settle.ensures.commit ∙ prep.commit,
       ),
     )
@@ -116,7 +117,7 @@ returns-clause-carried g c =
     let s = c.args.self.now in
     let prep = c.in_ok-prepared.ensures.ok in
     let sizes = asked_sizes (listed_in s) (change_of c.args.change.now) in
-    let runs = runs_of prep.pieces ++ prep.run ∷ [] in
+    let runs = runs_of (prep.pieces ++ prep.pages) ++ prep.run ∷ [] in
     let takes = took_takes s.opened.map.size (IsUsedIn s.opened.map.entries) sizes runs prep.took.took in
     (prep.next, prep.few, (runs, subst (λ (n : ℕ). Takes n (IsUsedIn s.opened.map.entries) sizes (Ok runs)) s.same takes))
 

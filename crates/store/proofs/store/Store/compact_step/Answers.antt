@@ -11,7 +11,7 @@ use Rattle.commit.specs.declared.recovery.Opened.{Opened}
 use Rattle.tables.specs.declared.refusal.Refusal.{Refusal}
 use Rattle.tables.specs.declared.refusal.Refusal.TheVariants as refusals
 use Rattle.store.specs.declared.compacting.Compaction.{Compaction}
-use Rattle.store.specs.declared.stored.StoredCatalogue.{StoredCatalogue}
+use Rattle.pages.specs.declared.stored.StoredCatalogue.{StoredCatalogue}
 use Rattle.store.specs.Calls.{done}
 use Rattle.store.specs.Changes.{change_of, CanChange}
 use Rattle.store.specs.Fits.{listed_in}

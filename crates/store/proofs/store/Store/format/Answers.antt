@@ -16,7 +16,8 @@ use Rattle.tables.specs.Tables.{no_tables}
 use Rattle.store.specs.Calls.{format_call, shut_by, counted}
 use Rattle.store.specs.Machine.{opened, shut_down, Allows}
 use Rattle.store.specs.Runs.{Goes}
-use Rattle.store.specs.Held.{whole_reading, tables_held}
+use Rattle.store.specs.Held.{tables_held}
+use Rattle.pages.specs.Stored.{stored_reading}
 use Rattle.export_book.specs.Book.{PlainBook, runs_kept}
 use Rattle.store.specs.Exported.{AreExportable}
 use Rattle.store.specs.Fits.{setting_of, fresh, ExportsFit}
@@ -69,8 +70,8 @@ returns-in-Ok-clause-opened g c = λ told base m fits.
           fresh = λ no. absurd (true≢false no);
         };
         sound = λ on. record {
-          stands = subst (λ (n : ℕ). Stands whole_reading n (now s1) commit listed) (sym same)
-              (subst (λ (k : Commit). Stands whole_reading size (now s1) k listed) (sym c.in-Ok.ensures.commit) (subst (λ (d : PlainCatalogue). Stands whole_reading size (now s1) (first_commit size) d) (sym c.empty.ensures) stands));
+          stands = subst (λ (n : ℕ). Stands stored_reading n (now s1) commit listed) (sym same)
+              (subst (λ (k : Commit). Stands stored_reading size (now s1) k listed) (sym c.in-Ok.ensures.commit) (subst (λ (d : PlainCatalogue). Stands stored_reading size (now s1) (first_commit size) d) (sym c.empty.ensures) stands));
           tables = ap (tables_held (synced_image (now s1))) c.empty.ensures ∙ new_tables size fits.in_limits spelled base m (fits.fresh early) (synced_image (now s1));
           uses = subst (λ (b : PlainBook). Uses c.in-Ok.map.entries (commit.catalogue.run ∷ runs_of (catalogue_of c.empty.result)) (runs_kept b.exports)) (sym c.new.ensures)
               (subst (λ (d : PlainCatalogue). Uses c.in-Ok.map.entries (commit.catalogue.run ∷ runs_of d) []) (sym c.empty.ensures) c.in-Ok.ensures.uses);
@@ -96,8 +97,8 @@ returns-in-Ok-clause-formatted g c = λ told.
       none_before = c.in-Ok.ensures.none_before told;
       moments = c.format.ensures.moments told;
       formatted = formatted;
-      stands = subst (λ (n : ℕ). Stands whole_reading n (now s1) commit listed) (sym c.format.ensures.size)
-          (subst (λ (k : Commit). Stands whole_reading size (now s1) k listed) (sym c.in-Ok.ensures.commit) (subst (λ (d : PlainCatalogue). Stands whole_reading size (now s1) (first_commit size) d) (sym c.empty.ensures) stands));
+      stands = subst (λ (n : ℕ). Stands stored_reading n (now s1) commit listed) (sym c.format.ensures.size)
+          (subst (λ (k : Commit). Stands stored_reading size (now s1) k listed) (sym c.in-Ok.ensures.commit) (subst (λ (d : PlainCatalogue). Stands stored_reading size (now s1) (first_commit size) d) (sym c.empty.ensures) stands));
       made = c.in-Ok.ensures.made told;
     }
 

@@ -11,7 +11,7 @@ use Rattle.commit.specs.declared.opening_refusal.OpeningRefusal.{OpeningRefusal}
 use Rattle.store.specs.Calls.{open_call, shut_by, counted}
 use Rattle.store.specs.Machine.{Export, shut_down, Allows}
 use Rattle.store.specs.Runs.{Goes}
-use Rattle.store.specs.Held.{whole_reading}
+use Rattle.pages.specs.Stored.{stored_reading}
 use Rattle.export_book.specs.Book.{PlainBook, runs_kept}
 use Rattle.store.specs.Exported.{AreExportable}
 use Rattle.store.specs.Fits.{setting_of, ExportsFit}
@@ -68,7 +68,7 @@ returns-in-Ok-clause-opened g c = λ told base m fits.
           fresh = λ no. absurd (true≢false (sym after.1 ∙ no));
         };
         sound = λ on. record {
-          stands = subst (λ (n : ℕ). Stands whole_reading n (now s1) commit catalogue) (sym same) (c.in-Ok.ensures.stands told);
+          stands = subst (λ (n : ℕ). Stands stored_reading n (now s1) commit catalogue) (sym same) (c.in-Ok.ensures.stands told);
           tables = synced_then s0 s1 catalogue _ synced found.tables;
           uses = subst (λ (b : PlainBook). Uses c.in-Ok.opened.map.entries (commit.catalogue.run ∷ runs_of catalogue) (runs_kept b.exports)) (sym c.new.ensures) c.in-Ok.ensures.uses;
           none = after.2;
@@ -86,7 +86,7 @@ returns-in-Ok-clause-found g c = λ told.
       found = c.in-Ok.ensures.found told;
       moments = c.recover.ensures.moments told;
       synced = c.in-Ok.ensures.synced told;
-      stands = subst (λ (n : ℕ). Stands whole_reading n (now (D.story c.recover.new.device)) c.in-Ok.opened.commit (catalogue_of c.in-Ok.opened.catalogue.list)) (sym c.recover.ensures.size) (c.in-Ok.ensures.stands told);
+      stands = subst (λ (n : ℕ). Stands stored_reading n (now (D.story c.recover.new.device)) c.in-Ok.opened.commit (catalogue_of c.in-Ok.opened.catalogue.list)) (sym c.recover.ensures.size) (c.in-Ok.ensures.stands told);
       uses = c.in-Ok.ensures.uses;
       none_open = c.new.ensures;
       on = refl;
@@ -95,7 +95,7 @@ returns-in-Ok-clause-found g c = λ told.
 pub returns-in-Err-clause-told : goal.returns-in-Err-clause-told
 returns-in-Err-clause-told g c = λ told.
     let D = g.D.SectorDevice in
-    let found = standing_shown whole_reading (D.size c.args.device) (D.story c.args.device) in
+    let found = standing_shown stored_reading (D.size c.args.device) (D.story c.args.device) in
     subst (λ (r : OpeningRefusal). TellsOpening r found) (sym c.opening_refusal.ensures) (opening_tells c.in-Err.error found (c.in-Err.ensures.refused told))
 
 pub returns-in-Err-clause-quiet : goal.returns-in-Err-clause-quiet

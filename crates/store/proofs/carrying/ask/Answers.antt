@@ -1,12 +1,15 @@
-use Rattle.std.proofs.Common.{◌≡◌, ◌∙◌, true, List, sym, subst}
+use Rattle.std.proofs.Common.{◌≡◌, ◌++◌, ◌∷◌, ◌∙◌, [], true, List, sym, ap, subst}
 use Rattle.std.specs.List.{list_all}
+use Rattle.segments.specs.declared.run.Run.{Run}
 use Rattle.catalogue.specs.declared.entry.Segment.{Segment}
-use Rattle.catalogue.specs.Entries.{is_segment}
+use Rattle.catalogue.specs.Entries.{PlainCatalogue, is_segment, IsCatalogue}
+use Rattle.catalogue.specs.View.{catalogue_of}
 use Rattle.commit.specs.Placing.{plain_contents}
-use Rattle.store.specs.Changes.{PlainChange, change_of}
-use Rattle.store.specs.Carrying.{unplaced}
+use Rattle.pages.specs.Paging.{kind_of, page_sizes, text_size, dropped_pages}
+use Rattle.store.specs.Changes.{PlainChange, change_of, edit_of, edited, given_up}
+use Rattle.store.specs.Carrying.{unplaced, outline}
 use Rattle.store.specs.laws.Segments.{are_streams, unplaced_sound}
-use Rattle.store.proofs.carrying.text_size.Goals as goal
+use Rattle.store.proofs.carrying.ask.Goals as goal
 
 pub edited-requires-clause-edit : goal.edited-requires-clause-edit
 edited-requires-clause-edit c = let change : PlainChange = change_of c.args.change.now in (change.streams, c.requires.sound.edit)
@@ -17,3 +20,6 @@ edited-requires-clause-sound c =
     let same : unplaced (plain_contents c.args.streams.now) c.args.rows.now ≡ unplaced change.streams change.counts = λ i. unplaced (c.requires.streams i) (c.requires.rows i) in
     subst (λ (xs : List Segment). list_all is_segment xs ≡ true) (sym (c.deref.ensures.value ∙ c.in_ok-segments.ensures ∙ same))
     (unplaced_sound change.streams change.counts (are_streams change.streams c.requires.sound.some c.requires.sound.short) c.requires.sound.rows)
+
+pub given_up-requires : goal.given_up-requires
+given_up-requires c = let change : PlainChange = change_of c.args.change.now in record { edit = (change.streams, c.requires.sound.edit) }

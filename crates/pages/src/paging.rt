@@ -1,0 +1,231 @@
+// How a catalogue is kept: whole in its list, or each table in a page.
+ghost use Rattle.std.specs.Prelude.{◌≡◌, ◌<◌, ◌+◌, ◌^◌, ◌++◌, ◌∷◌, [], None, true, map, flat_map, length, drop, vec_len, OnOk, IfOk};
+ghost use Rattle.segments.specs.Pieces.{bytes_of_parts};
+ghost use Rattle.commit.specs.Placing.{plain_contents};
+ghost use Rattle.catalogue.specs.Entries.{PlainEntry, plain_entry, plain_root, is_entry, page_runs, bare};
+ghost use Rattle.catalogue.specs.Text.{table_text, table_size, list_size};
+ghost use Rattle.catalogue.specs.View.{catalogue_of};
+ghost use Rattle.pages.specs.Paging.{is_whole, kind_of, pageless, page_sizes, root_bytes, text_size, with_pages, AreFilled, ArePageRuns, settled, dropped_pages, page_texts, root_of, settled_text};
+
+use catalogue::{
+    Catalogue, RootEntry, TableEntry, encode, encode_page, encode_root, one_page_each, page_size,
+    texts_have_these_sizes,
+};
+use commit::CatalogueKind;
+use segments::{Extent, Part, Run};
+use std::alloc::{AllocError, Global};
+
+/// How a catalogue is to be kept: of which kind, how many bytes each page has that is to be written, in order of the names, and
+/// how many the list or the root behind them.
+#[derive(Drop)]
+pub struct Layout {
+    pub kind: CatalogueKind,
+    pub pages: Vec<u64>,
+    pub text_bytes: usize,
+    /// The runs of the pages that go, where the catalogue is kept whole.
+    pub dropped: Vec<Run>,
+}
+
+// The bytes of a list that is kept whole: those of a sector.
+const MOST_LIST_BYTES: u64 = 512;
+
+// Whether the list has few enough bytes to be kept whole. It stops at the first table that goes past them.
+fn is_whole(alloc: Global, list: &Catalogue) -> Result<bool, AllocError>
+    ensures { IfOk result (λ whole. whole ≡ is_whole (catalogue_of list.now)) }
+{
+    let entries = list.entries();
+    let mut size = 4;
+    for entry in entries {
+        size += 4 + entry.name.len() as u64 + page_size(alloc, entry)?;
+        if size > MOST_LIST_BYTES {
+            return Ok(false);
+        }
+    }
+    Ok(true)
+}
+
+// How many bytes the page of each table has that has none.
+fn page_sizes(alloc: Global, list: &Catalogue) -> Result<Vec<u64>, AllocError>
+    ensures { IfOk result (λ sizes. sizes.items ≡ map table_size (pageless (catalogue_of list.now))) }
+{
+    let entries = list.entries();
+    let mut sizes = Vec::new(alloc);
+    for entry in entries {
+        if entry.page.is_none() {
+            sizes.push(page_size(alloc, entry)?)?;
+        }
+    }
+    Ok(sizes)
+}
+
+// How many bytes the root has, wherever the pages lie.
+fn root_bytes(list: &Catalogue) -> usize
+    ensures { result ≡ root_bytes (catalogue_of list.now) }
+{
+    let entries = list.entries();
+    let mut bytes = 4;
+    for entry in entries {
+        bytes += 28 + entry.name.len();
+    }
+    bytes
+}
+
+// The runs of all pages.
+fn runs_of_pages(alloc: Global, list: &Catalogue) -> Result<Vec<Run>, AllocError>
+    ensures { IfOk result (λ runs. runs.items ≡ flat_map (λ (e : PlainEntry). page_runs e.page) (catalogue_of list.now)) }
+{
+    let entries = list.entries();
+    let mut runs = Vec::new(alloc);
+    for entry in entries {
+        if let Some(page) = entry.page {
+            runs.push(page.run)?;
+        }
+    }
+    Ok(runs)
+}
+
+/// How this catalogue is to be kept. Where its segments lie makes no difference.
+pub fn layout_of(alloc: Global, list: &Catalogue) -> Result<Layout, AllocError>
+    ensures kind { IfOk result (λ layout. layout.kind ≡ kind_of (catalogue_of list.now)) }
+    ensures pages { IfOk result (λ layout. layout.pages.items ≡ page_sizes (catalogue_of list.now)) }
+    ensures text { IfOk result (λ layout. layout.text_bytes ≡ text_size (catalogue_of list.now)) }
+    ensures dropped { IfOk result (λ layout. layout.dropped.items ≡ dropped_pages (catalogue_of list.now)) }
+{
+    texts_have_these_sizes();
+    if is_whole(alloc, list)? {
+        let text = encode(alloc, list)?;
+        return Ok(Layout {
+            kind: CatalogueKind::Whole,
+            pages: Vec::new(alloc),
+            text_bytes: text.len(),
+            dropped: runs_of_pages(alloc, list)?,
+        });
+    }
+    Ok(Layout {
+        kind: CatalogueKind::Pages,
+        pages: page_sizes(alloc, list)?,
+        text_bytes: root_bytes(list),
+        dropped: Vec::new(alloc),
+    })
+}
+
+// Appends a text, as what is written of its own.
+fn put_text(alloc: Global, texts: &mut Vec<Vec<Part<'_>>>, text: Vec<u8>) -> Result<(), AllocError>
+    ensures texts { OnOk result (plain_contents texts.new.items ≡ plain_contents texts.old.items ++ text.items ∷ []) }
+    ensures count { OnOk result (vec_len texts.new ≡ vec_len texts.old + 1) }
+{
+    let mut parts = Vec::new(alloc);
+    parts.push(Part::Made(text))?;
+    texts.push(parts)?;
+    Ok(())
+}
+
+// The table with its page: its own, or one in the next of these runs, whose text is put behind the others.
+fn with_page(
+    alloc: Global,
+    entry: TableEntry,
+    runs: &[Run],
+    texts: &mut Vec<Vec<Part<'_>>>,
+) -> Result<TableEntry, AllocError>
+    requires sound { is_entry (plain_entry entry) ≡ true }
+    requires few { length entry.segments.items < 2 ^ 32 }
+    requires run { entry.page ≡ None → vec_len texts.old < length runs.now }
+    ensures entry { IfOk result (λ made. plain_entry made ∷ [] ≡ with_pages (plain_entry entry ∷ []) (drop (vec_len texts.old) runs.now)) }
+    ensures texts { OnOk result (plain_contents texts.new.items ≡ plain_contents texts.old.items ++ map table_text (pageless (plain_entry entry ∷ []))) }
+{
+    one_page_each();
+    if entry.page.is_some() {
+        return Ok(entry);
+    }
+    let text = encode_page(alloc, &entry)?;
+    let page = Extent {
+        run: runs[texts.len()],
+        bytes: text.len() as u64,
+    };
+    put_text(alloc, texts, text)?;
+    Ok(TableEntry {
+        name: entry.name,
+        schema: entry.schema,
+        segments: entry.segments,
+        page: Some(page),
+    })
+}
+
+// The tables with their pages, and the texts of those that are to be written.
+fn with_pages<'a>(
+    alloc: Global,
+    list: Catalogue,
+    runs: &[Run],
+) -> Result<(Catalogue, Vec<Vec<Part<'a>>>), AllocError>
+    requires { AreFilled (pageless (catalogue_of list)) runs.now }
+    ensures catalogue { IfOk result (λ kept. catalogue_of kept.0 ≡ with_pages (catalogue_of list) runs.now) }
+    ensures texts { IfOk result (λ kept. plain_contents kept.1.items ≡ map table_text (pageless (catalogue_of list))) }
+{
+    let mut texts = Vec::new(alloc);
+    let mut entries = Vec::with_capacity(alloc, list.len())?;
+    for entry in list.into_entries() {
+        entries.push(with_page(alloc, entry, runs, &mut texts)?)?;
+    }
+    Ok((Catalogue::of_entries(entries), texts))
+}
+
+// The tables without their pages.
+fn without_pages(alloc: Global, list: Catalogue) -> Result<Catalogue, AllocError>
+    ensures { IfOk result (λ kept. catalogue_of kept ≡ map bare (catalogue_of list)) }
+{
+    let mut entries = Vec::with_capacity(alloc, list.len())?;
+    for entry in list.into_entries() {
+        entries.push(TableEntry {
+            name: entry.name,
+            schema: entry.schema,
+            segments: entry.segments,
+            page: None,
+        })?;
+    }
+    Ok(Catalogue::of_entries(entries))
+}
+
+// The root of tables that have pages.
+fn root_of(alloc: Global, entries: &[TableEntry]) -> Result<Vec<RootEntry>, AllocError>
+    ensures { IfOk result (λ root. map plain_root root.items ≡ root_of (map plain_entry entries.now)) }
+{
+    let mut root = Vec::with_capacity(alloc, entries.len())?;
+    for entry in entries {
+        if let Some(page) = entry.page {
+            let name = entry.name.clone()?;
+            root.push(RootEntry { name, page })?;
+        }
+    }
+    Ok(root)
+}
+
+/// The catalogue as it is kept, its new pages in these runs, in order, and the texts that are to be written for it: those of
+/// the pages, and then its list or its root.
+pub fn settle<'a>(
+    alloc: Global,
+    list: Catalogue,
+    kind: CatalogueKind,
+    runs: &[Run],
+) -> Result<(Catalogue, Vec<Vec<Part<'a>>>), AllocError>
+    requires kind { kind ≡ kind_of (catalogue_of list) }
+    requires runs { ArePageRuns (catalogue_of list) runs.now }
+    ensures catalogue { IfOk result (λ kept. catalogue_of kept.0 ≡ settled (catalogue_of list) runs.now) }
+    ensures texts { IfOk result (λ kept. plain_contents kept.1.items
+        ≡ page_texts (catalogue_of list) ++ settled_text (catalogue_of list) runs.now ∷ []) }
+{
+    match kind {
+        CatalogueKind::Whole => {
+            let text = encode(alloc, &list)?;
+            let mut texts = Vec::new(alloc);
+            put_text(alloc, &mut texts, text)?;
+            Ok((without_pages(alloc, list)?, texts))
+        }
+        CatalogueKind::Pages => {
+            let (list, mut texts) = with_pages(alloc, list, runs)?;
+            let root = root_of(alloc, list.entries())?;
+            let text = encode_root(alloc, &root)?;
+            put_text(alloc, &mut texts, text)?;
+            Ok((list, texts))
+        }
+    }
+}
