@@ -12,7 +12,6 @@ use Rattle.segments.specs.Usages.{IsUsedIn}
 use Rattle.catalogue.specs.Entries.{PlainCatalogue, IsCatalogue}
 use Rattle.catalogue.specs.laws.Kept.{catalogue_is}
 use Rattle.commit.specs.Standing.{is_size, rules, standing, used_runs, InSome, Stands}
-use Rattle.commit.specs.Publishing.{next_commit}
 use Rattle.commit.specs.declared.sector.Commit.{Commit}
 use Rattle.export_book.specs.Book.{PlainBook}
 use Rattle.tables.specs.declared.refusal.Refusal.{Refusal}
@@ -29,10 +28,10 @@ use Rattle.store.specs.Runs.{Goes}
 use Rattle.store.specs.Held.{tables_held, held_tables, held_by}
 use Rattle.pages.specs.Stored.{stored_reading}
 use Rattle.store.specs.Fits.{book_of, setting_of, listed_in, ExportsFit, StoreFits, IsSound}
-use Rattle.store.specs.Changes.{PlainChange, MakesOf, edited, placed_segments}
+use Rattle.store.specs.Changes.{PlainChange, MakesOf, placed_segments}
 use Rattle.store.specs.Deciding.{IsDecided}
 use Rattle.store.specs.Exported.{AreExportable}
-use Rattle.store.specs.Carrying.{IsCarried, outline, placed, commit_placed}
+use Rattle.store.specs.Carrying.{IsCarried, placed, commit_placed}
 use Rattle.store.specs.Reading.{ended}
 use Rattle.store.specs.Applying.{GoesOn, EndsAs, IsKept, HasCarried, IsOldOrCarried, IsTaking, IsCarrying, IsCarryingAtEachMoment, IsCarriedOnDisk, HasDone, IsApplying, IsApplyingAtEachMoment, IsDoneOnDisk}
 use Rattle.store.specs.laws.Frame.{held_is, same_tables}

@@ -1,5 +1,5 @@
 -- What was prepared for a change can be published, and then stands.
-use Rattle.std.specs.Prelude.{◌≡◌, ◌≤◌, ◌<◌, ◌+◌, ◌^◌, ◌==◌, ◌&&◌, ◌||◌, ℕ, Bool, true, false, not, nat_le, List, [], ◌∷◌, ◌++◌, length, map, drop, if◌then◌else◌, Option, Some, None, Ok, Err, refl, vec_len}
+use Rattle.std.specs.Prelude.{◌≡◌, ◌≤◌, ◌<◌, ◌+◌, ◌^◌, ◌==◌, ◌&&◌, ◌||◌, ℕ, Bool, true, false, not, nat_le, List, [], ◌∷◌, ◌++◌, length, map, drop, if◌then◌else◌, None, Ok, Err, refl, vec_len}
 use Rattle.std.specs.Global.{Vec}
 use Rattle.std.specs.List.{list_all, AllByRecursion}
 use Rattle.std.proofs.Common.{inl, inr, ⊎_elim, ◌≢◌, sym, ap, ◌∙◌, subst, arith, append_assoc}
@@ -20,7 +20,7 @@ use Rattle.segments.specs.Runs.{OutOf}
 use Rattle.segments.specs.Sectors.{sector_count}
 use Rattle.segments.specs.declared.extent.Extent.{Extent}
 use Rattle.segments.specs.declared.entries.Usage.{Usage}
-use Rattle.segments.specs.Usages.{Space, same_run, IsUsedIn, SameUsages, GivesAll}
+use Rattle.segments.specs.Usages.{Space, same_run, SameUsages, GivesAll}
 use Rattle.segments.specs.laws.Usages.{same_run_is, among_both}
 use Rattle.segments.specs.Writing.{runs_of, HoldsEach}
 use Rattle.segments.specs.laws.ReadBack.{read_back}
@@ -55,7 +55,7 @@ use Rattle.pages.specs.laws.Written.{ArePages, IsFree}
 use Rattle.pages.specs.laws.Made.{GoesTo}
 use Rattle.pages.specs.laws.Taken.{AreTaken, taken_length, text_least, sizes_written, pages_are, piece_left, piece_right}
 use Rattle.tables.specs.declared.refusal.Refusal.TheVariants as refusals
-use Rattle.store.specs.Changes.{PlainChange, PlainEdit, IsChange, edited, given_up, placed_segments, HoldsStreams}
+use Rattle.store.specs.Changes.{PlainChange, IsChange, edited, given_up, placed_segments, HoldsStreams}
 use Rattle.store.specs.Carrying.{HasNext, unplaced, outline, asked_sizes, placed, commit_placed, IsCarried}
 use Rattle.store.specs.inner.Prepared.{unpaged, taking_refusal, ReadsAgain, IsPrepared}
 use Rattle.store.specs.laws.Segments.{placed_front, unplaced_number}

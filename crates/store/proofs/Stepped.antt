@@ -15,7 +15,6 @@ use Rattle.catalogue.specs.Entries.{PlainCatalogue, IsCatalogue, runs_of, segmen
 use Rattle.catalogue.specs.laws.Kept.{catalogue_is}
 use Rattle.export_book.specs.Book.{PlainBook}
 use Rattle.commit.specs.Standing.{is_size, rules, standing, used_runs, InSome, Stands}
-use Rattle.commit.specs.Publishing.{next_commit}
 use Rattle.commit.specs.declared.sector.Commit.{Commit}
 use Rattle.commit.specs.declared.recovery.Opened.{Opened}
 use Rattle.catalogue.specs.View.{catalogue_of}

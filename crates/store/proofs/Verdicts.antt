@@ -13,14 +13,10 @@ use Rattle.ipc_message.specs.Header.{supported_codes}
 use Rattle.ipc_stream.specs.Meaning.{meaning}
 use Rattle.catalogue.specs.Entries.{PlainEntry, PlainCatalogue, is_entry, IsCatalogue}
 use Rattle.catalogue.specs.Edits.{entry_of}
-use Rattle.catalogue.specs.Reading.{catalogue_at}
 use Rattle.catalogue.specs.laws.Changed.{found_passes}
 use Rattle.catalogue.specs.laws.Kept.{entry_is}
 use Rattle.commit.specs.declared.sector.Commit.{Commit}
-use Rattle.commit.specs.Publishing.{next_commit}
 use Rattle.commit.specs.Standing.{rules, standing, used_runs, Stands, InSome}
-use Rattle.commit.specs.declared.sector.CatalogueKind.{CatalogueKind}
-use Rattle.commit.specs.declared.sector.CatalogueKind.TheVariants.{Whole, Pages}
 use Rattle.commit.specs.laws.Frame.{rules_found}
 use Rattle.tables.specs.declared.refusal.Refusal.{Refusal}
 use Rattle.tables.specs.declared.refusal.Refusal.TheVariants as refusals
@@ -30,10 +26,10 @@ use Rattle.tables.specs.Verdict.{import_tests, of_meaning, empty_table, verdict}
 use Rattle.store.specs.Machine.{holds}
 use Rattle.store.specs.Held.{tables_held, held_tables, held_by}
 use Rattle.pages.specs.Stored.{stored_reading}
-use Rattle.store.specs.Changes.{put, move, remove, PlainChange, edited, placed_segments, stream_rows, MakesOf}
+use Rattle.store.specs.Changes.{put, move, remove, PlainChange, placed_segments, stream_rows, MakesOf}
 use Rattle.store.specs.Reading.{Unreads}
 use Rattle.store.specs.Deciding.{missing_in, full_in, create_tests, rename_tests, names_changed, pieces_put, decided_create, decided_table, of_entry, Addition, given_rows, streamed_rows, unselected, entry_added, entry_selected, entry_read, reads_device, IsNotRead, IsDecided, IsAnswered}
-use Rattle.store.specs.Carrying.{outline, placed, commit_placed}
+use Rattle.store.specs.Carrying.{placed, commit_placed}
 use Rattle.store.specs.Applying.{HasDone}
 use Rattle.store.specs.inner.LawsBelow.{LawsBelow}
 use Rattle.store.specs.Verdicts.{Lists, AreListed, IsVerdict, IsUndecided, HoldsVerdict}

@@ -1,14 +1,13 @@
 -- Segments that are exchanged for others with the same rows leave the tables as they are.
-use Rattle.std.specs.Prelude.{◌≡◌, ◌++◌, ℕ, Bool, true, false, List, [], ◌∷◌, take, drop, Option, Some, None, if◌then◌else◌, refl}
+use Rattle.std.specs.Prelude.{◌≡◌, ◌++◌, ℕ, List, take, drop, Option, Some, None}
 use Rattle.std.proofs.Common.{sym, ap, ◌∙◌, take-append-drop}
-use Rattle.std.specs.Str.{bytes_eq}
 use Rattle.sector_dev.specs.Disk.{Image}
 use Rattle.arrow_schema.specs.Column.{PlainSchema}
 use Rattle.cells.specs.Cell.{Cell}
 use Rattle.catalogue.specs.declared.entry.Segment.{Segment}
 use Rattle.catalogue.specs.Entries.{PlainEntry, PlainCatalogue}
-use Rattle.catalogue.specs.Edits.{entry_of, with_segments, from_place, with_others, with_exchanged}
-use Rattle.store.specs.Held.{joined_rows, rows_held, table_of_rows, table_held, with_held, tables_held}
+use Rattle.catalogue.specs.Edits.{with_segments, from_place, with_others, with_exchanged}
+use Rattle.store.specs.Held.{joined_rows, rows_held, tables_held}
 use Rattle.store.specs.Exchanging.{HoldsSame}
 use Rattle.store.specs.laws.Changed.{rows_behind, same_with}
 

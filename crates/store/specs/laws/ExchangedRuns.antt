@@ -1,13 +1,13 @@
 -- What an exchange of segments makes of a catalogue: its runs and its numbers.
 use Rattle.std.specs.Prelude.{◌≡◌, ◌≤◌, ◌+◌, ◌++◌, ℕ, List, [], ◌∷◌, length, map, take, drop, sum_by, Some, refl}
-use Rattle.std.proofs.Common.{inl, sym, ap, ◌∙◌, arith}
+use Rattle.std.proofs.Common.{inl, ap, ◌∙◌, arith}
 use Rattle.std.proofs.lemmas.List.{length-append, map-append}
 use Rattle.std.proofs.lemmas.List.Sums.{sum_by-cons}
 use Rattle.segments.specs.declared.run.Run.{Run}
 use Rattle.catalogue.specs.declared.entry.Segment.{Segment}
 use Rattle.catalogue.specs.Entries.{PlainEntry, PlainCatalogue, page_runs, runs_in, runs_of, segment_count}
 use Rattle.catalogue.specs.Edits.{entry_of, with_segments, from_place, with_others, with_exchanged}
-use Rattle.catalogue.specs.laws.Sums.{refilled, taken_out, refilled_sum, segments_in}
+use Rattle.catalogue.specs.laws.Sums.{taken_out, refilled_sum, segments_in}
 use Rattle.catalogue.specs.laws.Changed.{parted, exchanged_is}
 use Rattle.commit.specs.Placing.{times_among}
 use Rattle.commit.specs.laws.Fit.{times_both}

@@ -1,13 +1,10 @@
-use Rattle.std.proofs.Common.{◌≡◌, ◌++◌, ◌∷◌, ◌∙◌, [], true, List, sym, ap, subst}
+use Rattle.std.proofs.Common.{◌≡◌, ◌∙◌, true, List, sym, subst}
 use Rattle.std.specs.List.{list_all}
-use Rattle.segments.specs.declared.run.Run.{Run}
 use Rattle.catalogue.specs.declared.entry.Segment.{Segment}
-use Rattle.catalogue.specs.Entries.{PlainCatalogue, is_segment, IsCatalogue}
-use Rattle.catalogue.specs.View.{catalogue_of}
+use Rattle.catalogue.specs.Entries.{is_segment}
 use Rattle.commit.specs.Placing.{plain_contents}
-use Rattle.pages.specs.Paging.{kind_of, page_sizes, text_size, dropped_pages}
-use Rattle.store.specs.Changes.{PlainChange, change_of, edit_of, edited, given_up}
-use Rattle.store.specs.Carrying.{unplaced, outline}
+use Rattle.store.specs.Changes.{PlainChange, change_of}
+use Rattle.store.specs.Carrying.{unplaced}
 use Rattle.store.specs.laws.Segments.{are_streams, unplaced_sound}
 use Rattle.store.proofs.carrying.ask.Goals as goal
 

@@ -1,26 +1,24 @@
-use Rattle.std.proofs.Common.{◌≡◌, ◌∙◌, ◌++◌, ◌∷◌, ◌+◌, ℕ, true, List, [], length, refl, ap, sym, subst}
+use Rattle.std.proofs.Common.{◌≡◌, ◌∙◌, ◌++◌, ◌∷◌, ℕ, true, List, [], length, refl, ap, sym, subst}
 use Rattle.std.specs.Prelude.{Err}
 use Rattle.std.specs.Global.{Vec}
 use Rattle.std.specs.List.{list_all}
 use Rattle.std.proofs.lemmas.Result.{err_from_is_err_and}
 use Rattle.segments.specs.declared.piece.Piece.{Piece}
 use Rattle.segments.specs.declared.run.Run.{Run}
-use Rattle.segments.specs.Pieces.{PlainPiece, plain_pieces}
+use Rattle.segments.specs.Pieces.{plain_pieces}
 use Rattle.segments.specs.Usages.{IsUsedIn, GivesAll}
 use Rattle.segments.specs.Writing.{runs_of}
 use Rattle.catalogue.specs.declared.entry.Segment.{Segment}
 use Rattle.catalogue.specs.Entries.{PlainCatalogue, is_segment, IsCatalogue}
 use Rattle.catalogue.specs.View.{catalogue_of}
 use Rattle.catalogue.specs.laws.Kept.{catalogue_is}
-use Rattle.commit.specs.declared.sector.CatalogueKind.{CatalogueKind}
-use Rattle.commit.specs.declared.sector.Commit.{Commit}
 use Rattle.commit.specs.Placing.{Takes, AreSome, AreWritten, plain_contents, contents_of, counts_of}
 use Rattle.commit.specs.Publishing.{next_commit}
-use Rattle.commit.specs.laws.Taking.{TookAll, all_given_back}
+use Rattle.commit.specs.laws.Taking.{all_given_back}
 use Rattle.pages.specs.Paging.{kind_of, ArePageRuns, settled, page_texts, settled_text}
 use Rattle.pages.specs.laws.Taken.{sizes_written}
-use Rattle.store.specs.Carrying.{outline, asked_sizes}
-use Rattle.store.specs.Changes.{PlainChange, change_of, IsChange, edited, placed_segments}
+use Rattle.store.specs.Carrying.{outline}
+use Rattle.store.specs.Changes.{PlainChange, change_of}
 use Rattle.store.specs.inner.Prepared.{unpaged}
 use Rattle.store.proofs.Placed.{unpaged_shapes, as_many, outline_stands}
 use Rattle.store.proofs.Prepared.{PageLaws, one_schema, memory_alone, some_bytes, as_many_rows, asked, took_for, given_segments, given_is, given_change, texts_count, made_sound, made_stands, made_runs, made_kind, prepared}

@@ -1,4 +1,4 @@
-use Rattle.std.proofs.Common.{◌≡◌, ◌∙◌, ℕ, List, sym, ap}
+use Rattle.std.proofs.Common.{◌∙◌, ℕ, List, sym, ap}
 use Rattle.catalogue.specs.Edits.{entry_of}
 use Rattle.catalogue.specs.Entries.{plain_entry, is_entry}
 use Rattle.catalogue.specs.View.{catalogue_of}
