@@ -13,10 +13,10 @@ use store_requests::ReplayWords;
 /// Plays the script that the words name, and prints what came of it. Nothing is written but to the output.
 pub(crate) fn serve_replay<F: Read + OpenFile + Drop, H: Files<File = F> + AllocGlobal, W: Write>(
     rt: &H,
-    words: ReplayWords<'_>,
+    words: &ReplayWords<'_>,
     output: &mut W,
 ) -> Result<(), Refusal>
-    ensures replays { Replays ⟦<ModelDevice as SectorDevice>⟧ F.remaining ⟦<Empty as Read>⟧.remaining W.contents words output.old output.new result }
+    ensures replays { Replays ⟦<ModelDevice as SectorDevice>⟧ F.remaining ⟦<Empty as Read>⟧.remaining W.contents words.now output.old output.new result }
     ensures silent { IfErr result (λ refusal. refusal ≢ Refusal.Io → output.new ≡ output.old) }
 {
     let faults = Faults {

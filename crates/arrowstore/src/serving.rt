@@ -141,7 +141,7 @@ pub(crate) fn serve<
     match request {
         StoreRequest::Format { path, sectors } => serve_format(rt, path, *sectors, output),
         StoreRequest::Copy { path, new, sectors } => serve_copy(rt, path, new, *sectors, output),
-        StoreRequest::Replay(words) => serve_replay(rt, *words, output),
+        StoreRequest::Replay(words) => serve_replay(rt, words, output),
         StoreRequest::Command { path, command } => {
             serve_command(rt, path, command, input, output, hint)
         }
