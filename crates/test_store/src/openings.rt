@@ -193,7 +193,7 @@ fn causes(part: usize) -> Option<&'static [Row]> {
 }
 
 // The table t has two segments of a sector each, in 3 and 2, and u one of two, in 6 and 7: 312 bytes and 8 for each of 26 values. Epoch 5 in
-// sector 1 has its catalogue in 8 and 9, and epoch 4 in sector 0, before v was made, in 4.
+// sector 1 has pages in 5, 8 and 9 and its root in 10, and epoch 4 in sector 0, before v was made, a list in 4.
 const STORED: Steps = &[
     (Format, "ok"),
     (Import("t", Ints(&[7, -1])), "ok"),
