@@ -3,7 +3,7 @@ _arrowstore() {
     local word=${COMP_WORDS[COMP_CWORD]} before=${COMP_WORDS[COMP_CWORD-1]} flags=
     COMPREPLY=()
     if [ $COMP_CWORD -eq 1 ]; then
-        COMPREPLY=($(compgen -W 'recode help format create import append query export rename drop tables schema check compact copy -h --help --version' -- "$word"))
+        COMPREPLY=($(compgen -W 'format create import append query export rename drop tables schema check compact copy replay recode help -h --help --version' -- "$word"))
         return
     fi
     case "${COMP_WORDS[1]} $before" in
@@ -12,9 +12,12 @@ _arrowstore() {
     'query --columns') return ;;
     'query --limit') return ;;
     'query --save') return ;;
+    'replay --sectors') return ;;
+    'replay --fail') return ;;
+    'replay --stop') return ;;
+    'replay --choice') return ;;
     esac
     case "${COMP_WORDS[1]}" in
-    recode) flags='-h --help' ;;
     format) flags='-h --help' ;;
     create) flags='-h --help' ;;
     import) flags='-h --help' ;;
@@ -28,7 +31,9 @@ _arrowstore() {
     check) flags='-h --help' ;;
     compact) flags='-h --help' ;;
     copy) flags='-h --help' ;;
-    help) [ $COMP_CWORD -eq 2 ] && COMPREPLY=($(compgen -W 'recode format create import append query export rename drop tables schema check compact copy refusals' -- "$word")); return ;;
+    replay) flags='--sectors --fail --stop --choice -h --help' ;;
+    recode) flags='-h --help' ;;
+    help) [ $COMP_CWORD -eq 2 ] && COMPREPLY=($(compgen -W 'format create import append query export rename drop tables schema check compact copy replay recode refusals' -- "$word")); return ;;
     esac
     if [ "${word#-}" != "$word" ]; then
         COMPREPLY=($(compgen -W "$flags" -- "$word"))

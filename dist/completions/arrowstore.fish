@@ -2,9 +2,7 @@
 complete -c arrowstore -f
 complete -c arrowstore -n __fish_use_subcommand -s h -l help -d 'Print help'
 complete -c arrowstore -n __fish_use_subcommand -l version -d 'The version'
-complete -c arrowstore -n __fish_use_subcommand -a recode -d 'Reads a stream from standard input, and writes its canonical form to standard output'
-complete -c arrowstore -n __fish_use_subcommand -a help -d 'Print this message or the help of the given subcommand(s)'
-complete -c arrowstore -n __fish_use_subcommand -a format -d 'Makes a file of so many sectors, and an empty store in it'
+complete -c arrowstore -n __fish_use_subcommand -a format -d 'Makes a file of the given number of sectors, and an empty store in it'
 complete -c arrowstore -n __fish_use_subcommand -a create -d 'Makes a table without rows'
 complete -c arrowstore -n __fish_use_subcommand -a import -d 'Reads a stream from standard input, and makes its table, in place of one of this name'
 complete -c arrowstore -n __fish_use_subcommand -a append -d 'Reads rows from standard input, and appends them to a table'
@@ -16,8 +14,10 @@ complete -c arrowstore -n __fish_use_subcommand -a tables -d 'Prints a line for 
 complete -c arrowstore -n __fish_use_subcommand -a schema -d 'Prints a line for each field of a table'
 complete -c arrowstore -n __fish_use_subcommand -a check -d 'Reads all tables, and prints ok where each can be read'
 complete -c arrowstore -n __fish_use_subcommand -a compact -d 'Joins small segments, moves the last ones forward, and prints how many steps that took'
-complete -c arrowstore -n __fish_use_subcommand -a copy -d 'Makes a store of so many sectors in a new file, with all tables of another one'
-complete -c arrowstore -n '__fish_seen_subcommand_from recode' -s h -l help -d 'Print help'
+complete -c arrowstore -n __fish_use_subcommand -a copy -d 'Makes a store of the given number of sectors in a new file, with all tables of another one'
+complete -c arrowstore -n __fish_use_subcommand -a replay -d 'Plays a script on a device in memory that fails or stops, and prints what a crash leaves'
+complete -c arrowstore -n __fish_use_subcommand -a recode -d 'Reads a stream from standard input, and writes its canonical form to standard output'
+complete -c arrowstore -n __fish_use_subcommand -a help -d 'Print this message or the help of the given command'
 complete -c arrowstore -n '__fish_seen_subcommand_from format; and test (count (commandline -opc)) -eq 2' -F
 complete -c arrowstore -n '__fish_seen_subcommand_from format' -s h -l help -d 'Print help'
 complete -c arrowstore -n '__fish_seen_subcommand_from create; and test (count (commandline -opc)) -eq 2' -F
@@ -49,4 +49,11 @@ complete -c arrowstore -n '__fish_seen_subcommand_from compact; and test (count 
 complete -c arrowstore -n '__fish_seen_subcommand_from compact' -s h -l help -d 'Print help'
 complete -c arrowstore -n '__fish_seen_subcommand_from copy; and test (count (commandline -opc)) -eq 2' -F
 complete -c arrowstore -n '__fish_seen_subcommand_from copy' -s h -l help -d 'Print help'
-complete -c arrowstore -n '__fish_seen_subcommand_from help' -a 'recode format create import append query export rename drop tables schema check compact copy refusals'
+complete -c arrowstore -n '__fish_seen_subcommand_from replay; and test (count (commandline -opc)) -eq 2' -F
+complete -c arrowstore -n '__fish_seen_subcommand_from replay' -l sectors -x -d 'How many sectors of 512 bytes the device has, 16 to 4194304'
+complete -c arrowstore -n '__fish_seen_subcommand_from replay' -l fail -x -d 'The write or sync that fails once; without this option none'
+complete -c arrowstore -n '__fish_seen_subcommand_from replay' -l stop -x -d 'The write or sync in which the device stops; without this option none'
+complete -c arrowstore -n '__fish_seen_subcommand_from replay' -l choice -x -d 'What the crash leaves of sectors that are not yet synced: old, new, lost, N (new where its bits are 1) or lost:N'
+complete -c arrowstore -n '__fish_seen_subcommand_from replay' -s h -l help -d 'Print help'
+complete -c arrowstore -n '__fish_seen_subcommand_from recode' -s h -l help -d 'Print help'
+complete -c arrowstore -n '__fish_seen_subcommand_from help' -a 'format create import append query export rename drop tables schema check compact copy replay recode refusals'
