@@ -54,7 +54,7 @@ tallied_dictionaries t (c ∷ cs) = tallied_dictionaries (tallied_one t c) cs �
 
 pub ruleset depth_rules = nat_le_max
 
--- a field, before those behind it, is within so many levels or not
+-- a field, before those after it, is within n levels or not
 pub next_depth : (fs : List Field) (i : ℕ) (f : Field) (levels : ℕ) (b : Bool) → i < length fs → f ≡ get_or fs i f → b ≡ nat_le (depth (column_of f)) levels
     → nat_le (depth_all (columns_of (map column_of (drop i fs)))) levels ≡ (b && nat_le (depth_all (columns_of (map column_of (drop (i + 1) fs)))) levels)
 unfolding depth_all

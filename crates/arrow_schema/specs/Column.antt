@@ -5,7 +5,7 @@ use Rattle.std.specs.Prelude.{ℕ, Bool, ◌==◌, ◌||◌, List, [], ◌∷◌
 abbrev pub is_bit_width : ℕ → Bool
 is_bit_width bits = bits == 8 || bits == 16 || bits == 32 || bits == 64
 
--- an integer of so many bits: the index type of a dictionary
+-- an integer of n bits: the index type of a dictionary
 pub record Index : Type 0 where
   pub bits : ℕ
   pub signed : Bool

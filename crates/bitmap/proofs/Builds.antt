@@ -78,7 +78,7 @@ packed_front : (m : ℕ) (xs ys : List Bool) → 8 * m ≤ length xs → packed_
 packed_front m xs ys within =
     sym (front_only m 0 (xs ++ ys)) ∙ ap (packed_in m) (take-append-le (8 * m + 0) xs ys (omega (arith, within))) ∙ front_only m 0 xs
 
--- behind full bytes
+-- after full bytes
 pub full_more : (m : ℕ) (xs ys : List Bool) → length xs ≡ 8 * m → packed (xs ++ ys) ≡ packed xs ++ packed ys
 full_more m xs ys size =
     let n = bytes_of (length ys) in
@@ -144,7 +144,7 @@ filled d ys r free used whole =
     ∙ or_shifted_r (mask_l (take free ys)) r (mask_l d) below
     ∙ omega (arith, mul_comm (mask_l (take free ys)) (2 ^ r))
 
--- behind a byte of which some bits are free: what comes in bytes of its own, and then the free bits
+-- after a byte of which some bits are free: what comes in bytes of its own, and then the free bits
 pub added : (old more : List ℕ) (xs ys : List Bool) (free : ℕ) → old ≡ packed xs → 8 * length old ≡ length xs + free → 0 < free → free < 8 → more ≡ old ++ packed (drop free ys)
     → set more (length old - 1) (bit_or (get_or more (length old - 1) 0) (mask_l ys % 256 * 2 ^ (8 - free) % 256)) ≡ packed (xs ++ ys)
 added old more xs ys free e size some few is =

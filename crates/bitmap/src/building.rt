@@ -125,7 +125,7 @@ impl MaskBuilder {
         self.push_in_byte(mask, 8 * end, to % 8)
     }
 
-    // Takes back all bits but those of so many bytes, in the last of which `free` bits were free.
+    // Takes back all bits but those of n bytes, in the last of which `free` bits were free.
     fn cut_back(&mut self, size: usize, free: usize)
         requires few { free < 8 }
         requires within { free ≤ 8 * size }
@@ -216,7 +216,7 @@ fn fill(bytes: &mut [u8], at: usize, free: usize, word: u64)
     bytes[at] |= ((word % 256) as u8) << (8 - free);
 }
 
-// Leaves so many bytes, and of the last of them all but the `free` highest bits.
+// Leaves n bytes, and of the last of them all but the `free` highest bits.
 fn cut(bytes: &mut Vec<u8>, size: usize, free: usize)
     requires few { free < 8 }
     requires within { free ≤ 8 * size }

@@ -37,7 +37,7 @@ part_absent row i le = ap option_to_list (slice_get_past (map cell row) i (omega
 pub joined : {X : Type 0} (old here rest : List X) {new left whole : List X} → new ≡ old ++ here → left ≡ here ++ rest → old ++ left ≡ whole → new ++ rest ≡ whole
 joined old here rest put next before = ap (λ xs. xs ++ rest) put ∙ append_assoc old here rest ∙ ap (λ xs. old ++ xs) (sym next) ∙ before
 
--- the part at a place, a place past the last part, and the parts behind a place
+-- the part at a place, a place past the last part, and the parts after a place
 pub part_here : (vs : List Value) (i : ℕ) (v : Value) → i < length vs → v ≡ get_or vs i v → first_part (cells_of (map cell (drop i vs))) ≡ cell v
 part_here vs i v within is = ap (λ (xs : List Value). first_part (cells_of (map cell xs))) (drop-item vs i v within is)
 

@@ -45,7 +45,7 @@ abbrev pub AreInEffect : Kept → List ℕ → List DictionaryPart → Type 0
 AreInEffect k ids parts = (bytes : List ℕ) (before : List DictionaryBatch) (lists : List Dictionary) → HasInEffect bytes k before → lists_of lists ≡ k.lists
     → map (arrays_in bytes lists) parts ≡ map (λ id. in_effect id before) ids
 
--- all arrays end within so many bytes
+-- all arrays end within n bytes
 abbrev pub are_kept_within : (size : ℕ) → Kept → Bool
 are_kept_within size k = list_all (list_all (is_within_by size (λ p. true))) k.lists
 

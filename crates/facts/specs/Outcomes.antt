@@ -11,7 +11,7 @@ abbrev pub Reports : {Y F : Type 0} → Option F → Result Y F → Type 0
 Reports None stated = Unit {0}
 Reports (Some f) stated = stated ≡ Err f
 
--- what a call returned, seen by `view`, is what is stated, unless memory was refused; `reported` is the fault that an error tells, if any
+-- what a call returned, seen by `view`, is what is stated, unless memory was refused; `reported` is the fault that an error reports, if any
 abbrev pub Gives : {X Y E F : Type 0} → (E → Option F) → (X → Y) → Result X E → Result Y F → Type 0
 Gives reported view (Ok x) stated = stated ≡ Ok (view x)
 Gives reported view (Err e) stated = Reports (reported e) stated

@@ -34,7 +34,7 @@ fixed_in_parts front number item =
     let grouped : front ++ (number ++ codes "," ++ field_text printed item ++ codes ")") ≡ front ++ number ++ codes "," ++ field_text printed item ++ codes ")" = simp append_assoc in
     grouped ∙ ap (λ (xs : List ℕ). front ++ number ++ codes "," ++ xs ++ codes ")") (sym (item_printed item))
 
--- the text of a type is its keyword and what stands behind
+-- the text of a type is its keyword and what stands after it
 pub type_in_parts : (k : Kind) → front_text k ++ rest_text k ≡ type_text printed k
 unfolding type_text
 type_in_parts nulls = append-nil _

@@ -39,7 +39,7 @@ name_shorter text = known (name_at text) (name_read text)
     known None h = tt
     known (Some p) h = omega (arith, ap length h.1, length-append p.0 (58 ∷ p.1))
 
--- what is left behind an opening
+-- what is left after an opening
 abbrev left : Opening → ℕ → ℕ
 left (flat kind index) n = 2 * n
 left _ n = 2 * n + 1

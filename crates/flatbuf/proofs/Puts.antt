@@ -30,7 +30,7 @@ unfolding inline
 scalar_put old new field at offset end w n positions rest is e f =
     rw (f, e, is, length-bytes_low_first 0 w n) (append_assoc old _ _ ∙ ap (λ (t : List ℕ). old ++ t) (append_assoc (replicate (gap w offset) 0) (little_bytes w n) _))
 
--- where a number of so many bytes ends
+-- where a number of n bytes ends
 pub field_end : (field : List ℕ) (offset end w n : ℕ) → field ≡ little_bytes w n → end ≡ offset + gap (length field) offset + length field → end ≡ offset + gap w offset + w
 field_end field offset end w n is e = rw (e, is, length-bytes_low_first 0 w n) refl
 

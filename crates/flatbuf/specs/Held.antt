@@ -4,7 +4,7 @@ use Rattle.flatbuf.specs.Lookup.{Place, number, target, slot, table_at, vtable_o
 use Rattle.flatbuf.specs.Tree.{Tree, Nodes, Slots, table, text, references, structs, no_node, and_node, no_slot, absent, scalar, refers}
 use Rattle.flatbuf.specs.Laid.{count_of, slots_of, inline_end, vtable_len, struct_bytes}
 
--- a table with so many slots stands at a position, and its vtable within the bytes
+-- a table with n slots stands at a position, and its vtable within the bytes
 pub record HasHead (bytes : List ℕ) (at slots : ℕ) : Type 0 where
   pub vtable : ℕ
   pub found : vtable_of bytes at ≡ Some vtable

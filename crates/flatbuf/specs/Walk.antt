@@ -39,7 +39,7 @@ head_at (Some v) bytes = span v 2 ∷ vtable_size (number 2 bytes v) ∷ span v 
 unfoldable pub head_things : List ℕ → ℕ → List Thing
 head_things bytes at = table ∷ span at 4 ∷ head_at (vtable_of bytes at) bytes
 
--- a table at a position, up to its slots, where so many levels are left
+-- a table at a position, up to its slots, where n levels are left
 unfoldable pub table_things : ℕ → List ℕ → ℕ → List Thing
 table_things left bytes at = if left == 0 then too_deep ∷ [] else head_things bytes at
 

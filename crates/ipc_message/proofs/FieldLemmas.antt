@@ -56,7 +56,7 @@ pub field_ok : (bytes : List ℕ) (left at n m k : ℕ) → 0 < left → run byt
     → run bytes (field_slots supported_codes (left - 1) bytes (table_at bytes at)) m ≡ Ok k → run bytes (field_things supported_codes left bytes at) n ≡ Ok k
 field_ok bytes left at n m k lt fine also = ap (λ ts. run bytes ts n) (enters bytes left at lt) ∙ run_ok bytes _ _ n m fine ∙ also
 
--- what a field's table decodes to, where so many levels are below it
+-- what a field's table decodes to, where n levels are below it
 abbrev pub field_below : ℕ → List ℕ → Place → RawField
 field_below left bytes t = field_with supported_codes bytes t (map (field_at supported_codes left bytes) (elements bytes (slot bytes t 5)))
 

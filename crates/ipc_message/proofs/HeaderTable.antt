@@ -71,7 +71,7 @@ union_runs left bytes t n m p kind here fine =
 pub union_lacks : (left : ℕ) (bytes : List ℕ) (t : Place) (n : ℕ) → table_behind bytes (slot bytes t 2) ≡ None → run bytes (needed_things left bytes (slot bytes t 2)) n ≡ Err Bounds
 union_lacks left bytes t n none = no_reference left bytes (slot bytes t 2) n none
 
--- ---- its table is the one behind its reference
+-- ---- its table is the one that its reference leads to
 
 pub union_is : (bytes : List ℕ) (t : Place) (o : Option Place) → 0 < scalar_of 1 0 bytes (slot bytes t 1) → o ≡ union_behind bytes t 1 → table_behind bytes (slot bytes t 2) ≡ o
 union_is bytes t o kind is =

@@ -13,7 +13,7 @@ walk_at things bytes there t u k n r same here walked =
 pub read_at : {A : Type 0} (read : List ℕ → Option ℕ → A) (bytes there : List ℕ) (t u : Place) (k : ℕ) (x : A) → there ≡ bytes → t ≡ u → x ≡ read there (slot there t k) → x ≡ read bytes (slot bytes u k)
 read_at read bytes there t u k x same here is = is ∙ ap (λ (b : List ℕ). read b (slot b t k)) same ∙ ap (λ p. read bytes (slot bytes p k)) here
 
--- ---- a table behind a slot
+-- ---- the table that a slot refers to
 
 pub walk_behind : (things : List ℕ → Option ℕ → List Thing) (bytes there : List ℕ) (t : Place) (o : Option Place) (k n : ℕ) (r : Result ℕ FlatError) → there ≡ bytes → Some t ≡ o
     → run there (things there (slot there t k)) n ≡ r → run bytes (things bytes (slot_in bytes o k)) n ≡ r

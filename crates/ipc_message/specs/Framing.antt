@@ -102,7 +102,7 @@ size_faults bytes =
     ∷ when (nat_lt (length bytes) (8 + metadata_size bytes)) Truncated
     ∷ []
 
--- the Message table, where so many bytes follow the metadata
+-- the Message table, where n bytes follow the metadata
 unfoldable pub message_faults : List ℕ → ℕ → List (Option Fault)
 message_faults metadata following =
     walk_fault (run metadata (message_things metadata) 0)

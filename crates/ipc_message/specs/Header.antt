@@ -94,12 +94,12 @@ slots_by child_things supported left bytes t =
     ++ flat_map child_things (elements bytes (slot bytes t 5))
     ++ pairs_things left bytes (slot bytes t 6)
 
--- a field and all below it, at a position from which so many levels are left
+-- a field and all below it, at a position from which n levels are left
 unfoldable pub field_things : (ℕ → Bool) → ℕ → List ℕ → ℕ → List Thing
 field_things supported zero bytes at = too_deep ∷ []
 field_things supported (suc left) bytes at = head_things bytes at ++ slots_by (field_things supported left bytes) supported left bytes (table_at bytes at)
 
--- the slots of a field's table, below which so many levels may stand
+-- the slots of a field's table, below which n levels may stand
 abbrev pub field_slots : (ℕ → Bool) → ℕ → List ℕ → Place → List Thing
 field_slots supported left bytes t = slots_by (field_things supported left bytes) supported left bytes t
 
@@ -193,7 +193,7 @@ field_with supported bytes t children =
     (raw_fields_of children)
     (pairs_in bytes (slot bytes t 6))
 
--- the field at a position, from which so many levels are left
+-- the field at a position, from which n levels are left
 unfoldable pub field_at : (ℕ → Bool) → ℕ → List ℕ → ℕ → RawField
 field_at supported zero bytes at = raw_field [] false 0 no_parameters None no_raw_field []
 field_at supported (suc left) bytes at =

@@ -25,7 +25,7 @@ stays_stopped : (n : ℕ) (f : Faults) → f.stopped ≡ true → (calls_later n
 stays_stopped zero f on = on
 stays_stopped (suc n) f on = stays_stopped n (after_call f) (ap (λ (b : Bool). b || (f.stop == 1)) on)
 
--- once so many writes and syncs have come, the device has stopped
+-- once n writes and syncs have come, the device has stopped
 pub stopped_after : (n : ℕ) (f : Faults) → 1 ≤ f.stop → f.stop ≤ n → (calls_later n f).stopped ≡ true
 stopped_after zero f low high = absurd (omega arith)
 stopped_after (suc n) f low high =

@@ -22,12 +22,12 @@ after_call f = record { fail = f.fail - 1; stop = f.stop - 1; fail_read = f.fail
 abbrev pub after_read : Faults → Faults
 after_read f = record { fail = f.fail; stop = f.stop; fail_read = f.fail_read - 1; stopped = f.stopped }
 
--- so many writes and syncs later
+-- n writes and syncs later
 abbrev pub calls_later : ℕ → Faults → Faults
 calls_later zero f = f
 calls_later (suc n) f = calls_later n (after_call f)
 
--- so many reads later
+-- n reads later
 abbrev pub reads_later : ℕ → Faults → Faults
 reads_later zero f = f
 reads_later (suc n) f = reads_later n (after_read f)

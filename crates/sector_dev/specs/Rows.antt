@@ -12,7 +12,7 @@ pub record SectorWrite : Type 0 where
   pub sector : ℕ
   pub content : List ℕ
 
--- the writes of so many sectors from one on, ascending: each sector once, with this content
+-- the writes of n sectors from one on, ascending: each sector once, with this content
 abbrev pub writes_from : ℕ → ℕ → (ℕ → List ℕ) → List SectorWrite
 writes_from start count content = map (λ j. record { sector = start + j; content = content j }) (range_with_len 0 count)
 
@@ -25,7 +25,7 @@ abbrev pub GrowsBy : List SectorWrite → Story → Story → Type 0
 GrowsBy [] old new = new ≡ old
 GrowsBy (w ∷ ws) old new = (next : Story) × Puts old w.sector w.content (Some w.content) next × GrowsBy ws next new
 
--- one of these writes failed: those before it were done, and none behind it began
+-- one of these writes failed: those before it were done, and none after it began
 abbrev pub FailsAmong : List SectorWrite → Story → Story → Type 0
 FailsAmong [] old new = ⊥
 FailsAmong (w ∷ ws) old new = FailsToPut old w.sector w.content new ⊎ ((next : Story) × Puts old w.sector w.content (Some w.content) next × FailsAmong ws next new)

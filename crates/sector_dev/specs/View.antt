@@ -48,7 +48,7 @@ sectors_of d = d.sectors
 abbrev pub failures_of : {F : Type 0} {r : ReadGhosts F} {w : WriteGhosts F} {s : SeekGhosts F} → FileDevice F r w s → ℕ
 failures_of d = d.failed
 
--- a file of so many bytes is a device: a whole number of sectors, and not too few or too many
+-- a file of n bytes is a device: a whole number of sectors, and not too few or too many
 abbrev pub IsDeviceLength : ℕ → Type 0
 IsDeviceLength bytes = (bytes % 512 ≡ 0) × (512 * LEAST_SECTORS ≤ bytes) × (bytes ≤ 512 * MOST_SECTORS)
 

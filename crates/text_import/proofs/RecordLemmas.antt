@@ -42,7 +42,7 @@ few_records (suc n) s xs = by (next_record default_config s [] [] xs) refl (few_
     by None e more = rw (record_none (suc n) s xs e) (omega arith)
     by (Some p) e more = (let others = more p.1 p.2 in rw (record_some n s xs p e) (omega arith))
 
--- a text has no more records behind the first than bytes
+-- a text has no more records after the first than bytes
 pub few_behind : (t : List ℕ) (h : List (List ℕ)) (rest : List (List (List ℕ))) → records_of t ≡ h ∷ rest → length rest ≤ length t
 few_behind t h rest e =
     let all = few_records (suc (length t)) st.StartRecord (strip_bom t) in
@@ -121,7 +121,7 @@ pub taken : (records : List (List (List ℕ))) (old r : Reader (Bor (List ℕ)))
 taken records old r found fields has reads =
     next_taken records has.state has.bytes (next_record default_config has.state [] [] has.bytes) found fields r has.left refl (reads has.state has.bytes has.stands)
 
--- the rows behind a header that is not there, is another, or is the names
+-- the rows after a header that is not there, is another, or is the names
 pub no_header : (s : PlainSchema) (null_text : List ℕ) (rs : List (List (List ℕ))) → rs ≡ [] → rows_behind_header s null_text rs ≡ Err (whole Header)
 unfolding rows_behind_header
 no_header s null_text rs e = rw e refl

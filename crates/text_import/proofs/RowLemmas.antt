@@ -4,7 +4,7 @@ use Rattle.std.specs.Prelude.{Result, Ok, Err}
 use Rattle.cells.specs.Cell.{Cell, Cells, no_cell, and_cell, cells_of}
 use Rattle.text_import.specs.Refusals.{given}
 
--- what comes behind these
+-- what comes after these
 abbrev pub joined : List Cell → Cells → Cells
 joined [] rest = rest
 joined (c ∷ cs) rest = and_cell c (joined cs rest)

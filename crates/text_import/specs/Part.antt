@@ -73,7 +73,7 @@ refused_in_read cs (Err e) = None
 abbrev pub refused_in_line : PlainSchema → List ℕ → PlainPart
 refused_in_line s t = line (refused_in_read (columns_of s.columns) (line_value t)) t
 
--- of the record of this number: records are counted behind the header, which has the place 0, and lines from 1
+-- of the record of this number: records are counted after the header, which has the place 0, and lines from 1
 abbrev pub numbered_part : TextForm → PlainSchema → List ℕ → ℕ → Option PlainPart
 numbered_part (Csv null_text) s t number = option_and_then (refused_in_record null_text.now s.columns) (slice_get (records_of t) number)
 numbered_part JsonLines s t number = option_map (refused_in_line s) (slice_get (lines_of t) (number - 1))

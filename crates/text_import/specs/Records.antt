@@ -48,7 +48,7 @@ rows_behind_header s null_text (h ∷ rs) = if are_names h s.columns then rows_f
 abbrev pub rows_of_records : PlainSchema → List ℕ → List (List (List ℕ)) → Result (List (List Cell)) Refused
 rows_of_records s null_text rs = if list_any is_nested_column s.columns then Err (whole Nested) else rows_behind_header s null_text rs
 
--- the records of a text, behind a byte order mark where it has one
+-- the records of a text, after a byte order mark where it has one
 abbrev pub records_of : List ℕ → List (List (List ℕ))
 records_of t = records default_config (strip_bom t)
 

@@ -84,7 +84,7 @@ pub is_unfit : (s : PlainSchema) (k : ℕ) (rows : List (List Cell)) → reporte
 unfolding first_unfit table_from
 is_unfit s k rows h = ap (weighed s rows) (position_from-zero (λ row. not (is_row s row)) rows ∙ first_found s 0 0 k rows h)
 
--- the loop goes on behind a row that is taken, and stops at one that is not
+-- the loop goes on after a row that is taken, and stops at one that is not
 step_on : (s : PlainSchema) (i t w : ℕ) (row : List Cell) (rows : List (List Cell)) → Some w ≡ accepted_weight s row → reported_from s i t (row ∷ rows) ≡ reported_from s (i + 1) (capped_weight (t + w)) rows
 step_on s i t w row rows h = on (is_row s row) (row_weight s row) h where
   on : (b : Bool) (v : ℕ) → Some w ≡ (if b then Some v else None) → (if b then reported_from s (i + 1) (capped_weight (t + v)) rows else Err i) ≡ reported_from s (i + 1) (capped_weight (t + w)) rows

@@ -17,11 +17,11 @@ rows_of schema n (Rows rows) = map row_of rows.items
 rows_of schema n (Cells cells) = cell_rows (length schema.fields.items) n (map cell cells.items)
 rows_of schema n (Batches batches) = parts_rows (columns_of (schema_of schema).columns) batches.parts.items
 
--- a schema and so many rows
+-- a schema and n rows
 abbrev pub table_with : Schema → ℕ → Content → PlainTable
 table_with schema n content = record { schema = schema_of schema; rows = rows_of schema n content }
 
--- there are so many rows, or the cells of so many, or the arrays, which can be looked up
+-- there are n rows, or the cells of n, or the arrays, which can be looked up
 abbrev pub is_filled : Schema → ℕ → Content → Bool
 is_filled schema n (Rows rows) = length rows.items == n
 is_filled schema n (Cells cells) = length cells.items == length schema.fields.items * n

@@ -1,4 +1,4 @@
--- An integer that is read from so many bytes is one of so many bits.
+-- An integer that is read from bytes is one of as many bits.
 use Rattle.std.specs.Prelude.{pos, ℤ, ◌-ℤ◌, ◌≤ℤ◌, ◌<ℤ◌, neg_ℤ, int_le, int_lt}
 use Rattle.std.proofs.Common.{◌≡◌, ℕ, ◌-◌, ◌*◌, ◌/◌, ◌^◌, ◌<◌, Bool, true, false, inl, inr, arith}
 use Rattle.std.proofs.lemmas.Bool.{cases_lt, and_from, le-ltb, lt-ltb}

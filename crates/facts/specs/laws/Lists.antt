@@ -16,7 +16,7 @@ drop-item xs i x within is = drop_more xs i x within ∙ ap (λ y. y ∷ drop (i
 pub take-item : {X : Type 0} (xs : List X) (i : ℕ) (x : X) → i < length xs → x ≡ get_or xs i x → take (i + 1) xs ≡ take i xs ++ x ∷ []
 take-item xs i x within is = take_more xs i x within ∙ ap (λ y. take i xs ++ y ∷ []) (sym is)
 
--- what an iterator has left: nothing where no item stands at its place, else that item and what is behind it
+-- what an iterator has left: nothing where no item stands at its place, else that item and what is after it
 pub none_left : {X : Type 0} (xs : List X) (i : ℕ) → None ≡ slice_get xs i → drop i xs ≡ []
 none_left xs i h = elim (slice_get_cases xs i).1 [ inl some ↦ (let there = some.2 in cc) | inr past ↦ drop_all i xs past.0 ]
 
@@ -36,7 +36,7 @@ any_left p xs ys h = (or_parts _ _ (sym (list_any-append p xs ys) ∙ h)).0
 pub any_right : {A : Type 0} (p : A → Bool) (xs ys : List A) → list_any p (xs ++ ys) ≡ false → list_any p ys ≡ false
 any_right p xs ys h = (or_parts _ _ (sym (list_any-append p xs ys) ∙ h)).1
 
--- so many numbers, and then so many
+-- m numbers, and then n
 pub range-append : (a m n : ℕ) → range_with_len a (m + n) ≡ range_with_len a m ++ range_with_len (a + m) n
 range-append a zero n = let e : 0 + n ≡ n = omega arith in let g : a + 0 ≡ a = omega arith in rw (e, g) refl
 range-append a (suc m) n =

@@ -1,4 +1,4 @@
--- Columns as they are built from the beginning of a text, so many levels deep.
+-- Columns as they are built from the beginning of a text, n levels deep.
 use Rattle.std.specs.Prelude.{◌≡◌, ℕ, suc, true, Result, Ok, Err, zero, List, [], ◌∷◌, ◌++◌, length, codes, Option, None, Some, option_map}
 use Rattle.field_texts.specs.declared.build.BuildError.{BuildError}
 use Rattle.field_texts.specs.declared.build.BuildError.TheVariants.{Unread, Memory}
@@ -28,7 +28,7 @@ field_from read text = option_and_then (λ p. read p.0 p.1) (name_at text)
 abbrev pub closed : List ℕ → Option (List Column × List ℕ)
 closed text = option_map (λ rest. ([], rest)) (stripped (codes ">") text)
 
--- so many fields more, and the bracket
+-- n fields more, and the bracket
 unfoldable pub more_from : Reader → ℕ → List ℕ → Option (List Column × List ℕ)
 more_from read zero text = None
 more_from read (suc turns) text = option_or (closed text) (option_and_then (λ next. option_and_then (λ p. option_map (λ q. (p.0 ∷ q.0, q.1)) (more_from read turns p.1)) (field_from read next)) (stripped (codes ",") text))
@@ -39,7 +39,7 @@ with_first earlier read = option_map (λ q. (earlier ++ q.0, q.1)) read
 unfoldable pub fields_from : Reader → List ℕ → Option (List Column × List ℕ)
 fields_from read text = option_or (closed text) (option_and_then (λ p. option_map (λ q. (p.0 ∷ q.0, q.1)) (more_from read (length text) p.1)) (field_from read text))
 
--- the bracket behind the item of a list
+-- the bracket after the item of a list
 abbrev pub close_of : Listing → List ℕ
 close_of listings.List = codes ">"
 close_of listings.LargeList = codes ">"
@@ -65,12 +65,12 @@ parts_from read struct text = option_map (λ p. ((structs (columns_of p.0), None
 unfoldable pub column_from : Reader → Reader
 column_from read name text = option_and_then (λ p. option_map (λ q. (column name (has_nullable_suffix q.1) q.0.0 q.0.1 [], after_nullable_suffix q.1)) (parts_from read p.0 p.1)) (opening_at true text)
 
--- a column of so many levels
+-- a column of n levels
 unfoldable pub column_at : ℕ → Reader
 column_at zero name text = None
 column_at (suc levels) name text = column_from (column_at levels) name text
 
--- the columns of texts, each of at most so many levels
+-- the columns of texts, each of at most n levels
 unfoldable pub columns_at : ℕ → List (List ℕ) → Option (List Column)
 columns_at levels [] = Some []
 columns_at levels (text ∷ texts) = option_and_then (λ p. option_map (λ cs. p.0 ∷ cs) (columns_at levels texts)) (field_from (column_at levels) text)

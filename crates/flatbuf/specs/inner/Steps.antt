@@ -5,7 +5,7 @@ use Rattle.flatbuf.specs.declared.emit.Reached.{Reached}
 use Rattle.flatbuf.specs.Tree.{Nodes, Slots}
 use Rattle.flatbuf.specs.Laid.{gap, distances, inline, slot_starts, laid_all, laid_slots}
 
--- where the inline content of a slot ends that has so many bytes, if it is present
+-- where the inline content of a slot ends that has n bytes, if it is present
 abbrev pub after_slot : ℕ → Option ℕ → ℕ
 after_slot offset None = offset
 after_slot offset (Some width) = offset + gap width offset + width

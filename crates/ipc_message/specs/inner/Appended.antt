@@ -1,8 +1,8 @@
--- Dictionaries that are listed behind others.
+-- Dictionaries that are listed after others.
 use Rattle.std.specs.Prelude.{◌≡◌, ◌++◌, List, map}
 use Rattle.ipc_message.specs.declared.dictionary_type.DictionaryType.{DictionaryType}
 use Rattle.ipc_message.specs.DictionaryTypes.{PlainDictionary, plain_dictionary_of}
 
--- a list has these behind what it had
+-- a list has these after what it had
 abbrev pub Appends : (old new : List DictionaryType) → List PlainDictionary → Type 0
 Appends old new more = map plain_dictionary_of new ≡ map plain_dictionary_of old ++ more

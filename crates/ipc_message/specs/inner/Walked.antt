@@ -17,7 +17,7 @@ abbrev pub WalkFails : WalkError → Result ℕ FlatError → Type 0
 WalkFails errors.Memory walked = ⊤
 WalkFails (errors.Flat f) walked = walked ≡ Err f
 
--- from so many tables to so many, what a result reports of the walk over the things
+-- from one number of tables to another, what a result reports of the walk over the things
 abbrev pub ReportsWalk : {X : Type 0} → List ℕ → List Thing → ℕ → ℕ → Result X WalkError → Type 0
 ReportsWalk bytes things old new (Ok x) = run bytes things old ≡ Ok new
 ReportsWalk bytes things old new (Err e) = WalkFails e (run bytes things old)

@@ -36,6 +36,6 @@ abbrev pub unsynced_below : List StoredSector → ℕ → ℕ
 unsynced_below stored zero = 0
 unsynced_below stored (suc n) = unsynced_below stored n + (if is_some (stored_at stored n).newest then 1 else 0)
 
--- what the choice leaves in a sector, where so many below it are not yet synced
+-- what the choice leaves in a sector, where n below it are not yet synced
 abbrev pub left_in : Choice → ℕ → StoredSector → Option (List ℕ)
 left_in choice below c = elim c.newest [ None ↦ c.synced | Some w ↦ chosen choice below (record { synced = c.synced; pending = w ∷ []; shown = Some w }) ]

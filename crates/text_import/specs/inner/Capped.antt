@@ -5,7 +5,7 @@ use Rattle.std.specs.Str.Parse.{digits_value_after}
 use Rattle.arrow_schema.specs.Column.{Kind, integers, dates, timestamps}
 use Rattle.cells.specs.Typed.{typed_number}
 
--- the number that decimal digits spell behind others that spell n: any number of them
+-- the number that decimal digits spell after others that spell n: any number of them
 unfoldable pub number_behind : ℕ → List ℕ → Option ℕ
 number_behind n ds = if all_ascii_digits ds then Some (digits_value_after 10 n ds) else None
 

@@ -16,7 +16,7 @@ use Rattle.text_import.specs.Refusals.{given, numbered}
 use Rattle.text_import.specs.Rows.{rows_from}
 use Rattle.text_import.specs.Stands.{HasLeft, TakesNext}
 
--- what comes behind these
+-- what comes after these
 abbrev pub behind : {X E : Type 0} → List X → Result (List X) E → Result (List X) E
 behind so rest = given (λ xs. so ++ xs) rest
 

@@ -29,7 +29,7 @@ shorter cfg s fields field (c ∷ rest) p e =
     by true is more = (let same : (fields_after (step cfg s c).1 fields field, (step cfg s c).0, rest) ≡ p = cc in rw (← same) (omega arith))
     by false is more = (let less = more is in omega arith)
 
--- behind the end of a text there is no record
+-- after the end of a text there is no record
 none_left : (n : ℕ) → records_from default_config n st.StartRecord [] ≡ []
 unfolding records_from next_record
 none_left zero = refl

@@ -10,7 +10,7 @@ use Rattle.flatbuf.proofs.Cases.{node_fits, slot_fits, fits_split}
 use Rattle.flatbuf.proofs.Puts.{below_kept, ends_kept, slot_put, node_put}
 use Rattle.flatbuf.proofs.emit.+put.Goals as goal
 
--- nothing is left behind the last node or slot
+-- nothing is left after the last node or slot
 all_nodes_put : (out whole : List ℕ) (ns : List Node) (i : ℕ) → length ns ≤ i → out ++ laid_all (length out) (nodes_of (map node_of (drop i ns))) ≡ whole → out ≡ whole
 unfolding laid_all
 all_nodes_put out whole ns i past kept = sym (append-nil out) ∙ (rw (drop_all i ns past) at kept)

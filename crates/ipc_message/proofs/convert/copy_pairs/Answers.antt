@@ -12,7 +12,7 @@ use Rattle.ipc_message.specs.Checks.{texts_of_pairs}
 use Rattle.ipc_message.specs.View.{key_value}
 use Rattle.ipc_message.proofs.convert.copy_pairs.Goals as goal
 
--- the texts of the next pair are UTF-8, and so are those of the pairs behind it
+-- the texts of the next pair are UTF-8, and so are those of the pairs after it
 pair_utf8 : (pairs : List KeyValue) (i : ℕ) (d : KeyValue) → i < length pairs → list_all is_utf8 (texts_of_pairs (map key_value (drop i pairs))) ≡ true
     → (is_utf8 (get_or pairs i d).key.now ≡ true) × (is_utf8 (get_or pairs i d).value.now ≡ true) × (list_all is_utf8 (texts_of_pairs (map key_value (drop (i + 1) pairs))) ≡ true)
 pair_utf8 pairs i d lt h =

@@ -11,7 +11,7 @@ use Rattle.bitmap.proofs.building.MaskBuilder.push_bytes.Goals as goal
 length_part : (mask : List ℕ) (from to : ℕ) → from ≤ to → to ≤ length mask → length (take (to - from) (drop from mask)) ≡ to - from
 length_part mask from to order within = omega (arith, length-take (to - from) (drop from mask), length-drop from mask)
 
--- bytes that are added behind those of which no bit is free
+-- bytes that are added after those of which no bit is free
 module _ (old new mask : List ℕ) (free from to : ℕ) (built : IsBuilt old free) (none : free ≡ 0) (small : (i : ℕ) → get_or mask i 0 < 256)
     (order : from ≤ to) (within : to ≤ length mask) (is : new ≡ old ++ take (to - from) (drop from mask)) where
   abbrev own : List Bool
