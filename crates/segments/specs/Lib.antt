@@ -1,5 +1,6 @@
 pub mod Runs
 pub mod Usages
+pub mod Counts
 pub mod Sectors
 pub mod Pieces
 pub mod Writing

@@ -11,6 +11,7 @@
 //! ```
 #![tactic(auto)]
 
+mod counting;
 mod entries;
 mod errors;
 mod extent;
@@ -23,6 +24,7 @@ mod searched;
 mod tail;
 mod writing;
 
+pub use counting::SectorCounts;
 pub use entries::{Usage, UsageEntry};
 pub use errors::{EnterError, TakeError};
 pub use extent::Extent;
