@@ -108,7 +108,7 @@ puts_more s t n c x is = omega (arith, ap (λ (v : Story). (now v).writes) is, p
 pub flushes_same : (s t : Story) → Flushes s t → (now t).writes ≡ (now s).writes
 flushes_same s t is = ap (λ (v : Story). (now v).writes) is ∙ flush_counts (now s)
 
--- a formatting of a disk with so many writes is one of a disk with fewer
+-- a formatting of a disk with n writes is one of a disk with fewer
 pub formatted_since : (size : ℕ) (version : FormatVersion) (before between d : Disk) → before.writes ≤ between.writes → IsFormatted size version between d → IsFormatted size version before d
 formatted_since size version before between d le is = record { rests = is.rests; text = is.text; begun = omega (arith, is.begun) }
 

@@ -10,7 +10,7 @@ use Rattle.commit.specs.declared.sector.Commit.{Commit}
 use Rattle.commit.specs.Sector.{commit_text, fields_of, is_placed, commit_at, IsCommit}
 use Rattle.commit.specs.laws.Sectors.{found_again}
 
--- a field that is written over the zeros behind those before it
+-- a field that is written over the zeros after those before it
 pub filled_more : (front bytes : List ℕ) (at : ℕ) → length front ≡ at
     → take at (filled front) ++ (bytes ++ drop (at + length bytes) (filled front)) ≡ filled (front ++ bytes)
 filled_more front bytes at long =

@@ -30,14 +30,14 @@ pub err_same : {T C A : Type 0} (x y : Result C Cause) (r : Result T OpenError) 
 err_same x y (Ok c) same h = tt
 err_same x y (Err e) same h = λ a. subst (TellsCause e) (sym (same a)) (h a)
 
--- a cause that is told of a catalogue is told of the store
+-- a cause that is reported of a catalogue is reported of the store
 pub told_of : {C : Type 0} (e : OpenError) (read : Result C Cause) (found : Standing C) → (e ≡ NotAStore → ⊥) → ((cause : Cause) → read ≡ Err cause → found ≡ damaged cause) → TellsCause e read → TellsStanding e found
 told_of NotAStore read found store is told = absurd (store refl)
 told_of (Damaged cause) read found store is told = is cause told
 told_of Device read found store is told = tt
 told_of OutOfMemory read found store is told = tt
 
--- and so is one that is told of its runs
+-- and so is one that is reported of its runs
 pub told_by : {C : Type 0} (e : OpenError) (fault : Option Cause) (found : Standing C) → (e ≡ NotAStore → ⊥) → ((cause : Cause) → fault ≡ Some cause → found ≡ damaged cause) → ((cause : Cause) → e ≡ Damaged cause → fault ≡ Some cause) → TellsStanding e found
 told_by NotAStore fault found store is told = absurd (store refl)
 told_by (Damaged cause) fault found store is told = is cause (told cause refl)

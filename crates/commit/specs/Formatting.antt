@@ -53,7 +53,7 @@ pub record IsFormatted (size : ℕ) (version : FormatVersion) (before d : Disk) 
   pub text : bytes_at (synced_image d) 2 4 ≡ Some empty_text
   pub begun : before.writes < d.writes
 
--- what a formatting makes of a device, as reads give it: zeros in sector 0, the first commit in sector 1, the empty text with zeros behind
+-- what a formatting makes of a device, as reads give it: zeros in sector 0, the first commit in sector 1, the empty text with zeros after
 -- it in sector 2, which are zeros too, and all else as it was
 pub record IsMadeEmpty (size : ℕ) (version : FormatVersion) (before after : Image) : Type 0 where
   pub zeroth : after 0 ≡ Some zeros

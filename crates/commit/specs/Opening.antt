@@ -1,4 +1,4 @@
--- What opening a store finds, counts and tells.
+-- What opening a store finds, counts and reports.
 use Rattle.std.specs.Prelude.{◌≡◌, ◌⊎◌, ◌+◌, ◌-◌, ◌^◌, ℕ, min, List, Result, Ok, Err}
 use Rattle.sector_dev.specs.Disk.{Disk, Story, now, shown_image, flushed}
 use Rattle.segments.specs.declared.errors.EnterError.{EnterError}
@@ -19,14 +19,14 @@ CountsOpen before after (Err (Damaged cause)) = after ≡ before
 CountsOpen before after (Err Device) = after ≡ min (before + 1) (2 ^ 64 - 1)
 CountsOpen before after (Err OutOfMemory) = after ≡ before
 
--- why a run of a catalogue doesn't come into use, as told of the store
+-- why a run of a catalogue doesn't come into use, as reported of the store
 abbrev pub open_error : EnterError → OpenError
 open_error RangeError = Damaged RunRange
 open_error OverlapError = Damaged RunOverlap
 open_error PinsError = Damaged RunOverlap
 open_error MemoryError = OutOfMemory
 
--- the bytes of an extent with at least so many, as reads give them
+-- the bytes of an extent with at least n, as reads give them
 abbrev pub extent_shown : ℕ → Story → (least : ℕ) → Extent → Result (List ℕ) Cause
 extent_shown size story least e = extent_at size (shown_image (now story)) least e
 
@@ -45,14 +45,14 @@ named_shown reading size story k = named_by reading size (shown_image (now story
 abbrev pub standing_shown : {C : Type 0} → Reading C → ℕ → Story → Standing C
 standing_shown reading size story = standing reading size (shown_image (now story))
 
--- a store that is told as damaged has this cause
+-- a store that is reported as damaged has this cause
 abbrev pub TellsCause : {C : Type 0} → OpenError → Result C Cause → Type 0
 TellsCause NotAStore read = Unit {0}
 TellsCause (Damaged cause) read = read ≡ Err cause
 TellsCause Device read = Unit {0}
 TellsCause OutOfMemory read = Unit {0}
 
--- and what is told of a store is so
+-- and what is reported of a store is so
 abbrev pub TellsStanding : {C : Type 0} → OpenError → Standing C → Type 0
 TellsStanding NotAStore found = found ≡ no_store
 TellsStanding (Damaged cause) found = found ≡ damaged cause

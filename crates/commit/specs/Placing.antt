@@ -27,7 +27,7 @@ abbrev pub in_front : Run → Result (List Run) ℕ → Result (List Run) ℕ
 in_front run (Ok runs) = Ok (run ∷ runs)
 in_front run (Err count) = Err count
 
--- runs of these numbers of sectors are taken in order, each the lowest that is free then; or one of so many sectors is nowhere free
+-- runs of these numbers of sectors are taken in order, each the lowest that is free then; or one of n sectors is nowhere free
 abbrev pub Takes : ℕ → (Run → Type 0) → List ℕ → Result (List Run) ℕ → Type 0
 Takes size used [] taken = taken ≡ Ok []
 Takes size used (count ∷ counts) taken =
@@ -46,7 +46,7 @@ plain_contents contents = map (λ (parts : Vec Part). bytes_of_parts parts.items
 abbrev pub sectors_of : List ℕ → ℕ
 sectors_of bytes = sector_count (length bytes)
 
--- how many sectors these contents take, then pages of so many bytes, and then a text of so many
+-- how many sectors these contents take, then pages of given sizes, and then a text of n bytes
 abbrev pub counts_of : List (List ℕ) → (pages : List ℕ) → ℕ → List ℕ
 counts_of contents pages bytes = (map sectors_of contents ++ map sector_count pages) ++ sector_count bytes ∷ []
 
@@ -62,7 +62,7 @@ AreSome contents = AllByRecursion (λ (bytes : List ℕ). 1 ≤ length bytes) co
 abbrev pub AreShort : List (List ℕ) → Type 0
 AreShort contents = AllByRecursion (λ (bytes : List ℕ). length bytes < 2 ^ 64) contents
 
--- the contents lie in the first of the runs; behind them is one for each of so many pages, and one for the text, with room for their pieces
+-- the contents lie in the first of the runs; after them is one for each of n pages, and one for the text, with room for their pieces
 pub record HasRoom (pages : ℕ) (places : Places) : Type 0 where
   pub piece : vec_len places.pieces + pages < vec_capacity places.pieces
   pub count : vec_len places.runs ≡ vec_len places.pieces + pages + 1

@@ -13,7 +13,7 @@ use Rattle.commit.specs.Sector.{IsCommit}
 use Rattle.commit.specs.Ruling.{ruling, IsQuiet, Rests}
 use Rattle.commit.specs.Standing.{is_size}
 
--- the commit behind this one, of this version and kind, with its catalogue's text of so many bytes in this run
+-- the commit after this one, of this version and kind, with its catalogue's text of n bytes in this run
 abbrev pub next_commit : Commit → FormatVersion → CatalogueKind → Run → ℕ → Commit
 next_commit k version kind run bytes = record {
   epoch = k.epoch + 1;
@@ -23,7 +23,7 @@ next_commit k version kind run bytes = record {
   kind = kind;
 }
 
--- what can be published on a device of this size: pieces that fit into their runs, behind the commit sectors and apart from one
+-- what can be published on a device of this size: pieces that fit into their runs, after the commit sectors and apart from one
 -- another, and a commit of the next epoch
 pub record IsPlan (size : ℕ) (old new : Commit) (pieces : List PlainPiece) : Type 0 where
   pub limits : is_size size ≡ true

@@ -21,13 +21,13 @@ abbrev pub kind_number : CatalogueKind → ℕ
 kind_number Whole = 0
 kind_number Pages = 1
 
--- the fields of the sector one behind the other
+-- the fields of the sector one after the other
 abbrev pub fields_text : Commit → List ℕ
 fields_text c =
     letters ++ (little_bytes 8 c.epoch ++ (little_bytes 8 c.catalogue.run.start ++ (little_bytes 8 c.catalogue.run.count ++ (little_bytes 8 c.catalogue.bytes
     ++ (little_bytes 8 c.device_sectors ++ (little_bytes 4 (version_number c.version) ++ little_bytes 4 (kind_number c.kind)))))))
 
--- the text of a commit: zeros behind its fields
+-- the text of a commit: zeros after its fields
 unfoldable pub commit_text : Commit → List ℕ
 commit_text c = filled (fields_text c)
 

@@ -14,11 +14,11 @@ use Rattle.commit.specs.Ruling.{ruling, IsQuiet}
 abbrev pub is_size : ℕ → Bool
 is_size size = nat_le LEAST_SECTORS size && nat_le size MOST_SECTORS
 
--- a run has a sector, begins behind the commit sectors and ends on the device
+-- a run has a sector, begins after the commit sectors and ends on the device
 abbrev pub is_on_device : ℕ → Run → Bool
 is_on_device size r = nat_le 2 r.start && (nat_le 1 r.count && nat_le (r.start + r.count) size)
 
--- a run on the device with at least so many bytes, of just the sectors that they need
+-- a run on the device with at least n bytes, of just the sectors that they need
 abbrev pub is_extent : ℕ → ℕ → Extent → Bool
 is_extent size least e = nat_le least e.bytes && ((e.run.count == sector_count e.bytes) && is_on_device size e.run)
 
@@ -26,7 +26,7 @@ abbrev pub all_on_device : ℕ → List Run → Bool
 all_on_device size [] = true
 all_on_device size (r ∷ rs) = is_on_device size r && all_on_device size rs
 
--- a run ends before each of these begins, or begins behind its end
+-- a run ends before each of these begins, or begins after its end
 abbrev pub is_apart : Run → List Run → Bool
 is_apart r [] = true
 is_apart r (s ∷ ss) = (nat_le (r.start + r.count) s.start || nat_le (s.start + s.count) r.start) && is_apart r ss
@@ -57,7 +57,7 @@ abbrev pub readable : Option (List ℕ) → Result (List ℕ) Cause
 readable None = Err CatalogueUnreadable
 readable (Some text) = Ok text
 
--- the bytes of an extent with at least so many, or why there are none
+-- the bytes of an extent with at least n, or why there are none
 abbrev pub extent_at : ℕ → Image → (least : ℕ) → Extent → Result (List ℕ) Cause
 extent_at size image least e = if is_extent size least e then readable (bytes_at image e.run.start e.bytes) else Err CatalogueRange
 

@@ -42,7 +42,7 @@ ends_before run e (inl is) lt = let starts : e.run.start ≡ run.start = ap (λ 
 ends_before run e (inr (inl before)) lt = absurd (omega arith)
 ends_before run e (inr (inr after)) lt = after
 
--- the entries behind the run's place, without the run
+-- the entries after the run's place, without the run
 rest_behind : (run : Run) (from : ℕ) (e : UsageEntry) (es : List UsageEntry) → Ordered from (e ∷ es) → run.start ≤ e.run.start → (e.run ≡ run) ⊎ IsApart run e.run → Ordered (run.start + run.count) (cond (same_run e.run run) es (e ∷ es))
 rest_behind run from e es o ge fits =
     cond_both (same_run e.run run) es (e ∷ es) (Ordered (run.start + run.count))

@@ -1,4 +1,4 @@
--- Entries with a gap among them: those behind it stand in reverse.
+-- Entries with a gap among them: those after it stand in reverse.
 use Rattle.std.proofs.Common.{◌≡◌, ◌≤◌, ◌<◌, ◌+◌, ◌-◌, ℕ, List, [], ◌∷◌, ◌++◌, reverse, insert, length, get_or, Vec, vec_len, vec_capacity, refl, sym, ap, ◌∙◌, arith, append-nil, append_assoc, length-append}
 use Rattle.std.proofs.lemmas.List.{length-reverse, reverse-append, get_or_append_left, get_or-append_right, get_or-reverse}
 use Rattle.std.proofs.lemmas.List.Edits.{insert_end, insert-append_left}
@@ -20,7 +20,7 @@ gone_on before behind more less e was is =
 pub length_both : (before behind : List UsageEntry) → length (before ++ reverse behind) ≡ length before + length behind
 length_both before behind = length-append before (reverse behind) ∙ ap (λ n. length before + n) (length-reverse behind)
 
--- an entry before the gap, and one behind it
+-- an entry before the gap, and one after it
 pub at_before : (before behind : List UsageEntry) (k : ℕ) (d : UsageEntry) → k < length before → get_or (before ++ reverse behind) k d ≡ get_or before k d
 at_before before behind k d lt = get_or_append_left before (reverse behind) d k lt
 
@@ -33,7 +33,7 @@ inserted before behind e place at =
     sym (ap (λ n. insert (before ++ reverse behind) n e) (sym at) ∙ insert-append_left before (reverse behind) (length before) e (omega arith)
     ∙ ap (λ (es : List UsageEntry). es ++ reverse behind) (insert_end before e))
 
--- none stands behind the gap
+-- none stands after the gap
 pub none_behind : (behind : List UsageEntry) → length behind ≡ 0 → behind ≡ []
 none_behind [] is = refl
 none_behind (e ∷ es) is = absurd (omega arith)

@@ -13,7 +13,7 @@ use Rattle.segments.specs.Reading.{read_error, CountsRead, EndsAtSector}
 use Rattle.segments.specs.laws.ReadBack.{none_joined}
 use Rattle.segments.specs.Sectors.{sector_count, joined, bytes_at, appended}
 
--- so many sectors, as the code counts them
+-- n sectors, as the code counts them
 pub counted : (bytes : ℕ) → div_ceil bytes 512 ≡ sector_count bytes
 counted bytes = omega arith
 
@@ -24,7 +24,7 @@ pub gathered : (image : Image) (start bytes count : ℕ) (all got : List ℕ) �
 unfolding bytes_at
 gathered image start bytes count all got is joins got_is = ap (λ k. option_map (take bytes) (joined image start k)) (sym is) ∙ ap (option_map (take bytes)) joins ∙ ap Some (sym got_is)
 
--- of the device's errors only the one of a sector is told as it
+-- of the device's errors only the one of a sector is reported as it
 pub told_unreadable : (e : DevError) → read_error e ≡ Unreadable → e ≡ SectorUnreadable
 told_unreadable DeviceFailed is = absurd (cc)
 told_unreadable SectorUnreadable is = refl
@@ -43,7 +43,7 @@ passed_length : (b z : Story) → Passes b z → length z ≤ length b + 2
 passed_length b z (inl same) = let more = ap length same in omega (arith, more)
 passed_length b z (inr w) = let more = ap length w in omega (arith, more)
 
--- the reading ended at the sector behind those that were read
+-- the reading ended at the sector after those that were read
 pub ends_at : (error : ReadError) (told : DevError) (image : Image) (start count i : ℕ) (front : List ℕ) (old mid new : Story) → i < count → joined image start i ≡ Some front → error ≡ read_error told → (told ≡ SectorUnreadable → image (start + i) ≡ None) → length mid ≡ length old + 2 * i → Passes mid new → EndsAtSector error image start count old new
 ends_at error told image start count i front old mid new lt found is unreadable so_far passes = record {
   at = i;

@@ -18,7 +18,7 @@ pub record IsFreeFrom (from size : ℕ) (es : List UsageEntry) (run : Run) : Typ
   pub within : run.start + run.count ≤ size
   pub apart : ApartEach run es
 
--- so many entries were passed: no free run of more than the widest gap's sectors starts before this sector, and a run from there on meets none of them
+-- n entries were passed: no free run of more than the widest gap's sectors starts before this sector, and a run from there on meets none of them
 pub record Passed (size : ℕ) (es : List UsageEntry) (start widest index : ℕ) : Type 0 where
   pub ordered : Ordered start (drop index es)
   pub within : EndBy size (drop index es)
@@ -61,7 +61,7 @@ end_at size from es (suc k) d ends some le = let e : suc k - 1 ≡ k = omega ari
     by_entries from (e ∷ es) zero ends lt = (refl, ends.0)
     by_entries from (e ∷ es) (suc k) ends lt = by_entries (e.run.start + e.run.count) es k ends.1 (omega arith)
 
--- a run that starts from here on starts behind the entries that start before here
+-- a run that starts from here on starts after the entries that start before here
 behind_place : (from start : ℕ) (es : List UsageEntry) (run : Run) → from ≤ run.start → start ≤ run.start → ApartEach run es → end_before from es (place_of start es) ≤ run.start
 behind_place from start [] run low far apart = low
 behind_place from start (e ∷ es) run low far apart =
@@ -72,7 +72,7 @@ behind_place from start (e ∷ es) run low far apart =
     (⊎_elim (λ (before : run.start + run.count ≤ e.run.start). absurd (omega (arith, lt))) (λ (after : e.run.start + e.run.count ≤ run.start). after) apart.0) far apart.1)
     (λ _. low)
 
--- a run behind the entries before a place meets none of them
+-- a run after the entries before a place meets none of them
 behind_all : (from size : ℕ) (es : List UsageEntry) (k : ℕ) (run : Run) → Ordered from es → IsFreeFrom (end_before from es k) size (drop k es) run → IsFreeFrom from size es run
 behind_all from size [] zero run o free = free
 behind_all from size [] (suc k) run o free = free
@@ -92,7 +92,7 @@ passed_first size es searched start place o ends law at is =
       onward = λ run free. behind_all 2 size es place run o (subst (λ n. IsFreeFrom n size (drop place es) run) is free);
     }
 
--- the next entry starts there or behind it, and ends on the device
+-- the next entry starts there or after it, and ends on the device
 pub next_within : (size : ℕ) (es : List UsageEntry) (start widest index : ℕ) (d : UsageEntry) → Passed size es start widest index → index < length es → (start ≤ (get_or es index d).run.start) × ((get_or es index d).run.start + (get_or es index d).run.count ≤ size)
 next_within size es start widest index d passed lt =
     let here = drop_more es index d lt in
@@ -147,7 +147,7 @@ lowest_before size es start widest index count d o passed wide lt room =
       apart = (inl room, apart_before run (e.run.start + e.run.count) (drop (index + 1) es) from.3 (omega (arith, room)));
     }))
 
--- behind all entries
+-- after all entries
 pub lowest_behind : (size : ℕ) (es : List UsageEntry) (start widest index count : ℕ) → Ordered 2 es → Passed size es start widest index → widest < count → drop index es ≡ [] → start + count ≤ size → IsLowest size (IsUsedIn es) count (Some (record { start = start; count = count }))
 lowest_behind size es start widest index count o passed wide over room =
     let run : Run = record { start = start; count = count } in
@@ -159,7 +159,7 @@ none_lowest size es start widest index count o passed wide short = λ run same f
     let low = passed.least run (omega (arith, wide, same)) (free_from size es run o free) in
     omega (arith, low, free.within, same, short)
 
--- behind a lowest run that was taken nothing is searched yet
+-- after a lowest run that was taken nothing is searched yet
 pub searched_on : (old new : Space) (run : Run) (searched : Searched) (end : ℕ) → IsSearched old searched → searched.start ≡ run.start → 1 ≤ run.count → end ≡ run.start + run.count → Changes old new run TAKEN → IsSearched new (record { start = end; widest = searched.widest })
 searched_on old new run searched end law at some is changes = λ other wide free.
     let still = law other wide (record { above = free.above; within = omega (arith, free.within, changes.size); apart = λ third used. free.apart third (still_used old new run third changes used) }) in

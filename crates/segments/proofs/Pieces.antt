@@ -50,7 +50,7 @@ pieces_in size (p ∷ ps) fit =
     in_both (runs_of (p ∷ ps)) (run_writes p.run.start p.bytes) (piece_writes ps) (run_in p.run (runs_of ps) p.bytes fit.1)
     (in_more (runs_of ps) (runs_of (p ∷ ps)) (piece_writes ps) (λ n out. out.1) (pieces_in size ps fit.2))
 
--- some writes that were done behind others
+-- some writes that were done after others
 apart_done : (ws vs : List SectorWrite) (a b : Story) → GrowsBy (ws ++ vs) a b → (mid : Story) × GrowsBy ws a mid × GrowsBy vs mid b
 apart_done [] vs a b done = (a, refl, done)
 apart_done (w ∷ ws) vs a b done = let later = apart_done ws vs done.0 b done.2 in (later.0, (done.0, done.1, later.1), later.2)

@@ -48,7 +48,7 @@ pub ascending : (from : ℕ) (es : List UsageEntry) → Ordered from es → Asce
 ascending from [] o = tt
 ascending from (e ∷ es) o = (o.0, o.1, ascending (e.run.start + e.run.count) es o.3)
 
--- each entry starts at the least start or behind it
+-- each entry starts at the least start or after it
 pub ascending_at : (from : ℕ) (es : List UsageEntry) (k : ℕ) (d : UsageEntry) → Ascending from es → k < length es → from ≤ (get_or es k d).run.start
 ascending_at from [] k d o lt = absurd (omega arith)
 ascending_at from (e ∷ es) zero d o lt = o.0
@@ -79,7 +79,7 @@ reaches : (start from : ℕ) (es : List UsageEntry) → Ordered from es → 0 < 
 reaches start from [] o lt = absurd (omega arith)
 reaches start from (e ∷ es) o lt = let first = below_place start (e ∷ es) 0 e lt in omega (arith, o.0, first)
 
--- a run that begins behind the entry before its place, and ends before the one there, meets none
+-- a run that begins after the entry before its place, and ends before the one there, meets none
 pub gap_apart : (run : Run) (from : ℕ) (es : List UsageEntry) (d : UsageEntry) → Ordered from es → ((k : ℕ) → suc k ≡ place_of run.start es → (get_or es k d).run.start + (get_or es k d).run.count ≤ run.start) → ((k : ℕ) → k ≡ place_of run.start es → k < length es → run.start + run.count ≤ (get_or es k d).run.start) → ApartEach run es
 gap_apart run from [] d o before after = tt
 gap_apart run from (e ∷ es) d o before after =

@@ -1,4 +1,4 @@
--- The writes of a run in stretches of whole sectors, one behind the other.
+-- The writes of a run in stretches of whole sectors, one after the other.
 use Rattle.std.proofs.Common.{◌≡◌, ◌≤◌, ◌<◌, ◌+◌, ◌-◌, ◌*◌, ◌/◌, ℕ, zero, suc, List, [], ◌∷◌, ◌++◌, length, map, take, drop, get_or, refl, inl, inr, ◌≢◌, Some, min, sym, ap, ◌∙◌, subst, arith, append_assoc, take_all, length-take, length-take-le, length-drop, length-append, take-add, take_at, drop_at, drop-drop}
 use Rattle.std.specs.List.{range_with_len}
 use Rattle.std.specs.Simd.{first_chunks}
@@ -55,7 +55,7 @@ back_sector n x y j long =
     let behind : 512 * (j + n) ≡ 512 * n + 512 * j = omega arith in
     ap (λ (l : List ℕ). filled (take 512 l)) (ap (λ k. drop k (x ++ y)) behind ∙ sym (drop-drop (512 * j) (512 * n) (x ++ y)) ∙ ap (drop (512 * j)) (drop_at x y (512 * n) long))
 
--- bytes behind whole sectors
+-- bytes after whole sectors
 pub joined_writes : (start n : ℕ) (x y : List ℕ) → length x ≡ 512 * n → run_writes start (x ++ y) ≡ run_writes start x ++ run_writes (start + n) y
 joined_writes start n x y long =
     let both : length (x ++ y) ≡ length x + length y = length-append x y in
@@ -81,7 +81,7 @@ rest_joined n x y long =
     let all : 512 * (length (x ++ y) / 512) ≡ 512 * n + 512 * (length y / 512) = omega (arith, both, long) in
     ap (λ k. drop k (x ++ y)) all ∙ sym (drop-drop (512 * (length y / 512)) (512 * n) (x ++ y)) ∙ ap (drop (512 * (length y / 512))) (drop_at x y (512 * n) long)
 
--- whole sectors, and fewer bytes than one behind them
+-- whole sectors, and fewer bytes than one after them
 pub whole_length : (bytes : List ℕ) → length (whole_bytes bytes) ≡ 512 * (length bytes / 512)
 unfolding whole_bytes
 whole_length bytes = length-take-le (512 * (length bytes / 512)) bytes (omega arith)
@@ -94,7 +94,7 @@ pub whole_and_rest : (bytes : List ℕ) → whole_bytes bytes ++ rest_bytes byte
 unfolding whole_bytes rest_bytes
 whole_and_rest bytes = take-append-drop (512 * (length bytes / 512)) bytes
 
--- more bytes: what they make whole goes behind the whole sectors so far
+-- more bytes: what they make whole goes after the whole sectors so far
 more_bytes : (x y : List ℕ) → x ++ y ≡ whole_bytes x ++ (rest_bytes x ++ y)
 more_bytes x y = ap (λ (l : List ℕ). l ++ y) (sym (whole_and_rest x)) ∙ append_assoc (whole_bytes x) (rest_bytes x) y
 
@@ -148,7 +148,7 @@ still_rest all new is few = is ∙ sym (all_rest all (subst (λ l. length l < 51
 pub none_written : (start : ℕ) (all new : List ℕ) (a : Story) → new ≡ all → length new < 512 → GrowsBy (run_writes start (whole_bytes all)) a a
 none_written start all new a is few = subst (λ l. GrowsBy (run_writes start l) a a) (sym (none_whole all (subst (λ l. length l < 512) is few))) refl
 
--- one that is full, and the bytes behind it
+-- one that is full, and the bytes after it
 abbrev pub left_of : List ℕ → ℕ → List ℕ
 left_of b k = take (length b - k) (drop k b)
 

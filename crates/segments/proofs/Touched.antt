@@ -92,7 +92,7 @@ pub in_more : (small big : List Run) (ws : List SectorWrite) → ((n : ℕ) → 
 in_more small big [] fewer inside = tt
 in_more small big (w ∷ ws) fewer inside = ((λ k out. inside.0 k (fewer k out)), in_more small big ws fewer inside.1)
 
--- a row that starts so many sectors behind this one
+-- a row that starts n sectors after this one
 abbrev row_from : ℕ → ℕ → ℕ → (ℕ → List ℕ) → List SectorWrite
 row_from start i count content = map (λ j. record { sector = start + j; content = content j }) (range_with_len i count)
 

@@ -11,7 +11,7 @@ sectors_taken es = sum_by (λ e. if e.usage.taken then e.run.count else 0) es
 abbrev pub sectors_kept : List UsageEntry → ℕ
 sectors_kept es = sum_by (λ e. if e.usage.taken then 0 else e.run.count) es
 
--- the largest free run has so many sectors; 0 where no sector is free
+-- the largest free run has n sectors; 0 where no sector is free
 pub record IsLargest (size : ℕ) (used : Run → Type 0) (count : ℕ) : Type 0 where
   pub none_larger : (run : Run) → IsFree size used run → run.count ≤ count
   pub some : 1 ≤ count → (run : Run) × (run.count ≡ count) × IsFree size used run

@@ -16,7 +16,7 @@ abbrev pub part_bytes : Part → List ℕ
 part_bytes (Made v) = v.items
 part_bytes (Borrowed b) = b.now
 
--- those of parts, behind one another
+-- those of parts, one after another
 abbrev pub bytes_of_parts : List Part → List ℕ
 bytes_of_parts parts = flat_map part_bytes parts
 

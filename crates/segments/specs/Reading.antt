@@ -19,7 +19,7 @@ CountsRead before after (Err Failed) = after ≡ min (before + 1) (2 ^ 64 - 1)
 CountsRead before after (Err Unreadable) = after ≡ before
 CountsRead before after (Err OutOfMemory) = after ≡ before
 
--- the reading of so many sectors ended with this error at one of them: those before it can be read, and no call began after it
+-- the reading of n sectors ended with this error at one of them: those before it can be read, and no call began after it
 pub record EndsAtSector (error : ReadError) (image : Image) (start count : ℕ) (old new : Story) : Type 0 where
   pub at : ℕ
   pub within : at < count
@@ -27,6 +27,6 @@ pub record EndsAtSector (error : ReadError) (image : Image) (start count : ℕ) 
   pub unreadable : error ≡ Unreadable → image (start + at) ≡ None
   pub begun : moment new ≤ moment old + 2 * (at + 1)
 
--- the same of the sectors of so many bytes, as they were before
+-- the same of the sectors of n bytes, as they were before
 abbrev pub EndsInRun : ReadError → ℕ → ℕ → Story → Story → Type 0
 EndsInRun error start bytes old new = EndsAtSector error (shown_image (now old)) start (sector_count bytes) old new

@@ -6,19 +6,19 @@ use Rattle.segments.specs.declared.run.Run.{Run}
 abbrev pub IsApart : Run → Run → Type 0
 IsApart a b = (a.start + a.count ≤ b.start) ⊎ (b.start + b.count ≤ a.start)
 
--- a run lies on the device, behind the two commit sectors
+-- a run lies on the device, after the two commit sectors
 pub record IsOnDevice (size : ℕ) (run : Run) : Type 0 where
   pub above : 2 ≤ run.start
   pub some : 1 ≤ run.count
   pub within : run.start + run.count ≤ size
 
--- a run on the device, behind the two commit sectors, that meets no used run
+-- a run on the device, after the two commit sectors, that meets no used run
 pub record IsFree (size : ℕ) (used : Run → Type 0) (run : Run) : Type 0 where
   pub above : 2 ≤ run.start
   pub within : run.start + run.count ≤ size
   pub apart : (other : Run) → used other → IsApart run other
 
--- the free run of so many sectors that starts lowest, or that there is none
+-- the free run of n sectors that starts lowest, or that there is none
 abbrev pub IsLowest : ℕ → (Run → Type 0) → ℕ → Option Run → Type 0
 IsLowest size used count (Some run) = (run.count ≡ count) × IsFree size used run × ((other : Run) → other.count ≡ count → IsFree size used other → run.start ≤ other.start)
 IsLowest size used count None = (run : Run) → run.count ≡ count → IsFree size used run → ⊥
@@ -38,7 +38,7 @@ abbrev pub AreApart : List Run → Type 0
 AreApart [] = Unit {0}
 AreApart (r ∷ rs) = ApartFrom r rs × AreApart rs
 
--- each of these runs starts at this sector or behind it
+-- each of these runs starts at this sector or after it
 abbrev pub StartFrom : ℕ → List Run → Type 0
 StartFrom low [] = Unit {0}
 StartFrom low (r ∷ rs) = (low ≤ r.start) × StartFrom low rs

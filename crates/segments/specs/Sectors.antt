@@ -2,11 +2,11 @@
 use Rattle.std.specs.Prelude.{◌≡◌, ◌<◌, ◌+◌, ◌-◌, ◌*◌, ◌/◌, ℕ, suc, zero, List, [], ◌++◌, length, take, drop, replicate, Option, Some, None, option_map}
 use Rattle.sector_dev.specs.Disk.{Image}
 
--- how many sectors hold so many bytes
+-- how many sectors hold n bytes
 abbrev pub sector_count : ℕ → ℕ
 sector_count bytes = (bytes + 511) / 512
 
--- a sector that begins with these bytes, and is zero behind them
+-- a sector that begins with these bytes, and is zero after them
 abbrev pub filled : List ℕ → List ℕ
 filled bytes = bytes ++ replicate (512 - length bytes) 0
 
@@ -23,11 +23,11 @@ appended (Some front) (Some back) = Some (front ++ back)
 appended (Some front) None = None
 appended None back = None
 
--- the contents of so many sectors in a row, one behind the other; none where one can't be read
+-- the contents of n sectors in a row, one after the other; none where one can't be read
 abbrev pub joined : Image → ℕ → ℕ → Option (List ℕ)
 joined image start zero = Some []
 joined image start (suc count) = appended (joined image start count) (image (start + count))
 
--- the first so many bytes from a sector on
+-- the first n bytes from a sector on
 unfoldable pub bytes_at : Image → ℕ → ℕ → Option (List ℕ)
 bytes_at image start bytes = option_map (take bytes) (joined image start (sector_count bytes))

@@ -49,7 +49,7 @@ Overlaps space run = (usage_of space.entries run ≡ UNUSED) × (IsFree space.si
 abbrev pub IsUnused : Space → Run → Type 0
 IsUnused space run = (usage_of space.entries run ≡ UNUSED) × IsFree space.size (IsUsedIn space.entries) run
 
--- how far free runs were searched: each that starts before this sector has at most so many sectors
+-- how far free runs were searched: each that starts before this sector has at most n sectors
 abbrev pub IsSearched : Space → Searched → Type 0
 IsSearched space searched = (run : Run) → searched.widest < run.count → IsFree space.size (IsUsedIn space.entries) run → searched.start ≤ run.start
 
@@ -110,7 +110,7 @@ pub record GivesAll (old new : Space) (runs : List Run) : Type 0 where
   pub size : new.size ≡ old.size
   pub usages : (run : Run) → usage_of new.entries run ≡ usage_after runs run (usage_of old.entries run)
 
--- pinned so many times more, and so many times less
+-- pinned n times more, and n times less
 abbrev pub pinned_times : ℕ → Usage → Usage
 pinned_times times usage = record { taken = usage.taken; pins = usage.pins + times }
 

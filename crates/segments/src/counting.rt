@@ -6,7 +6,7 @@ ghost use Rattle.segments.specs.Usages.{Ordered, EndBy, IsUsedIn};
 use crate::UsageEntry;
 use crate::gap_buffer::GapBuffer;
 
-/// Numbers of sectors of a device, behind its two commit sectors.
+/// Numbers of sectors of a device, after its two commit sectors.
 #[derive(Clone, Copy)]
 pub struct SectorCounts {
     /// Of the runs that the ruling catalogue has taken.

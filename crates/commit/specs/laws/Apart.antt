@@ -24,7 +24,7 @@ pub apart_pair : (a b : Run) → IsApart b a → (nat_le (a.start + a.count) b.s
 apart_pair a b (inr before) = ap (λ (t : Bool). t || nat_le (b.start + b.count) a.start) (le-leb _ _ before)
 apart_pair a b (inl after) = ap (λ (t : Bool). nat_le (a.start + a.count) b.start || t) (le-leb _ _ after) ∙ or_right (nat_le (a.start + a.count) b.start) true refl
 
--- a run is apart from the one behind some others
+-- a run is apart from the one after some others
 apart_from_later : (a r : Run) (ys zs : List Run) → is_apart a (ys ++ r ∷ zs) ≡ true → IsApart r a
 apart_from_later a r [] zs is = pair_apart a r (and_parts (nat_le (a.start + a.count) r.start || nat_le (r.start + r.count) a.start) (is_apart a zs) is).0
 apart_from_later a r (y ∷ ys) zs is = apart_from_later a r ys zs (and_parts (nat_le (a.start + a.count) y.start || nat_le (y.start + y.count) a.start) (is_apart a (ys ++ r ∷ zs)) is).1

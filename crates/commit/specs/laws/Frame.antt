@@ -178,7 +178,7 @@ module _ {C : Type 0} (reading : Reading C) (size : ℕ) where
         fit = f.fit;
       })
 
-  -- each sector of a run in use lies behind the commit sectors
+  -- each sector of a run in use lies after the commit sectors
   above_run : (r : Run) (n : ℕ) → is_on_device size r ≡ true → (r.start ≤ n) × (n < r.start + r.count) → 2 ≤ n
   above_run r n is within =
       let low = (and_parts (nat_le 2 r.start) (nat_le 1 r.count && nat_le (r.start + r.count) size) is).0 in

@@ -116,7 +116,7 @@ same_pieces (x ∷ xs) (y ∷ ys) runs contents =
     let others : contents_of xs ≡ contents_of ys = cc contents in
     λ i. record { run = run i; bytes = bytes i } ∷ same_pieces xs ys places others i
 
--- a text that was put behind pieces is the last one
+-- a text that was put after pieces is the last one
 pub text_last : (pieces plan : List PlainPiece) (runs : List Run) (run : Run) (text : List ℕ) → runs_of plan ≡ runs → runs ≡ runs_of pieces ++ run ∷ []
     → contents_of plan ≡ contents_of pieces ++ text ∷ [] → plan ≡ pieces ++ record { run = run; bytes = text } ∷ []
 text_last pieces plan runs run text placed last written =
@@ -125,7 +125,7 @@ text_last pieces plan runs run text placed last written =
     (placed ∙ last ∙ sym (map-append (λ (p : PlainPiece). p.run) pieces (piece ∷ [])))
     (written ∙ sym (map-append (λ (p : PlainPiece). p.bytes) pieces (piece ∷ [])))
 
--- what was placed, with the text behind it, can be published as the next commit
+-- what was placed, with the text after it, can be published as the next commit
 pub plan_follows : (old new : Space) (contents : List (List ℕ)) (bytes : ℕ) (pieces plan : List PlainPiece) (runs : List Run) (run : Run) (text : List ℕ) (k next : Commit) (version : FormatVersion) (kind : CatalogueKind)
     → is_size old.size ≡ true → k.device_sectors ≡ old.size → k.epoch + 1 < 2 ^ 64
     → TookAll old new (counts_of contents [] bytes) runs → runs ≡ runs_of pieces ++ run ∷ [] → contents_of pieces ≡ contents → bytes ≡ length text

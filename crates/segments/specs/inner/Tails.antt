@@ -1,4 +1,4 @@
--- The whole sectors of some bytes, and the bytes behind them.
+-- The whole sectors of some bytes, and the bytes after them.
 use Rattle.std.specs.Prelude.{ℕ, List, length, take, drop, ◌*◌, ◌/◌}
 use Rattle.segments.specs.declared.tail.Tail.{Tail}
 
@@ -6,7 +6,7 @@ use Rattle.segments.specs.declared.tail.Tail.{Tail}
 unfoldable pub whole_bytes : List ℕ → List ℕ
 whole_bytes bytes = take (512 * (length bytes / 512)) bytes
 
--- those behind them
+-- those after them
 unfoldable pub rest_bytes : List ℕ → List ℕ
 rest_bytes bytes = drop (512 * (length bytes / 512)) bytes
 

@@ -27,7 +27,7 @@ pub same_pieces : (low : ℕ) (a b : Image) (pieces : List PlainPiece) → Start
 same_pieces low a b [] above same holds = tt
 same_pieces low a b (p ∷ ps) above same holds = (same_holds a b p.run.start p.bytes (λ j lt. same (p.run.start + j) (omega (arith, above.0))) holds.0, same_pieces low a b ps above.1 same holds.1)
 
--- the first so many sectors of some bytes: those bytes, and zeros behind the last of them
+-- the first n sectors of some bytes: those bytes, and zeros after the last of them
 front : List ℕ → ℕ → List ℕ
 front bytes count = take (512 * count) bytes ++ replicate (512 * count - length bytes) 0
 

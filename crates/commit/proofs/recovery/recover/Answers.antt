@@ -30,7 +30,7 @@ in_both : {T E A B G : Type 0} (r : Result T E) → OnOk r A → OnErr r B → (
 in_both (Ok x) safe failed f g = f safe
 in_both (Err e) safe failed f g = g failed
 
--- the one error that is told then
+-- the one error that is reported then
 told_device : {T : Type 0} (P : OpenError → Type 0) (r : Result T OpenError) → IfErr r (λ e. e ≡ Device) → P Device → IfErr r P
 told_device P (Ok x) is p = tt
 told_device P (Err e) is p = subst P (sym is) p
