@@ -14,6 +14,7 @@ pub mod Answered
 pub mod SpanWeights
 pub mod KindWeights
 pub mod MaskedWeights
+pub mod EntryWeights
 pub mod RowWeights
 pub mod VisibleSpans
 pub mod SpanLists

@@ -31,7 +31,7 @@ size_at width a i ordered lt = size_taken (span_size width a i) (span_start widt
 one_more : (width own : ℕ) (a : Array) (i : ℕ) → own ≡ width → are_unordered width (length (contents_in a)) a ≡ false → i < slots_in a → 1 + length (contents_at own a i) ≡ 1 + span_size width a i
 one_more width own a i is ordered lt = ap (λ (w : ℕ). 1 + length (contents_at w a i)) is ∙ ap (λ (n : ℕ). 1 + n) (size_at width a i ordered lt)
 
-own_weight : (k : Kind) (width : ℕ) (a : Array) (i : ℕ) → contents_width k ≡ Some width → are_unordered width (length (contents_in a)) a ≡ false → i < slots_in a
+pub own_weight : (k : Kind) (width : ℕ) (a : Array) (i : ℕ) → contents_width k ≡ Some width → are_unordered width (length (contents_in a)) a ≡ false → i < slots_in a
     → kind_weight k (kind_cell k a i) ≡ 1 + span_size width a i
 unfolding kind_weight kind_cell
 own_weight texts width a i is ordered lt = let e : 4 ≡ width = cc in one_more width 4 a i e ordered lt
@@ -49,7 +49,7 @@ own_weight (large_lists item) width a i is ordered lt = absurd cc
 own_weight (fixed_lists size item) width a i is ordered lt = absurd cc
 own_weight (structs columns) width a i is ordered lt = absurd cc
 
-null_weight : (k : Kind) (width : ℕ) → contents_width k ≡ Some width → kind_weight k null ≡ 1
+pub null_weight : (k : Kind) (width : ℕ) → contents_width k ≡ Some width → kind_weight k null ≡ 1
 unfolding kind_weight
 null_weight texts width is = refl
 null_weight large_texts width is = refl

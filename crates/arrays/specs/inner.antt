@@ -3,6 +3,7 @@ pub mod Every
 pub mod Read
 pub mod Counted
 pub mod Weights
+pub mod EntryWeights
 pub mod VisibleSpans
 pub mod SpanLists
 pub mod MayFind

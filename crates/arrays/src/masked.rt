@@ -9,6 +9,7 @@ ghost use Rattle.columns.specs.Tests.{are_few_offsets, has_short_validity};
 ghost use Rattle.columns.specs.View.{view_array};
 ghost use Rattle.arrays.specs.inner.Weights.{contents_width, masked_sizes};
 
+use crate::sized_slots::{SizedSlots, ValidSlots};
 use arrow_schema::DataType;
 use cells::add_weights;
 use columns::{ArrayView, OffsetWidth};
@@ -26,42 +27,27 @@ pub(crate) fn contents_width(data_type: &DataType) -> Option<OffsetWidth>
 
 // What a slot has, if it is valid and is so in another array too.
 #[inline]
-fn masked_size(width: OffsetWidth, view: ArrayView<'_>, mask: ArrayView<'_>, i: usize) -> u64
-    requires short { has_short_validity (view_array view) ≡ false }
-    requires few { are_few_offsets (width_of width) (view_array view) ≡ false }
-    requires within { i < slots_in (view_array view) }
-    requires long { has_short_validity (view_array mask) ≡ false }
-    requires below { i < slots_in (view_array mask) }
-    ensures { let own = view_array view.entry in
-        result ≡ (if is_valid (view_array mask.entry) i && is_valid own i then span_size (width_of width) own i else 0) }
+fn masked_size(slots: SizedSlots<'_>, mask: ValidSlots<'_>, i: usize) -> u64
+    requires within { i < slots_in (view_array slots.view) }
+    requires below { i < slots_in (view_array mask.view) }
+    ensures { let own = view_array slots.entry.view in
+        result ≡ (if is_valid (view_array mask.entry.view) i && is_valid own i then span_size (width_of slots.entry.width) own i else 0) }
 {
-    if mask.is_valid(i) && view.is_valid(i) {
-        view.spanned(width, i, 1).len as u64
-    } else {
-        0
-    }
+    if mask.is_valid(i) { slots.size(i) } else { 0 }
 }
 
 // What slots have. It goes slot by slot: a run, which may be short, costs as much as several.
-fn masked_sizes(
-    width: OffsetWidth,
-    view: ArrayView<'_>,
-    mask: ArrayView<'_>,
-    from: usize,
-    count: usize,
-) -> u64
-    requires short { has_short_validity (view_array view) ≡ false }
-    requires few { are_few_offsets (width_of width) (view_array view) ≡ false }
-    requires within { from + count ≤ slots_in (view_array view) }
-    requires long { has_short_validity (view_array mask) ≡ false }
-    requires below { from + count ≤ slots_in (view_array mask) }
-    ensures { result ≡ capped_weight (masked_sizes (width_of width) (view_array mask.entry) (view_array view.entry) from count) }
+fn masked_sizes(slots: SizedSlots<'_>, mask: ValidSlots<'_>, from: usize, count: usize) -> u64
+    requires within { from + count ≤ slots_in (view_array slots.view) }
+    requires below { from + count ≤ slots_in (view_array mask.view) }
+    ensures { result
+        ≡ capped_weight (masked_sizes (width_of slots.entry.width) (view_array mask.entry.view) (view_array slots.entry.view) from count) }
 {
     // a number of the code is below 2^64, so that the sum is too
-    let _slots = view.slots();
+    let _slots = slots.slots();
     let mut total = 0;
     for i in from..from + count {
-        total = add_weights(total, masked_size(width, view, mask, i));
+        total = add_weights(total, masked_size(slots, mask, i));
     }
     total
 }
@@ -81,5 +67,7 @@ pub(crate) fn masked_contents_weight(
     requires below { from + count ≤ slots_in (view_array mask) }
     ensures { result ≡ capped_weight (count + masked_sizes (width_of width) (view_array mask.entry) (view_array view.entry) from count) }
 {
-    add_weights(count as u64, masked_sizes(width, view, mask, from, count))
+    let slots = SizedSlots::new(width, view);
+    let sizes = masked_sizes(slots, ValidSlots::new(mask), from, count);
+    add_weights(count as u64, sizes)
 }

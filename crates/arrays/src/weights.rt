@@ -12,8 +12,10 @@ ghost use Rattle.columns.specs.Offsets.{width_of};
 ghost use Rattle.columns.specs.Sound.{is_sound, is_kind_sound, are_sound};
 ghost use Rattle.columns.specs.Tests.{are_few, are_few_offsets, are_unordered, has_short_validity};
 ghost use Rattle.columns.specs.View.{view_array, placed_arrays, IsNoArray};
+ghost use Rattle.arrays.specs.inner.EntryWeights.{weights_in};
 ghost use Rattle.arrays.specs.inner.Weights.{AreEntryWeights, IsKnownTotal, IsKnownWeight, sum_from, span_weight, plain_weight, valid_weight, masked_weight, parts_span_weight, has_one_weight};
 
+use crate::entry_weights::{EntryWeights, sized_entries};
 use crate::masked::{contents_width, masked_contents_weight};
 use crate::runs::{are_alike, run_to};
 use crate::varying::may_vary;
@@ -479,7 +481,7 @@ fn first_weights(
 
 // With a dictionary: slot by slot, the entries that the indices name. Where there are more slots than first entries, these are weighed once.
 #[cycle(weights)]
-fn entries_weight(
+fn first_entries_weight(
     field: &Field,
     spec: DictSpec,
     view: ArrayView<'_>,
@@ -499,10 +501,52 @@ fn entries_weight(
     let slots = CodedSlots::new(spec, view);
     let few = first_count(view);
     if count <= few {
-        return slots_weight(field, slots, from, count, &[], none);
+        return slots_weight(field, slots, from, count, EntryWeights::First(&[]), none);
     }
     let first = first_weights(field, view, few, none);
-    slots_weight(field, slots, from, count, &first[..few], none)
+    slots_weight(
+        field,
+        slots,
+        from,
+        count,
+        EntryWeights::First(&first[..few]),
+        none,
+    )
+}
+
+// The same, of whatever dictionary. Where its entries are texts or binaries in one array, their offsets tell what they weigh.
+#[cycle(weights)]
+fn entries_weight(
+    field: &Field,
+    spec: DictSpec,
+    view: ArrayView<'_>,
+    from: usize,
+    count: usize,
+    none: &PlacedArray,
+) -> u64
+    requires empty { IsNoArray none.now }
+    requires varied { has_one_weight (kind_of field.now.data_type) ≡ false }
+    requires valid { has_short_validity (view_array view) ≡ false }
+    requires long { are_few ((index_of spec).bits / 8) (view_array view) (indices_in (view_array view)) ≡ false }
+    requires sound { list_all (is_kind_sound (kind_of field.now.data_type)) (array_list (dictionary_in (view_array view))) ≡ true }
+    requires within { from + count ≤ slots_in (view_array view) }
+    ensures { let kind = kind_of field.now.data_type in
+        result ≡ capped_weight (sum_from (kind_weight kind) (unless_null (indexed_cell (index_of spec) kind) (view_array view.entry)) from count) }
+{
+    match sized_entries(&field.data_type, view) {
+        Some(entries) => {
+            let slots = CodedSlots::new(spec, view);
+            slots_weight(
+                field,
+                slots,
+                from,
+                count,
+                EntryWeights::Sized(entries),
+                none,
+            )
+        }
+        None => first_entries_weight(field, spec, view, from, count, none),
+    }
 }
 
 // What a slot weighs that is null or names one of the entries whose weights are known.
@@ -510,19 +554,19 @@ fn entries_weight(
 fn known_weight<const SIZE: usize, const SIGNED: bool>(
     slots: CodedSlots<'_>,
     i: usize,
-    known: &[u64],
+    known: EntryWeights<'_>,
     of_null: u64,
 ) -> Option<u64>
     requires size { SIZE ≡ (index_of slots.spec).bits / 8 }
     requires signed { SIGNED ≡ (index_of slots.spec).signed }
     requires within { i < slots_in (view_array slots.view) }
-    ensures { IsKnownWeight slots.entry.spec slots.entry.view known.now of_null i result }
+    ensures { IsKnownWeight slots.entry.spec slots.entry.view (weights_in known.entry) of_null i result }
 {
     if !slots.is_valid(i) {
         return Some(of_null);
     }
-    match slots.number_below::<SIZE, SIGNED>(i, known.len() as u64) {
-        Some(number) => Some(known[number as usize]),
+    match slots.number_below::<SIZE, SIGNED>(i, known.count()) {
+        Some(number) => Some(known.at(number as usize)),
         None => None,
     }
 }
@@ -533,13 +577,13 @@ fn sized_total<const SIZE: usize, const SIGNED: bool>(
     slots: CodedSlots<'_>,
     from: usize,
     count: usize,
-    known: &[u64],
+    known: EntryWeights<'_>,
     of_null: u64,
 ) -> Option<u64>
     requires size { SIZE ≡ (index_of slots.spec).bits / 8 }
     requires signed { SIGNED ≡ (index_of slots.spec).signed }
     requires within { from + count ≤ slots_in (view_array slots.view) }
-    ensures { IsKnownTotal slots.entry.spec slots.entry.view known.now of_null from count result }
+    ensures { IsKnownTotal slots.entry.spec slots.entry.view (weights_in known.entry) of_null from count result }
 {
     // a number of the code is below 2^64, so that the sum is too
     let _slots = slots.view.slots();
@@ -558,11 +602,11 @@ fn known_total(
     slots: CodedSlots<'_>,
     from: usize,
     count: usize,
-    known: &[u64],
+    known: EntryWeights<'_>,
     of_null: u64,
 ) -> Option<u64>
     requires { from + count ≤ slots_in (view_array slots.view) }
-    ensures { IsKnownTotal slots.entry.spec slots.entry.view known.now of_null from count result }
+    ensures { IsKnownTotal slots.entry.spec slots.entry.view (weights_in known.entry) of_null from count result }
 {
     match (slots.spec.index.width, slots.spec.index.signed) {
         (BitWidth::Eight, true) => sized_total::<1, true>(slots, from, count, known, of_null),
@@ -583,14 +627,14 @@ fn slots_weight(
     slots: CodedSlots<'_>,
     from: usize,
     count: usize,
-    known: &[u64],
+    known: EntryWeights<'_>,
     none: &PlacedArray,
 ) -> u64
     requires empty { IsNoArray none.now }
     requires varied { has_one_weight (kind_of field.now.data_type) ≡ false }
     requires sound { list_all (is_kind_sound (kind_of field.now.data_type)) (array_list (dictionary_in (view_array slots.view))) ≡ true }
     requires within { from + count ≤ slots_in (view_array slots.view) }
-    requires known { AreEntryWeights (kind_of field.now.data_type) (dictionary_in (view_array slots.view)) known.now }
+    requires known { AreEntryWeights (kind_of field.now.data_type) (dictionary_in (view_array slots.view)) (weights_in known) }
     ensures { let kind = kind_of field.now.data_type in
         result ≡ capped_weight
         (sum_from (kind_weight kind) (unless_null (indexed_cell (index_of slots.entry.spec) kind) (view_array slots.entry.view)) from count) }
@@ -618,14 +662,14 @@ fn slot_weight(
     field: &Field,
     slots: CodedSlots<'_>,
     i: usize,
-    known: &[u64],
+    known: EntryWeights<'_>,
     none: &PlacedArray,
 ) -> u64
     requires empty { IsNoArray none.now }
     requires varied { has_one_weight (kind_of field.now.data_type) ≡ false }
     requires sound { list_all (is_kind_sound (kind_of field.now.data_type)) (array_list (dictionary_in (view_array slots.view))) ≡ true }
     requires within { i < slots_in (view_array slots.view) }
-    requires known { AreEntryWeights (kind_of field.now.data_type) (dictionary_in (view_array slots.view)) known.now }
+    requires known { AreEntryWeights (kind_of field.now.data_type) (dictionary_in (view_array slots.view)) (weights_in known) }
     ensures { let kind = kind_of field.now.data_type in
         result ≡ capped_weight (kind_weight kind (unless_null (indexed_cell (index_of slots.entry.spec) kind) (view_array slots.entry.view) i)) }
 {
@@ -633,7 +677,7 @@ fn slot_weight(
         return nulls_weight(field, 1);
     }
     match slots.number(i) {
-        Some(number) if number < known.len() as u64 => known[number as usize],
+        Some(number) if number < known.count() => known.at(number as usize),
         _ => place_weight(field, indexed_entry(slots.spec, slots.view, i), none),
     }
 }

@@ -10,8 +10,8 @@ use Rattle.arrays.proofs.masked.masked_sizes.Goals as goal
 
 pub loop-i-preserved : goal.loop-i-preserved
 loop-i-preserved c =
-    let a : Array = view_array c.args.view in
-    let size : ℕ → ℕ = λ i. if is_valid (view_array c.args.mask) i && is_valid a i then span_size (width_of c.args.width) a i else 0 in
+    let a : Array = view_array c.args.slots.view in
+    let size : ℕ → ℕ = λ i. if is_valid (view_array c.args.mask.view) i && is_valid a i then span_size (width_of c.args.slots.width) a i else 0 in
     let more = slot_more (λ (n : ℕ). n) size c.loop-i.i (c.args.from + c.args.count) c.loop-i-test.true in
     let weight : c.masked_size.result ≡ size c.loop-i.i = c.masked_size.ensures in
     let total : c.add_weights-total.result ≡ capped_weight (c.loop-i.total + size c.loop-i.i) = c.add_weights-total.ensures ∙ ap (λ (n : ℕ). capped_weight (c.loop-i.total + n)) weight in

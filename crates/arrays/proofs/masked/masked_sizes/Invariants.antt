@@ -8,7 +8,7 @@ use Rattle.arrays.proofs.masked.masked_sizes.Given as goal
 -- the sizes so far, and those that are left
 abbrev pub invariant-loop-i : goal.invariant-loop-i
 invariant-loop-i l = record {
-  sums : capped_weight (l.total + masked_sizes (width_of l.width) (view_array l.mask) (view_array l.view) l.i (l.i-end - l.i))
-      ≡ capped_weight (masked_sizes (width_of l.width) (view_array l.mask) (view_array l.view) l.from l.count);
+  sums : capped_weight (l.total + masked_sizes (width_of l.slots.width) (view_array l.mask.view) (view_array l.slots.view) l.i (l.i-end - l.i))
+      ≡ capped_weight (masked_sizes (width_of l.slots.width) (view_array l.mask.view) (view_array l.slots.view) l.from l.count);
   capped : capped_weight l.total ≡ l.total;
 }

@@ -22,7 +22,9 @@ use Rattle.columns.specs.laws.Offsets.{spans_fit}
 use Rattle.columns.specs.laws.Rows.{fewer_sound}
 use Rattle.facts.specs.laws.Lists.{drop-item}
 use Rattle.arrays.specs.inner.Varying.{may_vary}
+use Rattle.arrays.specs.inner.EntryWeights.{content_weights, weights_in}
 use Rattle.arrays.specs.inner.Weights.{AreEntryWeights, contents_width, has_one_weight, masked_parts_weight, masked_weight, plain_weight, sum_from, valid_weight}
+use Rattle.arrays.specs.declared.sized_slots.SizedSlots.{SizedSlots}
 use Rattle.arrays.proofs.SpanWeights.{plain_sound, plain_spanned, coded_sound, coded_spanned, known_weight, one_slot, valid_weighs, column_one_weight, valid_run, null_run, run_more, slot_more, next_total, parts_next, parts_end, sound_next}
 use Rattle.arrays.proofs.SameWeights.{alike_masked}
 use Rattle.arrays.proofs.MaskedWeights.{contents_sound, field_null, masked_contents, masked_end, masked_more, masked_next, masked_null_run, masked_valid_run, nulls_more, plain_contents, structs_masked, valid_more}
@@ -415,8 +417,8 @@ parts_weight-returns t c =
     let none = parts_end c.args.fields.now c.loop-i.i (placed_arrays c.args.bytes.now c.args.dictionaries.now (drop c.loop-i.i c.args.arrays.now)) c.args.from c.args.count c.loop-i-test.false in
     omega (arith, none, c.loop-i.invariant.sums, c.loop-i.invariant.capped)
 
-pub entries_weight-slots_weight-requires : goal.entries_weight-slots_weight-requires
-entries_weight-slots_weight-requires t c =
+pub first_entries_weight-slots_weight-requires : goal.first_entries_weight-slots_weight-requires
+first_entries_weight-slots_weight-requires t c =
     let kind : Kind = kind_of c.args.field.now.data_type in
     let same = sym c.new-slots.ensures.view in (
       search (rules, field_lemmas),
@@ -432,18 +434,18 @@ entries_weight-slots_weight-requires t c =
       ),
     )
 
-pub entries_weight-returns-then-count-few : goal.entries_weight-returns-then-count-few
-entries_weight-returns-then-count-few t c =
+pub first_entries_weight-returns-then-count-few : goal.first_entries_weight-returns-then-count-few
+first_entries_weight-returns-then-count-few t c =
     let kind : Kind = kind_of c.args.field.now.data_type in
     c.slots_weight.ensures
     ∙ λ j. capped_weight (sum_from (kind_weight kind) (unless_null (indexed_cell (index_of (c.new-slots.ensures.spec j)) kind) (view_array (c.new-slots.ensures.view j))) c.args.from c.args.count)
 
-pub entries_weight-first_weights-first-requires : goal.entries_weight-first_weights-first-requires
-entries_weight-first_weights-first-requires t c =
+pub first_entries_weight-first_weights-first-requires : goal.first_entries_weight-first_weights-first-requires
+first_entries_weight-first_weights-first-requires t c =
     (search (rules, field_lemmas), (c.first_count-few.ensures, (c.requires.empty, (c.requires.varied, c.requires.sound))))
 
-pub entries_weight-slots_weight-requires-2 : goal.entries_weight-slots_weight-requires-2
-entries_weight-slots_weight-requires-2 t c =
+pub first_entries_weight-slots_weight-requires-2 : goal.first_entries_weight-slots_weight-requires-2
+first_entries_weight-slots_weight-requires-2 t c =
     let kind : Kind = kind_of c.args.field.now.data_type in
     let known : List ℕ = take c.first_count-few.result c.first_weights-first.result in
     let same = sym c.new-slots.ensures.view in (
@@ -463,10 +465,38 @@ entries_weight-slots_weight-requires-2 t c =
       ),
     )
 
-pub entries_weight-returns : goal.entries_weight-returns
-entries_weight-returns t c =
+pub first_entries_weight-returns : goal.first_entries_weight-returns
+first_entries_weight-returns t c =
     let kind : Kind = kind_of c.args.field.now.data_type in
     c.slots_weight-2.ensures
+    ∙ λ j. capped_weight (sum_from (kind_weight kind) (unless_null (indexed_cell (index_of (c.new-slots.ensures.spec j)) kind) (view_array (c.new-slots.ensures.view j))) c.args.from c.args.count)
+
+pub entries_weight-slots_weight-requires : goal.entries_weight-slots_weight-requires
+entries_weight-slots_weight-requires t c =
+    let kind : Kind = kind_of c.args.field.now.data_type in
+    let entries : SizedSlots = c.in-Some.entries in
+    let known : List ℕ = content_weights (width_of entries.width) (view_array entries.view) in
+    let same = sym c.new-slots.ensures.view in (
+      search (rules, field_lemmas),
+      (
+        c.requires.empty,
+        (
+          c.requires.varied,
+          (
+            subst (λ (v : ArrayView). list_all (is_kind_sound kind) (array_list (dictionary_in (view_array v))) ≡ true) same c.requires.sound,
+            (
+              subst (λ (v : ArrayView). c.args.from + c.args.count ≤ slots_in (view_array v)) same c.requires.within,
+              subst (λ (v : ArrayView). AreEntryWeights kind (dictionary_in (view_array v)) known) same c.in-Some.ensures,
+            ),
+          ),
+        ),
+      ),
+    )
+
+pub entries_weight-returns-in-Some : goal.entries_weight-returns-in-Some
+entries_weight-returns-in-Some t c =
+    let kind : Kind = kind_of c.args.field.now.data_type in
+    c.slots_weight.ensures
     ∙ λ j. capped_weight (sum_from (kind_weight kind) (unless_null (indexed_cell (index_of (c.new-slots.ensures.spec j)) kind) (view_array (c.new-slots.ensures.view j))) c.args.from c.args.count)
 
 pub slots_weight-slot_weight-entry-requires : goal.slots_weight-slot_weight-entry-requires
@@ -561,7 +591,7 @@ pub slot_weight-returns-in-Some : goal.slot_weight-returns-in-Some
 slot_weight-returns-in-Some t c =
     let kind : Kind = kind_of c.args.field.now.data_type in
     let valid : is_valid (view_array c.args.slots.view) c.args.i ≡ true = sym c.if-not-is_valid.ensures in
-    known_weight kind (index_of c.args.slots.spec) (view_array c.args.slots.view) c.args.i c.in-Some.number c.args.known.now valid (sym c.in-Some.is ∙ c.number.ensures) c.requires.known (omega arith)
+    c.at.ensures ∙ known_weight kind (index_of c.args.slots.spec) (view_array c.args.slots.view) c.args.i c.in-Some.number (weights_in c.args.known) valid (sym c.in-Some.is ∙ c.number.ensures) c.requires.known (omega (arith, c.count.ensures))
 
 pub slot_weight-place_weight-requires : goal.slot_weight-place_weight-requires
 slot_weight-place_weight-requires t c = (

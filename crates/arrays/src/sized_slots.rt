@@ -1,0 +1,115 @@
+// Slots of texts or binaries, with the buffers that each slot is read from.
+ghost use Rattle.std.specs.Prelude.{◌≡◌, ◌<◌, ◌≤◌, ◌+◌, ◌*◌, ◌&&◌, ℕ, false, length, if◌then◌else◌};
+ghost use Rattle.columns.specs.Array.{offsets_in, slots_in, validity_in};
+ghost use Rattle.columns.specs.CellAt.{is_valid, number_at, span_size};
+ghost use Rattle.columns.specs.Offsets.{width_of};
+ghost use Rattle.columns.specs.Tests.{are_few_offsets, has_short_validity};
+ghost use Rattle.columns.specs.View.{view_array};
+
+use byteorder::{ByteOrder, LittleEndian};
+use columns::{ArrayView, OffsetWidth};
+
+#[inline]
+fn offset_at(offsets: &[u8], width: OffsetWidth, i: usize) -> u64
+    requires { (i + 1) * width_of width ≤ length offsets.now }
+    ensures { result ≡ number_at (width_of width) offsets.now i }
+{
+    match width {
+        OffsetWidth::Four => u64::from(LittleEndian::read_u32(&offsets[i * 4..])),
+        OffsetWidth::Eight => LittleEndian::read_u64(&offsets[i * 8..]),
+    }
+}
+
+/// Which slots of an array are valid. Its validity bitmap is found once, and not again for each slot.
+#[derive(Clone, Copy)]
+pub(crate) struct ValidSlots<'a> {
+    pub(crate) view: ArrayView<'a>,
+    validity: &'a [u8],
+    ghost bits: { validity.now ≡ validity_in (view_array view) },
+    ghost long: { has_short_validity (view_array view) ≡ false },
+}
+
+impl<'a> ValidSlots<'a> {
+    /// Those of an array.
+    pub(crate) fn new(view: ArrayView<'a>) -> ValidSlots<'a>
+        requires { has_short_validity (view_array view) ≡ false }
+        ensures { result.view ≡ view.entry }
+    {
+        ValidSlots {
+            view,
+            validity: view.validity(),
+        }
+    }
+
+    /// Whether a slot is valid.
+    #[inline]
+    pub(crate) fn is_valid(self, i: usize) -> bool
+        requires { i < slots_in (view_array self.view) }
+        ensures { result ≡ is_valid (view_array self.entry.view) i }
+    {
+        self.validity.is_empty() || bitmap::get(self.validity, i)
+    }
+}
+
+/// The same of an array of texts or binaries, whose offsets are found once too.
+#[derive(Clone, Copy)]
+pub(crate) struct SizedSlots<'a> {
+    pub(crate) view: ArrayView<'a>,
+    pub(crate) width: OffsetWidth,
+    validity: &'a [u8],
+    offsets: &'a [u8],
+    ghost bits: { validity.now ≡ validity_in (view_array view) },
+    ghost long: { has_short_validity (view_array view) ≡ false },
+    ghost numbers: { offsets.now ≡ offsets_in (view_array view) },
+    ghost enough: { are_few_offsets (width_of width) (view_array view) ≡ false },
+}
+
+impl<'a> SizedSlots<'a> {
+    /// Those of an array.
+    pub(crate) fn new(width: OffsetWidth, view: ArrayView<'a>) -> SizedSlots<'a>
+        requires short { has_short_validity (view_array view) ≡ false }
+        requires few { are_few_offsets (width_of width) (view_array view) ≡ false }
+        ensures view { result.view ≡ view.entry }
+        ensures width { result.width ≡ width }
+    {
+        SizedSlots {
+            view,
+            width,
+            validity: view.validity(),
+            offsets: view.offsets(),
+        }
+    }
+
+    /// How many slots there are.
+    pub(crate) fn slots(self) -> usize
+        ensures { result ≡ slots_in (view_array self.entry.view) }
+    {
+        self.view.slots()
+    }
+
+    // How many bytes there are between the offsets of a slot.
+    #[inline]
+    fn span_size(self, i: usize) -> u64
+        requires { i < slots_in (view_array self.view) }
+        ensures { result ≡ span_size (width_of self.entry.width) (view_array self.entry.view) i }
+    {
+        // a number of the code is below 2^64, so that the sum is too
+        let _slots = self.view.slots();
+        let start = offset_at(self.offsets, self.width, i);
+        offset_at(self.offsets, self.width, i + 1).saturating_sub(start)
+    }
+
+    /// How many bytes a slot has: a null has none.
+    #[inline]
+    pub(crate) fn size(self, i: usize) -> u64
+        requires { i < slots_in (view_array self.view) }
+        ensures { let own = view_array self.entry.view in
+            result ≡ (if is_valid own i then span_size (width_of self.entry.width) own i else 0) }
+    {
+        if self.validity.is_empty() || bitmap::get(self.validity, i) {
+            self.span_size(i)
+        } else {
+            0
+        }
+    }
+}
