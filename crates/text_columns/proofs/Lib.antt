@@ -9,3 +9,4 @@ pub mod PlainRows
 pub mod TokenCells
 pub mod MemberGrammar
 pub mod LineRows
+pub mod ItemRows

@@ -4,9 +4,8 @@ use Rattle.std.specs.Str.{is_utf8}
 use Rattle.std.specs.Cmp.Lexicographic.{slice_cmp}
 use Rattle.std.specs.Ordering.{match_ordering, nat_cmp}
 use Rattle.std.specs.Prelude.{Option, Some, None, Ok, Err, Result, IfOk, IfSome, slice_get, get_or, bytes_eq, not, nat_lt, ◌||◌, filter, is_some, MatchOption, option_map, if◌then◌else◌}
-use Rattle.std.proofs.Common.{Ordering, Less, Equal, Greater, ◌≡◌, ℕ, zero, suc, ◌+◌, ◌-◌, ◌≤◌, ◌<◌, Bool, true, false, List, [], ◌∷◌, ◌++◌, length, take, drop, set, map, refl, arith, ap, sym, subst, ◌∙◌, inl, inr, length-append}
+use Rattle.std.proofs.Common.{Ordering, Less, Equal, Greater, ◌≡◌, ℕ, zero, suc, ◌+◌, ◌-◌, ◌≤◌, ◌<◌, Bool, true, false, List, [], ◌∷◌, ◌++◌, length, take, drop, set, refl, arith, ap, sym, subst, ◌∙◌, inl, inr, length-append}
 use Rattle.std.proofs.lemmas.Bool.{cases_lt, false≢true, le-ltb, or_from}
-use Rattle.std.proofs.lemmas.List.{drop_more}
 use Rattle.std.proofs.lemmas.List.Sums.{sum_by-append}
 use Rattle.std.proofs.lemmas.Option.{slice_get_within}
 use Rattle.std.proofs.lemmas.Slice.Eq.{bytes_eq-Decides}
@@ -19,16 +18,16 @@ use Rattle.serde_json.specs.Data.{Data, Members, no_members, member, object, put
 use Rattle.serde_json.specs.Find.{get_member}
 use Rattle.serde_json.specs.Read.{converted, of_json, of_members, read}
 use Rattle.serde_json.proofs.Views.{get_member-put, get_member-put_other}
-use Rattle.arrow_schema.specs.Column.{Column, columns_of, no_column, PlainSchema}
+use Rattle.arrow_schema.specs.Column.{Column, columns_of, PlainSchema}
 use Rattle.arrow_schema.specs.Parts.{name_of_column}
 use Rattle.text_import.specs.declared.refusal.Refusal.{Refusal}
-use Rattle.cells.specs.Cell.{Cell, Cells, null, cell_list, cells_of}
+use Rattle.cells.specs.Cell.{Cell, Cells, null, cells_of}
 use Rattle.cells.specs.Dictionary.{dictionaries_fit, is_any_limited}
 use Rattle.cells.specs.Weight.{parts_weight, row_weight, table_weight, weight}
 use Rattle.cells.specs.laws.Cells.{cells_listed}
 use Rattle.cells.specs.laws.Unlimited.{unlimited_fit}
 use Rattle.facts.specs.Texts.{text_list}
-use Rattle.text_import.specs.Objects.{cells_by_name, cells_in, has_name, has_unknown, is_blank, keys_of, line_row, line_value, names_of, repeats, value_row}
+use Rattle.text_import.specs.Objects.{cells_by_name, cells_in, has_name, has_unknown, is_blank, keys_of, line_row, line_value, names_of, repeats}
 use Rattle.text_import.specs.Refusals.{numbered}
 use Rattle.text_import.specs.Rows.{rows_from}
 use Rattle.text_import.specs.inner.Names.{text_where_utf8}
@@ -38,7 +37,7 @@ use Rattle.text_import.proofs.RowLemmas.{cells_behind}
 use Rattle.text_columns.specs.declared.builder.ColumnBuilder.{ColumnBuilder}
 use Rattle.text_columns.specs.declared.records.RowsRead.{RowsRead}
 use Rattle.text_columns.specs.inner.Kept.{HasRows, KeepAll, Keeps, column_at}
-use Rattle.text_columns.specs.inner.Lines.{Completes, CompletesRow, HasKeptValue, HasNamedRow, HasValueRow, HoldMembers, HoldsMember, KeepsLine, KeepsObject, KeepsToken, PushesMember, PushesMembers, below, token_data}
+use Rattle.text_columns.specs.inner.Lines.{Completes, CompletesRow, HasKeptValue, HasNamedRow, HoldMembers, HoldsMember, KeepsLine, KeepsTokens, PushesMember, PushesMembers, below, token_data}
 use Rattle.text_columns.proofs.MemberGrammar.{member_read, members_over, object_read, text_read}
 use Rattle.text_columns.proofs.Rows.{at_end, at_front, at_other, at_set, column_more, dropped_all, dropped_here, length_put, length_taken, none_weigh, parts_weigh, taken_all, taken_here, there_within, unlimited}
 
@@ -138,7 +137,7 @@ member_held cs rows found k d place old new ws ws2 bs bs2 distinct named p same_
 
 -- ---- the members of an object, one after another
 
-token_read : (depth : ℕ) (t : Token) (r : List Token) (d : Data) → token_data t ≡ Some d → converted of_json (value depth (t ∷ r)) ≡ Some (d, r)
+pub token_read : (depth : ℕ) (t : Token) (r : List Token) (d : Data) → token_data t ≡ Some d → converted of_json (value depth (t ∷ r)) ≡ Some (d, r)
 token_read depth tokens.begin_object r d e = absurd cc
 token_read depth tokens.end_object r d e = absurd cc
 token_read depth tokens.begin_array r d e = absurd cc
@@ -204,7 +203,7 @@ pub record NamedHalf (cs : List Column) (found : Members) (rows : List (List Cel
   pub rest : (j : ℕ) (c : Column) (b : ColumnBuilder) (w : Option ℕ) → i ≤ j → slice_get cs j ≡ Some c → slice_get bs j ≡ Some b → slice_get ws j ≡ Some w
       → HoldsMember c (column_at j rows) (get_member (name_of_column c) found) w b
 
-none_behind : (r : Result Cells Refusal) → cells_behind [] r ≡ r
+pub none_behind : (r : Result Cells Refusal) → cells_behind [] r ≡ r
 none_behind (Ok cells) = refl
 none_behind (Err e) = refl
 
@@ -292,7 +291,7 @@ none_more ws i j w within none lt e = elim (cases_lt j i) [
 ]
 
 pub object_kept : (names : List (List ℕ)) (all inside rest : List Token) (heavy : ℕ) (ws ws2 : List (Option ℕ)) (bs bs2 bs3 : List ColumnBuilder) → all ≡ tokens.begin_object ∷ inside → rest ≡ []
-    → repeats names ≡ false → length ws ≡ length bs → ((j : ℕ) (w : Option ℕ) → slice_get ws j ≡ Some w → w ≡ None) → PushesMembers names inside rest ws ws2 bs bs2 → CompletesRow ws2 heavy bs2 bs3 → KeepsObject names all heavy bs bs3
+    → repeats names ≡ false → length ws ≡ length bs → ((j : ℕ) (w : Option ℕ) → slice_get ws j ≡ Some w → w ≡ None) → PushesMembers names inside rest ws ws2 bs bs2 → CompletesRow ws2 heavy bs2 bs3 → KeepsTokens names all heavy bs bs3
 object_kept names all inside rest heavy ws ws2 bs bs2 bs3 opens ends distinct size none m completes =
     let one = value-begin_object 127 inside (omega arith) in
     let whole : converted of_json (value 127 all) ≡ Some (object m.found, []) =
@@ -400,7 +399,7 @@ stands keys i t name e same = text_at keys i t e ∙ ap Some ((bytes_eq-Decides 
 
 pub object_step : {E : Type 0} (names : List (List ℕ)) (all inside rest : List Token) (ws ws2 : List (Option ℕ)) (bs bs2 bs3 : List ColumnBuilder) (r : Result (Option ℕ) E) → all ≡ tokens.begin_object ∷ inside
     → rest ≡ [] → repeats names ≡ false → length ws ≡ length bs → ((j : ℕ) (w : Option ℕ) → slice_get ws j ≡ Some w → w ≡ None) → PushesMembers names inside rest ws ws2 bs bs2
-    → IfOk r (λ taken. IfSome taken (λ heavy. CompletesRow ws2 heavy bs2 bs3)) → IfOk r (λ taken. IfSome taken (λ heavy. KeepsObject names all heavy bs bs3))
+    → IfOk r (λ taken. IfSome taken (λ heavy. CompletesRow ws2 heavy bs2 bs3)) → IfOk r (λ taken. IfSome taken (λ heavy. KeepsTokens names all heavy bs bs3))
 object_step names all inside rest ws ws2 bs bs2 bs3 (Err e) opens ends distinct size none m h = tt
 object_step names all inside rest ws ws2 bs bs2 bs3 (Ok None) opens ends distinct size none m h = tt
 object_step names all inside rest ws ws2 bs bs2 bs3 (Ok (Some heavy)) opens ends distinct size none m h = object_kept names all inside rest heavy ws ws2 bs bs2 bs3 opens ends distinct size none m h
@@ -412,7 +411,7 @@ utf8_text t line e = by (is_utf8 line) refl e
     by true is h = (is, some_same h)
     by false is h = absurd cc
 
-line_kept : (names : List (List ℕ)) (t line : List ℕ) (heavy : ℕ) (bs bs2 : List ColumnBuilder) → Some t ≡ text_where_utf8 line → KeepsObject names (tokens_of t) heavy bs bs2 → KeepsLine names line heavy bs bs2
+line_kept : (names : List (List ℕ)) (t line : List ℕ) (heavy : ℕ) (bs bs2 : List ColumnBuilder) → Some t ≡ text_where_utf8 line → KeepsTokens names (tokens_of t) heavy bs bs2 → KeepsLine names line heavy bs bs2
 line_kept names t line heavy bs bs2 text k =
     let (utf8, same) = utf8_text t line text in
     let one = text_read t k.data_is k.read in
@@ -420,7 +419,7 @@ line_kept names t line heavy bs bs2 text k =
     record { data_is = k.data_is; read = rw (utf8, own) refl; keeps = k.keeps }
 
 pub line_step : {E : Type 0} (names : List (List ℕ)) (t line : List ℕ) (bs bs2 : List ColumnBuilder) (r : Result (Option ℕ) E) → Some t ≡ text_where_utf8 line
-    → IfOk r (λ taken. IfSome taken (λ heavy. KeepsObject names (tokens_of t) heavy bs bs2)) → IfOk r (λ taken. IfSome taken (λ heavy. KeepsLine names line heavy bs bs2))
+    → IfOk r (λ taken. IfSome taken (λ heavy. KeepsTokens names (tokens_of t) heavy bs bs2)) → IfOk r (λ taken. IfSome taken (λ heavy. KeepsLine names line heavy bs bs2))
 line_step names t line bs bs2 (Err e) text h = tt
 line_step names t line bs bs2 (Ok None) text h = tt
 line_step names t line bs bs2 (Ok (Some heavy)) text h = line_kept names t line heavy bs bs2 text h

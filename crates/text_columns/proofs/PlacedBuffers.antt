@@ -6,11 +6,11 @@ use Rattle.std.proofs.Common.{◌≡◌, ℕ, suc, ◌+◌, ◌/◌, ◌≤◌, 
 use Rattle.std.proofs.lemmas.Bool.{and_from, and_parts}
 use Rattle.std.proofs.lemmas.List.{length-map, map-append}
 use Rattle.bitmap.specs.Bits.{packed}
-use Rattle.arrow_schema.specs.Column.{Kind, Column, booleans, integers, dates, timestamps, texts, large_texts, column, columns_of}
+use Rattle.arrow_schema.specs.Column.{Kind, Column, booleans, integers, dates, timestamps, nulls, texts, large_texts, binaries, large_binaries, fixed_binaries, column, columns_of}
 use Rattle.cells.specs.Cell.{Cell, null}
 use Rattle.cells.specs.Nulls.{is_there}
-use Rattle.columns.specs.Array.{Array, Layout, array, arrays_of, and_array, bit_layout, fixed_layout, binary_layout}
-use Rattle.columns.specs.Built.{built, built_kind, built_parts, first_cell, other_cells, validity_of, with_validity, integer_bytes, offsets_of, contents_of}
+use Rattle.columns.specs.Array.{Array, Layout, array, arrays_of, and_array, null_layout, bit_layout, fixed_layout, binary_layout}
+use Rattle.columns.specs.Built.{built, built_kind, built_parts, first_cell, other_cells, validity_of, with_validity, integer_bytes, fixed_bytes, offsets_of, contents_of}
 use Rattle.columns.specs.Offsets.{width_of}
 use Rattle.columns.specs.Places.{within}
 use Rattle.columns.specs.View.{array_in, array_step, layout_step, no_dictionary}
@@ -25,10 +25,10 @@ use Rattle.columns.specs.laws.Grown.{flat_stay}
 use Rattle.columns.specs.laws.Longer.{within_more}
 use Rattle.columns.specs.FlatLayouts.{flat_layout}
 use Rattle.text_columns.specs.declared.column_values.Values.{Values}
-use Rattle.text_columns.specs.declared.column_values.Values.TheVariants.{Booleans, Integers, Texts}
+use Rattle.text_columns.specs.declared.column_values.Values.TheVariants.{Nulls, Booleans, Integers, Texts, Binaries, FixedBinaries}
 use Rattle.text_columns.specs.declared.builder.ColumnBuilder.{ColumnBuilder}
 use Rattle.text_columns.specs.inner.Kept.{Holds, IsOf, Keeps, column_at}
-use Rattle.text_columns.specs.inner.Placed.{ArePlaced, IsAppended, IsLaid, IsPlaced, array_of, is_layout_within, layout_of, validity_of_bits}
+use Rattle.text_columns.specs.inner.Placed.{ArePlaced, IsAppended, IsLaid, IsPlaced, array_of, is_layout_within, layout_of, validity_in, validity_of_bits}
 
 -- ---- buffers
 
@@ -42,6 +42,12 @@ ends_last old buffer new span a = ap (λ (xs : List ℕ). ends_within (length xs
 -- layouts without arrays below them, as places in bytes
 bits_are : (bytes : List ℕ) (span : Span) → flat_layout bytes (layouts.Bits span) ≡ bit_layout (within bytes span)
 bits_are bytes span = ap (flat_layout bytes) (sym (layouts.rolls-Bits span)) ∙ fold-roll-PlacedLayout Layout Array (layout_step bytes no_dictionary) (array_step bytes) (placed.Bits span)
+
+nulls_are : (bytes : List ℕ) → flat_layout bytes layouts.Null ≡ null_layout
+nulls_are bytes = ap (flat_layout bytes) (sym layouts.rolls-Null) ∙ fold-roll-PlacedLayout Layout Array (layout_step bytes no_dictionary) (array_step bytes) placed.Null
+
+nulls_within : (size : ℕ) → is_layout_within size layouts.Null ≡ true
+nulls_within size = ap (is_layout_within size) (sym layouts.rolls-Null) ∙ fold-roll-PlacedLayout Bool Bool (layout_within size (λ part. true)) (array_within size) placed.Null
 
 bits_within : (size : ℕ) (span : Span) → is_layout_within size (layouts.Bits span) ≡ ends_within size span
 bits_within size span = ap (is_layout_within size) (sym (layouts.rolls-Bits span)) ∙ fold-roll-PlacedLayout Bool Bool (layout_within size (λ part. true)) (array_within size) (placed.Bits span)
@@ -60,11 +66,17 @@ texts_within : (size : ℕ) (first second : Span) → is_layout_within size (lay
 texts_within size first second =
     ap (is_layout_within size) (sym (layouts.rolls-Binary first second)) ∙ fold-roll-PlacedLayout Bool Bool (layout_within size (λ part. true)) (array_within size) (placed.Binary first second)
 
+pub nulls_laid : (old : List ℕ) → IsLaid Nulls old old layouts.Null
+nulls_laid old = record { more = []; whole = sym (append-nil old); laid = nulls_are old; ends = nulls_within (length old) }
+
 pub bits_laid : (bits : Vec Bool) (old new : List ℕ) (span : Span) → IsAppended old (packed bits.items) new span → IsLaid (Booleans bits) old new (layouts.Bits span)
 bits_laid bits old new span a = record { more = packed bits.items; whole = a.whole; laid = bits_are new span ∙ ap bit_layout (stands_last old _ new span a); ends = bits_within (length new) span ∙ ends_last old _ new span a }
 
 pub values_laid : (i : _) (values : Vec ℕ) (old new : List ℕ) (span : Span) → IsAppended old values.items new span → IsLaid (Integers i values) old new (layouts.Fixed span)
 values_laid i values old new span a = record { more = values.items; whole = a.whole; laid = values_are new span ∙ ap fixed_layout (stands_last old _ new span a); ends = values_within (length new) span ∙ ends_last old _ new span a }
+
+pub fixed_laid : (width : ℕ) (values : Vec ℕ) (old new : List ℕ) (span : Span) → IsAppended old values.items new span → IsLaid (FixedBinaries width values) old new (layouts.Fixed span)
+fixed_laid width values old new span a = record { more = values.items; whole = a.whole; laid = values_are new span ∙ ap fixed_layout (stands_last old _ new span a); ends = values_within (length new) span ∙ ends_last old _ new span a }
 
 pub texts_laid : (width : _) (offsets contents : Vec ℕ) (old mid new : List ℕ) (first second : Span) → IsAppended old offsets.items mid first → IsAppended mid contents.items new second
     → IsLaid (Texts width offsets contents) old new (layouts.Binary first second)
@@ -78,11 +90,17 @@ texts_laid width offsets contents old mid new first second a b =
       ends = texts_within (length new) first second ∙ and_from _ _ inner (ends_last mid _ new second b);
     }
 
+pub binaries_laid : (width : _) (offsets contents : Vec ℕ) (old mid new : List ℕ) (first second : Span) → IsAppended old offsets.items mid first → IsAppended mid contents.items new second
+    → IsLaid (Binaries width offsets contents) old new (layouts.Binary first second)
+binaries_laid width offsets contents old mid new first second a b =
+    let t = texts_laid width offsets contents old mid new first second a b in
+    record { more = t.more; whole = t.whole; laid = t.laid; ends = t.ends }
+
 -- the buffers of a column
 pub column_placed : (b : ColumnBuilder) (slots : ℕ) (old mid new : List ℕ) (span : Span) (layout : PlacedLayout) → slots ≡ length b.valid.items
-    → IsAppended old (validity_of_bits b.valid.items) mid span → IsLaid b.values mid new layout → IsPlaced b old new (roll-PlacedArray (record { slots = slots; validity = span; layout = layout }))
+    → IsAppended old (validity_in b.values b.valid.items) mid span → IsLaid b.values mid new layout → IsPlaced b old new (roll-PlacedArray (record { slots = slots; validity = span; layout = layout }))
 column_placed b slots old mid new span layout count a l =
-    let valid = validity_of_bits b.valid.items in
+    let valid = validity_in b.values b.valid.items in
     let front : within new span ≡ valid = ap (λ (xs : List ℕ). within xs span) l.whole ∙ a.stands l.more in
     let inner : ends_within (length new) span ≡ true = ap (λ (xs : List ℕ). ends_within (length xs) span) l.whole ∙ a.ends l.more in
     record {
@@ -145,7 +163,8 @@ unfolding built built_kind
 built_is (column name nullable kind (Some index) pairs) cells b k = absurd k
 built_is (column name nullable kind None pairs) cells b k = by kind b.values k.2.kind_is k.2.holds
   where
-    by : (kind : Kind) (values : Values) → IsOf kind values → Holds values cells → array (length b.valid.items) (validity_of_bits b.valid.items) (layout_of values) ≡ built_kind kind cells
+    by : (kind : Kind) (values : Values) → IsOf kind values → Holds values cells → array (length b.valid.items) (validity_in values b.valid.items) (layout_of values) ≡ built_kind kind cells
+    by nulls Nulls h holds = ap (λ (n : ℕ). array n [] null_layout) (ap length k.1 ∙ length-map cells is_there)
     by booleans (Booleans bits) h holds = with_is cells b.valid.items (bit_layout (packed bits.items)) _ k.1 (ap (λ (xs : List Bool). bit_layout (packed xs)) holds)
     by (integers bits signed) (Integers i bytes) h holds =
         with_is cells b.valid.items (fixed_layout bytes.items) _ k.1 (ap fixed_layout (holds ∙ ap (λ (n : ℕ). flat_map (integer_bytes (n / 8)) cells) h.0))
@@ -159,6 +178,14 @@ built_is (column name nullable kind None pairs) cells b k = by kind b.values k.2
     by large_texts (Texts width offsets contents) h holds =
         with_is cells b.valid.items (binary_layout offsets.items contents.items) _ k.1
         (λ j. binary_layout ((holds.0 ∙ ap (λ w. offsets_of (width_of w) (map (λ c. length (contents_of c)) cells)) h) j) (holds.1 j))
+    by binaries (Binaries width offsets contents) h holds =
+        with_is cells b.valid.items (binary_layout offsets.items contents.items) _ k.1
+        (λ j. binary_layout ((holds.0 ∙ ap (λ w. offsets_of (width_of w) (map (λ c. length (contents_of c)) cells)) h) j) (holds.1 j))
+    by large_binaries (Binaries width offsets contents) h holds =
+        with_is cells b.valid.items (binary_layout offsets.items contents.items) _ k.1
+        (λ j. binary_layout ((holds.0 ∙ ap (λ w. offsets_of (width_of w) (map (λ c. length (contents_of c)) cells)) h) j) (holds.1 j))
+    by (fixed_binaries size) (FixedBinaries width bytes) h holds =
+        with_is cells b.valid.items (fixed_layout bytes.items) _ k.1 (ap fixed_layout (holds ∙ ap (λ (n : ℕ). flat_map (fixed_bytes n) cells) h))
     by _ values h holds = absurd h
 
 first_column : (rows : List (List Cell)) → column_at 0 rows ≡ map first_cell rows

@@ -23,7 +23,7 @@ use Rattle.text_import.specs.declared.refusal.TextError.{TextError}
 use Rattle.text_import.specs.laws.Behind.{behind, behind_none, field_more, fields_end, row_more, row_refused, rows_end, told}
 use Rattle.text_columns.specs.declared.builder.ColumnBuilder.{ColumnBuilder}
 use Rattle.text_columns.specs.declared.column_values.Values.{Values}
-use Rattle.text_columns.specs.declared.column_values.Values.TheVariants.{Booleans, Integers, Texts}
+use Rattle.text_columns.specs.declared.column_values.Values.TheVariants.{Nulls, Booleans, Integers, Texts, Binaries, FixedBinaries}
 use Rattle.text_columns.specs.declared.records.RowsRead.{RowsRead}
 use Rattle.text_columns.specs.inner.Kept.{HasRow, HasRows, IsOf, KeepAll, Keeps, KeepsField, KeepsRecord, ReadsRows, column_at}
 
@@ -225,9 +225,12 @@ kept_unlimited (column name nullable kind None pairs) cells b k = by kind b.valu
     by binaries values h = refl
     by large_binaries values h = refl
     by (fixed_binaries width) values h = refl
+    by _ Nulls h = absurd h
     by _ (Booleans bits) h = absurd h
     by _ (Integers i bytes) h = absurd h
     by _ (Texts width offsets contents) h = absurd h
+    by _ (Binaries width offsets contents) h = absurd h
+    by _ (FixedBinaries width bytes) h = absurd h
 
 unlimited_by : (cs : List Column) (bs : List ColumnBuilder) → length bs ≡ length cs → ((j : ℕ) (c : Column) (b : ColumnBuilder) → slice_get cs j ≡ Some c → slice_get bs j ≡ Some b → is_limited c ≡ false)
     → is_any_limited (columns_of cs) ≡ false

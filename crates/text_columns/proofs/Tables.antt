@@ -3,7 +3,7 @@ use Rattle.std.specs.Prelude.{◌==◌, not, nat_lt, Some, None, Result, Ok, sli
 use Rattle.std.specs.List.{AllPass, flat_map, list_all, list_any}
 use Rattle.std.proofs.Common.{◌≡◌, ℕ, zero, suc, true, false, List, [], ◌∷◌, ◌++◌, length, map, refl, arith, ap, sym, subst, ◌∙◌, append-nil}
 use Rattle.std.proofs.lemmas.Bool.{and_from}
-use Rattle.arrow_schema.specs.Column.{Column, Columns, Kind, booleans, integers, dates, timestamps, texts, large_texts, column, columns_of, PlainSchema}
+use Rattle.arrow_schema.specs.Column.{Column, Columns, Kind, booleans, integers, dates, timestamps, nulls, texts, large_texts, binaries, large_binaries, fixed_binaries, column, columns_of, PlainSchema}
 use Rattle.arrow_schema.specs.Limits.{IsWithinLimits}
 use Rattle.cells.specs.Cell.{Cell, PlainTable}
 use Rattle.cells.specs.Row.{is_row}
@@ -26,7 +26,7 @@ use Rattle.values.specs.declared.part.Batch.{Batch}
 use Rattle.values.specs.declared.part.Part.{Part}
 use Rattle.text_columns.specs.declared.builder.ColumnBuilder.{ColumnBuilder}
 use Rattle.text_columns.specs.declared.column_values.Values.{Values}
-use Rattle.text_columns.specs.declared.column_values.Values.TheVariants.{Booleans, Integers, Texts}
+use Rattle.text_columns.specs.declared.column_values.Values.TheVariants.{Nulls, Booleans, Integers, Texts, Binaries, FixedBinaries}
 use Rattle.text_columns.specs.declared.records.RowsRead.{RowsRead}
 use Rattle.text_columns.specs.inner.Kept.{HasRows, IsOf, KeepAll, Keeps, column_at}
 use Rattle.text_columns.specs.inner.Tables.{HasTable, MakesRows}
@@ -41,15 +41,22 @@ own_dictionaries (column name nullable kind (Some index) pairs) own b k cells = 
 own_dictionaries (column name nullable kind None pairs) own b k cells = by kind b.values k.2.kind_is
   where
     by : (kind : Kind) (values : Values) → IsOf kind values → flat_map typed_dictionaries (typed (column name nullable kind None pairs) (built_kind kind cells) ∷ arrays_below kind (built_kind kind cells)) ≡ []
+    by nulls values h = refl
     by booleans values h = refl
     by (integers bits signed) values h = refl
     by (dates unit) values h = refl
     by (timestamps unit timezone) values h = refl
     by texts values h = refl
     by large_texts values h = refl
+    by binaries values h = refl
+    by large_binaries values h = refl
+    by (fixed_binaries width) values h = refl
+    by _ Nulls h = absurd h
     by _ (Booleans bits) h = absurd h
     by _ (Integers i bytes) h = absurd h
     by _ (Texts width offsets contents) h = absurd h
+    by _ (Binaries width offsets contents) h = absurd h
+    by _ (FixedBinaries width bytes) h = absurd h
 
 none_before : {Y : Type 0} (zs rest more : List Y) → zs ++ rest ≡ [] → (rest ≡ [] → more ≡ []) → zs ++ more ≡ []
 none_before [] rest more e f = f e

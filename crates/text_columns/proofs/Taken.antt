@@ -1,28 +1,31 @@
 -- Cells that come behind others, by the buffers of their column.
-use Rattle.std.specs.Prelude.{ℤ, Option, Some, None, Ok, Err, Result, IfOk, IfSome, bytes_eq, ◌&&◌}
+use Rattle.std.specs.Prelude.{ℤ, if◌then◌else◌, replicate, Option, Some, None, Ok, Err, Result, IfOk, IfSome, bytes_eq, ◌&&◌}
 use Rattle.std.specs.List.{flat_map}
 use Rattle.std.specs.Str.{is_utf8}
 use Rattle.std.specs.Global.{Vec}
 use Rattle.std.proofs.Common.{◌≡◌, ℕ, ◌+◌, ◌/◌, Bool, true, false, List, [], ◌∷◌, ◌++◌, length, map, refl, arith, ap, sym, ◌∙◌, append-nil, length-append}
+use Rattle.std.proofs.lemmas.Bool.{eq-eqb}
 use Rattle.std.proofs.lemmas.List.{map-append}
 use Rattle.std.proofs.lemmas.List.Concat.{flat_map-append}
 use Rattle.byteorder.specs.Endian.{little_bytes}
-use Rattle.arrow_schema.specs.Column.{Kind, booleans, integers, dates, timestamps, texts, large_texts, column}
+use Rattle.arrow_schema.specs.Column.{Kind, booleans, integers, dates, timestamps, nulls, texts, large_texts, binaries, large_binaries, fixed_binaries, column}
 use Rattle.arrow_schema.specs.View.{bits_of}
 use Rattle.arrow_schema.specs.declared.types.IntegerType.{IntegerType}
-use Rattle.cells.specs.Cell.{Cell, null, boolean, number, text}
+use Rattle.cells.specs.Cell.{Cell, null, boolean, number, text, bytes}
 use Rattle.cells.specs.Fit.{date_bits, fits_kind}
 use Rattle.cells.specs.Nulls.{is_there}
 use Rattle.cells.specs.Typed.{typed_integer}
 use Rattle.cells.specs.Weight.{kind_weight, weight}
-use Rattle.columns.specs.Built.{contents_of, integer_bytes, is_set, offsets_of, sums_from}
+use Rattle.columns.specs.Built.{contents_of, fixed_bytes, integer_bytes, is_set, offsets_of, sums_from}
 use Rattle.columns.specs.Offsets.{width_of}
 use Rattle.columns.specs.declared.numbers.OffsetWidth.{OffsetWidth}
-use Rattle.text_import.specs.Flat.{cell_of_text, field_cell, number_cell}
+use Rattle.text_import.specs.Flat.{bytes_cell, cell_of_text, field_cell, number_cell}
 use Rattle.text_columns.specs.declared.column_values.Values.{Values}
-use Rattle.text_columns.specs.declared.column_values.Values.TheVariants.{Booleans, Integers, Texts}
+use Rattle.text_columns.specs.declared.column_values.Values.TheVariants.{Nulls, Booleans, Integers, Texts, Binaries, FixedBinaries}
 use Rattle.text_columns.specs.declared.builder.ColumnBuilder.{ColumnBuilder}
-use Rattle.text_columns.specs.inner.Kept.{AppendsBoolean, AppendsSpelled, Holds, IsOf, KeepsField, TakesNull, TakesText}
+use Rattle.text_columns.specs.inner.Kept.{AppendsBoolean, AppendsBytes, AppendsFixed, AppendsSpelled, HoldContents, Holds, IsOf, KeepsField, TakesNull, TakesText, null_heavy}
+use Rattle.text_columns.specs.inner.Lines.{KeepsNull}
+use Rattle.text_import.specs.declared.refusal.Refusal.TheVariants.{FixedWidth}
 
 -- one more cell of a list that is mapped
 pub one_mapped : {A : Type 0} (f : Cell → A) (cells : List Cell) (c : Cell) (old new : List A) → old ≡ map f cells → new ≡ old ++ f c ∷ [] → new ≡ map f (cells ++ c ∷ [])
@@ -48,38 +51,72 @@ offset_more width cells c =
     ∙ flat_map-append (little_bytes width) (sums_from 0 (map (λ d. length (contents_of d)) cells)) ((0 + length (flat_map contents_of cells) + length (contents_of c)) ∷ [])
     ∙ ap (λ (xs : List ℕ). offsets_of width (map (λ d. length (contents_of d)) cells) ++ xs) (append-nil (little_bytes width (0 + length (flat_map contents_of cells) + length (contents_of c))) ∙ ap (little_bytes width) zero_plus)
 
--- a text comes behind others, or a null, which has no bytes
-pub texts_hold : (width : OffsetWidth) (cells : List Cell) (c : Cell) (offsets contents newer longer : Vec ℕ) → Holds (Texts width offsets contents) cells → longer.items ≡ contents.items ++ contents_of c
-    → newer.items ≡ offsets.items ++ little_bytes (width_of width) (length contents.items + length (contents_of c)) → Holds (Texts width newer longer) (cells ++ c ∷ [])
-texts_hold width cells c offsets contents newer longer holds more end =
-    (rw (holds.0, holds.1) at end ∙ sym (offset_more (width_of width) cells c), one_joined contents_of cells c contents.items longer.items holds.1 more)
+-- a text or a binary comes behind others, or a null, which has no bytes
+pub contents_hold : (width : OffsetWidth) (cells : List Cell) (c : Cell) (offsets contents newer longer : List ℕ) → HoldContents width cells offsets contents → longer ≡ contents ++ contents_of c
+    → newer ≡ offsets ++ little_bytes (width_of width) (length contents + length (contents_of c)) → HoldContents width (cells ++ c ∷ []) newer longer
+contents_hold width cells c offsets contents newer longer holds more end =
+    (rw (holds.0, holds.1) at end ∙ sym (offset_more (width_of width) cells c), one_joined contents_of cells c contents longer holds.1 more)
 
 -- the type of values is theirs whatever they hold
 texts_of : (kind : Kind) (width : OffsetWidth) (offsets contents newer longer : Vec ℕ) → IsOf kind (Texts width offsets contents) → IsOf kind (Texts width newer longer)
 texts_of texts width offsets contents newer longer h = h
 texts_of _ width offsets contents newer longer h = h
 
+binaries_of : (kind : Kind) (width : OffsetWidth) (offsets contents newer longer : Vec ℕ) → IsOf kind (Binaries width offsets contents) → IsOf kind (Binaries width newer longer)
+binaries_of binaries width offsets contents newer longer h = h
+binaries_of _ width offsets contents newer longer h = h
+
+fixed_of : (kind : Kind) (width : ℕ) (old new : Vec ℕ) → IsOf kind (FixedBinaries width old) → IsOf kind (FixedBinaries width new)
+fixed_of (fixed_binaries size) width old new h = h
+fixed_of _ width old new h = h
+
 -- ---- nulls
 
-pub texts_null : (width : OffsetWidth) (old contents new : Vec ℕ) → new.items ≡ old.items ++ little_bytes (width_of width) (length contents.items) → TakesNull (Texts width old contents) (Texts width new contents)
-texts_null width old contents new e = λ kind cells t.
-    let same : length contents.items ≡ length contents.items + 0 = omega arith in
-    record {
-      kind_is = texts_of kind width old contents new contents t.kind_is;
-      holds = texts_hold width cells null old contents new contents t.holds (sym (append-nil contents.items)) (e ∙ ap (λ (n : ℕ). old.items ++ little_bytes (width_of width) n) same);
-    }
+no_contents : (width : OffsetWidth) (cells : List Cell) (old contents new : List ℕ) → new ≡ old ++ little_bytes (width_of width) (length contents) → HoldContents width cells old contents
+    → HoldContents width (cells ++ null ∷ []) new contents
+no_contents width cells old contents new e h =
+    let same : length contents ≡ length contents + 0 = omega arith in
+    contents_hold width cells null old contents new contents h (sym (append-nil contents)) (e ∙ ap (λ (n : ℕ). old ++ little_bytes (width_of width) n) same)
 
-pub null_weighs : (kind : Kind) (values : Values) → IsOf kind values → kind_weight kind null ≡ 1
+pub texts_null : (width : OffsetWidth) (old contents new : Vec ℕ) → new.items ≡ old.items ++ little_bytes (width_of width) (length contents.items) → TakesNull (Texts width old contents) (Texts width new contents)
+texts_null width old contents new e = λ kind cells t. record {
+  kind_is = texts_of kind width old contents new contents t.kind_is;
+  holds = no_contents width cells old.items contents.items new.items e t.holds;
+}
+
+pub binaries_null : (width : OffsetWidth) (old contents new : Vec ℕ) → new.items ≡ old.items ++ little_bytes (width_of width) (length contents.items) → TakesNull (Binaries width old contents) (Binaries width new contents)
+binaries_null width old contents new e = λ kind cells t. record {
+  kind_is = binaries_of kind width old contents new contents t.kind_is;
+  holds = no_contents width cells old.items contents.items new.items e t.holds;
+}
+
+pub fixed_null : (width : ℕ) (old new : Vec ℕ) → new.items ≡ old.items ++ replicate width 0 → TakesNull (FixedBinaries width old) (FixedBinaries width new)
+fixed_null width old new e = λ kind cells t. record {
+  kind_is = fixed_of kind width old new t.kind_is;
+  holds = one_joined (fixed_bytes width) cells null old.items new.items t.holds e;
+}
+
+pub nulls_null : TakesNull Nulls Nulls
+nulls_null = λ kind cells t. record { kind_is = t.kind_is; holds = tt }
+
+pub null_weighs : (kind : Kind) (values : Values) → IsOf kind values → kind_weight kind null ≡ null_heavy values
 unfolding kind_weight
-null_weighs booleans values h = refl
-null_weighs (integers bits signed) values h = refl
-null_weighs (dates unit) values h = refl
-null_weighs (timestamps unit timezone) values h = refl
-null_weighs texts values h = refl
-null_weighs large_texts values h = refl
+null_weighs nulls Nulls h = refl
+null_weighs (fixed_binaries size) (FixedBinaries width own) h = ap (λ (n : ℕ). 1 + n) (sym h)
+null_weighs binaries (Binaries width offsets contents) h = refl
+null_weighs large_binaries (Binaries width offsets contents) h = refl
+null_weighs booleans (Booleans bits) h = refl
+null_weighs (integers bits signed) (Integers i own) h = refl
+null_weighs (dates unit) (Integers i own) h = refl
+null_weighs (timestamps unit timezone) (Integers i own) h = refl
+null_weighs texts (Texts width offsets contents) h = refl
+null_weighs large_texts (Texts width offsets contents) h = refl
+null_weighs _ Nulls h = absurd h
 null_weighs _ (Booleans bits) h = absurd h
-null_weighs _ (Integers i bytes) h = absurd h
+null_weighs _ (Integers i own) h = absurd h
 null_weighs _ (Texts width offsets contents) h = absurd h
+null_weighs _ (Binaries width offsets contents) h = absurd h
+null_weighs _ (FixedBinaries width own) h = absurd h
 
 -- ---- texts
 
@@ -141,31 +178,69 @@ text_taken width t offsets contents newer longer utf8 more end texts cells k = r
   read = rw utf8 refl;
   there = refl;
   weighs = refl;
-  takes = record { kind_is = k.kind_is; holds = texts_hold width cells (text t) offsets contents newer longer k.holds more end };
+  takes = record { kind_is = k.kind_is; holds = contents_hold width cells (text t) offsets.items contents.items newer.items longer.items k.holds more end };
 }
 text_taken width t offsets contents newer longer utf8 more end large_texts cells k = record {
   taken = text t;
   read = rw utf8 refl;
   there = refl;
   weighs = refl;
-  takes = record { kind_is = k.kind_is; holds = texts_hold width cells (text t) offsets contents newer longer k.holds more end };
+  takes = record { kind_is = k.kind_is; holds = contents_hold width cells (text t) offsets.items contents.items newer.items longer.items k.holds more end };
 }
 text_taken width t offsets contents newer longer utf8 more end _ cells k = absurd k.kind_is
 
+pub bytes_taken : (width : OffsetWidth) (t : List ℕ) (heavy : ℕ) (offsets contents newer longer : Vec ℕ) → AppendsBytes width t heavy offsets.items contents.items newer.items longer.items
+    → TakesText t heavy (Binaries width offsets contents) (Binaries width newer longer)
+unfolding cell_of_text kind_weight fits_kind
+bytes_taken width t heavy offsets contents newer longer a binaries cells k = record {
+  taken = bytes a.spelled;
+  read = ap (bytes_cell binaries) a.read;
+  there = refl;
+  weighs = sym a.weighs;
+  takes = record { kind_is = k.kind_is; holds = contents_hold width cells (bytes a.spelled) offsets.items contents.items newer.items longer.items k.holds a.more a.end };
+}
+bytes_taken width t heavy offsets contents newer longer a large_binaries cells k = record {
+  taken = bytes a.spelled;
+  read = ap (bytes_cell large_binaries) a.read;
+  there = refl;
+  weighs = sym a.weighs;
+  takes = record { kind_is = k.kind_is; holds = contents_hold width cells (bytes a.spelled) offsets.items contents.items newer.items longer.items k.holds a.more a.end };
+}
+bytes_taken width t heavy offsets contents newer longer a _ cells k = absurd k.kind_is
+
+-- bytes of the width that a type has
+pub width_fits : (size : ℕ) (b : List ℕ) → length b ≡ size → bytes_cell (fixed_binaries size) (Ok b) ≡ Ok (bytes b)
+unfolding fits_kind
+width_fits size b e = ap (λ (fits : Bool). if fits then Ok (bytes b) else Err FixedWidth) (eq-eqb _ _ e)
+
+pub fixed_taken : (width : ℕ) (t : List ℕ) (heavy : ℕ) (old new : Vec ℕ) → AppendsFixed width t heavy old.items new.items → TakesText t heavy (FixedBinaries width old) (FixedBinaries width new)
+unfolding cell_of_text kind_weight
+fixed_taken width t heavy old new a (fixed_binaries size) cells k = record {
+  taken = bytes a.spelled;
+  read = ap (bytes_cell (fixed_binaries size)) a.read ∙ width_fits size a.spelled (a.size ∙ k.kind_is);
+  there = refl;
+  weighs = ap (λ (n : ℕ). 1 + n) (sym k.kind_is) ∙ sym a.weighs;
+  takes = record { kind_is = k.kind_is; holds = one_joined (fixed_bytes width) cells (bytes a.spelled) old.items new.items k.holds a.more };
+}
+fixed_taken width t heavy old new a _ cells k = absurd k.kind_is
+
 -- ---- fields
 
-pub null_kept : (null_text t : List ℕ) (old new : ColumnBuilder) → (old.nullable && bytes_eq t null_text) ≡ true → new.nullable ≡ old.nullable → new.valid.items ≡ old.valid.items ++ false ∷ []
-    → TakesNull old.values new.values → KeepsField null_text t 1 old new
-unfolding field_cell weight
-null_kept null_text t old new is same valid takes (column name nullable kind None pairs) cells k =
+-- a null of a column that has nulls is the cell of the null text
+null_kept : (null_text t : List ℕ) (heavy : ℕ) (old new : ColumnBuilder) → (old.nullable && bytes_eq t null_text) ≡ true → heavy ≡ null_heavy old.values → KeepsNull old new
+    → KeepsField null_text t heavy old new
+unfolding field_cell
+null_kept null_text t heavy old new is heavier keeps (column name nullable kind None pairs) cells k =
     let test : (nullable && bytes_eq t null_text) ≡ true = rw k.0 at is in
-    record {
-      kept = null;
-      read = rw test refl;
-      weighs = null_weighs kind old.values k.2.kind_is;
-      keeps = (same ∙ k.0, one_mapped is_there cells null old.valid.items new.valid.items k.1 valid, takes kind cells k.2);
-    }
-null_kept null_text t old new is same valid takes (column name nullable kind (Some index) pairs) cells k = absurd k
+    let h = keeps (column name nullable kind None pairs) cells k in
+    record { kept = null; read = rw test refl; weighs = h.1 ∙ sym heavier; keeps = h.2 }
+null_kept null_text t heavy old new is heavier keeps (column name nullable kind (Some index) pairs) cells k = absurd k
+
+pub null_field : {E : Type 0} (null_text t : List ℕ) (old new : ColumnBuilder) (r : Result (Option ℕ) E) → (old.nullable && bytes_eq t null_text) ≡ true
+    → IfOk r (λ taken. IfSome taken (λ heavy. (heavy ≡ null_heavy old.values) × KeepsNull old new)) → IfOk r (λ taken. IfSome taken (λ heavy. KeepsField null_text t heavy old new))
+null_field null_text t old new (Err e) is h = tt
+null_field null_text t old new (Ok None) is h = tt
+null_field null_text t old new (Ok (Some heavy)) is h = null_kept null_text t heavy old new is h.0 h.1
 
 pub field_kept : (null_text t : List ℕ) (heavy : ℕ) (old new : ColumnBuilder) → (old.nullable && bytes_eq t null_text) ≡ false → new.nullable ≡ old.nullable → new.valid.items ≡ old.valid.items ++ true ∷ []
     → TakesText t heavy old.values new.values → KeepsField null_text t heavy old new
@@ -204,3 +279,16 @@ pub text_step : {E : Type 0} (width : OffsetWidth) (t : List ℕ) (offsets conte
 text_step width t offsets contents newer longer (Err e) h = tt
 text_step width t offsets contents newer longer (Ok None) h = tt
 text_step width t offsets contents newer longer (Ok (Some heavy)) h = rw h.0 (text_taken width t offsets contents newer longer h.1 h.2 h.3)
+
+pub bytes_step : {E : Type 0} (width : OffsetWidth) (t : List ℕ) (offsets contents newer longer : Vec ℕ) (r : Result (Option ℕ) E)
+    → IfOk r (λ taken. IfSome taken (λ heavy. AppendsBytes width t heavy offsets.items contents.items newer.items longer.items))
+    → IfOk r (λ taken. IfSome taken (λ heavy. TakesText t heavy (Binaries width offsets contents) (Binaries width newer longer)))
+bytes_step width t offsets contents newer longer (Err e) h = tt
+bytes_step width t offsets contents newer longer (Ok None) h = tt
+bytes_step width t offsets contents newer longer (Ok (Some heavy)) h = bytes_taken width t heavy offsets contents newer longer h
+
+pub fixed_step : {E : Type 0} (width : ℕ) (t : List ℕ) (old new : Vec ℕ) (r : Result (Option ℕ) E) → IfOk r (λ taken. IfSome taken (λ heavy. AppendsFixed width t heavy old.items new.items))
+    → IfOk r (λ taken. IfSome taken (λ heavy. TakesText t heavy (FixedBinaries width old) (FixedBinaries width new)))
+fixed_step width t old new (Err e) h = tt
+fixed_step width t old new (Ok None) h = tt
+fixed_step width t old new (Ok (Some heavy)) h = fixed_taken width t heavy old new h

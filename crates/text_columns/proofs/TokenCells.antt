@@ -11,25 +11,24 @@ use Rattle.serde_json.specs.Data.{Data, Num}
 use Rattle.serde_json.specs.Data as json
 use Rattle.serde_json.specs.Find.{as_integer}
 use Rattle.serde_json.specs.Read.{number_of}
-use Rattle.arrow_schema.specs.Column.{Kind, Column, booleans, integers, dates, timestamps, texts, large_texts, column}
+use Rattle.arrow_schema.specs.Column.{Column, booleans, integers, dates, timestamps, texts, large_texts, binaries, large_binaries, fixed_binaries, column}
 use Rattle.arrow_schema.specs.Parts.{is_nullable_column}
 use Rattle.arrow_schema.specs.View.{bits_of}
 use Rattle.arrow_schema.specs.declared.types.IntegerType.{IntegerType}
-use Rattle.cells.specs.Cell.{Cell, null, boolean, number, text}
-use Rattle.cells.specs.Fit.{date_bits, fits_kind}
+use Rattle.cells.specs.Cell.{Cell, null, boolean, number, text, bytes}
+use Rattle.cells.specs.Fit.{fits_kind}
 use Rattle.cells.specs.Nulls.{is_there}
 use Rattle.cells.specs.Weight.{kind_weight, weight}
-use Rattle.columns.specs.Built.{integer_bytes, is_set}
+use Rattle.columns.specs.Built.{fixed_bytes, integer_bytes, is_set}
 use Rattle.columns.specs.declared.numbers.OffsetWidth.{OffsetWidth}
-use Rattle.text_import.specs.Flat.{number_cell}
+use Rattle.text_import.specs.Flat.{bytes_cell}
 use Rattle.text_import.specs.Objects.{cell_in, kind_in, null_or_in}
 use Rattle.text_import.specs.declared.refusal.Refusal.{Refusal}
-use Rattle.text_columns.specs.declared.column_values.Values.{Values}
-use Rattle.text_columns.specs.declared.column_values.Values.TheVariants.{Booleans, Integers, Texts}
+use Rattle.text_columns.specs.declared.column_values.Values.TheVariants.{Booleans, Integers, Texts, Binaries, FixedBinaries}
 use Rattle.text_columns.specs.declared.builder.ColumnBuilder.{ColumnBuilder}
-use Rattle.text_columns.specs.inner.Kept.{AppendsInteger, Holds, IsOf, Keeps, TakesNull}
-use Rattle.text_columns.specs.inner.Lines.{AppendsBit, AppendsNumber, AppendsString, Completes, HasMember, HoldsMember, KeepsNull, KeepsToken, KeepsValue, TakesNumber, TakesToken, TakesValue, integer_in, token_data}
-use Rattle.text_columns.proofs.Taken.{dates_read, null_weighs, one_joined, one_mapped, texts_hold, times_read}
+use Rattle.text_columns.specs.inner.Kept.{AppendsBytes, AppendsFixed, AppendsInteger, Holds, TakesNull, null_heavy}
+use Rattle.text_columns.specs.inner.Lines.{AppendsBinary, AppendsBit, AppendsFixedBinary, AppendsNumber, AppendsString, Completes, KeepsNull, KeepsToken, KeepsValue, TakesNumber, TakesToken, TakesValue, integer_in, token_data}
+use Rattle.text_columns.proofs.Taken.{contents_hold, dates_read, null_weighs, one_joined, one_mapped, times_read, width_fits}
 
 -- ---- values of a type
 
@@ -80,16 +79,47 @@ string_taken width token heavy offsets contents newer longer a texts so k = reco
   read = rw a.utf8 refl;
   there = refl;
   weighs = sym a.weighs;
-  takes = record { kind_is = k.kind_is; holds = texts_hold width so (text a.text) offsets contents newer longer k.holds a.more a.end };
+  takes = record { kind_is = k.kind_is; holds = contents_hold width so (text a.text) offsets.items contents.items newer.items longer.items k.holds a.more a.end };
 }
 string_taken width token heavy offsets contents newer longer a large_texts so k = record {
   taken = text a.text;
   read = rw a.utf8 refl;
   there = refl;
   weighs = sym a.weighs;
-  takes = record { kind_is = k.kind_is; holds = texts_hold width so (text a.text) offsets contents newer longer k.holds a.more a.end };
+  takes = record { kind_is = k.kind_is; holds = contents_hold width so (text a.text) offsets.items contents.items newer.items longer.items k.holds a.more a.end };
 }
 string_taken width token heavy offsets contents newer longer a _ so k = absurd k.kind_is
+
+binary_taken : (width : OffsetWidth) (token : Token) (heavy : ℕ) (offsets contents newer longer : Vec ℕ) (a : AppendsBinary width token heavy offsets.items contents.items newer.items longer.items)
+    → TakesValue (json.string a.digits) heavy (Binaries width offsets contents) (Binaries width newer longer)
+unfolding kind_in kind_weight fits_kind
+binary_taken width token heavy offsets contents newer longer a binaries so k = record {
+  taken = bytes a.takes.spelled;
+  read = ap (bytes_cell binaries) a.takes.read;
+  there = refl;
+  weighs = sym a.takes.weighs;
+  takes = record { kind_is = k.kind_is; holds = contents_hold width so (bytes a.takes.spelled) offsets.items contents.items newer.items longer.items k.holds a.takes.more a.takes.end };
+}
+binary_taken width token heavy offsets contents newer longer a large_binaries so k = record {
+  taken = bytes a.takes.spelled;
+  read = ap (bytes_cell large_binaries) a.takes.read;
+  there = refl;
+  weighs = sym a.takes.weighs;
+  takes = record { kind_is = k.kind_is; holds = contents_hold width so (bytes a.takes.spelled) offsets.items contents.items newer.items longer.items k.holds a.takes.more a.takes.end };
+}
+binary_taken width token heavy offsets contents newer longer a _ so k = absurd k.kind_is
+
+fixed_binary_taken : (width : ℕ) (token : Token) (heavy : ℕ) (old new : Vec ℕ) (a : AppendsFixedBinary width token heavy old.items new.items)
+    → TakesValue (json.string a.digits) heavy (FixedBinaries width old) (FixedBinaries width new)
+unfolding kind_in kind_weight
+fixed_binary_taken width token heavy old new a (fixed_binaries size) so k = record {
+  taken = bytes a.takes.spelled;
+  read = ap (bytes_cell (fixed_binaries size)) a.takes.read ∙ width_fits size a.takes.spelled (a.takes.size ∙ k.kind_is);
+  there = refl;
+  weighs = ap (λ (n : ℕ). 1 + n) (sym k.kind_is) ∙ sym a.takes.weighs;
+  takes = record { kind_is = k.kind_is; holds = one_joined (fixed_bytes width) so (bytes a.takes.spelled) old.items new.items k.holds a.takes.more };
+}
+fixed_binary_taken width token heavy old new a _ so k = absurd k.kind_is
 
 -- ---- what a call tells, where it appended the cell
 
@@ -136,6 +166,32 @@ string_step width t offsets contents newer longer (Ok None) h = tt
 string_step width t offsets contents newer longer (Ok (Some heavy)) h =
     record { data_is = json.string h.text; read = rw h.is refl; there = λ e. cc; takes = string_taken width t heavy offsets contents newer longer h }
 
+pub binary_appended : {E : Type 0} (width : OffsetWidth) (t : Token) (s offsets contents newer longer : List ℕ) (r : Result (Option ℕ) E) → t ≡ tokens.string s
+    → IfOk r (λ taken. IfSome taken (λ heavy. AppendsBytes width s heavy offsets contents newer longer)) → IfOk r (λ taken. IfSome taken (λ heavy. AppendsBinary width t heavy offsets contents newer longer))
+binary_appended width t s offsets contents newer longer (Err e) is h = tt
+binary_appended width t s offsets contents newer longer (Ok None) is h = tt
+binary_appended width t s offsets contents newer longer (Ok (Some heavy)) is h = record { digits = s; is = is; takes = h }
+
+pub fixed_appended : {E : Type 0} (width : ℕ) (t : Token) (s old new : List ℕ) (r : Result (Option ℕ) E) → t ≡ tokens.string s → IfOk r (λ taken. IfSome taken (λ heavy. AppendsFixed width s heavy old new))
+    → IfOk r (λ taken. IfSome taken (λ heavy. AppendsFixedBinary width t heavy old new))
+fixed_appended width t s old new (Err e) is h = tt
+fixed_appended width t s old new (Ok None) is h = tt
+fixed_appended width t s old new (Ok (Some heavy)) is h = record { digits = s; is = is; takes = h }
+
+pub binary_step : {E : Type 0} (width : OffsetWidth) (t : Token) (offsets contents newer longer : Vec ℕ) (r : Result (Option ℕ) E)
+    → IfOk r (λ taken. IfSome taken (λ heavy. AppendsBinary width t heavy offsets.items contents.items newer.items longer.items))
+    → IfOk r (λ taken. IfSome taken (λ heavy. TakesToken t heavy (Binaries width offsets contents) (Binaries width newer longer)))
+binary_step width t offsets contents newer longer (Err e) h = tt
+binary_step width t offsets contents newer longer (Ok None) h = tt
+binary_step width t offsets contents newer longer (Ok (Some heavy)) h =
+    record { data_is = json.string h.digits; read = rw h.is refl; there = λ e. cc; takes = binary_taken width t heavy offsets contents newer longer h }
+
+pub fixed_binary_step : {E : Type 0} (width : ℕ) (t : Token) (old new : Vec ℕ) (r : Result (Option ℕ) E) → IfOk r (λ taken. IfSome taken (λ heavy. AppendsFixedBinary width t heavy old.items new.items))
+    → IfOk r (λ taken. IfSome taken (λ heavy. TakesToken t heavy (FixedBinaries width old) (FixedBinaries width new)))
+fixed_binary_step width t old new (Err e) h = tt
+fixed_binary_step width t old new (Ok None) h = tt
+fixed_binary_step width t old new (Ok (Some heavy)) h = record { data_is = json.string h.digits; read = rw h.is refl; there = λ e. cc; takes = fixed_binary_taken width t heavy old new h }
+
 -- ---- cells of a column
 
 pub null_behind : (old new : ColumnBuilder) → old.nullable ≡ true → new.nullable ≡ old.nullable → new.valid.items ≡ old.valid.items ++ false ∷ [] → TakesNull old.values new.values → KeepsNull old new
@@ -178,14 +234,14 @@ null_read : (c : Column) → is_nullable_column c ≡ true → cell_in c json.nu
 unfolding cell_in
 null_read (column name nullable kind dictionary pairs) e = rw e refl
 
-pub null_token : (old new : ColumnBuilder) → KeepsNull old new → KeepsToken tokens.null 1 old new
+pub null_token : (old new : ColumnBuilder) → KeepsNull old new → KeepsToken tokens.null (null_heavy old.values) old new
 null_token old new keeps = record {
   data_is = json.null;
   read = refl;
   keeps = λ c so k. (let h = keeps c so k in record { kept = null; read = null_read c h.0; weighs = h.1; keeps = h.2 });
 }
 
-pub null_step : {E : Type 0} (t : Token) (old new : ColumnBuilder) (r : Result (Option ℕ) E) → t ≡ tokens.null → IfOk r (λ taken. IfSome taken (λ heavy. (heavy ≡ 1) × KeepsNull old new))
+pub null_step : {E : Type 0} (t : Token) (old new : ColumnBuilder) (r : Result (Option ℕ) E) → t ≡ tokens.null → IfOk r (λ taken. IfSome taken (λ heavy. (heavy ≡ null_heavy old.values) × KeepsNull old new))
     → IfOk r (λ taken. IfSome taken (λ heavy. KeepsToken t heavy old new))
 null_step t old new (Err e) is h = tt
 null_step t old new (Ok None) is h = tt
@@ -197,11 +253,11 @@ pub member_kept : (heavy : ℕ) (b : ColumnBuilder) → Completes (Some heavy) h
 member_kept heavy b c so None h = absurd h
 member_kept heavy b c so (Some d) h = record { kept = h.kept; read = h.read; weighs = h.weighs; keeps = h.keeps }
 
-member_absent : (old new : ColumnBuilder) → KeepsNull old new → Completes None 1 old new
+member_absent : (old new : ColumnBuilder) → KeepsNull old new → Completes None (null_heavy old.values) old new
 member_absent old new keeps c so None h = (let k = keeps c so h in record { kept = null; read = rw k.0 refl; weighs = k.1; keeps = k.2 })
 member_absent old new keeps c so (Some d) h = absurd h
 
-pub absent_step : {E : Type 0} (old new : ColumnBuilder) (r : Result (Option ℕ) E) → IfOk r (λ taken. IfSome taken (λ heavy. (heavy ≡ 1) × KeepsNull old new))
+pub absent_step : {E : Type 0} (old new : ColumnBuilder) (r : Result (Option ℕ) E) → IfOk r (λ taken. IfSome taken (λ heavy. (heavy ≡ null_heavy old.values) × KeepsNull old new))
     → IfOk r (λ taken. IfSome taken (λ heavy. Completes None heavy old new))
 absent_step old new (Err e) h = tt
 absent_step old new (Ok None) h = tt

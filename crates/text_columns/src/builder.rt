@@ -1,8 +1,10 @@
 // The cells of one column.
 ghost use Rattle.std.specs.Prelude.{IfOk, IfSome};
-ghost use Rattle.text_columns.specs.inner.Kept.{KeepsField};
+ghost use Rattle.text_columns.specs.inner.Kept.{KeepsField, null_heavy};
+ghost use Rattle.text_columns.specs.inner.Lines.{KeepsNull};
 
 use crate::column_values::Values;
+use cells::MAX_ROW_WEIGHT;
 use std::alloc::AllocError;
 
 /// The cells of a column so far: which of them are there, and their values.
@@ -23,6 +25,22 @@ impl ColumnBuilder {
         self.nullable && text == null_text
     }
 
+    /// Appends a null, where the column is nullable and a row may weigh as much, and answers what it weighs.
+    pub(crate) fn push_null(&mut self) -> Result<Option<u64>, AllocError>
+        ensures { IfOk result (λ taken. IfSome taken (λ heavy. (heavy ≡ null_heavy self.old.values) × KeepsNull self.old self.new)) }
+    {
+        if !self.nullable {
+            return Ok(None);
+        }
+        let heavy = self.values.null_weight();
+        if heavy > MAX_ROW_WEIGHT {
+            return Ok(None);
+        }
+        self.values.push_null()?;
+        self.valid.push(false)?;
+        Ok(Some(heavy))
+    }
+
     /// Appends the cell of a field, where its text is one, and answers what it weighs. The null text is a null where the column is nullable.
     pub(crate) fn push_field(
         &mut self,
@@ -32,9 +50,7 @@ impl ColumnBuilder {
         ensures { IfOk result (λ taken. IfSome taken (λ heavy. KeepsField null_text.now text.now heavy self.old self.new)) }
     {
         if self.is_null(null_text, text) {
-            self.values.push_null()?;
-            self.valid.push(false)?;
-            return Ok(Some(1));
+            return self.push_null();
         }
         let taken = self.values.push_text(text)?;
         self.valid.push(true)?;

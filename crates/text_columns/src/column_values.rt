@@ -2,8 +2,9 @@
 ghost use Rattle.std.specs.Prelude.{◌≡◌, ◌++◌, ◌/◌, ◌∷◌, [], IfOk, IfSome, OnOk, Some, replicate};
 ghost use Rattle.arrow_schema.specs.View.{bits_of};
 ghost use Rattle.cells.specs.Typed.{typed_boolean};
-ghost use Rattle.text_columns.specs.inner.Kept.{AppendsBoolean, TakesNull, TakesText};
+ghost use Rattle.text_columns.specs.inner.Kept.{AppendsBoolean, TakesNull, TakesText, null_heavy};
 
+use crate::bytes::{push_bytes, push_fixed};
 use crate::integers::push_integer;
 use crate::texts::push_contents;
 use arrow_schema::{BitWidth, IntegerType};
@@ -11,12 +12,16 @@ use columns::{OffsetWidth, push_offset};
 use std::alloc::AllocError;
 use text_import::spelled_boolean;
 
-/// What the cells of a column are written as, but for where nulls stand: bits, the bytes of integers, or where strings end and their bytes.
+/// What the cells of a column are written as, but for where nulls stand: nothing, bits, the bytes of integers or of binaries of one width, or where
+/// strings or binaries end and their bytes.
 #[derive(Drop)]
 pub(crate) enum Values {
+    Nulls,
     Booleans(Vec<bool>),
     Integers(IntegerType, Vec<u8>),
     Texts(OffsetWidth, Vec<u8>, Vec<u8>),
+    Binaries(OffsetWidth, Vec<u8>, Vec<u8>),
+    FixedBinaries(u32, Vec<u8>),
 }
 
 // Appends zeros, as many as an integer of this width has bytes.
@@ -28,6 +33,16 @@ fn push_zeros(values: &mut Vec<u8>, width: BitWidth) -> Result<(), AllocError>
         BitWidth::Sixteen => values.extend_from_slice(&[0; 2]),
         BitWidth::ThirtyTwo => values.extend_from_slice(&[0; 4]),
         BitWidth::SixtyFour => values.extend_from_slice(&[0; 8]),
+    }
+}
+
+// Appends as many zeros as a binary of this width has bytes.
+fn push_empty(values: &mut Vec<u8>, width: u32) -> Result<(), AllocError>
+    ensures { OnOk result (values.new.items ≡ values.old.items ++ replicate width 0) }
+{
+    match values.len().checked_add(width as usize) {
+        Some(end) => values.resize(end, 0),
+        None => Err(AllocError),
     }
 }
 
@@ -45,16 +60,31 @@ fn push_boolean(bits: &mut Vec<bool>, text: &[u8]) -> Result<Option<u64>, AllocE
 }
 
 impl Values {
+    /// What a null weighs: a binary of one width weighs the same where it is null.
+    pub(crate) fn null_weight(&self) -> u64
+        ensures { result ≡ null_heavy self.now }
+    {
+        match self {
+            Values::FixedBinaries(width, _) => 1 + *width as u64,
+            _ => 1,
+        }
+    }
+
     /// Appends a null: zeros, or no bytes.
     pub(crate) fn push_null(&mut self) -> Result<(), AllocError>
         ensures { OnOk result (TakesNull self.old self.new) }
     {
         match self {
+            Values::Nulls => {}
             Values::Booleans(bits) => bits.push(false)?,
             Values::Integers(integer, values) => push_zeros(values, integer.width)?,
             Values::Texts(width, offsets, contents) => {
                 push_offset(offsets, *width, contents.len() as u64)?;
             }
+            Values::Binaries(width, offsets, contents) => {
+                push_offset(offsets, *width, contents.len() as u64)?;
+            }
+            Values::FixedBinaries(width, values) => push_empty(values, *width)?,
         }
         Ok(())
     }
@@ -64,11 +94,16 @@ impl Values {
         ensures { IfOk result (λ taken. IfSome taken (λ heavy. TakesText text.now heavy self.old self.new)) }
     {
         match self {
+            Values::Nulls => Ok(None),
             Values::Booleans(bits) => push_boolean(bits, text),
             Values::Integers(integer, values) => push_integer(values, *integer, text),
             Values::Texts(width, offsets, contents) => {
                 push_contents(offsets, contents, *width, text)
             }
+            Values::Binaries(width, offsets, contents) => {
+                push_bytes(offsets, contents, *width, text)
+            }
+            Values::FixedBinaries(width, values) => push_fixed(values, *width, text),
         }
     }
 }

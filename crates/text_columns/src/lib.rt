@@ -1,11 +1,11 @@
-//! A text as the arrays of one record batch, under a schema of columns of integers, dates, timestamps, booleans and strings.
+//! A text as the arrays of one record batch, under a schema of columns of types without parts, and without dictionaries.
 //!
 //! [`csv_table`] answers the table of just the rows that `text_import::csv_rows` gives of the same text, and what they weigh, or the same
 //! refusal. No value is made of a cell and no row is: each field goes into the buffers of its column where it is read. For other schemas,
 //! and for rows that are too heavy for a table, it answers none, and the rows are those of `csv_rows`.
 //!
 //! [`jsonl_table`] does the same of JSON Lines, token by token: no tree is made of a line. It answers none also for a text that is refused, or that has
-//! a line which is an array, or an object with a name twice.
+//! an object with a name twice.
 //!
 //! ```
 //! let fields = field_texts::parse_fields(alloc, &["a:int32?", "s:utf8"])?;
@@ -17,8 +17,10 @@
 #![tactic(auto)]
 
 mod builder;
+mod bytes;
 mod column_values;
 mod integers;
+mod items;
 mod lines;
 mod members;
 mod placing;

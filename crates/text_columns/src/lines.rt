@@ -1,14 +1,16 @@
 // Lines of JSON, member by member into the buffers of their columns.
-ghost use Rattle.std.specs.Prelude.{◌≡◌, ◌≤◌, ℕ, not, Option, Some, None, [], false, length, slice_get, IfOk, IfSome};
+ghost use Rattle.std.specs.Prelude.{◌≡◌, ◌≤◌, ℕ, List, not, Option, Some, None, [], ◌∷◌, false, length, slice_get, IfOk, IfSome};
 ghost use Rattle.std.specs.List.{filter};
 ghost use Rattle.arrow_schema.specs.Column.{PlainSchema, columns_of};
 ghost use Rattle.facts.specs.Texts.{text_list};
+ghost use Rattle.json.specs.Token as tokens;
 ghost use Rattle.text_import.specs.Objects.{is_blank, line_row, names_of, repeats};
 ghost use Rattle.text_import.specs.Rows.{rows_from};
 ghost use Rattle.text_columns.specs.inner.Kept.{HasRows, KeepAll};
-ghost use Rattle.text_columns.specs.inner.Lines.{Completes, CompletesRow, KeepsLine, KeepsObject};
+ghost use Rattle.text_columns.specs.inner.Lines.{Completes, CompletesRow, KeepsLine, KeepsTokens};
 
 use crate::builder::ColumnBuilder;
+use crate::items::push_items;
 use crate::members::push_members;
 use crate::records::RowsRead;
 use cells::{MAX_ROW_WEIGHT, MAX_TABLE_WEIGHT};
@@ -59,7 +61,7 @@ fn clear(heavies: &mut [Option<u64>])
     }
 }
 
-// Appends the cells of the object that a reader stands at, and answers what its row weighs; none where it does not go in.
+// Appends the cells of the object that a reader stands in, and answers what its row weighs; none where it does not go in.
 fn push_object(
     names: &IndexSet<&str>,
     order: &mut [usize],
@@ -69,14 +71,12 @@ fn push_object(
 ) -> Result<Option<u64>, AllocError>
     requires { repeats (text_list names.now.keys) ≡ false }
     ensures few { IfOk result (λ taken. IfSome taken (λ heavy. heavy ≤ MAX_ROW_WEIGHT)) }
-    ensures kept { IfOk result (λ taken. IfSome taken (λ heavy. KeepsObject (text_list names.now.keys) reader.old heavy builders.old builders.new)) }
+    ensures kept { IfOk result (λ taken. IfSome taken (λ heavy.
+        KeepsTokens (text_list names.now.keys) (tokens.begin_object ∷ reader.old) heavy builders.old builders.new)) }
 {
     if heavies.len() != builders.len() {
         return Ok(None);
     }
-    let Some(Token::BeginObject) = reader.next() else {
-        return Ok(None);
-    };
     clear(heavies);
     if !push_members(names, order, builders, heavies, reader)? {
         return Ok(None);
@@ -85,6 +85,43 @@ fn push_object(
         return Ok(None);
     }
     complete_row(builders, heavies)
+}
+
+// The same of the array that a reader stands in, by the places of its items.
+fn push_array(
+    builders: &mut [ColumnBuilder],
+    reader: &mut Reader<'_>,
+) -> Result<Option<u64>, AllocError>
+    ensures few { IfOk result (λ taken. IfSome taken (λ heavy. heavy ≤ MAX_ROW_WEIGHT)) }
+    ensures kept { IfOk result (λ taken. IfSome taken (λ heavy. (names : List (List ℕ))
+        → KeepsTokens names (tokens.begin_array ∷ reader.old) heavy builders.old builders.new)) }
+{
+    let Some(weight) = push_items(builders, reader)? else {
+        return Ok(None);
+    };
+    if reader.next().is_some() {
+        return Ok(None);
+    }
+    Ok(Some(weight))
+}
+
+// The same of the value that a reader stands at, which is an object or an array.
+fn push_value(
+    names: &IndexSet<&str>,
+    order: &mut [usize],
+    builders: &mut [ColumnBuilder],
+    heavies: &mut [Option<u64>],
+    reader: &mut Reader<'_>,
+) -> Result<Option<u64>, AllocError>
+    requires { repeats (text_list names.now.keys) ≡ false }
+    ensures few { IfOk result (λ taken. IfSome taken (λ heavy. heavy ≤ MAX_ROW_WEIGHT)) }
+    ensures kept { IfOk result (λ taken. IfSome taken (λ heavy. KeepsTokens (text_list names.now.keys) reader.old heavy builders.old builders.new)) }
+{
+    match reader.next() {
+        Some(Token::BeginObject) => push_object(names, order, builders, heavies, reader),
+        Some(Token::BeginArray) => push_array(builders, reader),
+        _ => Ok(None),
+    }
 }
 
 // The same of the line that a text is.
@@ -104,11 +141,11 @@ fn push_line(
         return Ok(None);
     };
     let mut reader = Reader::new(text, scratch)?;
-    push_object(names, order, builders, heavies, &mut reader)
+    push_value(names, order, builders, heavies, &mut reader)
 }
 
 /// Appends the rows of lines, of which those that are blank are skipped; none where a line is no object of members without parts, each of the
-/// name of a column, or the rows are too heavy for a table.
+/// name of a column, and no array of an item without parts for each column, or where the rows are too heavy for a table.
 pub(crate) fn push_lines(
     alloc: Global,
     names: &IndexSet<&str>,

@@ -2,7 +2,7 @@
 ghost use Rattle.std.specs.Prelude.{◌≡◌, ◌≤◌, ◌++◌, true, [], ◌∷◌, List, length, IfOk};
 ghost use Rattle.std.specs.List.{list_all};
 ghost use Rattle.bitmap.specs.Bits.{packed};
-ghost use Rattle.text_columns.specs.inner.Placed.{ArePlaced, IsAppended, IsLaid, IsPlaced, validity_of_bits};
+ghost use Rattle.text_columns.specs.inner.Placed.{ArePlaced, IsAppended, IsLaid, IsPlaced, has_validity, validity_in};
 
 use crate::builder::ColumnBuilder;
 use crate::column_values::Values;
@@ -41,11 +41,26 @@ fn append_bits(alloc: Global, bytes: &mut Vec<u8>, bits: &[bool]) -> Result<Span
     append(bytes, &buffer)
 }
 
-// Appends the validity bitmap of slots, and says where it stands: no byte where each is valid.
-fn append_validity(alloc: Global, bytes: &mut Vec<u8>, valid: &[bool]) -> Result<Span, AllocError>
-    ensures { IfOk result (λ span. IsAppended bytes.old.items (validity_of_bits valid.now) bytes.new.items span) }
+// Whether slots have a validity bitmap: those of the type of nulls have none.
+fn has_validity(values: &Values) -> bool
+    ensures { result ≡ has_validity values.now }
 {
-    if are_set(valid) {
+    match values {
+        Values::Nulls => false,
+        _ => true,
+    }
+}
+
+// Appends the validity bitmap of slots, and says where it stands: no byte where each is valid, or where there is no bitmap.
+fn append_validity(
+    alloc: Global,
+    bytes: &mut Vec<u8>,
+    values: &Values,
+    valid: &[bool],
+) -> Result<Span, AllocError>
+    ensures { IfOk result (λ span. IsAppended bytes.old.items (validity_in values.now valid.now) bytes.new.items span) }
+{
+    if !has_validity(values) || are_set(valid) {
         append(bytes, &[])
     } else {
         append_bits(alloc, bytes, valid)
@@ -61,6 +76,7 @@ fn place_values(
     ensures { IfOk result (λ layout. IsLaid values.now bytes.old.items bytes.new.items layout) }
 {
     match values {
+        Values::Nulls => Ok(PlacedLayout::Null),
         Values::Booleans(bits) => Ok(PlacedLayout::Bits(append_bits(alloc, bytes, bits)?)),
         Values::Integers(_, values) => Ok(PlacedLayout::Fixed(append(bytes, values)?)),
         Values::Texts(_, offsets, contents) => {
@@ -68,6 +84,12 @@ fn place_values(
             let contents = append(bytes, contents)?;
             Ok(PlacedLayout::Binary(offsets, contents))
         }
+        Values::Binaries(_, offsets, contents) => {
+            let offsets = append(bytes, offsets)?;
+            let contents = append(bytes, contents)?;
+            Ok(PlacedLayout::Binary(offsets, contents))
+        }
+        Values::FixedBinaries(_, values) => Ok(PlacedLayout::Fixed(append(bytes, values)?)),
     }
 }
 
@@ -79,7 +101,7 @@ fn place(
 ) -> Result<PlacedArray, AllocError>
     ensures { IfOk result (λ array. IsPlaced column.now bytes.old.items bytes.new.items array) }
 {
-    let validity = append_validity(alloc, bytes, &column.valid)?;
+    let validity = append_validity(alloc, bytes, &column.values, &column.valid)?;
     let layout = place_values(alloc, bytes, &column.values)?;
     Ok(PlacedArray {
         slots: column.valid.len(),
@@ -100,6 +122,7 @@ pub(crate) fn place_all(
     for column in columns {
         let array = place(alloc, &mut bytes, &column)?;
         arrays.push(array)?;
+        drop(column);
     }
     Ok((bytes, arrays))
 }

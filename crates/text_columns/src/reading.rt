@@ -79,7 +79,7 @@ pub(crate) fn read_columns(
 }
 
 /// The columns of a text of JSON Lines; none where a column has a type that is not read into arrays, or a dictionary, where two columns have one
-/// name, where a line is no object of one value for each of its members, or where the rows are too heavy for a table.
+/// name, where a line is neither an object nor an array of values without parts, or where the rows are too heavy for a table.
 pub(crate) fn read_lines(
     alloc: Global,
     schema: &Schema,

@@ -2,7 +2,7 @@
 ghost use Rattle.std.specs.Prelude.{◌≡◌, ◌++◌, true, [], ◌∷◌, map, IfOk, IfSome};
 ghost use Rattle.byteorder.specs.Endian.{little_bytes};
 ghost use Rattle.arrow_schema.specs.View.{column_of, kind_of};
-ghost use Rattle.text_columns.specs.inner.Kept.{KeepAll, Keeps, StartsTexts, Takes};
+ghost use Rattle.text_columns.specs.inner.Kept.{HoldContents, KeepAll, Keeps, StartsBinaries, StartsTexts, Takes};
 
 use crate::builder::ColumnBuilder;
 use crate::column_values::Values;
@@ -10,13 +10,27 @@ use arrow_schema::{DataType, Field};
 use columns::{OffsetWidth, date_integer, push_offset, timestamp_integer};
 use std::alloc::{AllocError, Global};
 
-// Before the first string stands the offset 0.
-fn no_texts(alloc: Global, width: OffsetWidth) -> Result<Values, AllocError>
-    ensures { IfOk result (λ values. StartsTexts width values) }
+// Before the first string or binary stands the offset 0.
+fn no_contents(alloc: Global, width: OffsetWidth) -> Result<(Vec<u8>, Vec<u8>), AllocError>
+    ensures { IfOk result (λ started. HoldContents width [] started.0.items started.1.items) }
 {
     let mut offsets = Vec::new(alloc);
     push_offset(&mut offsets, width, 0)?;
-    Ok(Values::Texts(width, offsets, Vec::new(alloc)))
+    Ok((offsets, Vec::new(alloc)))
+}
+
+fn no_texts(alloc: Global, width: OffsetWidth) -> Result<Values, AllocError>
+    ensures { IfOk result (λ values. StartsTexts width values) }
+{
+    let (offsets, contents) = no_contents(alloc, width)?;
+    Ok(Values::Texts(width, offsets, contents))
+}
+
+fn no_binaries(alloc: Global, width: OffsetWidth) -> Result<Values, AllocError>
+    ensures { IfOk result (λ values. StartsBinaries width values) }
+{
+    let (offsets, contents) = no_contents(alloc, width)?;
+    Ok(Values::Binaries(width, offsets, contents))
 }
 
 // The values of a type of which no cell is written, where it is read into arrays.
@@ -24,12 +38,16 @@ fn no_values(alloc: Global, data_type: &DataType) -> Result<Option<Values>, Allo
     ensures { IfOk result (λ started. IfSome started (Takes (kind_of data_type.now) [])) }
 {
     let values = match data_type {
+        DataType::Null => Values::Nulls,
         DataType::Bool => Values::Booleans(Vec::new(alloc)),
         DataType::Int(integer) => Values::Integers(*integer, Vec::new(alloc)),
         DataType::Date(unit) => Values::Integers(date_integer(*unit), Vec::new(alloc)),
         DataType::Timestamp(_, _) => Values::Integers(timestamp_integer(), Vec::new(alloc)),
         DataType::Utf8 => no_texts(alloc, OffsetWidth::Four)?,
         DataType::LargeUtf8 => no_texts(alloc, OffsetWidth::Eight)?,
+        DataType::Binary => no_binaries(alloc, OffsetWidth::Four)?,
+        DataType::LargeBinary => no_binaries(alloc, OffsetWidth::Eight)?,
+        DataType::FixedSizeBinary(width) => Values::FixedBinaries(*width, Vec::new(alloc)),
         _ => return Ok(None),
     };
     Ok(Some(values))

@@ -2,9 +2,10 @@
 ghost use Rattle.std.specs.Prelude.{◌≡◌, ◌==◌, ◌++◌, ◌∷◌, [], true, false, slice_index, IfOk, IfSome, Some};
 ghost use Rattle.fast_float.specs.Text.{Parts};
 ghost use Rattle.json.specs.Reads.{token_of};
-ghost use Rattle.text_columns.specs.inner.Lines.{AppendsBit, AppendsNumber, AppendsString, TakesNumber, TakesToken, integer_after, integer_in};
+ghost use Rattle.text_columns.specs.inner.Lines.{AppendsBinary, AppendsBit, AppendsFixedBinary, AppendsNumber, AppendsString, TakesNumber, TakesToken, integer_after, integer_in};
 
 use crate::builder::ColumnBuilder;
+use crate::bytes::{push_bytes, push_fixed};
 use crate::column_values::Values;
 use crate::integers::push_number;
 use crate::texts::push_contents;
@@ -116,33 +117,56 @@ fn push_text(
     push_contents(offsets, contents, width, text.as_bytes())
 }
 
+// Appends the binary that the digits of a token spell and where it ends, and answers what it weighs.
+fn push_binary(
+    offsets: &mut Vec<u8>,
+    contents: &mut Vec<u8>,
+    width: OffsetWidth,
+    token: Token<'_>,
+) -> Result<Option<u64>, AllocError>
+    ensures { IfOk result (λ taken. IfSome taken (λ heavy.
+        AppendsBinary width (token_of token.entry) heavy offsets.old.items contents.old.items offsets.new.items contents.new.items)) }
+{
+    let Token::String(digits) = token else {
+        return Ok(None);
+    };
+    push_bytes(offsets, contents, width, digits.as_bytes())
+}
+
+// The same of a binary of so many bytes.
+fn push_fixed_binary(
+    values: &mut Vec<u8>,
+    width: u32,
+    token: Token<'_>,
+) -> Result<Option<u64>, AllocError>
+    ensures { IfOk result (λ taken. IfSome taken (λ heavy. AppendsFixedBinary width (token_of token.entry) heavy values.old.items values.new.items)) }
+{
+    let Token::String(digits) = token else {
+        return Ok(None);
+    };
+    push_fixed(values, width, digits.as_bytes())
+}
+
 impl Values {
     /// Appends the cell that a token is, where it is one of the type and no null, and answers what it weighs.
     pub(crate) fn push_token(&mut self, token: Token<'_>) -> Result<Option<u64>, AllocError>
         ensures { IfOk result (λ taken. IfSome taken (λ heavy. TakesToken (token_of token.entry) heavy self.old self.new)) }
     {
         match self {
+            Values::Nulls => Ok(None),
             Values::Booleans(bits) => push_boolean(bits, token),
             Values::Integers(integer, values) => push_integer(values, *integer, token),
             Values::Texts(width, offsets, contents) => push_text(offsets, contents, *width, token),
+            Values::Binaries(width, offsets, contents) => {
+                push_binary(offsets, contents, *width, token)
+            }
+            Values::FixedBinaries(width, values) => push_fixed_binary(values, *width, token),
         }
     }
 }
 
 impl ColumnBuilder {
-    ghost use Rattle.text_columns.specs.inner.Lines.{KeepsNull, KeepsToken};
-
-    /// Appends a null, where the column is nullable, and answers what it weighs.
-    pub(crate) fn push_null(&mut self) -> Result<Option<u64>, AllocError>
-        ensures { IfOk result (λ taken. IfSome taken (λ heavy. (heavy ≡ 1) × KeepsNull self.old self.new)) }
-    {
-        if !self.nullable {
-            return Ok(None);
-        }
-        self.values.push_null()?;
-        self.valid.push(false)?;
-        Ok(Some(1))
-    }
+    ghost use Rattle.text_columns.specs.inner.Lines.{KeepsToken};
 
     // Appends the cell of a token that is no null.
     fn push_there(&mut self, token: Token<'_>) -> Result<Option<u64>, AllocError>

@@ -1,8 +1,10 @@
 -- What the buffers of columns hold once some rows were read.
 use Rattle.std.specs.Prelude.{◌≡◌, ◌≤◌, ◌+◌, ◌/◌, ◌++◌, ℕ, ℤ, true, Bool, List, [], ◌∷◌, length, map, get_or, Option, Some, None, IfSome, Result, Ok, Err, slice_get}
 use Rattle.std.specs.Global.{Vec}
+use Rattle.byteorder.specs.Endian.{little_bytes}
+use Rattle.hex.specs.Hex.{decode_of}
 use Rattle.std.specs.List.{flat_map}
-use Rattle.arrow_schema.specs.Column.{Kind, Column, booleans, integers, dates, timestamps, texts, large_texts, column, columns_of, PlainSchema}
+use Rattle.arrow_schema.specs.Column.{Kind, Column, booleans, integers, dates, timestamps, nulls, texts, large_texts, binaries, large_binaries, fixed_binaries, column, columns_of, PlainSchema}
 use Rattle.arrow_schema.specs.View.{bits_of}
 use Rattle.cells.specs.declared.limits.TheConstants.{MAX_TABLE_WEIGHT}
 use Rattle.cells.specs.Cell.{Cell, null, number, cells_of}
@@ -10,7 +12,7 @@ use Rattle.cells.specs.Fit.{date_bits, in_range}
 use Rattle.cells.specs.Nulls.{is_there}
 use Rattle.cells.specs.Typed.{typed_boolean, typed_integer}
 use Rattle.cells.specs.Weight.{kind_weight, parts_weight, table_weight, weight}
-use Rattle.columns.specs.Built.{contents_of, integer_bytes, is_set, offsets_of}
+use Rattle.columns.specs.Built.{contents_of, fixed_bytes, integer_bytes, is_set, offsets_of}
 use Rattle.columns.specs.Offsets.{width_of}
 use Rattle.columns.specs.declared.numbers.OffsetWidth.{OffsetWidth}
 use Rattle.columns.specs.declared.numbers.OffsetWidth.TheVariants.{Four, Eight}
@@ -21,7 +23,7 @@ use Rattle.text_import.specs.Refusals.{refused_by}
 use Rattle.text_import.specs.declared.refusal.Refused.{Refused}
 use Rattle.text_import.specs.declared.refusal.TextError.{TextError}
 use Rattle.text_columns.specs.declared.column_values.Values.{Values}
-use Rattle.text_columns.specs.declared.column_values.Values.TheVariants.{Booleans, Integers, Texts}
+use Rattle.text_columns.specs.declared.column_values.Values.TheVariants.{Nulls, Booleans, Integers, Texts, Binaries, FixedBinaries}
 use Rattle.text_columns.specs.declared.builder.ColumnBuilder.{ColumnBuilder}
 use Rattle.text_columns.specs.declared.records.RowsRead.{RowsRead}
 
@@ -41,22 +43,60 @@ pub record AppendsBoolean (text : List ℕ) (old new : List Bool) : Type 0 where
   pub read : typed_boolean text ≡ Some spelled
   pub bits : new ≡ old ++ spelled ∷ []
 
+-- the bytes that digits spell
+pub record AppendsDigits (digits : List ℕ) (count : ℕ) (old new : List ℕ) : Type 0 where
+  pub spelled : List ℕ
+  pub read : decode_of digits ≡ Ok spelled
+  pub size : length spelled ≡ count
+  pub more : new ≡ old ++ spelled
+
+-- these and where they end
+pub record AppendsBytes (width : OffsetWidth) (digits : List ℕ) (heavy : ℕ) (offsets contents newer longer : List ℕ) : Type 0 where
+  pub spelled : List ℕ
+  pub read : decode_of digits ≡ Ok spelled
+  pub weighs : heavy ≡ 1 + length spelled
+  pub more : longer ≡ contents ++ spelled
+  pub end : newer ≡ offsets ++ little_bytes (width_of width) (length contents + length spelled)
+
+-- so many of them
+pub record AppendsFixed (width : ℕ) (digits : List ℕ) (heavy : ℕ) (old new : List ℕ) : Type 0 where
+  pub spelled : List ℕ
+  pub read : decode_of digits ≡ Ok spelled
+  pub size : length spelled ≡ width
+  pub weighs : heavy ≡ 1 + width
+  pub more : new ≡ old ++ spelled
+
 -- values of this type
 abbrev pub IsOf : Kind → Values → Type 0
+IsOf nulls Nulls = Unit {0}
 IsOf booleans (Booleans bits) = Unit {0}
 IsOf (integers bits signed) (Integers integer bytes) = (bits_of integer.width ≡ bits) × (integer.signed ≡ signed)
 IsOf (dates unit) (Integers integer bytes) = (bits_of integer.width ≡ date_bits unit) × (integer.signed ≡ true)
 IsOf (timestamps unit timezone) (Integers integer bytes) = (bits_of integer.width ≡ 64) × (integer.signed ≡ true)
 IsOf texts (Texts width offsets contents) = width ≡ Four
 IsOf large_texts (Texts width offsets contents) = width ≡ Eight
+IsOf binaries (Binaries width offsets contents) = width ≡ Four
+IsOf large_binaries (Binaries width offsets contents) = width ≡ Eight
+IsOf (fixed_binaries size) (FixedBinaries width bytes) = width ≡ size
 IsOf _ _ = ⊥
+
+-- what a null of these values weighs
+abbrev pub null_heavy : Values → ℕ
+null_heavy (FixedBinaries width bytes) = 1 + width
+null_heavy _ = 1
+
+-- where the strings or binaries of cells end, and their bytes
+abbrev pub HoldContents : OffsetWidth → List Cell → (offsets contents : List ℕ) → Type 0
+HoldContents width cells offsets contents = (offsets ≡ offsets_of (width_of width) (map (λ c. length (contents_of c)) cells)) × (contents ≡ flat_map contents_of cells)
 
 -- what these cells are written as
 abbrev pub Holds : Values → List Cell → Type 0
+Holds Nulls cells = Unit {0}
 Holds (Booleans bits) cells = bits.items ≡ map is_set cells
 Holds (Integers integer bytes) cells = bytes.items ≡ flat_map (integer_bytes (bits_of integer.width / 8)) cells
-Holds (Texts width offsets contents) cells =
-    (offsets.items ≡ offsets_of (width_of width) (map (λ c. length (contents_of c)) cells)) × (contents.items ≡ flat_map contents_of cells)
+Holds (Texts width offsets contents) cells = HoldContents width cells offsets.items contents.items
+Holds (Binaries width offsets contents) cells = HoldContents width cells offsets.items contents.items
+Holds (FixedBinaries width bytes) cells = bytes.items ≡ flat_map (fixed_bytes width) cells
 
 -- values of this type that hold these cells
 pub record Takes (kind : Kind) (cells : List Cell) (values : Values) : Type 0 where
@@ -85,7 +125,11 @@ Keeps (column name nullable kind (Some index) pairs) cells b = ⊥
 
 -- no text yet, of offsets of this width
 abbrev pub StartsTexts : OffsetWidth → Values → Type 0
-StartsTexts width values = (offsets : Vec ℕ) × (contents : Vec ℕ) × (values ≡ Texts width offsets contents) × Holds (Texts width offsets contents) []
+StartsTexts width values = (offsets : Vec ℕ) × (contents : Vec ℕ) × (values ≡ Texts width offsets contents) × HoldContents width [] offsets.items contents.items
+
+-- and no binary
+abbrev pub StartsBinaries : OffsetWidth → Values → Type 0
+StartsBinaries width values = (offsets : Vec ℕ) × (contents : Vec ℕ) × (values ≡ Binaries width offsets contents) × HoldContents width [] offsets.items contents.items
 
 -- the cell of a field that weighs so much comes behind the cells of a column
 pub record HasKept (c : Column) (null_text text : List ℕ) (heavy : ℕ) (cells : List Cell) (new : ColumnBuilder) : Type 0 where

@@ -1,16 +1,15 @@
 -- What the tokens and lines of JSON leave in the buffers of columns.
-use Rattle.std.specs.Prelude.{◌≡◌, ◌≤◌, ◌+◌, ◌/◌, ◌++◌, ◌^◌, ℕ, ℤ, Bool, true, false, List, [], ◌∷◌, length, set, slice_get, Option, Some, None, option_map, option_and_then, Result, Ok}
+use Rattle.std.specs.Prelude.{◌≡◌, ◌+◌, ◌/◌, ◌++◌, ℕ, ℤ, Bool, true, false, List, [], ◌∷◌, length, set, slice_get, Option, Some, None, option_map, option_and_then, Ok}
 use Rattle.std.specs.Str.{is_utf8}
 use Rattle.byteorder.specs.Endian.{little_bytes}
 use Rattle.fast_float.specs.Text.{Parts}
 use Rattle.json.specs.Token.{Token}
 use Rattle.json.specs.Token as tokens
-use Rattle.json.specs.Json.{members, value}
-use Rattle.json.specs.Lex.{tokens as tokens_of}
-use Rattle.serde_json.specs.Data.{Data, null, boolean, number, string, object, Members, no_members}
+use Rattle.json.specs.Json.{items, members, value}
+use Rattle.serde_json.specs.Data.{Data, null, boolean, number, string, Items, Members, no_members}
 use Rattle.serde_json.specs.Find.{as_integer, get_member}
-use Rattle.serde_json.specs.Read.{converted, number_from, number_of, of_json, of_members}
-use Rattle.arrow_schema.specs.Column.{Kind, Column, column, columns_of, integers}
+use Rattle.serde_json.specs.Read.{converted, number_from, number_of, of_items, of_json, of_members}
+use Rattle.arrow_schema.specs.Column.{Kind, Column, columns_of, integers}
 use Rattle.arrow_schema.specs.Parts.{is_nullable_column, name_of_column}
 use Rattle.arrow_schema.specs.View.{bits_of}
 use Rattle.arrow_schema.specs.declared.types.IntegerType.{IntegerType}
@@ -22,10 +21,10 @@ use Rattle.columns.specs.Built.{integer_bytes}
 use Rattle.columns.specs.Offsets.{width_of}
 use Rattle.columns.specs.declared.numbers.OffsetWidth.{OffsetWidth}
 use Rattle.text_import.specs.Flat.{number_cell}
-use Rattle.text_import.specs.Objects.{cell_in, cells_by_name, cells_in, has_unknown, keys_of, kind_in, line_value, member_in, names_of}
+use Rattle.text_import.specs.Objects.{cell_in, cells_by_name, cells_by_place, cells_in, item_count, has_unknown, keys_of, kind_in, line_value, member_in, names_of}
 use Rattle.text_columns.specs.declared.column_values.Values.{Values}
 use Rattle.text_columns.specs.declared.builder.ColumnBuilder.{ColumnBuilder}
-use Rattle.text_columns.specs.inner.Kept.{KeepAll, Keeps, Takes, column_at}
+use Rattle.text_columns.specs.inner.Kept.{AppendsBytes, AppendsFixed, KeepAll, Keeps, Takes, column_at, null_heavy}
 
 -- ---- one value
 
@@ -78,6 +77,17 @@ pub record AppendsString (width : OffsetWidth) (t : Token) (heavy : ℕ) (offset
   pub more : longer ≡ contents ++ text
   pub end : newer ≡ offsets ++ little_bytes (width_of width) (length contents + length text)
 
+-- a token is digits, whose bytes come behind others
+pub record AppendsBinary (width : OffsetWidth) (t : Token) (heavy : ℕ) (offsets contents newer longer : List ℕ) : Type 0 where
+  pub digits : List ℕ
+  pub is : t ≡ tokens.string digits
+  pub takes : AppendsBytes width digits heavy offsets contents newer longer
+
+pub record AppendsFixedBinary (width : ℕ) (t : Token) (heavy : ℕ) (old new : List ℕ) : Type 0 where
+  pub digits : List ℕ
+  pub is : t ≡ tokens.string digits
+  pub takes : AppendsFixed width digits heavy old new
+
 -- the cell of a value that weighs so much comes behind the cells of a type
 pub record HasTakenValue (kind : Kind) (d : Data) (heavy : ℕ) (so : List Cell) (new : Values) : Type 0 where
   pub taken : Cell
@@ -113,7 +123,7 @@ pub record KeepsToken (t : Token) (heavy : ℕ) (old new : ColumnBuilder) : Type
 
 -- a null comes behind the cells of a column that has nulls
 abbrev pub KeepsNull : ColumnBuilder → ColumnBuilder → Type 0
-KeepsNull old new = (c : Column) (so : List Cell) → Keeps c so old → (is_nullable_column c ≡ true) × (weight c cells.null ≡ 1) × Keeps c (so ++ cells.null ∷ []) new
+KeepsNull old new = (c : Column) (so : List Cell) → Keeps c so old → (is_nullable_column c ≡ true) × (weight c cells.null ≡ null_heavy old.values) × Keeps c (so ++ cells.null ∷ []) new
 
 -- ---- the members of an object
 
@@ -187,8 +197,22 @@ pub record HasValueRow (cs : List Column) (d : Data) (heavy : ℕ) (rows : List 
 abbrev pub KeepsRow : List (List ℕ) → Data → ℕ → List ColumnBuilder → List ColumnBuilder → Type 0
 KeepsRow names d heavy old new = (cs : List Column) (rows : List (List Cell)) → names_of (columns_of cs) ≡ names → KeepAll cs rows old → HasValueRow cs d heavy rows new
 
+-- the cells of items come behind the rows
+pub record HasItemRow (cs : List Column) (found : Items) (heavy : ℕ) (rows : List (List Cell)) (new : List ColumnBuilder) : Type 0 where
+  pub row : List Cell
+  pub read : cells_by_place (columns_of cs) found ≡ Ok (cells_of row)
+  pub weighs : 1 + parts_weight (columns_of cs) (cells_of row) ≡ heavy
+  pub keeps : KeepAll cs (rows ++ row ∷ []) new
+
+-- all items of an array, as many as columns, which end with its bracket
+pub record KeepsItems (old new : List Token) (heavy : ℕ) (bs bs2 : List ColumnBuilder) : Type 0 where
+  pub found : Items
+  pub read : converted of_items (items (value below) (length old) old) ≡ Some (found, new)
+  pub count : item_count found ≡ length bs
+  pub keeps : (cs : List Column) (rows : List (List Cell)) → KeepAll cs rows bs → HasItemRow cs found heavy rows bs2
+
 -- all tokens are one value, whose cells come behind the rows
-pub record KeepsObject (names : List (List ℕ)) (old : List Token) (heavy : ℕ) (bs bs2 : List ColumnBuilder) : Type 0 where
+pub record KeepsTokens (names : List (List ℕ)) (old : List Token) (heavy : ℕ) (bs bs2 : List ColumnBuilder) : Type 0 where
   pub data_is : Data
   pub read : converted of_json (value 127 old) ≡ Some (data_is, [])
   pub keeps : KeepsRow names data_is heavy bs bs2

@@ -1,6 +1,3 @@
-use Rattle.std.specs.Prelude.{Option, IfOk, IfSome}
-use Rattle.std.proofs.Common.{ℕ, sym, subst}
-use Rattle.text_columns.specs.inner.Lines.{Completes}
 use Rattle.text_columns.proofs.TokenCells.{absent_step, member_kept}
 use Rattle.text_columns.proofs.lines.complete.Goals as goal
 

@@ -1,4 +1,4 @@
-use Rattle.std.proofs.Common.{◌≡◌, ◌≤◌, List, [], drop}
+use Rattle.std.proofs.Common.{◌≡◌, ◌≤◌, [], drop}
 use Rattle.arrow_schema.specs.Column.{PlainSchema, columns_of}
 use Rattle.facts.specs.Texts.{text_list}
 use Rattle.text_import.specs.Objects.{names_of}

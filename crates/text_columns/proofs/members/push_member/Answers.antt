@@ -1,5 +1,5 @@
-use Rattle.std.proofs.Common.{◌≡◌, ◌<◌, length, refl, sym, ap, ◌∙◌, arith}
-use Rattle.std.specs.Prelude.{Some, slice_get}
+use Rattle.std.proofs.Common.{refl, sym, ap, ◌∙◌, arith}
+use Rattle.std.specs.Prelude.{Some}
 use Rattle.std.proofs.lemmas.Option.{slice_get-get_or}
 use Rattle.json.specs.Reads.{token_of}
 use Rattle.text_columns.proofs.LineRows.{free_at}

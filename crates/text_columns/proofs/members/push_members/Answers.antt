@@ -1,4 +1,3 @@
-use Rattle.std.proofs.Common.{◌≡◌, ◌∙◌, sym, ap}
 use Rattle.facts.specs.Texts.{text_list}
 use Rattle.text_columns.proofs.LineRows.{members_all, members_more, members_none}
 use Rattle.text_columns.proofs.members.push_members.Goals as goal

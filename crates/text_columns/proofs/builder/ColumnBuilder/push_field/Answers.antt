@@ -1,17 +1,16 @@
 use Rattle.std.proofs.Common.{◌∙◌, refl, sym}
 use Rattle.std.proofs.lemmas.Option.{IfSome_then}
 use Rattle.text_columns.specs.declared.builder.ColumnBuilder.{ColumnBuilder}
-use Rattle.text_columns.proofs.Taken.{field_kept, null_kept}
+use Rattle.text_columns.proofs.Taken.{field_kept, null_field}
 use Rattle.text_columns.proofs.builder.ColumnBuilder.push_field.Goals as goal
 
 pub returns-then-is_null : goal.returns-then-is_null
 returns-then-is_null c =
-    let new : ColumnBuilder = record { nullable = c.args.self.now.nullable; valid = c.push.new.self; values = c.push_null.new.self } in
-    null_kept c.args.null_text.now c.args.text.now c.args.self.now new (sym c.is_null.ensures ∙ c.if-is_null.true) refl c.in_ok-push.ensures.items c.in_ok-push_null.ensures
+    null_field c.args.null_text.now c.args.text.now c.args.self.now c.push_null.new.self c.push_null.result (sym c.is_null.ensures ∙ c.if-is_null.true) c.push_null.ensures
 
 pub returns : goal.returns
 returns c =
-    let new : ColumnBuilder = record { nullable = c.args.self.now.nullable; valid = c.push-2.new.self; values = c.push_text.new.self } in
+    let new : ColumnBuilder = record { nullable = c.args.self.now.nullable; valid = c.push.new.self; values = c.push_text.new.self } in
     IfSome_then c.in_ok-taken.taken c.in_ok-taken.ensures
     (λ heavy takes.
-    field_kept c.args.null_text.now c.args.text.now heavy c.args.self.now new (sym c.is_null.ensures ∙ c.if-is_null.false) refl c.in_ok-push-2.ensures.items takes)
+    field_kept c.args.null_text.now c.args.text.now heavy c.args.self.now new (sym c.is_null.ensures ∙ c.if-is_null.false) refl c.in_ok-push.ensures.items takes)
