@@ -4,7 +4,6 @@ pub mod Changed
 pub mod LetGo
 pub mod Pinned
 pub mod Lowest
-pub mod Counted
 pub mod Touched
 pub mod Contents
 pub mod Order

@@ -29,7 +29,7 @@ pub record Passed (size : ℕ) (es : List UsageEntry) (start widest index : ℕ)
 is_free : (size : ℕ) (es : List UsageEntry) (run : Run) → IsFreeFrom 2 size es run → IsFree size (IsUsedIn es) run
 is_free size es run free = record { above = free.above; within = free.within; apart = λ other used. used_apart run es other free.apart used }
 
-pub free_from : (size : ℕ) (es : List UsageEntry) (run : Run) → Ordered 2 es → IsFree size (IsUsedIn es) run → IsFreeFrom 2 size es run
+free_from : (size : ℕ) (es : List UsageEntry) (run : Run) → Ordered 2 es → IsFree size (IsUsedIn es) run → IsFreeFrom 2 size es run
 free_from size es run o free = record { above = free.above; within = free.within; apart = apart_used run 2 es o free.apart }
 
 -- the entries from one on

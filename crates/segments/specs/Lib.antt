@@ -1,6 +1,5 @@
 pub mod Runs
 pub mod Usages
-pub mod Counts
 pub mod Sectors
 pub mod Pieces
 pub mod Writing

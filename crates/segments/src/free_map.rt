@@ -3,13 +3,11 @@ ghost use Rattle.std.specs.Prelude.{◌≡◌, ◌≤◌, ◌+◌, ◌↔◌, �
 ghost use Rattle.segments.specs.Runs.{IsOnDevice, IsFree, IsLowest};
 ghost use Rattle.segments.specs.Usages.{UNUSED, TAKEN, given, pinned, unpinned, is_used, usage_of, with_run, IsUsedIn, IsSearched};
 ghost use Rattle.segments.specs.Usages.{is_among, times_among, Overlaps, IsUnused, Changes, GivesAll, PinsAll, UnpinsAll};
-ghost use Rattle.segments.specs.Counts.{IsLargest, sectors_taken, sectors_kept};
 ghost use Rattle.segments.specs.declared.run.Run.{Run};
 
-use crate::counting::count_sectors;
 use crate::entries::{Holder, change, is_apart, let_go_each, lowest, place_of_run, place_of_start};
 use crate::gap_buffer::GapBuffer;
-use crate::{EnterError, Run, Searched, SectorCounts, TakeError, Usage, UsageEntry};
+use crate::{EnterError, Run, Searched, TakeError, Usage, UsageEntry};
 use std::alloc::{AllocError, Global};
 use std::marker::Model;
 
@@ -54,16 +52,6 @@ impl FreeMap {
                 pins: 0,
             },
         }
-    }
-
-    /// How many sectors are in use, and how many the largest free run has.
-    pub fn sector_counts(&self) -> SectorCounts
-        ensures taken { result.taken ≡ sectors_taken self.now.entries }
-        ensures kept { result.kept ≡ sectors_kept self.now.entries }
-        ensures within { 2 ≤ self.now.size → 2 + result.taken + result.kept ≤ self.now.size }
-        ensures largest { IsLargest self.now.size (IsUsedIn self.now.entries) result.largest_free }
-    {
-        count_sectors(self.size, &self.entries)
     }
 
     /// The lowest free run of `count` sectors. It takes no memory.

@@ -11,7 +11,6 @@
 //! ```
 #![tactic(auto)]
 
-mod counting;
 mod entries;
 mod errors;
 mod extent;
@@ -24,7 +23,6 @@ mod searched;
 mod tail;
 mod writing;
 
-pub use counting::SectorCounts;
 pub use entries::{Usage, UsageEntry};
 pub use errors::{EnterError, TakeError};
 pub use extent::Extent;
