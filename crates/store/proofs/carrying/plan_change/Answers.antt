@@ -281,7 +281,7 @@ returns-in-Ok-clause-ok c =
     prepared laws c.args.commit c.args.map.now c.place.new.map c.requires.limits listed stands change c.requires.sound c.requires.few pieces c.page_runs.result.now c.in_ok-places.places.text took streams
     c.in-Ok.next c.plan_next.result c.in_ok-asked.asked.back.items c.requires.own c.requires.next
     (c.in-Ok.ensures.catalogue ∙ ap (λ (d : PlainCatalogue). settled d c.page_runs.result.now) edited_is)
-    (c.plan_next.ensures.commit ∙ (λ i. next_commit k k.version (kind i) c.in_ok-places.places.text (bytes i)))
+    (c.plan_next.ensures.commit ∙ (λ i. next_commit k (c.version_after.ensures i) (kind i) c.in_ok-places.places.text (bytes i)))
     c.plan_next.ensures.catalogue (c.plan_next.ensures.placed ∙ c.page_runs.ensures)
     (c.plan_next.ensures.contents ∙ ap (λ (vs : List (List ℕ)). contents_of pieces ++ vs) (c.in-Ok.ensures.texts ∙ ap (λ (d : PlainCatalogue). page_texts d ++ settled_text d c.page_runs.result.now ∷ []) edited_is))
     (ap (λ (w : Vec Run). w.items) c.plan_next.ensures.runs ∙ c.page_runs.ensures) c.in_ok-asked.ensures.back
