@@ -51,9 +51,14 @@ returns-in-Ok-carry_out-clause-goes g c = λ told base m fits.
 
 pub returns-in-Ok-carry_out-clause-upgraded : goal.returns-in-Ok-carry_out-clause-upgraded
 returns-in-Ok-carry_out-clause-upgraded g c =
-    let D = g.D.SectorDevice in
-    (c.in-One.is, ((names_changed (digest c.in-Ok.digests.items)), (record { digests = c.in-Ok.digests.items; read = c.in-Ok.ensures.read; own = c.in-Ok.ensures.found; is = refl }),
-    ends_after D.size D.story D.failed D.tells c.args.self.now c.find_digests.new.self done c.in-Ok.ensures.reads (Ok (names_changed (digest c.in-Ok.digests.items))) (Ok tt) c.carry_out.new.self c.in-Ok-carry_out.ensures.carried))
+    let D = g.D.SectorDevice in (
+      c.in-One.is,
+      (
+        (names_changed (digest c.in-Ok.digests.items)),
+        (record { digests = c.in-Ok.digests.items; read = c.in-Ok.ensures.read; own = c.in-Ok.ensures.found; is = refl }),
+        ends_after D.size D.story D.failed D.tells c.args.self.now c.find_digests.new.self done c.in-Ok.ensures.reads (Ok (names_changed (digest c.in-Ok.digests.items))) (Ok tt) c.carry_out.new.self c.in-Ok-carry_out.ensures.carried,
+      ),
+    )
 
 pub returns-in-Ok-carry_out-clause-already : goal.returns-in-Ok-carry_out-clause-already
 returns-in-Ok-carry_out-clause-already g c = λ on two. let both : One ≡ Two = sym c.in-One.is ∙ two in cc both
@@ -96,12 +101,14 @@ returns-in-Ok-clause-told g c =
     let old = c.args.self.now in
     let new = c.carry_out.new.self in
     let r = c.in-Err-carry_out.refusal in
-    subst (λ (b : Bool). RefusesUpgrade D.size D.story D.tells b old r new) (sym c.if-self.false)
-    (c.in-One.is, inr (record {
-      change = (names_changed (digest c.in-Ok.digests.items));
-      upgrade = (record { digests = c.in-Ok.digests.items; read = c.in-Ok.ensures.read; own = c.in-Ok.ensures.found; is = refl });
-      ends = ends_after D.size D.story D.failed D.tells old c.find_digests.new.self done c.in-Ok.ensures.reads (Ok (names_changed (digest c.in-Ok.digests.items))) (Err r) new c.in-Err-carry_out.ensures.carried;
-    }))
+    subst (λ (b : Bool). RefusesUpgrade D.size D.story D.tells b old r new) (sym c.if-self.false) (
+      c.in-One.is,
+      inr (record {
+        change = (names_changed (digest c.in-Ok.digests.items));
+        upgrade = (record { digests = c.in-Ok.digests.items; read = c.in-Ok.ensures.read; own = c.in-Ok.ensures.found; is = refl });
+        ends = ends_after D.size D.story D.failed D.tells old c.find_digests.new.self done c.in-Ok.ensures.reads (Ok (names_changed (digest c.in-Ok.digests.items))) (Err r) new c.in-Err-carry_out.ensures.carried;
+      }),
+    )
 
 pub returns-in-Ok-clause-already : goal.returns-in-Ok-clause-already
 returns-in-Ok-clause-already g c = λ on two. let both : One ≡ Two = sym c.in-One.is ∙ two in cc both
