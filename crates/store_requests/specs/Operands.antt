@@ -4,6 +4,7 @@ use Rattle.std.specs.Str.{bytes_eq}
 use Rattle.std.specs.Str.Parse.{digits_value, without_leading_plus}
 use Rattle.clap.specs.Walk.{texts}
 use Rattle.clap.specs.Words.{Text}
+use Rattle.query.specs.declared.row_form.RowForm.TheVariants.{Array}
 use Rattle.store_requests.specs.declared.store_words.StoreCommand.{StoreCommand}
 use Rattle.store_requests.specs.declared.store_words.StoreCommand.TheVariants as commands
 use Rattle.store_requests.specs.declared.store_words.StoreRequest.{StoreRequest}
@@ -56,7 +57,7 @@ names_in (commands.Create name fields) = name.now ∷ texts fields.items
 names_in (commands.Import name) = name.now ∷ []
 names_in (commands.Append name) = name.now ∷ []
 names_in (commands.AppendText name form) = name.now ∷ []
-names_in (commands.Query name query) = name.now ∷ texts query.conditions.items
+names_in (commands.Query name query form) = name.now ∷ texts query.conditions.items
 names_in (commands.SaveAs from to query) = from.now ∷ texts query.conditions.items
 names_in (commands.Rename from to) = from.now ∷ to.now ∷ []
 names_in (commands.Drop name) = name.now ∷ []
@@ -66,10 +67,10 @@ names_in (commands.Export name) = name.now ∷ []
 names_in commands.Check = []
 names_in commands.Compact = []
 
--- what it is without options: rows are appended of a stream, and all columns of all rows are printed
+-- what it is without options: rows are appended of a stream, and all columns of all rows are printed as arrays
 abbrev pub IsWithoutOptions : StoreCommand → Type 0
 IsWithoutOptions (commands.AppendText name form) = ⊥
-IsWithoutOptions (commands.Query name query) = (query.columns ≡ None) × (query.limit ≡ None)
+IsWithoutOptions (commands.Query name query form) = (query.columns ≡ None) × (query.limit ≡ None) × (form ≡ Array)
 IsWithoutOptions (commands.SaveAs from to query) = ⊥
 IsWithoutOptions _ = Unit {0}
 

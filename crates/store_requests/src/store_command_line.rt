@@ -5,9 +5,9 @@ ghost use Rattle.clap.specs.Walk.{texts};
 ghost use Rattle.clap.specs.Words.{app_of, first_value, found_of, new_app, rule_of, with_rule};
 ghost use Rattle.clap.specs.declared.builder.value_parser.ValueParser.{ValueParser};
 ghost use Rattle.store_requests.specs.declared.store_command_line.Mistake.TheVariants as mistakes;
-ghost use Rattle.store_requests.specs.Apps.{required_rule, sectors_rule, repeated_rule, option_rule, form_rule, null_rule, limit_rule};
+ghost use Rattle.store_requests.specs.Apps.{required_rule, sectors_rule, repeated_rule, option_rule, form_rule, null_rule, limit_rule, objects_rule};
 ghost use Rattle.store_requests.specs.Apps.{store_app, format_app, new_file_app, copy_app, table_app, rename_app, create_app, append_app, conditions_app, query_app};
-ghost use Rattle.store_requests.specs.Apps.{other_parameters, parameters_of, IsOwnApp, value_of, values_of, HasQuery, HasNames, HasFound, IsOfMemory, takes_number};
+ghost use Rattle.store_requests.specs.Apps.{other_parameters, parameters_of, IsOwnApp, value_of, values_of, HasQuery, HasForm, HasNames, HasFound, IsOfMemory, takes_number};
 ghost use Rattle.store_requests.specs.Asked.{command_word, request_word};
 ghost use Rattle.store_requests.specs.Operands.{are_right, names_file, names_table, number_of, Names};
 ghost use Rattle.store_requests.specs.StoreWords.{is_store_word, is_of_store, first_word};
@@ -15,7 +15,9 @@ ghost use Rattle.store_requests.specs.StoreWords.{is_store_word, is_of_store, fi
 use crate::replaying::{replay_request, with_faults};
 use crate::{QueryWords, StoreCommand, StoreRequest};
 use clap::builder::ValueParser;
-use clap::{Arg, ArgMatches, Command, Error};
+use clap::error::ErrorKind;
+use clap::{Arg, ArgAction, ArgMatches, Command, Error};
+use query::RowForm;
 use std::alloc::{AllocError, Global};
 use std::convert::AsStr;
 use std::str::FromStr;
@@ -267,6 +269,25 @@ fn query_words<'a>(alloc: Global, words: &ArgMatches<'a>) -> Result<QueryWords<'
     })
 }
 
+fn row_form(words: &ArgMatches<'_>) -> RowForm
+    ensures { HasForm (found_of words.now) result }
+{
+    if words.get_flag("objects") {
+        RowForm::Object
+    } else {
+        RowForm::Array
+    }
+}
+
+fn saved_objects(alloc: Global) -> Result<Mistake, AllocError> {
+    let mut command = Command::new(alloc, "query");
+    let error = command.error(
+        ErrorKind::ArgumentConflict,
+        "the argument '--objects' cannot be used with '--save <NEW>'",
+    )?;
+    Ok(Mistake::Words(error))
+}
+
 // What is selected is printed, or saved as a table.
 fn query_command<'a>(
     alloc: Global,
@@ -278,14 +299,17 @@ fn query_command<'a>(
     ensures named { IfOk result (HasNames (found_of words.now)) }
 {
     let query = query_words(alloc, words)?;
-    Ok(match words.get_str("save") {
-        Some(to) => StoreCommand::SaveAs {
+    let form = row_form(words);
+    match (words.get_str("save"), form) {
+        (None, _) => Ok(StoreCommand::Query { name, query, form }),
+        (Some(to), RowForm::Array) => Ok(StoreCommand::SaveAs {
             from: name,
             to,
             query,
-        },
-        None => StoreCommand::Query { name, query },
-    })
+        }),
+        // A table that is saved is not printed.
+        (Some(_), RowForm::Object) => Err(saved_objects(alloc)?),
+    }
 }
 
 fn create_command<'a>(
@@ -505,6 +529,15 @@ fn null_text<'a>(alloc: Global) -> Arg<'a>
     .hide_default_value(true)
 }
 
+fn objects<'a>(alloc: Global) -> Arg<'a>
+    ensures { (rule_of result ≡ objects_rule) × (result.global ≡ false) }
+{
+    Arg::new(alloc, "objects")
+        .long("objects")
+        .action(ArgAction::SetTrue)
+        .help("Prints each row as an object by the names of the columns, which then have to differ")
+}
+
 fn limit<'a>(alloc: Global) -> Arg<'a>
     ensures { (rule_of result ≡ limit_rule) × (result.global ≡ false) }
 {
@@ -672,7 +705,8 @@ fn with_query<'a>(alloc: Global, name: &'a str) -> Result<Command<'a>, AllocErro
     with_conditions(alloc, name)?
         .arg(columns)?
         .arg(limit(alloc))?
-        .arg(save)
+        .arg(save)?
+        .arg(objects(alloc))
 }
 
 // A command of a store.
