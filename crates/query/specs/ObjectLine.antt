@@ -28,9 +28,13 @@ members names cs = []
 abbrev pub object_line : List (List ℕ) → List Cell → List ℕ
 object_line names row = codes "{" ++ members names row ++ codes "}"
 
+-- one column has this name, and no other
+abbrev pub is_of_one : List Column → List ℕ → Bool
+is_of_one cs name = count_by (has_name name) cs == 1
+
 -- no two columns have the same name
-unfoldable pub are_named_apart : List Column → Bool
-are_named_apart cs = list_all (λ c. count_by (has_name (name_of_column c)) cs == 1) cs
+abbrev pub are_named_apart : List Column → Bool
+are_named_apart cs = list_all (is_of_one cs) (map name_of_column cs)
 
 -- the line of a row in each form
 abbrev pub line_in : RowForm → List Column → List Cell → List ℕ

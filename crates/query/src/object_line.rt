@@ -1,10 +1,9 @@
 // A row as an object of JSON.
 ghost use Rattle.std.specs.Prelude.{◌≡◌, ◌++◌, IfOk, OnOk, codes, map};
-ghost use Rattle.std.specs.List.{list_all};
 ghost use Rattle.arrow_schema.specs.Parts.{name_of_column};
 ghost use Rattle.arrow_schema.specs.View.{column_of};
 ghost use Rattle.values.specs.Borrowed.{borrowed_cell, borrowed_cells, values_left};
-ghost use Rattle.query.specs.ObjectLine.{member, members, other_members, object_line, are_named_apart, line_in};
+ghost use Rattle.query.specs.ObjectLine.{member, members, other_members, object_line, is_of_one, are_named_apart, line_in};
 
 use crate::RowForm;
 use crate::bound::count_named;
@@ -13,14 +12,22 @@ use arrow_schema::Field;
 use std::alloc::{AllocError, Global};
 use values::{ValueRef, Values, ValuesIter};
 
+fn is_of_one(fields: &[Field], name: &str) -> bool
+    ensures { result ≡ is_of_one (map column_of fields.now) name.now }
+{
+    count_named(fields, name) == 1
+}
+
 /// Whether no two of the fields have the same name: only then an object has a member for each.
-#[tactic(auto, unfolding(crate::specs::ObjectLine::are_named_apart))]
 pub fn are_named_apart(fields: &[Field]) -> bool
     ensures { result ≡ are_named_apart (map column_of fields.now) }
 {
-    fields
-        .iter()
-        .all(|field| count_named(fields, field.name.as_str()) == 1)
+    for field in fields {
+        if !is_of_one(fields, field.name.as_str()) {
+            return false;
+        }
+    }
+    true
 }
 
 fn push_member(

@@ -280,7 +280,7 @@ fn row_form(words: &ArgMatches<'_>) -> RowForm
 }
 
 fn saved_objects(alloc: Global) -> Result<Mistake, AllocError> {
-    let mut command = Command::new(alloc, "query");
+    let mut command = with_query(alloc, "query")?.bin_name("arrowstore query")?;
     let error = command.error(
         ErrorKind::ArgumentConflict,
         "the argument '--objects' cannot be used with '--save <NEW>'",
