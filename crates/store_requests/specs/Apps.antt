@@ -2,6 +2,7 @@
 use Rattle.std.specs.Prelude.{◌≡◌, Bool, true, false, ◌||◌, List, [], ◌∷◌, codes, Some, option_map, if◌then◌else◌, unwrap_or}
 use Rattle.std.specs.Str.{bytes_eq}
 use Rattle.clap.specs.Lexer.{usize_max}
+use Rattle.clap.specs.ValueTests.{accepts}
 use Rattle.clap.specs.Walk.{texts}
 use Rattle.clap.specs.Words.{App, Rule, Text, new_app, new_rule, with_rule, first_value, matched_of, one_text, raw_values, kind_of}
 use Rattle.clap.specs.declared.builder.action.ArgAction.TheVariants.{SetTrue}
@@ -88,6 +89,28 @@ abbrev pub query_app : Text → App
 query_app name = with_rule (with_rule (with_rule (with_rule (conditions_app name) (option_rule (codes "columns"))) limit_rule) (option_rule (codes "save")))
     objects_rule
 
+-- a script, and what goes wrong while it is played
+abbrev pub number_rule : Text → Rule
+number_rule id = record (option_rule id) { parser = Some (parsers.Unsigned 0 18446744073709551615) }
+
+abbrev pub size_rule : Rule
+size_rule = record (number_rule (codes "sectors")) { required = true }
+
+abbrev pub choice_rule : Rule
+choice_rule = record (option_rule (codes "choice")) { defaults = codes "old" ∷ [] }
+
+abbrev pub script_app : Text → App
+script_app name = with_rule (new_app name) (required_rule (codes "SCRIPT"))
+
+abbrev pub replay_app : Text → App
+replay_app name = with_rule (with_rule (with_rule (with_rule (script_app name) size_rule) (number_rule (codes "fail"))) (number_rule (codes "stop"))) choice_rule
+
+-- the forms of an input
+pub record AreForms (forms : ValueParser) : Type 0 where
+  pub stream : accepts false forms (codes "stream") ≡ true
+  pub csv : accepts false forms (codes "csv") ≡ true
+  pub lines : accepts false forms (codes "jsonl") ≡ true
+
 -- the command of a name, by what it takes
 abbrev pub IsAppWith : Text → Parameters → App → Type 0
 IsAppWith name parameters.Nothing command = command ≡ store_app name
@@ -96,10 +119,9 @@ IsAppWith name parameters.TableAndNewName command = command ≡ rename_app name
 IsAppWith name parameters.Sectors command = command ≡ format_app name
 IsAppWith name parameters.NewStore command = command ≡ copy_app name
 IsAppWith name parameters.TableAndFields command = command ≡ create_app name
-IsAppWith name parameters.TableAndRows command = (forms : ValueParser) × (command ≡ append_app forms name)
+IsAppWith name parameters.TableAndRows command = (forms : ValueParser) × AreForms forms × (command ≡ append_app forms name)
 IsAppWith name parameters.TableAndQuery command = command ≡ query_app name
--- one that is of no store: a script, and options
-IsAppWith name parameters.ScriptAndFaults command = Unit {0}
+IsAppWith name parameters.ScriptAndFaults command = command ≡ replay_app name
 
 -- what the command of a word takes
 unfoldable pub other_parameters : Text → Parameters
@@ -165,7 +187,3 @@ HasFound found (requests.Replay words) =
 abbrev pub IsOfMemory : Mistake → Type 0
 IsOfMemory (mistakes.Words error) = kind_of error ≡ OutOfMemory
 IsOfMemory mistakes.SignedNumber = ⊥
-
--- the words of commands that take a number
-abbrev pub takes_number : Text → Bool
-takes_number word = bytes_eq (codes "format") word || (bytes_eq (codes "copy") word || (bytes_eq (codes "query") word || bytes_eq (codes "replay") word))

@@ -33,20 +33,6 @@ names_file word = bytes_eq (codes "tables") word || (bytes_eq (codes "check") wo
 unfoldable pub names_table : Text → Bool
 names_table word = bytes_eq (codes "import") word || (bytes_eq (codes "drop") word || (bytes_eq (codes "schema") word || bytes_eq (codes "export") word))
 
--- how many operands these commands take, and the one that gives a table another name
-abbrev pub wanted : Text → Option ℕ
-wanted word = if names_file word then Some 1 else (if names_table word then Some 2 else (if bytes_eq (codes "rename") word then Some 3 else None))
-
-abbrev pub are_as_many : Option ℕ → Option (List Text) → Bool
-are_as_many (Some n) (Some words) = length words == n
-are_as_many _ _ = false
-
--- the program's name, one of these commands, and as many operands as it takes
-unfoldable pub are_right : List Text → Bool
-are_right [] = false
-are_right (name ∷ []) = false
-are_right (name ∷ word ∷ rest) = are_as_many (wanted word) (operands rest)
-
 -- the number that decimal digits write; a plus sign before them does not count
 abbrev pub number_of : Text → ℕ
 number_of word = digits_value 10 (without_leading_plus word)
