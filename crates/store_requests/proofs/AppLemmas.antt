@@ -1,6 +1,6 @@
 -- What the commands of names alone make of their operands.
 use Rattle.std.proofs.Common.{◌≡◌, ◌⊎◌, ◌∙◌, ◌==◌, ◌+◌, ◌^◌, ◌<◌, ◌≤◌, ◌&&◌, ℕ, Bool, true, false, refl, sym, ap, ap₂, subst, subst₂, List, [], ◌∷◌, ◌++◌, length, drop, codes, Option, Some, None, inl}
-use Rattle.std.proofs.Common.{inr, eqb-true, ltb-true, le-ltb, le-leb, zero-le, true≢false, arith}
+use Rattle.std.proofs.Common.{inr, eqb-true, ltb-true, le-ltb, le-leb, leb-true, true≢false, arith}
 use Rattle.std.proofs.lemmas.Bool.{and_parts, and_from}
 use Rattle.std.specs.Prelude.{IfSome, IfOk, Result, Ok, Err, option_map, unwrap_or, nat_le, nat_lt}
 use Rattle.std.specs.Char.{digit_value}
@@ -570,7 +570,9 @@ digits_alone : (c : ℕ) (cs : Text) (plus : Bool) → (c == 43) ≡ plus → is
 unfolding is_number
 digits_alone c cs true e is =
     let sign : is_number (43 ∷ cs) ≡ true = subst (λ (x : ℕ). is_number (x ∷ cs) ≡ true) (eqb-true c 43 e) is in
-    absurd (true≢false (sym sign))
+    let some = and_parts (nat_lt 0 (length (43 ∷ cs))) (list_all (λ d. nat_lt (digit_value d) 10) (43 ∷ cs) && nat_lt (digits_value 10 (43 ∷ cs)) (2 ^ 64))
+    sign in
+    absurd (true≢false (sym some.1))
 digits_alone c cs false e is = rw e refl
 
 pub without_plus : (word : Text) → is_number word ≡ true → without_leading_plus word ≡ word
@@ -588,7 +590,7 @@ number_in_bounds word is =
     let some = and_parts (nat_lt 0 (length word)) (list_all (λ c. nat_lt (digit_value c) 10) word && nat_lt n (2 ^ 64)) is in
     let all = and_parts (list_all (λ c. nat_lt (digit_value c) 10) word) (nat_lt n (2 ^ 64)) some.1 in
     let below : n < 18446744073709551616 = ltb-true n (2 ^ 64) all.1 in
-    and_from _ _ (and_from _ _ some.0 all.0) (and_from _ _ all.1 (and_from _ _ (le-leb 0 n (zero-le n)) (le-leb n 18446744073709551615 (omega (arith, below)))))
+    and_from _ _ (and_from _ _ some.0 all.0) (and_from _ _ all.1 (and_from _ _ (le-leb 0 n (omega arith)) (le-leb n 18446744073709551615 (omega (arith, below)))))
 
 number_accepted : (word : Text) → is_number word ≡ true → is_unsigned_in 0 18446744073709551615 word ≡ true
 number_accepted word is = subst (λ (t : Text). in_bounds t ≡ true) (sym (without_plus word is)) (number_in_bounds word is)
@@ -622,8 +624,8 @@ texts_accepted (v ∷ vs) = texts_accepted vs
 
 full_create : (name : Text) (ops : List Text) → nat_le 2 (length ops) ≡ true → length ops ≤ usize_max → operands_fault (create_top name) ops ≡ []
 unfolding walked clap_on_literals
-full_create name [] e few = absurd (true≢false (sym e))
-full_create name (a ∷ []) e few = absurd (true≢false (sym e))
+full_create name [] e few = let two : 2 ≤ 0 = leb-true 2 0 e in absurd (omega (arith, two))
+full_create name (a ∷ []) e few = let two : 2 ≤ length (a ∷ []) = leb-true 2 (length (a ∷ [])) e in absurd (omega (arith, two))
 full_create name (a ∷ b ∷ []) e few = refl
 full_create name (a ∷ b ∷ c ∷ rest) e few =
     let s = create_top name in
@@ -631,12 +633,13 @@ full_create name (a ∷ b ∷ c ∷ rest) e few =
     let held = words_read s (codes "FIELD") rows (field_met name a b) (c ∷ []) rest in
     let free = words_faultless s (codes "FIELD") rows (field_met name a b) (λ vs v. refl) (c ∷ []) rest in
     let within : nat_lt usize_max (length (c ∷ rest)) ≡ false = le-ltb usize_max (length (c ∷ rest)) (omega (arith, few)) in
-    ap₂ (level_with s) free held ∙ rw (within, texts_accepted rest) refl
+    let some : nat_lt (length (c ∷ rest)) 0 ≡ false = le-ltb (length (c ∷ rest)) 0 (omega arith) in
+    ap₂ (level_with s) free held ∙ rw (some, within, texts_accepted rest) refl
 
 full_query : (name : Text) (ops : List Text) → nat_le 2 (length ops) ≡ true → length ops ≤ usize_max → operands_fault (query_top name) ops ≡ []
 unfolding walked clap_on_literals
-full_query name [] e few = absurd (true≢false (sym e))
-full_query name (a ∷ []) e few = absurd (true≢false (sym e))
+full_query name [] e few = let two : 2 ≤ 0 = leb-true 2 0 e in absurd (omega (arith, two))
+full_query name (a ∷ []) e few = let two : 2 ≤ length (a ∷ []) = leb-true 2 (length (a ∷ [])) e in absurd (omega (arith, two))
 full_query name (a ∷ b ∷ []) e few = refl
 full_query name (a ∷ b ∷ c ∷ rest) e few =
     let s = query_top name in
@@ -644,7 +647,8 @@ full_query name (a ∷ b ∷ c ∷ rest) e few =
     let held = words_read s (codes "CONDITION") rows (condition_met name a b) (c ∷ []) rest in
     let free = words_faultless s (codes "CONDITION") rows (condition_met name a b) (λ vs v. refl) (c ∷ []) rest in
     let within : nat_lt usize_max (length (c ∷ rest)) ≡ false = le-ltb usize_max (length (c ∷ rest)) (omega (arith, few)) in
-    ap₂ (level_with s) free held ∙ rw (within, texts_accepted rest) refl
+    let some : nat_lt (length (c ∷ rest)) 0 ≡ false = le-ltb (length (c ∷ rest)) 0 (omega arith) in
+    ap₂ (level_with s) free held ∙ rw (some, within, texts_accepted rest) refl
 
 abbrev IsFaultless : App → List Text → Type 0
 IsFaultless a words = (is_simple_and_free a ≡ true) × (fault_of a words ≡ [])
