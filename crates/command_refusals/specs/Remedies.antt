@@ -44,7 +44,7 @@ unfoldable pub text_remedy : text_refusals.Refusal → List ℕ
 text_remedy texts.Header = remedies.NAMES_FIRST.now
 text_remedy texts.Nested = remedies.GIVE_JSON_LINES.now
 text_remedy texts.AmbiguousNames = remedies.GIVE_ARRAYS.now
-text_remedy _ = remedies.MEND_RECORD.now
+text_remedy _ = remedies.FIX_RECORD.now
 
 -- of a query
 unfoldable pub query_remedy : QueryRefusal → List ℕ
@@ -67,7 +67,7 @@ store_remedy stores.NameTaken = remedies.OTHER_NAME.now
 store_remedy stores.BadName = remedies.FORM_OF_A_NAME.now
 store_remedy stores.SchemaMismatch = remedies.FIELDS_OF_THE_TABLE.now
 store_remedy (stores.Import fault) = fault_remedy fault
-store_remedy (stores.RowUnfit row) = remedies.MEND_ROW.now
+store_remedy (stores.RowUnfit row) = remedies.FIX_ROW.now
 store_remedy (stores.TooMany limit) = remedies.GIVE_LESS.now
 store_remedy (stores.NoRoom sectors) = remedies.MORE_ROOM.now
 store_remedy stores.Device = remedies.LOOK_AGAIN.now

@@ -4,12 +4,12 @@ ghost use Rattle.command_refusals.specs.Page.{refusals_page};
 
 use crate::remedies::{
     CONVERT_COLUMN, EARLIER_COPY, FEWER_FIELDS, FEWER_ROWS, FIELDS_OF_THE_TABLE, FILE_OF_A_STORE,
-    FORM_OF_A_CONDITION, FORM_OF_A_FIELD, FORM_OF_A_NAME, GIVE_A_STREAM, GIVE_ALL, GIVE_ARRAYS,
-    GIVE_JSON_LINES, GIVE_LESS, IMPORT_AGAIN, LEAVE_OUT_MESSAGES, LINES_OF_A_SCRIPT, LITTLE_ENDIAN,
-    LOOK_AGAIN, MEND_RECORD, MEND_ROW, MORE_MEMORY, MORE_ROOM, NAME_OF_A_TABLE, NAMES_FIRST,
-    NAMES_OF_COLUMNS, NO_COMPRESSION, ONE_STREAM, OTHER_NAME, SCHEMA_FIRST, SEE_TO_FILES,
-    SHORTER_BATCHES, SIZE_OF_A_STORE, SMALLER_FIELDS, TEST_FOR_NULL, TRY_AGAIN, WRITE_AGAIN,
-    WRITE_V5,
+    FIX_RECORD, FIX_ROW, FORM_OF_A_CONDITION, FORM_OF_A_FIELD, FORM_OF_A_NAME, GIVE_A_STREAM,
+    GIVE_ALL, GIVE_ARRAYS, GIVE_JSON_LINES, GIVE_LESS, IMPORT_AGAIN, LEAVE_OUT_MESSAGES,
+    LINES_OF_A_SCRIPT, LITTLE_ENDIAN, LOOK_AGAIN, MORE_MEMORY, MORE_ROOM, NAME_OF_A_TABLE,
+    NAMES_FIRST, NAMES_OF_COLUMNS, NO_COMPRESSION, ONE_STREAM, OTHER_NAME, SCHEMA_FIRST,
+    SEE_TO_FILES, SHORTER_BATCHES, SIZE_OF_A_STORE, SMALLER_FIELDS, TEST_FOR_NULL, TRY_AGAIN,
+    WRITE_AGAIN, WRITE_V5,
 };
 use std::alloc::{AllocError, Global};
 
@@ -52,7 +52,7 @@ imported or appended. A fault without a remedy of its own lies with the program 
     LEAVE_OUT_MESSAGES,
     "
 - F8 BodyLength: the body of a message has a negative length.
-- F9 NoSchema: the input ends, or a batch comes, before a schema. An empty input is told so too.
+- F9 NoSchema: the input ends, or a batch comes, before a schema. An empty input is reported so too.
   ",
     SCHEMA_FIRST,
     "
@@ -151,11 +151,11 @@ imported or appended. A fault without a remedy of its own lies with the program 
 
 ## X: a text that was to be appended
 
-N is the number of the record that is refused, the first one: counted from 1, in CSV behind the line of
+N is the number of the record that is refused, the first one: counted from 1, in CSV after the line of
 names, in JSON Lines without blank lines. It is 0 where the whole text is. No row of the input is
 appended. A refusal without a remedy of its own lies with that record.
 ",
-    MEND_RECORD,
+    FIX_RECORD,
     "
 
 - X1 Header 0: the first line is not the names of the columns.
@@ -189,7 +189,8 @@ appended. A refusal without a remedy of its own lies with that record.
 
 ## Q: a query
 
-- Q1 UnknownColumn: no column has a name of the query, or two have, or `--columns` lists one twice.
+- Q1 UnknownColumn: no column has a name of the query, or two have, or `--columns` lists one twice; or
+  rows are to be objects (`--objects`), and two of the chosen columns have one name.
   ",
     NAMES_OF_COLUMNS,
     "
@@ -221,14 +222,14 @@ appended. A refusal without a remedy of its own lies with that record.
 - S5 Import FAULT: the input has no meaning as a stream, for this fault (F).
 - S6 RowUnfit N: of the new rows the one at N, counted from 0, is the first that the table does not take.
   ",
-    MEND_ROW,
+    FIX_ROW,
     "
 - S7 TooMany WHAT: a limit would be passed. Bytes: 2,147,483,647 of an input. Tables: 1,024. Segments:
   65,536 of all tables, of up to 4,096 rows each. Weight: 268,435,456 of a table (F28). Epochs: the
   store has taken as many changes as it can number. ",
     GIVE_LESS,
     "
-- S8 NoRoom N: so many free sectors in a row are nowhere in the store.
+- S8 NoRoom N: nowhere in the store are N free sectors in a row.
   ",
     MORE_ROOM,
     "

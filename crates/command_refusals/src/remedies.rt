@@ -66,7 +66,7 @@ pub const SMALLER_FIELDS: &str = "Give fewer or shorter fields, with smaller num
 
 // ---- X: of a text
 
-pub const MEND_RECORD: &str = "Mend the record, and append all of the text again.";
+pub const FIX_RECORD: &str = "Fix the record, and append all of the text again.";
 
 pub const NAMES_FIRST: &str =
     "Begin the text with the names of the columns in order, which `schema` prints.";
@@ -96,7 +96,7 @@ pub const FORM_OF_A_NAME: &str = "Take a name of 1 to 64 ASCII letters, digits, 
 pub const FIELDS_OF_THE_TABLE: &str =
     "Give rows with the fields of the table: `schema` prints them.";
 
-pub const MEND_ROW: &str = "Mend the row, and append all rows again.";
+pub const FIX_ROW: &str = "Fix the row, and append all rows again.";
 
 pub const GIVE_LESS: &str = "Give less, or use a new store.";
 
@@ -178,7 +178,7 @@ fn text_remedy(refusal: text_import::Refusal) -> &'static str
         | text_import::Refusal::FixedWidth
         | text_import::Refusal::TooHeavy
         | text_import::Refusal::DictionaryFull
-        | text_import::Refusal::WrongKind => MEND_RECORD,
+        | text_import::Refusal::WrongKind => FIX_RECORD,
     }
 }
 
@@ -216,7 +216,7 @@ fn store_remedy(refusal: tables::Refusal) -> &'static str
         tables::Refusal::BadName => FORM_OF_A_NAME,
         tables::Refusal::SchemaMismatch => FIELDS_OF_THE_TABLE,
         tables::Refusal::Import(fault) => fault_remedy(fault),
-        tables::Refusal::RowUnfit(_) => MEND_ROW,
+        tables::Refusal::RowUnfit(_) => FIX_ROW,
         tables::Refusal::TooMany(_) => GIVE_LESS,
         tables::Refusal::NoRoom(_) => MORE_ROOM,
         tables::Refusal::Device | tables::Refusal::Halted => LOOK_AGAIN,

@@ -5,6 +5,7 @@ pub mod Bound
 pub mod Selection
 pub mod Choice
 pub mod Line
+pub mod ObjectLine
 pub mod View
 pub mod laws
 pub mod inner

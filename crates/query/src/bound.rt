@@ -39,7 +39,8 @@ fn has_name(field: &Field, name: &str) -> bool
     field.name.as_str() == name
 }
 
-fn count_named(fields: &[Field], name: &str) -> usize
+// How many of the fields have this name.
+pub(crate) fn count_named(fields: &[Field], name: &str) -> usize
     ensures { result ≡ count_by (λ f. has_name name.now (column_of f)) fields.now }
 {
     fields.iter().filter(|field| has_name(field, name)).count()

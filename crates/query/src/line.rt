@@ -25,7 +25,7 @@ pub fn json_line(alloc: Global, row: Values<'_>) -> Result<Vec<u8>, AllocError>
     Ok(text)
 }
 
-fn push_bytes(out: &mut Vec<u8>, bytes: &[u8]) -> Result<(), AllocError>
+pub(crate) fn push_bytes(out: &mut Vec<u8>, bytes: &[u8]) -> Result<(), AllocError>
     ensures { OnOk result (out.new.items ≡ out.old.items ++ bytes.now) }
 {
     out.extend_from_slice(bytes)
@@ -39,7 +39,7 @@ fn push_number(out: &mut Vec<u8>, number: i128) -> Result<(), AllocError>
 }
 
 #[tactic(auto, unfolding(json::specs::Print::print_from))]
-fn push_text(alloc: Global, out: &mut Vec<u8>, text: &str) -> Result<(), AllocError>
+pub(crate) fn push_text(alloc: Global, out: &mut Vec<u8>, text: &str) -> Result<(), AllocError>
     ensures { OnOk result (out.new.items ≡ out.old.items ++ quoted text.now) }
 {
     let mut writer = Writer::new(mem::replace(out, Vec::new(alloc)));
@@ -78,7 +78,11 @@ fn push_quoted_hex(out: &mut Vec<u8>, bytes: &[u8]) -> Result<(), AllocError>
 
 #[tactic(auto, unfolding(crate::specs::Line::json_of))]
 #[cycle(line)]
-fn push_value(alloc: Global, out: &mut Vec<u8>, value: ValueRef<'_>) -> Result<(), AllocError>
+pub(crate) fn push_value(
+    alloc: Global,
+    out: &mut Vec<u8>,
+    value: ValueRef<'_>,
+) -> Result<(), AllocError>
     ensures { OnOk result (out.new.items ≡ out.old.items ++ json_of (borrowed_cell value.entry)) }
 {
     match value {

@@ -1,5 +1,5 @@
 -- A script that is replayed: on which device, what was answered, what a crash left of it, and what is printed.
-use Rattle.std.specs.Prelude.{◌≡◌, ◌+◌, ◌-◌, ◌^◌, ◌++◌, ℕ, zero, suc, min, true, List, [], ◌∷◌, take, length, codes, Option, IfSome, Ok, Err}
+use Rattle.std.specs.Prelude.{◌≡◌, ◌≢◌, ◌+◌, ◌-◌, ◌^◌, ◌++◌, ℕ, zero, suc, min, true, List, [], ◌∷◌, take, length, codes, Option, IfSome, Ok, Err}
 use Rattle.sector_dev.specs.Disk.{now, shown_image}
 use Rattle.sector_dev.specs.Chosen.{IsChosen}
 use Rattle.sector_dev.specs.Faults.{no_faults}
@@ -25,6 +25,7 @@ use Rattle.store.specs.Places.{AreCallsOf, device_in, ShutFits}
 use Rattle.store.specs.Answering.{AnswersCall}
 use Rattle.store.specs.Opening.{IsOfFormatting}
 use Rattle.commit.specs.Standing.{is_size}
+use Rattle.commit.specs.declared.opening_refusal.OpeningRefusal.{OpeningRefusal}
 use Rattle.commit.specs.declared.opening_refusal.OpeningRefusal.TheVariants as openings
 use Rattle.command_refusals.specs.declared.refusal.Refusal.{Refusal}
 use Rattle.command_refusals.specs.declared.refusal.Refusal.TheVariants.{TooManyBytes, Io, BadScript, Opening, OutOfMemory}
@@ -139,9 +140,13 @@ IsOfReading Io = Unit {0}
 IsOfReading OutOfMemory = Unit {0}
 IsOfReading _ = ⊥
 
--- a new device does not become an empty store
+-- a new device, on which no store stands, is not formatted
+abbrev pub IsOfNewDevice : (sectors : ℕ) → OpeningRefusal → Type 0
+IsOfNewDevice sectors refusal = (refusal ≢ openings.AlreadyAStore) × IsOfFormatting sectors refusal
+
+-- it does not become an empty store
 abbrev pub FailsToFormat : (sectors : ℕ) → Refusal → Type 0
-FailsToFormat sectors (Opening refusal) = IsOfFormatting sectors refusal
+FailsToFormat sectors (Opening refusal) = IsOfNewDevice sectors refusal
 FailsToFormat sectors OutOfMemory = Unit {0}
 FailsToFormat sectors _ = ⊥
 
@@ -161,7 +166,7 @@ RefusesScript script _ = ⊥
 -- the number of sectors is none of a store, which is told first; some file has a script whose line of this number is the first that is none; a file can't be
 -- read, or the output can't be written; or memory is refused
 abbrev pub RefusesReplay : {F : Type 0} → (remaining : F → Option (List ℕ)) → (sectors : ℕ) → Refusal → Type 0
-RefusesReplay remaining sectors (Opening refusal) = IsOfFormatting sectors refusal
+RefusesReplay remaining sectors (Opening refusal) = IsOfNewDevice sectors refusal
 RefusesReplay remaining sectors (BadScript number) = (is_size sectors ≡ true) × ((script : List ℕ) × IsOfFile remaining script × IsScript script (Err (BadLine number)))
 RefusesReplay remaining sectors Io = is_size sectors ≡ true
 RefusesReplay remaining sectors TooManyBytes = is_size sectors ≡ true

@@ -3,3 +3,4 @@ pub mod Asked
 pub mod Operands
 pub mod Choices
 pub mod Apps
+pub mod Right

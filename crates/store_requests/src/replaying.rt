@@ -1,9 +1,10 @@
 // A script that is played on a device in memory, as words of a command line.
-ghost use Rattle.std.specs.Prelude.{◌≡◌, codes, IfSome, IfOk};
-ghost use Rattle.clap.specs.Words.{found_of};
-ghost use Rattle.store_requests.specs.Apps.{HasFound};
+ghost use Rattle.std.specs.Prelude.{◌≡◌, true, false, codes, IfSome, IsSome, IfOk, IfErr};
+ghost use Rattle.clap.specs.Words.{app_of, found_of, rule_of};
+ghost use Rattle.store_requests.specs.Apps.{HasFound, IsOfMemory, number_rule, choice_rule, replay_app};
 ghost use Rattle.store_requests.specs.Asked.{request_word};
 ghost use Rattle.store_requests.specs.Choices.{IsNumber, IsChoice};
+ghost use Rattle.store_requests.specs.Right.{is_number, IsLost, NamesChoice, IsFoundTakable};
 
 use crate::store_command_line::{number_in, option, with_operand, word};
 use crate::{Mistake, StoreRequest};
@@ -30,7 +31,8 @@ pub struct ReplayWords<'a> {
 
 // A number in decimal digits alone.
 fn number_of(text: &str) -> Option<u64>
-    ensures { IfSome result (IsNumber text.now) }
+    ensures read { IfSome result (IsNumber text.now) }
+    ensures taken { is_number text.now ≡ true → IsSome result }
 {
     if text.starts_with('+') {
         return None;
@@ -40,7 +42,8 @@ fn number_of(text: &str) -> Option<u64>
 
 // The sectors that are lost: all, or those of the bits.
 fn lost_of(text: &str) -> Option<Choice>
-    ensures { IfSome result (IsChoice text.now) }
+    ensures read { IfSome result (IsChoice text.now) }
+    ensures taken { IsLost text.now → IsSome result }
 {
     if text == "lost" {
         return Some(Choice::Lost(u64::MAX));
@@ -50,7 +53,8 @@ fn lost_of(text: &str) -> Option<Choice>
 
 // What a word says that a crash leaves.
 fn choice_of(text: &str) -> Option<Choice>
-    ensures { IfSome result (IsChoice text.now) }
+    ensures read { IfSome result (IsChoice text.now) }
+    ensures taken { NamesChoice text.now → IsSome result }
 {
     match text {
         "old" => Some(Choice::Old),
@@ -81,6 +85,7 @@ pub(crate) fn replay_request<'a>(
 ) -> Result<StoreRequest<'a>, Mistake>
     ensures word { IfOk result (λ request. request_word request ≡ codes "replay") }
     ensures named { IfOk result (HasFound (found_of words.now)) }
+    ensures taken { IsFoundTakable (codes "replay") (found_of words.now) → IfErr result IsOfMemory }
 {
     let Some(choice) = choice_of(word(words, "choice")) else {
         return Err(wrong_choice(alloc)?);
@@ -94,11 +99,15 @@ pub(crate) fn replay_request<'a>(
     }))
 }
 
-fn number<'a>(alloc: Global, id: &'a str, value: &'a str, help: &'a str) -> Arg<'a> {
+fn number<'a>(alloc: Global, id: &'a str, value: &'a str, help: &'a str) -> Arg<'a>
+    ensures { (rule_of result ≡ number_rule id.entry.now) × (result.global ≡ false) }
+{
     option(alloc, id, value, help).value_parser(ValueParser::unsigned(0, u64::MAX))
 }
 
-fn choice<'a>(alloc: Global) -> Arg<'a> {
+fn choice<'a>(alloc: Global) -> Arg<'a>
+    ensures { (rule_of result ≡ choice_rule) × (result.global ≡ false) }
+{
     option(
         alloc,
         "choice",
@@ -109,7 +118,9 @@ fn choice<'a>(alloc: Global) -> Arg<'a> {
 }
 
 /// The command with its script, the size of the device, and what goes wrong on it.
-pub(crate) fn with_faults<'a>(alloc: Global, name: &'a str) -> Result<Command<'a>, AllocError> {
+pub(crate) fn with_faults<'a>(alloc: Global, name: &'a str) -> Result<Command<'a>, AllocError>
+    ensures { IfOk result (λ c. app_of c ≡ replay_app name.now) }
+{
     with_operand(alloc, name, "SCRIPT", "The file of the script")?
         .arg(number(
             alloc,

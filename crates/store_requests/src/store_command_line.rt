@@ -1,21 +1,25 @@
 // How `clap` reads a command line of a store.
-ghost use Rattle.std.specs.Prelude.{◌≡◌, true, false, codes, map, drop, option_map, IfOk, IfErr};
+ghost use Rattle.std.specs.Prelude.{◌≡◌, true, false, codes, map, drop, option_map, IfOk, IfErr, IsOk};
+ghost use Rattle.std.specs.Option.{option_map_or};
 ghost use Rattle.std.specs.Str.{bytes_eq};
 ghost use Rattle.clap.specs.Walk.{texts};
 ghost use Rattle.clap.specs.Words.{app_of, first_value, found_of, new_app, rule_of, with_rule};
 ghost use Rattle.clap.specs.declared.builder.value_parser.ValueParser.{ValueParser};
 ghost use Rattle.store_requests.specs.declared.store_command_line.Mistake.TheVariants as mistakes;
-ghost use Rattle.store_requests.specs.Apps.{required_rule, sectors_rule, repeated_rule, option_rule, form_rule, null_rule, limit_rule};
+ghost use Rattle.store_requests.specs.Apps.{required_rule, sectors_rule, repeated_rule, option_rule, form_rule, null_rule, limit_rule, objects_rule};
 ghost use Rattle.store_requests.specs.Apps.{store_app, format_app, new_file_app, copy_app, table_app, rename_app, create_app, append_app, conditions_app, query_app};
-ghost use Rattle.store_requests.specs.Apps.{other_parameters, parameters_of, IsOwnApp, value_of, values_of, HasQuery, HasNames, HasFound, IsOfMemory, takes_number};
+ghost use Rattle.store_requests.specs.Apps.{AreForms, other_parameters, parameters_of, IsOwnApp, value_of, values_of, HasQuery, HasForm, HasNames, HasFound, IsOfMemory};
 ghost use Rattle.store_requests.specs.Asked.{command_word, request_word};
-ghost use Rattle.store_requests.specs.Operands.{are_right, names_file, names_table, number_of, Names};
+ghost use Rattle.store_requests.specs.Operands.{names_file, names_table, number_of, Names};
+ghost use Rattle.store_requests.specs.Right.{is_number, AreRightWords, IsFoundTakable};
 ghost use Rattle.store_requests.specs.StoreWords.{is_store_word, is_of_store, first_word};
 
 use crate::replaying::{replay_request, with_faults};
 use crate::{QueryWords, StoreCommand, StoreRequest};
 use clap::builder::ValueParser;
-use clap::{Arg, ArgMatches, Command, Error};
+use clap::error::ErrorKind;
+use clap::{Arg, ArgAction, ArgMatches, Command, Error};
+use query::RowForm;
 use std::alloc::{AllocError, Global};
 use std::convert::AsStr;
 use std::str::FromStr;
@@ -63,9 +67,11 @@ pub fn request_of<'a, S: AsStr>(
         → IfOk result (λ request. request_word request ≡ first_word (map S.text arguments.now)) }
     // Where these are operands alone, they are its files, names, fields, conditions and numbers, and it has no option.
     ensures named { is_of_store (map S.text arguments.now) ≡ true → IfOk result (Names (map S.text arguments.now)) }
-    // As many operands as a command of names takes are right.
-    ensures taken { are_right (map S.text arguments.now) ≡ true → IfErr result IsOfMemory }
+    // Operands alone that the command takes are right, and so is all that `clap` takes, with options too, where each number has digits alone.
+    ensures taken { AreRightWords (map S.text arguments.now) → IfErr result IsOfMemory }
 {
+    // A number of the code is below 2^64, and so is that of the words.
+    let _count = arguments.len();
     let word = first_word(arguments);
     let command = own_command(alloc, program_name(arguments), word)?;
     let matches = command.try_get_matches_from(words_from_command(arguments))?;
@@ -91,7 +97,7 @@ fn asked<'a>(
 ) -> Result<StoreRequest<'a>, Mistake>
     ensures word { is_store_word command.now ≡ true → IfOk result (λ request. request_word request ≡ command.now) }
     ensures named { IfOk result (HasFound (found_of words.now)) }
-    ensures taken { takes_number command.now ≡ false → IfErr result IsOfMemory }
+    ensures taken { IsFoundTakable command.now (found_of words.now) → IfErr result IsOfMemory }
 {
     let path = word(words, "STORE");
     match command {
@@ -114,7 +120,7 @@ fn command_request<'a>(
         → bytes_eq (codes "replay") command.now ≡ false
         → IfOk result (λ request. request_word request ≡ command.now) }
     ensures named { IfOk result (HasFound (found_of words.now)) }
-    ensures taken { takes_number command.now ≡ false → IfErr result IsOfMemory }
+    ensures taken { IsFoundTakable command.now (found_of words.now) → IfErr result IsOfMemory }
 {
     let command = command_of(alloc, command, words)?;
     Ok(StoreRequest::Command { path, command })
@@ -154,7 +160,8 @@ fn words_from_command<S: AsStr>(arguments: &[S]) -> &[S]
 
 // Numbers are decimal digits alone. `clap` takes a plus sign before them, and has refused all else.
 fn number(text: &str) -> Result<u64, Mistake>
-    ensures { IfOk result (λ n. n ≡ number_of text.now) }
+    ensures read { IfOk result (λ n. n ≡ number_of text.now) }
+    ensures taken { is_number text.now ≡ true → IsOk result }
 {
     if text.starts_with('+') {
         return Err(Mistake::SignedNumber);
@@ -189,14 +196,16 @@ fn words_of<'a>(
 }
 
 fn sectors_of(words: &ArgMatches<'_>) -> Result<u64, Mistake>
-    ensures { IfOk result (λ sectors. sectors ≡ number_of (value_of (found_of words.now) (codes "SECTORS"))) }
+    ensures read { IfOk result (λ sectors. sectors ≡ number_of (value_of (found_of words.now) (codes "SECTORS"))) }
+    ensures taken { is_number (value_of (found_of words.now) (codes "SECTORS")) ≡ true → IsOk result }
 {
     number(word(words, "SECTORS"))
 }
 
 /// The number of an argument; 0 where there is none.
 pub(crate) fn number_in(words: &ArgMatches<'_>, id: &str) -> Result<u64, Mistake>
-    ensures { IfOk result (λ n. n ≡ number_of (value_of (found_of words.now) id.now)) }
+    ensures read { IfOk result (λ n. n ≡ number_of (value_of (found_of words.now) id.now)) }
+    ensures taken { option_map_or is_number (first_value (found_of words.now) id.now) true ≡ true → IsOk result }
 {
     match words.get_str(id) {
         Some(text) => number(text),
@@ -205,7 +214,8 @@ pub(crate) fn number_in(words: &ArgMatches<'_>, id: &str) -> Result<u64, Mistake
 }
 
 fn limit_of(words: &ArgMatches<'_>) -> Result<Option<u64>, Mistake>
-    ensures { IfOk result (λ limit. limit ≡ option_map number_of (first_value (found_of words.now) (codes "limit"))) }
+    ensures read { IfOk result (λ limit. limit ≡ option_map number_of (first_value (found_of words.now) (codes "limit"))) }
+    ensures taken { option_map_or is_number (first_value (found_of words.now) (codes "limit")) true ≡ true → IsOk result }
 {
     match words.get_str("limit") {
         Some(text) => Ok(Some(number(text)?)),
@@ -217,6 +227,7 @@ fn format_request<'a>(path: &'a str, words: &ArgMatches<'a>) -> Result<StoreRequ
     requires { path.now ≡ value_of (found_of words.now) (codes "STORE") }
     ensures word { IfOk result (λ request. request_word request ≡ codes "format") }
     ensures named { IfOk result (HasFound (found_of words.now)) }
+    ensures taken { is_number (value_of (found_of words.now) (codes "SECTORS")) ≡ true → IsOk result }
 {
     let sectors = sectors_of(words)?;
     Ok(StoreRequest::Format { path, sectors })
@@ -226,6 +237,7 @@ fn copy_request<'a>(path: &'a str, words: &ArgMatches<'a>) -> Result<StoreReques
     requires { path.now ≡ value_of (found_of words.now) (codes "STORE") }
     ensures word { IfOk result (λ request. request_word request ≡ codes "copy") }
     ensures named { IfOk result (HasFound (found_of words.now)) }
+    ensures taken { is_number (value_of (found_of words.now) (codes "SECTORS")) ≡ true → IsOk result }
 {
     let sectors = sectors_of(words)?;
     let new = word(words, "NEW");
@@ -258,13 +270,33 @@ fn append_command<'a>(name: &'a str, words: &ArgMatches<'a>) -> StoreCommand<'a>
 }
 
 fn query_words<'a>(alloc: Global, words: &ArgMatches<'a>) -> Result<QueryWords<'a>, Mistake>
-    ensures { IfOk result (HasQuery (found_of words.now)) }
+    ensures read { IfOk result (HasQuery (found_of words.now)) }
+    ensures taken { option_map_or is_number (first_value (found_of words.now) (codes "limit")) true ≡ true → IfErr result IsOfMemory }
 {
     Ok(QueryWords {
         conditions: words_of(alloc, words, "CONDITION")?,
         columns: words.get_str("columns"),
         limit: limit_of(words)?,
     })
+}
+
+fn row_form(words: &ArgMatches<'_>) -> RowForm
+    ensures { HasForm (found_of words.now) result }
+{
+    if words.get_flag("objects") {
+        RowForm::Object
+    } else {
+        RowForm::Array
+    }
+}
+
+fn saved_objects(alloc: Global) -> Result<Mistake, AllocError> {
+    let mut command = with_query(alloc, "query")?.bin_name("arrowstore query")?;
+    let error = command.error(
+        ErrorKind::ArgumentConflict,
+        "the argument '--objects' cannot be used with '--save <NEW>'",
+    )?;
+    Ok(Mistake::Words(error))
 }
 
 // What is selected is printed, or saved as a table.
@@ -276,16 +308,20 @@ fn query_command<'a>(
     requires { name.now ≡ value_of (found_of words.now) (codes "NAME") }
     ensures word { IfOk result (λ command. command_word command ≡ codes "query") }
     ensures named { IfOk result (HasNames (found_of words.now)) }
+    ensures taken { IsFoundTakable (codes "query") (found_of words.now) → IfErr result IsOfMemory }
 {
     let query = query_words(alloc, words)?;
-    Ok(match words.get_str("save") {
-        Some(to) => StoreCommand::SaveAs {
+    let form = row_form(words);
+    match (words.get_str("save"), form) {
+        (None, _) => Ok(StoreCommand::Query { name, query, form }),
+        (Some(to), RowForm::Array) => Ok(StoreCommand::SaveAs {
             from: name,
             to,
             query,
-        },
-        None => StoreCommand::Query { name, query },
-    })
+        }),
+        // A table that is saved is not printed.
+        (Some(_), RowForm::Object) => Err(saved_objects(alloc)?),
+    }
 }
 
 fn create_command<'a>(
@@ -312,7 +348,7 @@ fn command_of<'a>(
         → bytes_eq (codes "replay") command.now ≡ false
         → IfOk result (λ asked. command_word asked ≡ command.now) }
     ensures named { IfOk result (HasNames (found_of words.now)) }
-    ensures taken { takes_number command.now ≡ false → IfErr result IsOfMemory }
+    ensures taken { IsFoundTakable command.now (found_of words.now) → IfErr result IsOfMemory }
 {
     let name = word(words, "NAME");
     match command {
@@ -480,7 +516,7 @@ fn sectors<'a>(alloc: Global) -> Arg<'a>
 }
 
 fn form<'a>(alloc: Global) -> Arg<'a>
-    ensures { ((forms : ValueParser) × (rule_of result ≡ form_rule forms)) × (result.global ≡ false) }
+    ensures { ((forms : ValueParser) × AreForms forms × (rule_of result ≡ form_rule forms)) × (result.global ≡ false) }
 {
     option(
         alloc,
@@ -503,6 +539,15 @@ fn null_text<'a>(alloc: Global) -> Arg<'a>
     )
     .default_value("")
     .hide_default_value(true)
+}
+
+fn objects<'a>(alloc: Global) -> Arg<'a>
+    ensures { (rule_of result ≡ objects_rule) × (result.global ≡ false) }
+{
+    Arg::new(alloc, "objects")
+        .long("objects")
+        .action(ArgAction::SetTrue)
+        .help("Prints each row as an object by the names of the columns, which then have to differ")
 }
 
 fn limit<'a>(alloc: Global) -> Arg<'a>
@@ -635,7 +680,7 @@ fn with_fields<'a>(alloc: Global, name: &'a str) -> Result<Command<'a>, AllocErr
 
 // One that takes the form of its input.
 fn with_rows<'a>(alloc: Global, name: &'a str) -> Result<Command<'a>, AllocError>
-    ensures { IfOk result (λ c. (forms : ValueParser) × (app_of c ≡ append_app forms name.now)) }
+    ensures { IfOk result (λ c. (forms : ValueParser) × AreForms forms × (app_of c ≡ append_app forms name.now)) }
 {
     with_table(alloc, name)?
         .arg(form(alloc))?
@@ -672,7 +717,8 @@ fn with_query<'a>(alloc: Global, name: &'a str) -> Result<Command<'a>, AllocErro
     with_conditions(alloc, name)?
         .arg(columns)?
         .arg(limit(alloc))?
-        .arg(save)
+        .arg(save)?
+        .arg(objects(alloc))
 }
 
 // A command of a store.

@@ -4,6 +4,7 @@ ghost use Rattle.store_requests.specs.Asked.{command_word};
 ghost use Rattle.store_requests.specs.StoreWords.{takes_input_word, changes_word, makes_word, reads_table_word, reads_word, is_store_word, is_of_store, takes_input, is_help_word, ask_for_help, ask_help_of_command};
 
 use crate::ReplayWords;
+use query::RowForm;
 use std::convert::AsStr;
 use text_import::TextForm;
 
@@ -59,10 +60,11 @@ pub enum StoreCommand<'a> {
         name: &'a str,
         form: TextForm<'a>,
     },
-    /// The rows that a query selects, as lines.
+    /// The rows that a query selects, as lines in a form.
     Query {
         name: &'a str,
         query: QueryWords<'a>,
+        form: RowForm,
     },
     /// The same, as a new table.
     SaveAs {

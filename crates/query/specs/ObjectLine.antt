@@ -1,0 +1,42 @@
+-- A row as an object of JSON (RFC 8259, section 4): its values by the names of their columns, in the order of the columns, without spaces.
+use Rattle.std.specs.Prelude.{ℕ, ◌==◌, Bool, List, [], ◌∷◌, ◌++◌, codes, map, count_by}
+use Rattle.std.specs.List.{list_all}
+use Rattle.json.specs.Print.{quoted}
+use Rattle.arrow_schema.specs.Column.{Column}
+use Rattle.arrow_schema.specs.Parts.{name_of_column}
+use Rattle.cells.specs.Cell.{Cell}
+use Rattle.query.specs.Bound.{has_name}
+use Rattle.query.specs.Line.{json_of, line}
+use Rattle.query.specs.declared.row_form.RowForm.{RowForm}
+use Rattle.query.specs.declared.row_form.RowForm.TheVariants.{Array, Object}
+
+-- the name as a text, a colon and the value
+abbrev pub member : List ℕ → Cell → List ℕ
+member name c = quoted name ++ codes ":" ++ json_of c
+
+-- each member after a comma
+unfoldable pub other_members : List (List ℕ) → List Cell → List ℕ
+other_members (name ∷ names) (c ∷ cs) = codes "," ++ member name c ++ other_members names cs
+other_members names cs = []
+
+-- with a comma between two
+unfoldable pub members : List (List ℕ) → List Cell → List ℕ
+members (name ∷ names) (c ∷ cs) = member name c ++ other_members names cs
+members names cs = []
+
+-- the line of a row with columns of these names, without its end
+abbrev pub object_line : List (List ℕ) → List Cell → List ℕ
+object_line names row = codes "{" ++ members names row ++ codes "}"
+
+-- one column has this name, and no other
+abbrev pub is_of_one : List Column → List ℕ → Bool
+is_of_one cs name = count_by (has_name name) cs == 1
+
+-- no two columns have the same name
+abbrev pub are_named_apart : List Column → Bool
+are_named_apart cs = list_all (is_of_one cs) (map name_of_column cs)
+
+-- the line of a row in each form
+abbrev pub line_in : RowForm → List Column → List Cell → List ℕ
+line_in Array cs row = line row
+line_in Object cs row = object_line (map name_of_column cs) row

@@ -1,0 +1,117 @@
+// A row as an object of JSON.
+ghost use Rattle.std.specs.Prelude.{◌≡◌, ◌++◌, IfOk, OnOk, codes, map};
+ghost use Rattle.arrow_schema.specs.Parts.{name_of_column};
+ghost use Rattle.arrow_schema.specs.View.{column_of};
+ghost use Rattle.values.specs.Borrowed.{borrowed_cell, borrowed_cells, values_left};
+ghost use Rattle.query.specs.ObjectLine.{member, members, other_members, object_line, is_of_one, are_named_apart, line_in};
+
+use crate::RowForm;
+use crate::bound::count_named;
+use crate::line::{json_line, push_bytes, push_text, push_value};
+use arrow_schema::Field;
+use std::alloc::{AllocError, Global};
+use values::{ValueRef, Values, ValuesIter};
+
+fn is_of_one(fields: &[Field], name: &str) -> bool
+    ensures { result ≡ is_of_one (map column_of fields.now) name.now }
+{
+    count_named(fields, name) == 1
+}
+
+/// Whether no two of the fields have the same name: only then an object has a member for each.
+pub fn are_named_apart(fields: &[Field]) -> bool
+    ensures { result ≡ are_named_apart (map column_of fields.now) }
+{
+    for field in fields {
+        if !is_of_one(fields, field.name.as_str()) {
+            return false;
+        }
+    }
+    true
+}
+
+fn push_member(
+    alloc: Global,
+    out: &mut Vec<u8>,
+    field: &Field,
+    value: ValueRef<'_>,
+) -> Result<(), AllocError>
+    ensures { OnOk result (out.new.items ≡ out.old.items ++ member (name_of_column (column_of field.now)) (borrowed_cell value.entry)) }
+{
+    push_text(alloc, out, field.name.as_str())?;
+    push_bytes(out, b":")?;
+    push_value(alloc, out, value)
+}
+
+#[tactic(auto, unfolding(crate::specs::ObjectLine::other_members))]
+fn push_other_members(
+    alloc: Global,
+    out: &mut Vec<u8>,
+    fields: &[Field],
+    mut values: ValuesIter<'_>,
+) -> Result<(), AllocError>
+    ensures { OnOk result (out.new.items ≡ out.old.items
+        ++ other_members (map name_of_column (map column_of fields.now)) (values_left values.entry)) }
+{
+    for field in fields {
+        let Some(value) = values.next() else {
+            return Ok(());
+        };
+        push_bytes(out, b",")?;
+        push_member(alloc, out, field, value)?;
+    }
+    Ok(())
+}
+
+#[tactic(auto, unfolding(crate::specs::ObjectLine::members))]
+fn push_members(
+    alloc: Global,
+    out: &mut Vec<u8>,
+    fields: &[Field],
+    row: Values<'_>,
+) -> Result<(), AllocError>
+    ensures { OnOk result (out.new.items ≡ out.old.items ++ members (map name_of_column (map column_of fields.now)) (borrowed_cells row.entry)) }
+{
+    let mut values = row.iter();
+    let Some((field, others)) = fields.split_first() else {
+        return Ok(());
+    };
+    let Some(value) = values.next() else {
+        return Ok(());
+    };
+    push_member(alloc, out, field, value)?;
+    push_other_members(alloc, out, others, values)
+}
+
+/// The line of a row without its end: a JSON object of its values by the names of the fields, in their order, without spaces. The names are JSON
+/// strings, and the values are those of [`json_line`].
+///
+/// # Errors
+/// `AllocError` where memory was refused.
+pub fn json_object(alloc: Global, fields: &[Field], row: Values<'_>) -> Result<Vec<u8>, AllocError>
+    ensures { IfOk result (λ text. text.items ≡ object_line (map name_of_column (map column_of fields.now)) (borrowed_cells row.entry)) }
+{
+    let mut text = Vec::new(alloc);
+    push_bytes(&mut text, b"{")?;
+    push_members(alloc, &mut text, fields, row)?;
+    push_bytes(&mut text, b"}")?;
+    Ok(text)
+}
+
+/// The line of a row of these fields in a form, without its end.
+///
+/// # Errors
+/// `AllocError` where memory was refused.
+pub fn line_in(
+    alloc: Global,
+    form: RowForm,
+    fields: &[Field],
+    row: Values<'_>,
+) -> Result<Vec<u8>, AllocError>
+    ensures { IfOk result (λ text. text.items ≡ line_in form (map column_of fields.now) (borrowed_cells row.entry)) }
+{
+    match form {
+        RowForm::Array => json_line(alloc, row),
+        RowForm::Object => json_object(alloc, fields, row),
+    }
+}
