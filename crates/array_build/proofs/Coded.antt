@@ -16,7 +16,7 @@ use Rattle.array_build.specs.inner.Nodes.{with_buffer, with_node}
 use Rattle.array_build.specs.inner.Coded.{with_dictionary, with_indices, values_batch}
 use Rattle.cells.specs.Dictionary.{entries_of}
 
--- the batch of so many slots, whose arrays are these
+-- the batch of n slots, whose arrays are these
 abbrev batch_with : ℕ → List Typed → PlainDictionary
 batch_with slots arrays = record { slots = slots; nodes = map node_of arrays; buffers = flat_map (λ t. column_buffers t.column t.array) arrays }
 

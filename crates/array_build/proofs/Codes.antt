@@ -275,7 +275,7 @@ pub is_known : (seen own : List Cell) (known : List (Option ℕ)) (z : ℤ) (k :
 is_known seen own known (pos n) k h is = h n k is
 is_known seen own known (negsuc n) k h is = cc
 
--- a number that was told only if it is small is the one that an index names
+-- a number that was reported only if it is small is the one that an index names
 pub known_named : (known : List (Option ℕ)) (named number : Option ℕ) (k : ℕ) → IfSome number (λ n. named ≡ Some n) → Some k ≡ known_at known number → Some k ≡ known_at known named
 known_named known named None k h is = cc
 known_named known named (Some n) k h is = rw h is

@@ -29,6 +29,6 @@ stored_found cells i v lt e =
 pub stored_absent : (cells : List Value) (i : ℕ) → length cells ≤ i → first_cell (drop i (map cell cells)) ≡ null
 stored_absent cells i past = part_absent (map cell cells) i (sym (slice_get_past (map cell cells) i (omega (arith, length-map cells cell))))
 
--- what a vector's cells are with one behind them
+-- what a vector's cells are with one after them
 pub one_pushed : (old new : List ValueRef) (x : ValueRef) (y : Cell) → new ≡ old ++ x ∷ [] → borrowed_cell x ≡ y → map borrowed_cell new ≡ map borrowed_cell old ++ y ∷ []
 one_pushed old new x y e is = ap (map borrowed_cell) e ∙ (map-append borrowed_cell old (x ∷ []) ∙ ap (λ (c : Cell). map borrowed_cell old ++ c ∷ []) is)

@@ -1,4 +1,4 @@
--- The offset at which all ends, behind those at which each begins.
+-- The offset at which all ends, after those at which each begins.
 use Rattle.std.specs.List.{flat_map}
 use Rattle.std.proofs.Common.{◌≡◌, ◌≤◌, ◌++◌, ◌∙◌, ℕ, List, [], ap, drop, length, sym}
 use Rattle.std.proofs.lemmas.List.{append-nil, drop_all}

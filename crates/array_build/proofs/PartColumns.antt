@@ -75,7 +75,7 @@ field_arrays fields i f rows p q item h =
     ap (λ (fs : List Field). built_below (columns_of (map column_of fs)) (rows_from i rows)) item ∙ next_arrays i (column_of f) (columns_from (i + 1) fields) rows in
     ap (λ (x : PlainBatch). with_arrays x others) h ∙ more_arrays p here others ∙ ap (with_arrays p) (sym all)
 
--- behind the last field there is nothing
+-- after the last field there is nothing
 pub last_field : (fields : List Field) (i : ℕ) (rows : List (List Cell)) (p : PlainBatch) → length fields ≤ i → with_arrays p (built_below (columns_from i fields) (rows_from i rows)) ≡ p
 unfolding built every_array
 last_field fields i rows p end =

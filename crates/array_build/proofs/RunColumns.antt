@@ -128,7 +128,7 @@ first_left f fields r rs left =
     let t = and_parts (can_build c (runs_cells c r)) (can_build_columns cs rs) left.fits in
     (record { sound = s.0; fits = t.0 }, record { sound = s.1; fits = t.1 })
 
--- the column at a place, and those behind it
+-- the column at a place, and those after it
 pub next_left : (all : List Field) (i : ℕ) (f : Field) (columns : List (Vec SlotRun Global)) (v : Vec SlotRun Global) → drop i all ≡ f ∷ drop (i + 1) all → drop i columns ≡ v ∷ drop (i + 1) columns
     → AreLeft (drop i all) (lists_of (drop i columns)) → IsFirst f v.items × AreLeft (drop (i + 1) all) (lists_of (drop (i + 1) columns))
 next_left all i f columns v item here left =
@@ -149,7 +149,7 @@ column_arrays all i f columns v p q item here h =
     let both : built_left (drop i all) (drop i columns) ≡ own ++ others = ap₂ (λ (fs : List Field) (vs : List (Vec SlotRun Global)). built_left fs vs) item here in
     ap (λ (x : PlainBatch). with_arrays x others) h ∙ more_arrays p own others ∙ ap (with_arrays p) (sym both)
 
--- behind the last field there is nothing
+-- after the last field there is nothing
 pub last_column : (all : List Field) (i : ℕ) (columns : List (Vec SlotRun Global)) (p : PlainBatch) → length all ≤ i → with_arrays p (built_left (drop i all) columns) ≡ p
 unfolding built_columns
 last_column all i columns p end = ap (λ (fs : List Field). with_arrays p (built_left fs columns)) (drop_all i all end) ∙ no_arrays p

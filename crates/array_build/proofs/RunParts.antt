@@ -252,7 +252,7 @@ all_behind cs runs ready = record {
   fit = ap (can_build_parts cs) (sym (runs_parts cs runs ready.valid)) ∙ parts_can_be_built cs (kind_cells (structs cs) runs) ready.fit;
 }
 
--- of the field at a place, and of those behind it
+-- of the field at a place, and of those after it
 pub record IsNext (j : ℕ) (c : Column) (cs : Columns) (runs part : List SlotRun) : Type 0 where
   pub sound : are_runs_sound c part ≡ true
   pub fits : can_build c (runs_cells c part) ≡ true
@@ -300,7 +300,7 @@ place_built fields j f runs part p q item is behind h =
     ∙ next_built j (column_of f) (columns_behind (j + 1) fields) runs part is (subst (λ (fs : List Field). AreBehind j (columns_of (map column_of fs)) runs) item behind) in
     ap (λ (x : PlainBatch). with_arrays x others) h ∙ more_arrays p own others ∙ ap (with_arrays p) (sym all)
 
--- behind the last field there is nothing
+-- after the last field there is nothing
 pub no_field : (fields : List Field) (j : ℕ) (runs : List SlotRun) (p : PlainBatch) → length fields ≤ j
     → with_arrays p (built_below (columns_behind j fields) (rows_behind j (columns_behind j fields) runs)) ≡ p
 unfolding built every_array

@@ -1,4 +1,4 @@
--- Bytes that are written over others, by so many for each item of a list.
+-- Bytes that are written over others, by n for each item of a list.
 use Rattle.std.specs.List.{flat_map}
 use Rattle.std.proofs.Common.{◌≡◌, ◌<◌, ◌≤◌, ◌+◌, ◌*◌, ◌++◌, ◌∙◌, ℕ, List, arith, get_or, length, length-append, refl, sym, take}
 use Rattle.std.proofs.lemmas.Grind.{flat_map-append}

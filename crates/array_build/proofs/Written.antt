@@ -16,7 +16,7 @@ use borrow.Rule.Slice.PartMut.{mid_of}
 
 -- ---- slot by slot, in room for all
 
--- so many slots are written, and some cells are left
+-- n slots are written, and some cells are left
 pub record IsPartWritten (size : ℕ) (start all es left : List Cell) (bytes : List ℕ) (bits : List Bool) (done : ℕ) : Type 0 where
   pub codes : List (Option ℕ)
   pub coded : IsUnderway start all es codes left

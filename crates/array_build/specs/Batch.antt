@@ -28,7 +28,7 @@ pub record PlainBatch : Type 0 where
 abbrev pub dictionary_of : Typed → PlainDictionary
 dictionary_of t = record { slots = slots_in t.array; nodes = nodes_of (own_column t) (own_array t); buffers = buffers_of (own_column t) (own_array t) }
 
--- a batch with more arrays: those of each behind the ones before
+-- a batch with more arrays: those of each after the ones before
 unfoldable pub with_arrays : PlainBatch → List Typed → PlainBatch
 with_arrays p ts = record {
   nodes = p.nodes ++ map node_of ts;

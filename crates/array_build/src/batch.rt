@@ -87,7 +87,7 @@ pub(crate) fn push_buffer(batch: &mut BuiltBatch<'_>, buffer: Vec<u8>) -> Result
     push_any_buffer(batch, Buffer::Made(buffer))
 }
 
-/// Adds the node and the validity bitmap of so many slots.
+/// Adds the node and the validity bitmap of n slots.
 pub(crate) fn push_validity(
     batch: &mut BuiltBatch<'_>,
     slots: usize,

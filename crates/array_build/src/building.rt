@@ -182,6 +182,9 @@ fn build_dictionary<'a>(
 
 /// The nodes and buffers of a batch of rows, and of the dictionaries of its columns: those of the one array that each column is written as
 /// (Arrow columnar format, "RecordBatch message"). Each array stands before those below it.
+///
+/// # Errors
+/// `AllocError` where memory was refused.
 pub fn build<'a>(
     alloc: Global,
     fields: &[Field],

@@ -239,6 +239,9 @@ fn build_run_parts<'k, 'a: 'k>(
 
 /// The same of rows whose columns are runs of slots: a buffer of one run stays where it stands, if that is how it is written; else bytes are
 /// copied run by run. No cell is looked at by itself but nulls, and the entries of a dictionary: what is known of these is kept for the next rows.
+///
+/// # Errors
+/// `AllocError` where memory was refused. The known entries may have grown; each that they have stays right, so that the next rows can be built with them.
 pub fn build_runs<'k, 'a: 'k>(
     alloc: Global,
     entries: &mut KnownEntries<'k>,

@@ -59,7 +59,7 @@ pub(crate) fn push_indices<'a>(
     push_entries(alloc, batch, index, &entries, cells)
 }
 
-// Room for so many indices. More bytes than a number holds have none in memory.
+// Room for n indices. More bytes than a number holds have none in memory.
 fn room_for(alloc: Global, width: BitWidth, slots: usize) -> Result<Vec<u8>, AllocError>
     ensures { IfOk result (λ bytes. length bytes.items ≡ bits_of width / 8 * slots) }
 {
@@ -69,7 +69,7 @@ fn room_for(alloc: Global, width: BitWidth, slots: usize) -> Result<Vec<u8>, All
     }
 }
 
-// Adds the node, the validity bitmap and the indices of the cells of runs that have so many slots, and gives the cells of the entries, of which there are
+// Adds the node, the validity bitmap and the indices of the cells of runs that have n slots, and gives the cells of the entries, of which there are
 // none before.
 fn push_codes<'a>(
     alloc: Global,
@@ -127,6 +127,9 @@ pub(crate) fn push_run_indices<'a>(
 }
 
 /// How many distinct values the cells of runs of a column with a dictionary have. An entry of an array's own dictionary is looked up once.
+///
+/// # Errors
+/// `AllocError` where memory was refused.
 pub fn count_entries<'a>(
     alloc: Global,
     field: &'a Field,
@@ -154,7 +157,7 @@ pub fn count_entries<'a>(
     Ok(entries.count())
 }
 
-/// The batch of so many values, as a dictionary.
+/// The batch of n values, as a dictionary.
 #[tactic(auto, unfolding(crate::specs::Batch::batch_in))]
 pub(crate) fn values_of(count: usize, batch: BuiltBatch<'_>) -> BuiltDictionary<'_>
     ensures { dictionary_in result ≡ record { slots = count; nodes = (batch_in batch.entry).nodes; buffers = (batch_in batch.entry).buffers } }

@@ -129,7 +129,7 @@ fn place_or_zero(code: Option<usize>) -> u64
     }
 }
 
-/// Writes the index of so many bytes that a code is over the bytes from a place on: 0 where there is none.
+/// Writes the index of n bytes that a code is over the bytes from a place on: 0 where there is none.
 #[inline]
 pub(crate) fn put_code<const SIZE: usize>(indices: &mut [u8], at: usize, code: Option<usize>)
     requires size { SIZE ≤ 8 }

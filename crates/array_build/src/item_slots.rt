@@ -6,7 +6,7 @@ ghost use Rattle.columns.specs.View.{view_array};
 
 use columns::{ArrayView, SlotRun};
 
-/// So many items of lists or fixed lists, from one on: an array that is neither has no item.
+/// n items of lists or fixed lists, from one on: an array that is neither has no item.
 #[tactic(auto, using(crate::proofs::RunItems::item_found, crate::proofs::RunItems::item_absent))]
 pub(crate) fn item_slots<'a>(view: ArrayView<'a>, from: usize, len: usize) -> SlotRun<'a>
     requires { from + len ≤ slots_in (items_in (view_array view)) }

@@ -17,7 +17,7 @@ pub struct KnownDictionary<'a> {
 }
 
 impl<'a> KnownDictionary<'a> {
-    /// Whether it is known to be the dictionary of an array: no buffer of more bytes than so many is compared.
+    /// Whether it is known to be the dictionary of an array: no buffer of more bytes than n is compared.
     pub(crate) fn is_of(&self, field: &Field, array: ArrayView<'_>, most: usize) -> bool
         ensures { result ≡ true → dictionary_entries self.now ≡ own_entries field.now array.entry }
     {

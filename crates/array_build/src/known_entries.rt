@@ -254,7 +254,7 @@ impl<'a> KnownEntries<'a> {
         self.are_new = false;
     }
 
-    // Which of the dictionaries is that of an array, of which so many slots are gone through.
+    // Which of the dictionaries is that of an array, of which n slots are gone through.
     fn find(&self, field: &Field, array: ArrayView<'_>, slots: usize) -> Option<usize>
         ensures within { IfSome result (λ i. i < length self.now.dictionaries.items) }
         ensures known { IfSome result (λ i. (d : KnownDictionary) → slice_get self.now.dictionaries.items i ≡ Some d
@@ -269,7 +269,7 @@ impl<'a> KnownEntries<'a> {
         None
     }
 
-    /// What is known of the dictionary of an array, of which so many slots are gone through.
+    /// What is known of the dictionary of an array, of which n slots are gone through.
     pub(crate) fn take_numbers(
         &mut self,
         alloc: Global,
@@ -289,7 +289,7 @@ impl<'a> KnownEntries<'a> {
         unknown(alloc, array, slots)
     }
 
-    // Makes room for one dictionary more, of so many entries.
+    // Makes room for one dictionary more, of n entries.
     fn make_room(&mut self, entries: usize)
         ensures seen { seen_cells self.new ≡ seen_cells self.old }
         ensures named { named_cells self.new ≡ named_cells self.old }

@@ -45,7 +45,7 @@ fn push_flags(flags: &mut Vec<bool>, run: &SlotRun<'_>) -> Result<(), AllocError
     }
 }
 
-// A flag for each slot of runs, of which there are about so many.
+// A flag for each slot of runs, of which there are about n.
 fn boolean_flags(alloc: Global, slots: usize, runs: &[SlotRun<'_>]) -> Result<Vec<bool>, AllocError>
     requires { AreReady booleans runs.now }
     ensures { IfOk result (λ flags. flags.items ≡ map is_set (kind_cells booleans runs.now)) }

@@ -158,7 +158,7 @@ fn put_slot_code<'a, const SIZE: usize, const SIGNED: bool>(
     put_new_code::<SIZE>(entries, known, indices, valid, field, slots, i, place)
 }
 
-// Writes the indices of so many bytes, with a sign or without, of some slots of an array, and whether each slot has one, where there is room for just these.
+// Writes the indices of n bytes, with a sign or without, of some slots of an array, and whether each slot has one, where there is room for just these.
 fn put_sized_codes<'a, const SIZE: usize, const SIGNED: bool>(
     entries: &mut KnownEntries<'a>,
     known: &mut [Option<usize>],

@@ -16,12 +16,12 @@ use std::alloc::{AllocError, Global};
 // Runs that have no more slots than this, one with another, are short.
 const SHORT_RUN: usize = 16;
 
-/// Whether so many slots are in short runs.
+/// Whether n slots are in short runs.
 pub(crate) fn are_short(slots: usize, runs: &[SlotRun<'_>]) -> bool {
     slots / SHORT_RUN < runs.len()
 }
 
-/// The same so many times.
+/// The same n times.
 pub(crate) fn push_alike(flags: &mut Vec<bool>, count: usize, flag: bool) -> Result<(), AllocError>
     ensures { OnOk result (flags.new.items ≡ flags.old.items ++ replicate count flag) }
 {
@@ -60,7 +60,7 @@ fn push_run(flags: &mut Vec<bool>, run: &SlotRun<'_>) -> Result<(), AllocError>
     }
 }
 
-/// Whether each slot of runs is valid, of which there are about so many.
+/// Whether each slot of runs is valid, of which there are about n.
 pub(crate) fn run_flags(
     alloc: Global,
     slots: usize,

@@ -52,7 +52,7 @@ fn run_slice<'a>(
     slot_values(array, width, from, len)
 }
 
-/// Zeros for so many values. More bytes than a number counts have no room in memory.
+/// Zeros for n values. More bytes than a number counts have no room in memory.
 fn push_zeros(values: &mut Vec<u8>, width: usize, count: usize) -> Result<(), AllocError>
     ensures { OnOk result (values.new.items ≡ values.old.items ++ replicate (count * width) 0) }
 {

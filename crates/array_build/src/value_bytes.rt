@@ -62,7 +62,7 @@ fn integer_at(cells: &[ValueRef<'_>], i: usize) -> i128
     }
 }
 
-// Writes the low bytes of an integer, so many of them, over the bytes from a place on.
+// Writes the low bytes of an integer, n of them, over the bytes from a place on.
 #[inline]
 fn put_integer<const SIZE: usize>(values: &mut [u8], at: usize, integer: i128)
     requires size { SIZE ≤ 16 }
@@ -72,7 +72,7 @@ fn put_integer<const SIZE: usize>(values: &mut [u8], at: usize, integer: i128)
     values[at..at + SIZE].copy_from_slice(&integer.to_le_bytes()[..SIZE]);
 }
 
-// Writes the integers of cells by so many bytes each, where there is room for just as many.
+// Writes the integers of cells by n bytes each, where there is room for just as many.
 fn put_integers<const SIZE: usize>(values: &mut [u8], cells: &[ValueRef<'_>])
     requires size { SIZE ≤ 16 }
     requires few { SIZE * length cells.now < 18446744073709551616 }

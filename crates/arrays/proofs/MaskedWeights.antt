@@ -174,7 +174,7 @@ masked_end fs i mask arrays start n all = ap (λ (gs : List Field). masked_parts
 
 -- ---- runs
 
--- a run, and what is left behind it
+-- a run, and what is left after it
 pub masked_more : (c : Column) (mask a : Array) (start next end : ℕ) → start ≤ next → next ≤ end
     → masked_weight c mask a start (end - start) ≡ masked_weight c mask a start (next - start) + masked_weight c mask a next (end - next)
 masked_more c mask a start next end le most =

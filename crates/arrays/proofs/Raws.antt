@@ -75,7 +75,7 @@ next_node bytes i few = let e : i + 1 ≡ suc i = omega arith in rw e (node_next
 pub next_buffer : (bytes : List ℕ) (i : ℕ) → i < length bytes / 16 → drop i (buffers_in bytes) ≡ buffer_at bytes i ∷ drop (i + 1) (buffers_in bytes)
 next_buffer bytes i few = let e : i + 1 ≡ suc i = omega arith in rw e (buffer_next (length bytes / 16) i bytes few)
 
--- ---- those after so many
+-- ---- those after n
 
 drop_none : {A : Type 0} (xs : List A) (k : ℕ) → k ≡ 0 → drop k xs ≡ xs
 drop_none xs k e = rw e refl

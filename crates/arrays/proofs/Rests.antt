@@ -1,4 +1,4 @@
--- What is left of a batch after so many nodes, buffers and dictionaries.
+-- What is left of a batch after n nodes, buffers and dictionaries.
 use Rattle.std.proofs.Common.{◌≡◌, ℕ, map, drop, sym, ap, ◌∙◌}
 use Rattle.std.proofs.lemmas.List.{drop-map}
 use Rattle.ipc_message.specs.Raw.{nodes_in, buffers_in}

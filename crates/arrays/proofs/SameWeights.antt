@@ -50,7 +50,7 @@ column_varies : (c : Column) → may_vary_in c ≡ may_vary (kind_of_column c)
 unfolding may_vary_in
 column_varies (column name nullable kind dictionary pairs) = refl
 
--- so many slots of such a field are so many nulls, also where they are null because others are
+-- n slots of such a field are n nulls, also where they are null because others are
 pub alike_masked : (field : Field) (mask a : Array) (start n : ℕ) → may_vary (kind_of field.data_type) ≡ false
     → masked_weight (column_of field) mask a start n ≡ n * weight (column_of field) null
 alike_masked field mask a start n h =

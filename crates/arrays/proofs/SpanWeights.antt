@@ -26,7 +26,7 @@ use Rattle.arrays.specs.inner.Weights.{AreEntryWeights, sum_from, span_weight, p
 pub next : {X : Type 0} (w : X → ℕ) (f : ℕ → X) (start n : ℕ) → sum_from w f start (suc n) ≡ w (f start) + sum_from w f (start + 1) n
 next w f start n = sum_by-cons w (f start) (map f (range_with_len (start + 1) n))
 
--- two spans, one behind the other
+-- two spans, one after the other
 pub split : {X : Type 0} (w : X → ℕ) (f : ℕ → X) (start m n : ℕ) → sum_from w f start (m + n) ≡ sum_from w f start m + sum_from w f (start + m) n
 split w f start zero n =
     let e : 0 + n ≡ n = omega arith in
@@ -128,7 +128,7 @@ null_run k a start n hidden alike = each_same (kind_weight k) (unless_null (kind
     let here : is_valid a i ≡ false = alike i l r ∙ hidden in
     rw here refl)
 
--- a run, and what is left behind it
+-- a run, and what is left after it
 pub run_more : (k : Kind) (a : Array) (start next end : ℕ) → start ≤ next → next ≤ end
     → plain_weight k a start (end - start) ≡ plain_weight k a start (next - start) + plain_weight k a next (end - next)
 run_more k a start next end le most =
@@ -138,7 +138,7 @@ run_more k a start next end le most =
 
 -- ---- loops over what is left
 
--- a part more, and what is left behind it
+-- a part more, and what is left after it
 pub next_total : (whole total before part left weight new : ℕ) → capped_weight (total + before) ≡ whole → before ≡ part + left → weight ≡ capped_weight part → new ≡ capped_weight (total + weight)
     → (capped_weight (new + left) ≡ whole) × (capped_weight new ≡ new)
 next_total whole total before part left weight new sums more is total_is = (omega (arith, sums, more, is, total_is), omega (arith, total_is))

@@ -103,7 +103,7 @@ slot_checks s before rows arrays =
     ∷ when (are_too_heavy s before (rows_in columns arrays rows)) TooHeavy
     ∷ []
 
--- what the rows of arrays weigh, of which so many are rows
+-- what the rows of arrays weigh, of which n are rows
 abbrev pub batch_weight : PlainSchema → (rows : ℕ) → Arrays → ℕ
 batch_weight s rows arrays = table_weight s (rows_in (columns_of s.columns) arrays rows)
 

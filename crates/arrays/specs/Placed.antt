@@ -7,7 +7,7 @@ use Rattle.columns.specs.declared.array.PlacedArray.{PlacedArray}
 use Rattle.columns.specs.declared.span.Span.{Span}
 use Rattle.columns.specs.Within.{is_within_by, stands_within, is_placed_within}
 
--- within so many bytes, as their body does and what they know of dictionaries
+-- within n bytes, as their body does and what they know of dictionaries
 abbrev pub ArraysEndWithin : Span → List Dictionary → List DictionaryPart → List PlacedArray → Type 0
 ArraysEndWithin body dictionaries parts arrays =
     (size : ℕ) → body.start + body.len ≤ size → list_all (stands_within size dictionaries) parts ≡ true → list_all (is_placed_within size dictionaries) arrays ≡ true

@@ -1,4 +1,4 @@
--- Arrays whose dictionaries have the same entries, where indices name only so many.
+-- Arrays whose dictionaries have the same entries, where indices can name only some.
 use Rattle.std.specs.Prelude.{◌≡◌, ℕ, true, List, Some, None, is_some}
 use Rattle.std.specs.List.{AllByRecursion}
 use Rattle.arrow_schema.specs.Column.{Kind, Column, Columns, nulls, booleans, integers, dates, timestamps, texts, large_texts, binaries, large_binaries, fixed_binaries, lists, large_lists, fixed_lists, structs, column, no_column, and_column}

@@ -109,6 +109,9 @@ fn first_fault(
 
 /// The arrays of a batch whose body stands in some bytes, or the first fault of the checks of its arrays. A dictionary column takes the next
 /// of `parts`. Nothing is copied: the arrays are places in the bytes.
+///
+/// # Errors
+/// `Fault` with the first of these checks that fails; `OutOfMemory`.
 #[tactic(auto, using(crate::proofs::Answered::read_err, crate::proofs::Answered::read_ok))]
 pub fn read_arrays(
     alloc: Global,

@@ -102,6 +102,9 @@ fn has_no_base(dictionaries: &Dictionaries, raw: &RawDictionaryBatch) -> bool
 
 /// The array of a dictionary batch whose body stands in some bytes, after the batches of which these are the dictionaries; or its first fault: F24 where
 /// no column has its id, F25 where it is a delta and its id has no dictionary, then F16 to F22, and F15 of a text that is not UTF-8.
+///
+/// # Errors
+/// `Fault` with the first of these checks that fails; `OutOfMemory`. The dictionaries stay as they are in any case.
 pub fn read_dictionary(
     alloc: Global,
     columns: &DictionaryColumns,

@@ -17,7 +17,7 @@ pub(crate) struct TypedView<'a> {
     pub(crate) view: ArrayView<'a>,
 }
 
-// Behind some arrays, an array and all below it.
+// After some arrays, an array and all below it.
 #[tactic(auto, unfolding(columns::specs::Tests::arrays_at))]
 #[cycle(every)]
 fn add_array<'a>(
@@ -66,7 +66,7 @@ fn add_below<'a>(
     }
 }
 
-/// Behind some arrays, these arrays of fields and all below them.
+/// After some arrays, these arrays of fields and all below them.
 #[tactic(auto, unfolding(columns::specs::Tests::every_array))]
 #[cycle(every)]
 pub(crate) fn add_all<'a>(

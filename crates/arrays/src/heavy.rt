@@ -16,10 +16,10 @@ use arrow_schema::Field;
 use cells::{MAX_ROW_WEIGHT, MAX_TABLE_WEIGHT, TOO_HEAVY, add_weights};
 use columns::{Dictionary, PlacedArray, no_array};
 
-// How many rows are weighed at once. Of as many columns as there may be, whose cells have no bytes, so many rows weigh no more than one may.
+// How many rows are weighed at once. Of as many columns as there may be, whose cells have no bytes, n rows weigh no more than one may.
 const ROWS_AT_ONCE: usize = 8192;
 
-// So many rows, from one on.
+// n rows, from one on.
 fn rows_weight(placed: Placed<'_>, from: usize, count: usize, none: &PlacedArray) -> u64
     requires empty { IsNoArray none.now }
     requires sound { are_sound (columns_of (map column_of placed.fields.now)) (from + count) (placed_in placed) ≡ true }
@@ -37,7 +37,7 @@ fn rows_weight(placed: Placed<'_>, from: usize, count: usize, none: &PlacedArray
     add_weights(count as u64, parts)
 }
 
-// Whether one of so many rows, from one on, weighs too much, by what all of them weigh: none does where that is no more than one may, and others are looked at by halves.
+// Whether one of n rows, from one on, weighs too much, by what all of them weigh: none does where that is no more than one may, and others are looked at by halves.
 fn has_heavy_row(
     placed: Placed<'_>,
     from: usize,
@@ -92,7 +92,7 @@ fn weigh(before: u64, placed: Placed<'_>, rows: usize, none: &PlacedArray) -> Op
     Some(total)
 }
 
-/// What so many rows weigh. F28, which is None: one of them weighs too much, or all of them do with the rows before them, which weigh so much.
+/// What n rows weigh. F28, which is None: one of them weighs too much, or all of them do with the rows before them, which weigh so much.
 /// It makes no value for a cell.
 pub(crate) fn weigh_rows(before: u64, placed: Placed<'_>, rows: usize) -> Option<u64>
     requires { are_sound (columns_of (map column_of placed.fields.now)) rows (placed_in placed) ≡ true }
@@ -103,7 +103,7 @@ pub(crate) fn weigh_rows(before: u64, placed: Placed<'_>, rows: usize) -> Option
     weigh(before, placed, rows, &none)
 }
 
-/// What so many rows of a record batch weigh, from one on, as weights are reported. It makes no value for a cell.
+/// What n rows of a record batch weigh, from one on, as weights are reported. It makes no value for a cell.
 #[tactic(auto, using(crate::proofs::RowWeights::rows_spanned_from))]
 pub fn row_span_weight(
     fields: &[Field],

@@ -42,7 +42,7 @@ fn place(alloc: Global, field: &Field, rest: Rest<'_>) -> Result<PlacedArray, Al
     }
 }
 
-// The array of the items of lists, which have so many buffers of their own.
+// The array of the items of lists, which have n buffers of their own.
 #[cycle(place)]
 fn place_items(
     alloc: Global,

@@ -35,7 +35,7 @@ pub(crate) fn count_of(bytes: &[u8]) -> usize
     bytes.len() / 16
 }
 
-/// Those after so many.
+/// Those after n.
 #[tactic(auto, using(crate::proofs::Raws::nodes_left, crate::proofs::Raws::buffers_left, crate::proofs::Raws::no_nodes_left, crate::proofs::Raws::no_buffers_left))]
 pub(crate) fn after(bytes: &[u8], count: usize) -> &[u8]
     ensures nodes { (n : ℕ) → count ≡ capped n → nodes_in result.now ≡ drop n (nodes_in bytes.now) }

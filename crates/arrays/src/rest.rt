@@ -67,7 +67,7 @@ impl<'a> Rest<'a> {
         }
     }
 
-    /// What is left below an array with so many buffers of its own.
+    /// What is left below an array with n buffers of its own.
     pub(crate) fn below(self, buffers: usize) -> Rest<'a>
         ensures { IsLeft self.entry result 1 buffers 0 }
     {

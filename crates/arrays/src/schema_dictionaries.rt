@@ -45,6 +45,9 @@ fn columns_of(alloc: Global, types: Vec<DictionaryType>) -> Result<DictionaryCol
 }
 
 /// The columns of a schema that have dictionaries, where all its fields decode to types and all its texts are UTF-8.
+///
+/// # Errors
+/// `AllocError` where memory was refused.
 pub fn read_dictionary_columns(
     alloc: Global,
     raw: &RawSchema,

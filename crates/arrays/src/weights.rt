@@ -50,7 +50,7 @@ fn has_one_weight(data_type: &DataType) -> bool
     }
 }
 
-// So many nulls of a field.
+// n nulls of a field.
 #[tactic(auto, using(cells::specs::laws::Weights::capped_product), unfolding(cells::specs::Weight::weight))]
 fn nulls_weight(field: &Field, count: usize) -> u64
     ensures { result ≡ capped_weight (count * kind_weight (kind_of field.now.data_type) null) }
@@ -58,7 +58,7 @@ fn nulls_weight(field: &Field, count: usize) -> u64
     multiply_weight(count as u64, weight(field, &Value::Null))
 }
 
-// Texts or binaries that are all valid: one each, and the bytes from the first on up to behind the last.
+// Texts or binaries that are all valid: one each, and the bytes from the first on up to the end of the last.
 fn contents_weight(width: OffsetWidth, view: ArrayView<'_>, from: usize, count: usize) -> u64
     requires long { are_few_offsets (width_of width) (view_array view) ≡ false }
     requires ordered { are_unordered (width_of width) (length (contents_in (view_array view))) (view_array view) ≡ false }
@@ -72,7 +72,7 @@ fn contents_weight(width: OffsetWidth, view: ArrayView<'_>, from: usize, count: 
     add_weights(count as u64, view.spanned(width, from, count).len as u64)
 }
 
-/// The cells at so many slots, from one on.
+/// The cells at n slots, from one on.
 #[tactic(auto, unfolding(cells::specs::Weight::weight, columns::specs::CellAt::cell_at, columns::specs::Sound::is_sound))]
 #[cycle(weights)]
 fn span_weight(
@@ -457,7 +457,7 @@ fn first_count(view: ArrayView<'_>) -> usize
     entry_count(view.dictionary()).min(FIRST_ENTRIES as u128) as usize
 }
 
-// So many first entries of a dictionary, each by itself.
+// n first entries of a dictionary, each by itself.
 #[cycle(weights)]
 fn first_weights(
     field: &Field,
@@ -571,7 +571,7 @@ fn known_weight<const SIZE: usize, const SIGNED: bool>(
     }
 }
 
-// What the slots of a span weigh, whose indices have so many bytes, with a sign or without, if each is null or names one of the entries whose
+// What the slots of a span weigh, whose indices have n bytes, with a sign or without, if each is null or names one of the entries whose
 // weights are known.
 fn sized_total<const SIZE: usize, const SIGNED: bool>(
     slots: CodedSlots<'_>,

@@ -19,7 +19,7 @@ raw_node n = record { length = n.slots; null_count = n.null_count }
 abbrev pub raw_nodes : Columns → Arrays → List RawNode
 raw_nodes columns arrays = map raw_node (nodes_of columns arrays)
 
--- of so many rows
+-- of n rows
 abbrev pub written_batch : Columns → Arrays → (rows : ℕ) → RawBatch
 written_batch columns arrays rows = batch_of rows (raw_nodes columns arrays) (buffers_of columns arrays)
 

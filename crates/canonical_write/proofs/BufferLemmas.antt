@@ -17,7 +17,7 @@ pub lengths_more : (bs : List Buffer) (i : ℕ) (b : Buffer) (bytes : List ℕ) 
 lengths_more bs i b bytes lt is same =
     ap (λ (xs : List (List ℕ)). map length xs) (buffers_more bs i b bytes lt is same) ∙ map_push (λ (xs : List ℕ). length xs) (buffers_in (take i bs)) bytes
 
--- the bytes of the buffer at a place stand before those behind it
+-- the bytes of the buffer at a place stand before those after it
 pub joined_next : (bs : List Buffer) (i : ℕ) (b : Buffer) (bytes : List ℕ) → i < length bs → b ≡ get_or bs i b → bytes ≡ buffer_bytes b → joined_parts (drop i bs) ≡ bytes ++ joined_parts (drop (i + 1) bs)
 joined_next bs i b bytes lt is same = ap joined_parts (drop-item bs i b lt is) ∙ ap (λ (xs : List ℕ). xs ++ joined_parts (drop (i + 1) bs)) (sym same)
 

@@ -1,4 +1,4 @@
--- What the columns of a piece's rows are, whatever the fields stand in, and the rows that are left behind some pieces.
+-- What the columns of a piece's rows are, whatever the fields stand in, and the rows that are left after some pieces.
 use Rattle.std.specs.List.{AllByRecursion, list_all}
 use Rattle.std.proofs.Common.{◌≡◌, ◌≢◌, ◌+◌, ◌<◌, ◌≤◌, ℕ, true, List, [], ◌∷◌, ◌++◌, length, refl, sym, ap, subst, ◌∙◌, arith, length-append}
 use Rattle.std.proofs.lemmas.Bool.{and_parts}
@@ -46,7 +46,7 @@ piece_can s rows columns piece have =
 abbrev pub PiecesLaw : Type 0
 PiecesLaw = (t : PlainTable) → IsTable t → AllByRecursion (IsPieceOf t.schema) (pieces_of t)
 
--- the rows of a table that are left behind so many: all others of so many, in pieces
+-- the rows of a table that are left after n: all others of n, in pieces
 pub record AreLeft (s : PlainSchema) (left : RowsLeft) (from rows : ℕ) : Type 0 where
   pub within : from + length (rows_left (columns_of s.columns) left) ≡ rows
   pub are : list_all (is_row s) (rows_left (columns_of s.columns) left) ≡ true
@@ -80,7 +80,7 @@ pub first_piece : {s : PlainSchema} {left : RowsLeft} {from rows : ℕ} {piece :
     → pieces (within_piece s) (rows_left (columns_of s.columns) left) ≡ piece ∷ rest → IsPieceOf s piece
 first_piece {s = s} is cut = (subst (AllByRecursion (IsPieceOf s)) cut is.each).0
 
--- the rows of the first piece are rows of the table, and those behind it are
+-- the rows of the first piece are rows of the table, and those after it are
 pub next_left : {s : PlainSchema} {old : RowsLeft} {from rows : ℕ} (new : RowsLeft) (count : ℕ) (piece : List (List Cell)) → AreLeft s old from rows
     → pieces (within_piece s) (rows_left (columns_of s.columns) old) ≡ piece ∷ pieces (within_piece s) (rows_left (columns_of s.columns) new)
     → rows_left (columns_of s.columns) old ≡ piece ++ rows_left (columns_of s.columns) new → are_runs_sound (columns_of s.columns) (runs_left new) ≡ true

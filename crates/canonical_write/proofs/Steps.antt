@@ -203,7 +203,7 @@ pub first_counts : (s : PlainSchema) (t : PlainTable) (made : List ℕ) → made
 unfolding piece_counts
 first_counts s t made none = ap (λ (x : List ℕ). x ++ map length (pieces (within_piece s) t.rows)) none
 
--- behind the last piece
+-- after the last piece
 pub last_written : (s : PlainSchema) (out whole : List ℕ) (left : List (List Cell)) → left ≡ [] → out ++ (flat_map (piece_messages s) (pieces (within_piece s) left) ++ []) ≡ whole → out ≡ whole
 last_written s out whole left none is = sym (append-nil out) ∙ sym (ap (λ (rows : List (List Cell)). out ++ (flat_map (piece_messages s) (pieces (within_piece s) rows) ++ [])) none) ∙ is
 

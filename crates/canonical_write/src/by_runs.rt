@@ -27,7 +27,7 @@ use std::alloc::{AllocError, Global};
 use table_cut::{RowRun, RowsLeft, RunPiece};
 use values::Part;
 
-// Writes the messages of the rows that are left, of which there are so many. The front that is kept for the next piece is the caller's, so that no turn of the
+// Writes the messages of the rows that are left, of which there are n. The front that is kept for the next piece is the caller's, so that no turn of the
 // loop owns it.
 fn write_runs<'k, 'a: 'k>(
     alloc: Global,
@@ -54,7 +54,7 @@ fn write_runs<'k, 'a: 'k>(
     Ok(())
 }
 
-// The one stream of the rows that are left, of which there are so many.
+// The one stream of the rows that are left, of which there are n.
 fn encode_left<'a>(
     alloc: Global,
     schema: &Schema,
@@ -82,7 +82,7 @@ fn encode_left<'a>(
     Ok(stream)
 }
 
-/// The one stream of the rows of record batches, of which there are so many.
+/// The one stream of the rows of record batches, of which there are n.
 pub(crate) fn encode_parts<'a>(
     alloc: Global,
     schema: &Schema,
@@ -98,7 +98,7 @@ pub(crate) fn encode_parts<'a>(
     encode_left(alloc, schema, left, rows)
 }
 
-/// The messages of the rows of record batches, of which there are so many.
+/// The messages of the rows of record batches, of which there are n.
 pub(crate) fn messages_of_parts<'a>(
     alloc: Global,
     schema: &Schema,
@@ -125,11 +125,14 @@ pub(crate) fn messages_of_parts<'a>(
     Ok(stream)
 }
 
-/// The one stream of the rows of some runs, of which there are so many: that of [`crate::encode`] of a table that has these rows.
+/// The one stream of the rows of some runs, of which there are n: that of [`crate::encode`] of a table that has these rows.
 ///
 /// The caller sees to it that the rows are a table. Refused only where a growth was. It takes the memory of the stream, and of the buffers that had to be
 /// made, and time linear in the stream and in the runs; and in the cells of the pieces that have rows under several dictionaries of 8 or 16 bit indices,
 /// which are gone through for each of their first such runs, to find where the pieces end.
+///
+/// # Errors
+/// `AllocError` where memory was refused. The runs are freed.
 pub fn encode_runs(
     alloc: Global,
     schema: &Schema,
@@ -145,7 +148,7 @@ pub fn encode_runs(
     into_bytes(alloc, stream)
 }
 
-// The stream of a piece, as a table of its own, but for the message of the schema, which has so many bytes.
+// The stream of a piece, as a table of its own, but for the message of the schema, which has n bytes.
 fn encode_run_piece<'k, 'a: 'k>(
     alloc: Global,
     schema: &'k Schema,
@@ -170,7 +173,7 @@ fn encode_run_piece<'k, 'a: 'k>(
     into_parts(before, stream)
 }
 
-// Adds the streams of the pieces of the rows that are left, of which there are so many, and counts the rows of each. Nothing was added before. The front that
+// Adds the streams of the pieces of the rows that are left, of which there are n, and counts the rows of each. Nothing was added before. The front that
 // is kept for the next piece is the caller's here too.
 fn push_left<'k, 'a: 'k>(
     alloc: Global,

@@ -26,7 +26,7 @@ use std::alloc::{AllocError, Global};
 use table_cut::next_piece;
 use values::{Table, Values};
 
-/// The streams of a table's pieces, in order, and how many rows each has. All begin with the message of the schema, which is kept once; what comes behind it
+/// The streams of a table's pieces, in order, and how many rows each has. All begin with the message of the schema, which is kept once; what comes after it
 /// is parts one after another, made for the stream or where they stand in the table.
 #[derive(Drop)]
 pub struct EncodedPieces<'a> {
@@ -98,6 +98,9 @@ pub(crate) fn encode_table<'a>(alloc: Global, table: &'a Table) -> Result<Stream
 ///
 /// Refused only where a growth was. It takes the memory of the stream, and of the buffers that had to be made, and time linear in the stream
 /// and in the cells of the table. [`crate::encode_to`] takes that of these buffers alone.
+///
+/// # Errors
+/// `AllocError` where memory was refused.
 pub fn encode(alloc: Global, table: &Table) -> Result<Vec<u8>, AllocError>
     ensures { IfOk result (λ out. out.items ≡ canonical (table_of table.now)) }
 {
@@ -118,9 +121,12 @@ fn messages_of<'a>(alloc: Global, table: &'a Table) -> Result<Stream<'a>, AllocE
     Ok(stream)
 }
 
-/// The messages of the rows of a table, as they stand in its stream: without the message of the schema before them and the end of stream behind them.
+/// The messages of the rows of a table, as they stand in its stream: without the message of the schema before them and the end of stream after them.
 ///
 /// Memory and time are those of [`encode`].
+///
+/// # Errors
+/// `AllocError` where memory was refused.
 pub fn encode_messages(alloc: Global, table: &Table) -> Result<Vec<u8>, AllocError>
     ensures { IfOk result (λ out. out.items ≡ rows_messages (table_of table.now).schema (table_of table.now).rows) }
 {
@@ -128,7 +134,7 @@ pub fn encode_messages(alloc: Global, table: &Table) -> Result<Vec<u8>, AllocErr
     into_bytes(alloc, stream)
 }
 
-// The stream of a piece, as a table of its own, but for the message of the schema, which has so many bytes.
+// The stream of a piece, as a table of its own, but for the message of the schema, which has n bytes.
 fn encode_piece<'a>(
     alloc: Global,
     schema: &Schema,
@@ -235,6 +241,9 @@ fn encode_rows_pieces<'a>(
 /// a buffer that stands in the table's bytes as it is written, but of small ones: it takes the memory of all others, and that of the schema's message once;
 /// and time linear in these and in the cells of the table where it is not kept in record batches of just these columns, or of pieces that have rows under
 /// several dictionaries of 8 or 16 bit indices. The law [`crate::pieces_are_tables`] says what the streams mean.
+///
+/// # Errors
+/// `AllocError` where memory was refused.
 pub fn encode_pieces<'a>(
     alloc: Global,
     schema: &Schema,
@@ -254,6 +263,9 @@ pub fn encode_pieces<'a>(
 }
 
 /// The pieces of the rows of a table of any types, under its own schema: those of [`encode_pieces`].
+///
+/// # Errors
+/// `AllocError` where memory was refused.
 pub fn encode_own_pieces<'a>(
     alloc: Global,
     table: &'a Table,

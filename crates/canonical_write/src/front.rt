@@ -55,7 +55,7 @@ fn are_same_nodes(nodes: &[(u64, u64)], others: &[(u64, u64)]) -> bool
     nodes == others
 }
 
-// All but the body of the record batch of so many rows.
+// All but the body of the record batch of n rows.
 fn front_bytes(
     alloc: Global,
     rows: usize,
@@ -87,7 +87,7 @@ pub(crate) struct BatchFront {
 }
 
 impl BatchFront {
-    /// That of the record batch of so many rows, with these nodes and buffers.
+    /// That of the record batch of n rows, with these nodes and buffers.
     pub(crate) fn new(
         alloc: Global,
         rows: usize,
@@ -109,7 +109,7 @@ impl BatchFront {
         })
     }
 
-    /// Whether it is that of the record batch of so many rows, with these nodes and buffers.
+    /// Whether it is that of the record batch of n rows, with these nodes and buffers.
     pub(crate) fn is_of(&self, rows: usize, nodes: &[(u64, u64)], buffers: &[Buffer<'_>]) -> bool
         ensures { result ≡ true → IsFront self.now.bytes.items rows (map node_in nodes.now) (buffers_in buffers.now) }
     {

@@ -81,7 +81,7 @@ fn write_all_entries<'a>(
     Ok(())
 }
 
-// All but the body of the record batch of so many rows: the front that is kept where it is the same, and else it is made and kept.
+// All but the body of the record batch of n rows: the front that is kept where it is the same, and else it is made and kept.
 fn write_rows_front(
     alloc: Global,
     out: &mut Vec<u8>,
@@ -105,7 +105,7 @@ fn write_rows_front(
     written
 }
 
-// The record batch of so many rows.
+// The record batch of n rows.
 fn write_rows<'a>(
     alloc: Global,
     stream: &mut Stream<'a>,
@@ -122,7 +122,7 @@ fn write_rows<'a>(
     push_body(alloc, stream, buffers)
 }
 
-// The messages of what was built of so many rows.
+// The messages of what was built of n rows.
 fn write_built<'a>(
     alloc: Global,
     stream: &mut Stream<'a>,

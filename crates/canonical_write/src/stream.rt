@@ -16,7 +16,7 @@ use std::mem;
 /// The least size of a part by itself: below it a copy costs less than a part.
 const LEAST_PART: usize = 4096;
 
-/// The parts so far, and the bytes behind them.
+/// The parts so far, and the bytes after them.
 #[derive(Drop)]
 pub(crate) struct Stream<'a> {
     pub(crate) parts: Vec<Buffer<'a>>,
@@ -52,7 +52,7 @@ pub(crate) fn end_stream(stream: &mut Stream<'_>) -> Result<(), AllocError>
     write_end(&mut stream.last)
 }
 
-// Adds a part, behind the bytes put together so far.
+// Adds a part, after the bytes put together so far.
 #[tactic(auto, unfolding(crate::specs::inner::Stream::stream_in))]
 fn push_part<'a>(
     alloc: Global,
@@ -110,7 +110,7 @@ pub(crate) fn push_body<'a>(
     Ok(())
 }
 
-// How many bytes the parts have behind so many others, where a number of 64 bits says it.
+// How many bytes the parts have after n others, where a number of 64 bits says it.
 fn count_bytes(before: usize, parts: &[Buffer<'_>]) -> Option<usize>
     ensures { IfSome result (λ count. count ≡ before + length (joined_parts parts.now)) }
 {
@@ -151,7 +151,7 @@ pub(crate) fn into_bytes(alloc: Global, stream: Stream<'_>) -> Result<Vec<u8>, A
     join(alloc, &parts, &last)
 }
 
-/// The parts of the whole stream, which stands behind so many other bytes. Bytes that a number of 64 bits cannot count are refused as a growth is.
+/// The parts of the whole stream, which stands after n other bytes. Bytes that a number of 64 bits cannot count are refused as a growth is.
 #[tactic(auto, unfolding(crate::specs::inner::Stream::stream_in))]
 pub(crate) fn into_parts<'a>(
     before: usize,

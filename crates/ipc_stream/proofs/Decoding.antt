@@ -58,6 +58,6 @@ finish_failed (errors.Fault fault) failed bytes is h =
 
 -- ---- feeding
 
--- where there was a fault, it is told again
+-- where there was a fault, it is reported again
 pub tells_again : (bytes piece : List ℕ) (fault : Fault) → refused fault ≡ fed supported_codes bytes → settled_fault supported_codes (bytes ++ piece) ≡ Some fault
 tells_again bytes piece fault e = settled_stays bytes piece fault (was_refused bytes fault e)

@@ -1,4 +1,4 @@
--- What stands at the front of bytes stands there with more bytes behind it, unless it is cut off.
+-- What stands at the front of bytes stands there with more bytes after it, unless it is cut off.
 use Rattle.std.specs.Prelude.{nat_lt, nat_eq, not, ◌==◌, if◌then◌else◌, is_none, Option, Some, None}
 use Rattle.std.specs.List.{starts_with}
 use Rattle.std.proofs.Common.{◌≡◌, ℕ, ◌+◌, ◌^◌, ◌≤◌, Bool, true, false, List, [], ◌∷◌, ◌++◌, length, take, drop, Result, Ok, Err, refl, sym, ap, ◌∙◌, arith, length-append}
@@ -12,7 +12,7 @@ use Rattle.ipc_message.specs.declared.fault.Fault.{Fault}
 use Rattle.ipc_message.specs.declared.fault.Fault.TheVariants.{Truncated, NoContinuation, MetadataSize, MetadataVersion, HeaderKind, BodyLength}
 use Rattle.ipc_message.specs.Framing.{NextMessage, message, end_of_stream, taken, continuation_marker, next_message, unless, first_some, when, walk_fault, message_things, version_of, type_of, header_type, marker_faults, size_faults, message_faults, metadata_size, metadata_in, after_metadata, message_with, body_length}
 
--- ---- bytes with more behind them
+-- ---- bytes with more after them
 
 starts_longer : (xs ys : List ℕ) → 4 ≤ length xs → starts_with nat_eq (xs ++ ys) continuation_marker ≡ starts_with nat_eq xs continuation_marker
 starts_longer [] ys h = absurd (omega (arith, h))
@@ -35,7 +35,7 @@ no_size : (bytes : List ℕ) → nat_lt (length bytes) 4 ≡ false → starts_wi
 unfolding next_message marker_faults
 no_size bytes four starts eight = rw (four, starts, eight) refl
 
--- ---- behind the marker and the size
+-- ---- after the marker and the size
 
 abbrev message_checks : List ℕ → List (Option Fault)
 message_checks bytes = size_faults bytes ++ message_faults (metadata_in bytes) (length (after_metadata bytes))

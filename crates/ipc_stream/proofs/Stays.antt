@@ -1,4 +1,4 @@
--- What is known of bytes is known of them with more bytes behind.
+-- What is known of bytes is known of them with more bytes after.
 use Rattle.std.specs.Prelude.{Option, Some, None, get_or}
 use Rattle.std.specs.List.{list_all}
 use Rattle.std.proofs.Common.{◌≡◌, ℕ, zero, suc, ◌≤◌, true, List, [], ◌∷◌, ◌++◌, length, drop, refl, ap, sym, ◌∙◌, arith, append_assoc, length-append}

@@ -19,7 +19,7 @@ abbrev pub IsInOrder : (before : Option Known) → Envelope → Type 0
 IsInOrder None m = type_of m.metadata ≡ SCHEMA
 IsInOrder (Some k) m = type_of m.metadata ≢ SCHEMA
 
--- why a message is refused where this is known: it is out of order, its header does not decode, or what it decodes to is refused. The order is told by the
+-- why a message is refused where this is known: it is out of order, its header does not decode, or what it decodes to is refused. The order is given by the
 -- type alone, and comes first
 pub data IsBad (supported : ℕ → Bool) (before : Option Known) (m : Envelope) (fault : Fault) : Type 0 where
   no_schema : before ≡ None → type_of m.metadata ≢ SCHEMA → fault ≡ NoSchema → IsBad supported before m fault

@@ -33,7 +33,7 @@ pub record AreRowsOf (k : Known) (b : RawBatch) (body : List ℕ) (rows : List (
   pub count : length rows ≡ b.length
   pub each : (j : ℕ) → j < b.length → get_or rows j [] ≡ row_at (columns_of k.schema.columns) arrays j
 
--- the message is a batch that stands where this is known: a dictionary batch goes behind those before it, and the rows of a record batch behind the rows
+-- the message is a batch that stands where this is known: a dictionary batch goes after those before it, and the rows of a record batch after the rows
 -- before them
 pub data IsBatch (supported : ℕ → Bool) (k : Known) (m : Envelope) (after : Known) : Type 0 where
   of_dictionary : (d : RawDictionaryBatch) (b : DictionaryBatch) → header supported m.metadata ≡ Ok (dictionary_header d)

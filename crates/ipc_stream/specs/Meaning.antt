@@ -62,7 +62,7 @@ read_after k body (batch_header b) =
     batch_read k.schema (table_weight k.schema k.rows) b body (dictionaries_after k.dictionaries k.columns)
     >>= λ arrays. Ok (with_rows k (rows_in (columns_of k.schema.columns) arrays b.length))
 
--- what its header and its body add, or the first fault of their checks; the order of messages is told by the type of the header alone
+-- what its header and its body add, or the first fault of their checks; the order of messages is given by the type of the header alone
 abbrev pub read_header : (ℕ → Bool) → Option Known → (body : List ℕ) → RawHeader → Result Known Fault
 read_header supported None body (schema_header s) = unless (first_some (schema_checks supported s)) (Ok (known_first s))
 read_header supported None body _ = Err NoSchema

@@ -34,7 +34,7 @@ placed_rows columns bytes lists batches = flat_map (λ b. rows_in columns (place
 abbrev pub are_batches_sound : Columns → List ℕ → List Dictionary → List Batch → Bool
 are_batches_sound columns bytes lists batches = list_all (λ b. are_sound columns b.rows (placed_arrays bytes lists b.arrays.items)) batches
 
--- the arrays of batches end within so many bytes, and so do those that they know of dictionaries
+-- the arrays of batches end within n bytes, and so do those that they know of dictionaries
 abbrev pub are_batches_within : (size : ℕ) → List Dictionary → List Batch → Bool
 are_batches_within size lists batches = list_all (λ b. list_all (is_placed_within size lists) b.arrays.items) batches
 

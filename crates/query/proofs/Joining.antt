@@ -61,7 +61,7 @@ one_condition bounds others b rows mask e is =
     rw e (maps_same (holds (bound_in b)) (λ row. holds (bound_in b) row && true) (λ row. sym (and-true (holds (bound_in b) row))) rows) in
     subst (λ (bits : List Bool). IsMask mask bits) same is
 
--- a condition more, behind the first
+-- a condition more, after the first
 pub one_taken : (bounds others : List code.Bound) (first b : code.Bound) (k : ℕ) → bounds ≡ first ∷ others → k < length others → b ≡ get_or others k b
     → take (suc (k + 1)) bounds ≡ take (suc k) bounds ++ b ∷ []
 one_taken bounds others first b k e within is =

@@ -37,7 +37,7 @@ numeral_parts ds h =
     let long : length ds ≢ 0 = eqb-false (length ds) 0 (not-true _ both.0) in
     (both.1, omega (arith, long))
 
--- of digits behind a sign, seen by f
+-- of digits after a sign, seen by f
 where_numeral : (f : ℕ → ℤ) (ds : List ℕ) → option_and_then where_of_64_bits (option_map f (typed_number ds)) ≡ (if is_numeral ds then where_of_64_bits (f (digits_value 10 ds)) else None)
 where_numeral f ds = by (is_numeral ds)
   where

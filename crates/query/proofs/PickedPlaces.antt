@@ -28,6 +28,6 @@ none_picked {X = X} f ps i xs before more all lt none same h =
     let next : pick (drop i ps) xs ≡ rest = picked_from ps i xs lt ∙ ap (λ (o : Option X). cons_option o rest) none in
     (λ k. map f (same k) ++ sym next k) ∙ h
 
--- all places are behind
+-- all places are after
 pub all_picked : {X Y : Type 0} (f : Y → X) (ps : List ℕ) (i : ℕ) (xs : List X) (before : List Y) (all : List X) → length ps ≤ i → map f before ++ pick (drop i ps) xs ≡ all → map f before ≡ all
 all_picked f ps i xs before all past h = sym (append-nil (map f before)) ∙ ap (λ (qs : List ℕ). map f before ++ pick qs xs) (sym (drop_all i ps past)) ∙ h

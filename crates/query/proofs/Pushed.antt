@@ -1,4 +1,4 @@
--- Texts that are pushed behind others.
+-- Texts that are pushed after others.
 use Rattle.std.specs.Prelude.{Result, Ok, Err, OnOk}
 use Rattle.std.proofs.Common.{◌≡◌, ◌∙◌, ◌++◌, ℕ, List, [], ◌∷◌, ap, append_assoc}
 

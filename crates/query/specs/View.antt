@@ -1,4 +1,4 @@
--- What a query of the code is, and how an answer tells a refusal.
+-- What a query of the code is, and how an answer reports a refusal.
 use Rattle.std.specs.Prelude.{◌≡◌, ℕ, List, map, string_bytes, Option, None, Result, Err}
 use Rattle.query.specs.declared.condition.Test.{Test}
 use Rattle.query.specs.declared.condition.Test.TheVariants.{IsNull, IsNotNull, Compared}
@@ -20,7 +20,7 @@ condition_in c = record { column = string_bytes c.column; test = test_in c.test 
 abbrev pub query_in : Query → PlainQuery
 query_in q = record { columns = map string_bytes q.columns.items; conditions = map condition_in q.conditions.items; limit = q.limit }
 
--- the code tells what is: memory may be wanting whatever it is
+-- the code reports what is: memory may be wanting whatever it is
 abbrev pub Reports : {X : Type 0} → QueryError → Result X Refusal → Type 0
 Reports UnknownColumn r = r ≡ Err unknown_column
 Reports BadCondition r = r ≡ Err bad_condition

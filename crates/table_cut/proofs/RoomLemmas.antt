@@ -97,7 +97,7 @@ one_more {X = X} f from (suc n) (suc i) lt =
     let m : suc i + 1 ≡ suc (i + 1) = omega arith in
     rw (e, m) (ap (λ (xs : List X). f from ∷ xs) (one_more f (from + 1) n i (omega arith)))
 
--- behind some rows, one row more of a run
+-- after some rows, one row more of a run
 pub one_row_more : (s : PlainSchema) (rows : List (List Cell)) (run : RowRun) (i : ℕ) (row : List Cell) → i < run.len → row ≡ row_in s run i
     → (rows ++ take i (run_rows (columns_of s.columns) run)) ++ row ∷ [] ≡ rows ++ take (i + 1) (run_rows (columns_of s.columns) run)
 one_row_more s rows run i row lt is =

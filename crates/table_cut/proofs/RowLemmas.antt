@@ -17,7 +17,7 @@ drop_range f a (suc n) (suc k) le =
     let d : suc n - suc k ≡ n - k = omega arith in
     rw (e, d) (drop_range f (a + 1) n k (omega arith))
 
--- the first rows of a span, and those behind them
+-- the first rows of a span, and those after them
 pub front_rows : (cs : Columns) (arrays : Arrays) (from n k : ℕ) → k ≤ n → map (row_at cs arrays) (range_with_len from k) ≡ take k (map (row_at cs arrays) (range_with_len from n))
 front_rows cs arrays from n k le = sym (take-map-range_with_len (row_at cs arrays) from n k le)
 

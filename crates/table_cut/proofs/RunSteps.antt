@@ -23,7 +23,7 @@ use Rattle.table_cut.specs.laws.Runs.{run_size}
 pub front_size : (cs : Columns) (run : RowRun) (k : ℕ) → k ≤ run.len → length (take k (run_rows cs run)) ≡ k
 front_size cs run k le = let size = run_size cs run in length-take-le k (run_rows cs run) (omega (arith, size))
 
--- rows of a piece, and so many of a run behind them
+-- rows of a piece, and n of a run after them
 pub record HasTaken (s : PlainSchema) (before new : List (List Cell)) (run : RowRun) (k : ℕ) : Type 0 where
   pub count : length new ≡ length before + k
   pub weight : table_weight s new ≡ table_weight s before + table_weight s (take k (run_rows (columns_of s.columns) run))
@@ -48,7 +48,7 @@ sound_first cs items next run lt is sound =
     let both = and_parts (is_run_sound cs run) (are_runs_sound cs (drop (next + 1) items)) (sym (ap (are_runs_sound cs) (drop-item items next run lt is)) ∙ sound) in
     (both.0, both.1)
 
--- so many of its rows are taken
+-- n of its rows are taken
 pub taken_front : (cs : Columns) (items : List RowRun) (next : ℕ) (run : RowRun) (all before new : List (List Cell)) (k : ℕ) → next < length items → run ≡ get_or items next run
     → all ≡ before ++ runs_rows cs (drop next items) → new ≡ before ++ take k (run_rows cs run)
     → all ≡ new ++ (drop k (run_rows cs run) ++ runs_rows cs (drop (next + 1) items))
@@ -62,7 +62,7 @@ taken_front cs items next run all before new k lt is whole taken =
     ∙ sym (append_assoc before (take k rows) (drop k rows ++ rest))
     ∙ ap (λ (xs : List (List Cell)). xs ++ (drop k rows ++ rest)) (sym taken)
 
--- what is left behind them
+-- what is left after them
 pub left_behind : (cs : Columns) (items : List RowRun) (next : ℕ) (run behind : RowRun) (k : ℕ) → next < length items → run_rows cs behind ≡ drop k (run_rows cs run)
     → runs_rows cs (drop next (set items next behind)) ≡ drop k (run_rows cs run) ++ runs_rows cs (drop (next + 1) items)
 left_behind cs items next run behind k lt is =

@@ -1,4 +1,4 @@
--- The entries that dictionary columns have in rows, and in rows behind them.
+-- The entries that dictionary columns have in rows, and in rows after them.
 use Rattle.std.proofs.Common.{◌≡◌, ℕ, suc, ◌+◌, List, [], ◌∷◌, ◌++◌, map, length, take, drop, set, refl, ap, sym, ◌∙◌, append_assoc, add-one, arith, ◌<◌}
 use Rattle.std.proofs.Math.Seq.{take-suc-set, take-length}
 use Rattle.std.specs.Prelude.{Option, Some, None}
@@ -22,7 +22,7 @@ pub held_more : (old new : List LimitedCells) (own rest : List Holding) → new 
 held_more old new own rest more =
     ap (λ (x : List LimitedCells). x ++ map held_of rest) more ∙ append_assoc old (map held_of own) (map held_of rest) ∙ ap (λ (x : List LimitedCells). old ++ x) (sym (held_append own rest))
 
--- the dictionary columns of some rows, of rows behind them, and of all of these
+-- the dictionary columns of some rows, of rows after them, and of all of these
 abbrev pub AreJoined : List Holding → List Holding → List Holding → Type 0
 AreJoined [] [] [] = Unit {0}
 AreJoined (x ∷ xs) (y ∷ ys) (z ∷ zs) = (z.index ≡ y.index) × ((z.cells ≡ x.cells ++ y.cells) × AreJoined xs ys zs)

@@ -13,7 +13,7 @@ use Rattle.columns.specs.Sound.{are_sound}
 use Rattle.columns.specs.View.{fields_of}
 use Rattle.columns.specs.laws.Rows.{fewer_sound}
 
--- so many rows of the arrays of a schema's columns
+-- n rows of the arrays of a schema's columns
 abbrev span : PlainSchema → Arrays → (from n : ℕ) → List (List Cell)
 span s arrays from n = map (row_at (columns_of s.columns) arrays) (range_with_len from n)
 

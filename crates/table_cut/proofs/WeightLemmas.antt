@@ -19,7 +19,7 @@ others (c ∷ cells) (suc i) = others cells i
 pub others_of : (cells : List Cell) (i : ℕ) → other_parts (cells_of (drop i cells)) ≡ cells_of (drop (i + 1) cells)
 others_of cells i = rw add-one (others cells i)
 
--- the weight of the next part and of those behind it
+-- the weight of the next part and of those after it
 pub next_part : (c : Column) (cs : Columns) (cells : List Cell) (i : ℕ)
     → parts_weight (and_column c cs) (cells_of (drop i cells)) ≡ weight c (get_or cells i null) + parts_weight cs (cells_of (drop (i + 1) cells))
 unfolding parts_weight

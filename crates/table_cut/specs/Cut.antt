@@ -1,7 +1,7 @@
 -- The cut of rows into pieces: each is the longest front of the remaining rows that is within the limits.
 use Rattle.std.specs.Prelude.{ℕ, Bool, List, [], ◌∷◌, ◌++◌, if◌then◌else◌, ◌&&◌, nat_le, length, sum_by}
 
--- the limits of a piece: so many rows, and so much weight
+-- the limits of a piece: a number of rows, and a weight
 abbrev pub within_limits : {A : Type 0} → (A → ℕ) → ℕ → ℕ → List A → Bool
 within_limits weight count total rows = nat_le (length rows) count && nat_le (sum_by weight rows) total
 

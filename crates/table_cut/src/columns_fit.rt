@@ -30,7 +30,7 @@ pub(crate) fn are_flat(fields: &[Field]) -> bool
     true
 }
 
-// Whether runs have no more rows than so many.
+// Whether runs have no more rows than n.
 fn are_few(runs: &[RowRun<'_>], most: usize) -> bool
     ensures { result ≡ true → (place : ℕ) (c : Column) → length (flat_map (cells_behind place c) runs.now) ≤ most }
 {

@@ -46,6 +46,9 @@ pub(crate) fn column_at<'a>(
 }
 
 /// For each column, the runs of slots that some rows have in it.
+///
+/// # Errors
+/// `AllocError` where memory was refused.
 pub fn column_runs<'a>(
     alloc: Global,
     fields: &[Field],

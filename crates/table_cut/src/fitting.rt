@@ -18,7 +18,7 @@ pub(crate) struct Taken {
     pub(crate) weight: u64,
 }
 
-// The first so many rows of a run.
+// The first n rows of a run.
 fn front_weight(schema: &Schema, run: RowRun<'_>, rows: usize) -> u64
     requires sound { is_run_sound (columns_of (schema_of schema.now).columns) run ≡ true }
     requires within { rows ≤ run.len }
@@ -50,7 +50,7 @@ fn weight_at(schema: &Schema, run: RowRun<'_>, i: usize) -> u64
     )
 }
 
-/// The rows of a run that a piece has room for, which may have so many rows more and weighs so much before them: all of them together, or else one after
+/// The rows of a run that a piece has room for, which may have n rows more and weighs so much before them: all of them together, or else one after
 /// another.
 pub(crate) fn fitting(schema: &Schema, run: RowRun<'_>, room: usize, before: u64) -> Taken
     requires sound { is_run_sound (columns_of (schema_of schema.now).columns) run ≡ true }

@@ -50,7 +50,7 @@ fn push_run<'a>(runs: &mut Vec<RowRun<'a>>, run: RowRun<'a>) -> Result<(), Alloc
     Ok(())
 }
 
-// All rows of a batch of a part, which has so many.
+// All rows of a batch of a part, which has n.
 fn whole_batch<'a>(part: &'a Part, arrays: &'a [PlacedArray], rows: usize) -> RowRun<'a>
     ensures rows { (columns : Columns)
         → run_rows columns result ≡ rows_in columns (placed_arrays part.now.bytes.items part.now.dictionaries.items arrays.now) rows }
@@ -81,6 +81,9 @@ impl<'a> RowsLeft<'a> {
     ghost use Rattle.table_cut.specs.Left.{runs_left, rows_left};
 
     /// All rows.
+    ///
+    /// # Errors
+    /// `AllocError` where memory was refused.
     pub fn new(alloc: Global, parts: &'a [Part]) -> Result<RowsLeft<'a>, AllocError>
         ensures rows { IfOk result (λ left. (columns : Columns) → rows_left columns left ≡ parts_rows columns parts.now) }
         ensures sound { IfOk result (λ left. (columns : Columns) → are_parts_sound columns parts.now ≡ true
@@ -103,7 +106,10 @@ impl<'a> RowsLeft<'a> {
     /// The rows of the next piece: the longest front of the rows that are left which is within the limits of a piece. It takes time linear in the runs of
     /// the piece, and for a piece that is too heavy with one run more, in the rows of that run; where its rows stand under several dictionaries of 8 or 16
     /// bit indices, also in the cells of all its rows, for each of its first such runs anew, and for one that does not fit as often as it can be halved.
-    /// Refused only where a growth was; from then on it is not told which rows are left, and a caller that tries again begins with [`RowsLeft::new`].
+    /// Refused only where a growth was; from then on it is not promised which rows are left, and a caller that tries again begins with [`RowsLeft::new`].
+    ///
+    /// # Errors
+    /// `AllocError` where memory was refused. It is not promised then which rows are left: a caller that tries again begins with [`RowsLeft::new`].
     pub fn next_piece(&mut self, alloc: Global, schema: &Schema) -> Result<RunPiece<'a>, AllocError>
         requires schema { IsWithinLimits (schema_of schema.now) }
         requires sound { are_runs_sound (columns_of (schema_of schema.now).columns) (runs_left self.old) ≡ true }

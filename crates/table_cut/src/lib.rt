@@ -2,14 +2,14 @@
 //!
 //! [`next_piece`] has the longest front of the rows that are left which is within the limits: at most 4,096 rows, a weight of at most 16,777,216,
 //! and in no dictionary more values than its indices can name. It borrows the rows, and weighs each once, but for the first of the next piece.
-//! [`first_unfit_row`] tells which row of a table another schema of its shape does not take.
+//! [`first_unfit_row`] gives which row of a table another schema of its shape does not take.
 //!
 //! ```ignore
 //! let piece = next_piece(alloc, table.schema(), &table, from)?;
 //! from += piece.len();
 //! ```
 //!
-//! [`RowsLeft`] cuts a table that is kept in record batches into the same pieces, as runs of its rows, and [`column_runs`] tells what each column has of
+//! [`RowsLeft`] cuts a table that is kept in record batches into the same pieces, as runs of its rows, and [`column_runs`] gives what each column has of
 //! them. Where a piece ends is found from the weights of spans of rows ([`arrays::row_span_weight`]). Where a piece has rows under several dictionaries
 //! of 8 or 16 bit indices, its columns are gone through, and the entries of each are counted ([`array_build::count_entries`]). Rows are borrowed only where
 //! there are lists or structs besides, or many such dictionaries in one piece.

@@ -22,6 +22,9 @@ pub(crate) fn row_at(table: &Table, place: usize) -> Values<'_>
 
 /// The rows of the next piece, where the rows before a place are in pieces already: the longest front of the rows that are left which is within the
 /// limits of a piece, as rows of this schema. Refused only where a growth was.
+///
+/// # Errors
+/// `AllocError` where memory was refused.
 pub fn next_piece<'a>(
     alloc: Global,
     schema: &Schema,

@@ -32,9 +32,9 @@ const MOST_TRIED: usize = 16;
 pub(crate) enum Seen<'a> {
     /// There is no row.
     Nothing,
-    /// All rows have, in each dictionary whose indices name only so many, the entries that those of this run have.
+    /// All rows have, in each dictionary whose indices can name only some, the entries that those of this run have.
     Shared(RowRun<'a>),
-    /// The columns of all rows were gone through, for so many runs.
+    /// The columns of all rows were gone through, for n runs.
     Columns(usize),
     /// Each row was gone through.
     Rows(SeenRows<'a>),
@@ -126,7 +126,7 @@ fn take_rows<'a>(
     Ok(run.len)
 }
 
-// The same of a run behind rows that were gone through.
+// The same of a run after rows that were gone through.
 fn room_behind<'a>(
     alloc: Global,
     schema: &'a Schema,
@@ -171,7 +171,7 @@ fn room_alone<'a>(schema: &Schema, run: RowRun<'a>) -> Room<'a>
     room_sharing(schema, run, run)
 }
 
-// Whether the dictionaries have room for the rows of a piece and of a run behind it.
+// Whether the dictionaries have room for the rows of a piece and of a run after it.
 fn fits_behind<'a>(
     alloc: Global,
     schema: &'a Schema,
@@ -189,7 +189,7 @@ fn fits_behind<'a>(
     runs_fit(alloc, schema, &runs)
 }
 
-// How many rows of a run there is room for behind a piece: where not for all, by halves.
+// How many rows of a run there is room for after a piece: where not for all, by halves.
 fn rows_behind<'a>(
     alloc: Global,
     schema: &'a Schema,
@@ -216,7 +216,7 @@ fn rows_behind<'a>(
     Ok(fitting)
 }
 
-// The same behind a piece of which that is found by columns, unless it was for many of its runs; else its rows are gone through.
+// The same after a piece of which that is found by columns, unless it was for many of its runs; else its rows are gone through.
 fn room_anew<'a>(
     alloc: Global,
     schema: &'a Schema,
@@ -239,7 +239,7 @@ fn room_anew<'a>(
     room_behind(alloc, schema, seen, run)
 }
 
-// The same behind a piece, all of whose rows have the entries that those of one run have.
+// The same after a piece, all of whose rows have the entries that those of one run have.
 fn room_behind_shared<'a>(
     alloc: Global,
     schema: &'a Schema,
@@ -258,7 +258,7 @@ fn room_behind_shared<'a>(
     room_anew(alloc, schema, 0, piece, run)
 }
 
-// How many rows of a run the dictionaries of a piece have room for, behind the rows that it has.
+// How many rows of a run the dictionaries of a piece have room for, after the rows that it has.
 fn room_for<'a>(
     alloc: Global,
     schema: &'a Schema,
@@ -279,7 +279,7 @@ fn room_for<'a>(
     }
 }
 
-/// How many rows of a run the dictionaries of a piece have room for, behind the rows that it has: where no dictionary has a limit, or the run has no row,
+/// How many rows of a run the dictionaries of a piece have room for, after the rows that it has: where no dictionary has a limit, or the run has no row,
 /// nothing is asked.
 pub(crate) fn room_within<'a>(
     alloc: Global,

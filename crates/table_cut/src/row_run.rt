@@ -3,7 +3,7 @@ ghost use Rattle.std.specs.Prelude.{◌+◌, ◌<◌, ◌^◌};
 
 use columns::{Dictionary, PlacedArray};
 
-/// So many rows of a record batch, from one on: its arrays, the bytes in which they stand, and its dictionaries.
+/// n rows of a record batch, from one on: its arrays, the bytes in which they stand, and its dictionaries.
 #[derive(Clone, Copy)]
 pub struct RowRun<'a> {
     pub arrays: &'a [PlacedArray],
@@ -37,7 +37,7 @@ impl<'a> RowRun<'a> {
         }
     }
 
-    /// The rows behind the first of these.
+    /// The rows after the first of these.
     pub fn behind(self, len: usize) -> RowRun<'a>
         requires { len ≤ self.len }
         ensures len { result.len ≡ self.entry.len - len }

@@ -29,7 +29,10 @@ impl<'a> SeenRows<'a> {
         SeenRows { sets: None }
     }
 
-    /// Adds those of a row more, and tells whether the dictionaries have room for all of these rows.
+    /// Adds those of a row more, and answers whether the dictionaries have room for all of these rows.
+    ///
+    /// # Errors
+    /// `AllocError` where memory was refused. It is not promised then which entries it has: a caller that tries again begins with [`SeenRows::none`].
     pub fn take(
         &mut self,
         alloc: Global,

@@ -1,4 +1,4 @@
-// Whether runs of rows have the same entries in their dictionaries, where indices name only so many.
+// Whether runs of rows have the same entries in their dictionaries, where indices can name only some.
 ghost use Rattle.std.specs.Prelude.{◌≡◌, true, length, map};
 ghost use Rattle.arrays.specs.Shared.{SharesEntries, SharesBelow, ShareEntries};
 ghost use Rattle.arrow_schema.specs.Column.{columns_of};

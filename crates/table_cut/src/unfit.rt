@@ -14,6 +14,9 @@ use values::Table;
 
 /// The first row of a table, counted from 0, that tables of another schema of its shape don't take: it fills a dictionary of that schema. What fits
 /// and what it weighs does not depend on dictionaries. Refused only where a growth was.
+///
+/// # Errors
+/// `AllocError` where memory was refused.
 pub fn first_unfit_row(
     alloc: Global,
     schema: &Schema,

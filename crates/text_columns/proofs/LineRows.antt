@@ -1,4 +1,4 @@
--- Rows of lines of JSON that come behind others, by the buffers of their columns.
+-- Rows of lines of JSON that come after others, by the buffers of their columns.
 use Rattle.std.specs.Borrow.{Bor}
 use Rattle.std.specs.Str.{is_utf8}
 use Rattle.std.specs.Cmp.Lexicographic.{slice_cmp}

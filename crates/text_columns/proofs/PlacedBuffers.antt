@@ -1,4 +1,4 @@
--- Buffers that come behind other bytes, and the arrays that they are.
+-- Buffers that come after other bytes, and the arrays that they are.
 use Rattle.std.specs.Prelude.{◌&&◌, if◌then◌else◌, get_or, Some, None, slice_get}
 use Rattle.std.specs.Global.{Vec}
 use Rattle.std.specs.List.{flat_map, list_all}
@@ -32,7 +32,7 @@ use Rattle.text_columns.specs.inner.Placed.{ArePlaced, IsAppended, IsLaid, IsPla
 
 -- ---- buffers
 
--- where nothing comes behind it
+-- where nothing comes after it
 stands_last : (old buffer new : List ℕ) (span : Span) → IsAppended old buffer new span → within new span ≡ buffer
 stands_last old buffer new span a = ap (λ (xs : List ℕ). within xs span) (sym (append-nil new)) ∙ a.stands []
 
@@ -112,7 +112,7 @@ column_placed b slots old mid new span layout count a l =
           ∙ and_from _ _ inner l.ends;
     }
 
--- ---- arrays, one behind another
+-- ---- arrays, one after another
 
 pub record SoFar (bs : List ColumnBuilder) (bytes : List ℕ) (arrays : List PlacedArray) : Type 0 where
   pub placed : ArePlaced bs bytes arrays

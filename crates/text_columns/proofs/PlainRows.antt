@@ -31,7 +31,7 @@ quoted_front : (f rest : List ℕ) → begins_quoted (f ++ rest) ≡ false → b
 quoted_front [] rest h = refl
 quoted_front (c ∷ f) rest h = h
 
--- the first fields of a record were read up to a place, and have come behind the rows
+-- the first fields of a record were read up to a place, and have come after the rows
 pub record Begun (text null_text : List ℕ) (from at i heavy : ℕ) (old bs : List ColumnBuilder) : Type 0 where
   pub fields : List (List ℕ)
   pub len : length fields ≡ i
@@ -145,7 +145,7 @@ module _ (text null_text : List ℕ) (from at end i heavy more : ℕ) (old bs : 
         keeps = kept row.weight weighs last count;
       }
 
--- ---- records one behind another
+-- ---- records one after another
 
 -- the records that stand in the text from a place on
 abbrev pub InText : List ℕ → ℕ → List (List (List ℕ)) → Type 0

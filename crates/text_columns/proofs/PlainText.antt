@@ -20,7 +20,7 @@ one_between p text from i le lt is h =
     ∙ list_all-append p (take (i - from) (drop from text)) (get_or (drop from text) (i - from) 0 ∷ [])
     ∙ and_from _ _ h (and_from _ _ (ap p byte ∙ is) refl)
 
--- what stands from a place on, up to another and behind it
+-- what stands from a place on, up to another and after it
 pub parted : (text : List ℕ) (from end : ℕ) → from ≤ end → drop from text ≡ take (end - from) (drop from text) ++ drop end text
 parted text from end le =
     let e : from + (end - from) ≡ end = omega arith in

@@ -1,4 +1,4 @@
--- Rows that come behind others, by the buffers of their columns.
+-- Rows that come after others, by the buffers of their columns.
 use Rattle.std.specs.Borrow.{Bor}
 use Rattle.std.specs.Prelude.{Option, Some, None, Ok, Err, Result, slice_get, get_or, ◌==◌, nat_lt, ◌⊎◌, MatchResult}
 use Rattle.std.proofs.Common.{◌≡◌, ℕ, zero, suc, ◌+◌, ◌-◌, ◌≤◌, ◌<◌, true, false, List, [], ◌∷◌, ◌++◌, length, take, drop, set, refl, arith, ap, sym, subst, ◌∙◌, inl, inr, length-append}
@@ -106,7 +106,7 @@ none_weigh cells = refl
 pub column_more : (j : ℕ) (rows : List (List Cell)) (row : List Cell) → column_at j (rows ++ row ∷ []) ≡ column_at j rows ++ get_or row j null ∷ []
 column_more j rows row = map-append (λ (r : List Cell). get_or r j null) rows (row ∷ [])
 
--- the first fields of a record have come behind the rows, and weigh so much with their row
+-- the first fields of a record have come after the rows, and weigh so much with their row
 pub record Half (cs : List Column) (null_text : List ℕ) (ts : List (List ℕ)) (rows : List (List Cell)) (i heavy : ℕ) (bs : List ColumnBuilder) : Type 0 where
   pub row : List Cell
   pub len : length row ≡ i

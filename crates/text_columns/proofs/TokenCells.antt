@@ -1,4 +1,4 @@
--- Cells of JSON tokens that come behind others, by the buffers of their column.
+-- Cells of JSON tokens that come after others, by the buffers of their column.
 use Rattle.std.specs.Prelude.{ℤ, Option, Some, None, Ok, Err, Result, IfOk, IfSome, option_map, option_and_then}
 use Rattle.std.specs.Global.{Vec}
 use Rattle.std.specs.Str.{is_utf8}

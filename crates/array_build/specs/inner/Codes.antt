@@ -19,7 +19,7 @@ use Rattle.columns.specs.declared.view.ArrayView.{ArrayView}
 abbrev pub code_in : List Cell → Cell → Option ℕ
 code_in entries c = position (is_entry c) entries
 
--- the index of so many bytes that stands for it
+-- the index of n bytes that stands for it
 abbrev pub sized_code : (size : ℕ) → Option ℕ → List ℕ
 sized_code size code = little_bytes size (place_or_zero code)
 
@@ -41,7 +41,7 @@ pub record AreCodedSlots (field : Field) (slots : CodedSlots) (from to : ℕ) : 
   pub within : to ≤ slots_in (view_array slots.view)
   pub coded : list_all is_coded (cells_from (coded_cell field slots) from (to - from)) ≡ true
 
--- there is room at a place for an index of so many bytes, and for whether it stands for an entry
+-- there is room at a place for an index of n bytes, and for whether it stands for an entry
 pub record HasPlace (size place : ℕ) (indices : List ℕ) (valid : List Bool) : Type 0 where
   pub small : size ≤ 8
   pub room : size * place + size ≤ length indices
@@ -52,12 +52,12 @@ pub record IsCoded (old_entries new_entries : List Cell) (codes : List (Option �
   pub entries : new_entries ≡ with_entries old_entries cells
   pub places : (more : List Cell) → codes ≡ map (code_in (with_entries new_entries more)) cells
 
--- the index of so many bytes of a cell, and whether it has one, over what stood at a place
+-- the index of n bytes of a cell, and whether it has one, over what stood at a place
 pub record IsPut (size place : ℕ) (entries : List Cell) (c : Cell) (old_bytes new_bytes : List ℕ) (old_bits new_bits : List Bool) : Type 0 where
   pub index : new_bytes ≡ take (size * place) old_bytes ++ (sized_code size (code_in entries c) ++ drop (size * place + size) old_bytes)
   pub valid : new_bits ≡ set old_bits place (is_some (code_in entries c))
 
--- the index of so many bytes of each of some cells, and whether it has one
+-- the index of n bytes of each of some cells, and whether it has one
 pub record IsWritten (size : ℕ) (old_entries new_entries : List Cell) (bytes : List ℕ) (bits : List Bool) (cells : List Cell) : Type 0 where
   pub codes : List (Option ℕ)
   pub coded : IsCoded old_entries new_entries codes cells

@@ -32,7 +32,7 @@ pub record AreItems (below : Cell → List Cell) (item : Column) (run : SlotRun)
   pub cells : run_cells item run ≡ flat_map below some
   pub sound : is_run_sound item run ≡ true
 
--- a run of so many slots of an array, from one on
+-- a run of n slots of an array, from one on
 pub record HasSlots (a : Array) (from n : ℕ) (run : SlotRun) : Type 0 where
   pub cells : (c : Column) → run_cells c run ≡ cells_from (cell_at c a) from n
   pub sound : (c : Column) → is_sound c a ≡ true → is_run_sound c run ≡ true

@@ -29,7 +29,7 @@ built_columns (and_column c cs) (r ∷ rs) = built_at c (runs_cells c r) ++ buil
 abbrev pub kind_cells : Kind → List SlotRun → List Cell
 kind_cells kind runs = runs_cells (plain_column kind None) runs
 
--- a batch with the array of such runs, and all below it, behind what it had
+-- a batch with the array of such runs, and all below it, after what it had
 abbrev pub AddsRuns : Kind → List SlotRun → (old new : BuiltBatch) → Type 0
 AddsRuns kind runs old new = batch_in new ≡ with_arrays (batch_in old) (built_at (plain_column kind None) (kind_cells kind runs))
 
@@ -96,7 +96,7 @@ slot_sizes width a from len = map (λ i. number_at width (offsets_in a) (i + 1) 
 abbrev pub cell_sizes : List Cell → List ℕ
 cell_sizes cells = map (λ c. length (contents_of c)) cells
 
--- the offsets at which so many bytes begin, where the first begin at one place and what follows them at another
+-- the offsets at which n bytes begin, where the first begin at one place and what follows them at another
 abbrev pub AreOffsetsAdded : (width : ℕ) → (old new : List ℕ) → (start next : ℕ) → (sizes : List ℕ) → Type 0
 AreOffsetsAdded width old new start next sizes =
     (rest : List ℕ) → new ++ flat_map (little_bytes width) (sums_from next rest) ≡ old ++ flat_map (little_bytes width) (sums_from start (sizes ++ rest))

@@ -48,7 +48,7 @@ IsValidity k r validity = within r.bytes.now validity ≡ validity_in (kind_plac
 abbrev pub ArePlaced : Columns → Rest → List PlacedArray → Type 0
 ArePlaced cs r arrays = placed_arrays r.bytes.now r.dictionaries.now arrays ≡ arrays_from cs (rest_nodes r) (rest_buffers r) (rest_dictionaries r)
 
--- the same of what stands below an array with so many buffers
+-- the same of what stands below an array with n buffers
 abbrev pub IsPlacedBelow : Column → Rest → (buffers : ℕ) → PlacedArray → Type 0
 IsPlacedBelow c r buffers a = array_in r.bytes.now (rest_known r) a ≡ array_from c (drop 1 (rest_nodes r)) (drop buffers (rest_buffers r)) (rest_dictionaries r)
 
@@ -65,7 +65,7 @@ IsFirstPart r part = rest_known r part ≡ get_or (rest_dictionaries r) 0 []
 abbrev pub IsInBody : Rest → Span → Type 0
 IsInBody r span = span.start + span.len ≤ r.body.start + r.body.len
 
--- by a test of what is placed within so many bytes
+-- by a test of what is placed within n bytes
 abbrev pub Ends : Rest → (ℕ → Bool) → Type 0
 Ends r placed = (size : ℕ) → r.body.start + r.body.len ≤ size → list_all (stands_within size r.dictionaries.now) r.parts.now ≡ true → placed size ≡ true
 
@@ -81,7 +81,7 @@ ArrayEnds r a = Ends r (λ size. is_placed_within size r.dictionaries.now a)
 abbrev pub ArraysEnd : Rest → List PlacedArray → Type 0
 ArraysEnd r arrays = ArraysEndWithin r.body r.dictionaries.now r.parts.now arrays
 
--- what is left after so many nodes, buffers and dictionaries
+-- what is left after n nodes, buffers and dictionaries
 pub record IsLeft (r left : Rest) (nodes buffers dictionaries : ℕ) : Type 0 where
   pub same_body : left.body ≡ r.body
   pub same_bytes : left.bytes.now ≡ r.bytes.now

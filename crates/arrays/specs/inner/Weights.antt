@@ -16,7 +16,7 @@ use Rattle.arrays.specs.Checks.{are_too_heavy}
 abbrev pub sum_from : {X : Type 0} → (X → ℕ) → (ℕ → X) → (start n : ℕ) → ℕ
 sum_from w f start n = sum_by w (map f (range_with_len start n))
 
--- so many slots of a column, from one on
+-- n slots of a column, from one on
 abbrev pub span_weight : Column → Array → (start n : ℕ) → ℕ
 span_weight c a start n = sum_from (weight c) (cell_at c a) start n
 
@@ -82,7 +82,7 @@ AreEntryWeights kind dictionary weights = (n : ℕ) → n < length weights → g
 abbrev pub coded_weight : DictSpec → ArrayView → Kind → (start n : ℕ) → ℕ
 coded_weight spec view kind start n = sum_from (kind_weight kind) (unless_null (indexed_cell (index_of spec) kind) (view_array view)) start n
 
--- what one weighs, or all of a span together, if that is told: by the weights of some first entries and of a null, of whatever type
+-- what one weighs, or all of a span together, if that is known: by the weights of some first entries and of a null, of whatever type
 abbrev pub IsKnownWeight : DictSpec → ArrayView → (known : List ℕ) → (of_null i : ℕ) → Option ℕ → Type 0
 IsKnownWeight spec view known of_null i told = (kind : Kind) → AreEntryWeights kind (dictionary_in (view_array view)) known → of_null ≡ capped_weight (kind_weight kind null)
     → IfSome told (λ w. w ≡ capped_weight (kind_weight kind (unless_null (indexed_cell (index_of spec) kind) (view_array view) i)))
@@ -91,7 +91,7 @@ abbrev pub IsKnownTotal : DictSpec → ArrayView → (known : List ℕ) → (of_
 IsKnownTotal spec view known of_null start n told = (kind : Kind) → AreEntryWeights kind (dictionary_in (view_array view)) known → of_null ≡ capped_weight (kind_weight kind null)
     → IfSome told (λ w. w ≡ capped_weight (coded_weight spec view kind start n))
 
--- so many rows, from one on: one each, and their cells
+-- n rows, from one on: one each, and their cells
 abbrev pub rows_weight : Columns → Arrays → (start n : ℕ) → ℕ
 rows_weight columns arrays start n = n + parts_span_weight columns arrays start n
 

@@ -15,7 +15,7 @@ ghost use Rattle.arrays.specs.inner.VisibleSpans.{any_slot};
 use arrow_schema::{BitWidth, Field};
 use columns::{ArrayView, CodedSlots, entry_count};
 
-// Whether the number of an index is that of no entry, where there are so many.
+// Whether the number of an index is that of no entry, where there are n.
 #[inline]
 fn is_past(number: Option<u64>, entries: u128) -> bool
     ensures { (index : ℤ) (cells : List Cell) → number ≡ named_number index → entries ≡ length cells → result ≡ is_past index cells }
@@ -26,7 +26,7 @@ fn is_past(number: Option<u64>, entries: u128) -> bool
     }
 }
 
-// The first test tells of most: a number below a limit that is no more than the entries is that of one.
+// The first test settles most: a number below a limit that is no more than the entries is that of one.
 #[inline]
 fn has_no_entry<const SIZE: usize, const SIGNED: bool>(
     slots: CodedSlots<'_>,
@@ -48,7 +48,7 @@ fn has_no_entry<const SIZE: usize, const SIGNED: bool>(
     }
 }
 
-// A valid slot of a span has such an index, of so many bytes, with a sign or without.
+// A valid slot of a span has such an index, of n bytes, with a sign or without.
 fn any_sized_past<const SIZE: usize, const SIGNED: bool>(
     slots: CodedSlots<'_>,
     from: usize,

@@ -9,7 +9,7 @@ ghost use Rattle.arrays.specs.inner.SpanLists.{are_runs, item_span, fixed_item_s
 use arrayvec::ArrayVec;
 use columns::{ArrayView, OffsetWidth};
 
-/// Slots in a row: from one on, so many.
+/// Slots in a row: from one on, n.
 #[derive(Clone, Copy, Default)]
 pub(crate) struct SlotSpan {
     pub(crate) from: usize,

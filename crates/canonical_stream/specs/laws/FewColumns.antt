@@ -10,7 +10,7 @@ use Rattle.columns.specs.Array.{Array, Arrays, array_list, dictionary_in, items_
 use Rattle.columns.specs.Buffers.{value_column, typed_dictionaries, dictionaries_of}
 use Rattle.columns.specs.Tests.{Typed, arrays_at, arrays_below, every_array}
 
--- it has so many columns at most, itself and all below it
+-- it has n columns at most, itself and all below it
 abbrev pub HasFew : ℕ → Typed → Type 0
 HasFew most t = length (preorder t.column) ≤ most
 

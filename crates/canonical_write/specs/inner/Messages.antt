@@ -26,7 +26,7 @@ abbrev pub built_messages : (id : ℕ) → List PlainDictionary → List ℕ
 built_messages id [] = []
 built_messages id (d ∷ ds) = built_message id d ++ built_messages (id + 1) ds
 
--- the record batch of so many rows
+-- the record batch of n rows
 abbrev pub built_batch : (rows : ℕ) → List Node → List (List ℕ) → List ℕ
 built_batch rows nodes buffers = batch_message rows (map raw_node nodes) buffers
 

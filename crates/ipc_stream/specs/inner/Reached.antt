@@ -47,7 +47,7 @@ BeginsAt (Some k) start = Unit {0}
 abbrev pub accepted_from : Option Known → List ℕ → List Envelope
 accepted_from before bytes = accepted supported_codes (length bytes) before bytes
 
--- the bytes were read so far, so many messages: with any bytes behind them they mean what their rest means after what is known
+-- the bytes were read so far, n messages: with any bytes after them they mean what their rest means after what is known
 pub record IsReadTo (bytes : List ℕ) (number start : ℕ) (front : Option Front) : Type 0 where
   pub before : Option Known
   pub known : IsBefore bytes front before
@@ -79,7 +79,7 @@ abbrev pub GivesReading : List ℕ → Result Reading Stopped → Type 0
 GivesReading bytes (Ok r) = Rests bytes r
 GivesReading bytes (Err s) = StoppedBy bytes s.error s.number s.start
 
--- the end of stream stands there, with so many bytes behind it
+-- the end of stream stands there, with n bytes after it
 pub record EndsReading (bytes : List ℕ) (start behind : ℕ) : Type 0 where
   pub next : next_message (drop start bytes) ≡ Ok end_of_stream
   pub size : length bytes ≡ start + 8 + behind

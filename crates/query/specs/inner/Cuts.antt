@@ -20,7 +20,7 @@ block_slots width = 512 / bits_of width
 abbrev pub bias_in : IntegerType → ℕ
 bias_in t = if t.signed then 2 ^ (bits_of t.width - 1) else 0
 
--- what the bias makes of a literal, where it is one of so many numbers
+-- what the bias makes of a literal, where it is one of n numbers
 abbrev pub IsKey : ℤ → (bias numbers : ℕ) → ℕ → Type 0
 IsKey literal bias numbers key = (pos key ≡ literal +ℤ pos bias) × (key < numbers)
 
@@ -32,7 +32,7 @@ AllStand literal bias numbers order = (n : ℕ) → n < numbers → int_cmp (pos
 abbrev pub answer : Cut → ℕ → Bool
 answer cut n = if nat_lt n cut.key then cut.below else if n == cut.key then cut.equal else cut.above
 
--- a number with the bias, in so many bytes
+-- a number with the bias, in n bytes
 abbrev pub moved : Cut → (width : ℕ) → ℕ → ℕ
 moved cut width n = (n + cut.bias) % 256 ^ width
 

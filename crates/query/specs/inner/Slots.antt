@@ -68,7 +68,7 @@ part_flags comparison p = flat_map (batch_flags comparison p) p.batches.items
 abbrev pub parts_flags : Comparison → List Part → List Bool
 parts_flags comparison parts = flat_map (part_flags comparison) parts
 
--- the array has the bytes of so many slots
+-- the array has the bytes of n slots
 abbrev pub has_integers : IntegerType → ℕ → Array → Bool
 has_integers t rows a = nat_le rows (slots_in a) && (not (has_short_validity a) && not (are_few (width_of t) a (values_in a)))
 

@@ -7,7 +7,7 @@ use Rattle.bitmap.specs.Bits.{bit}
 use Rattle.cells.specs.Cell.{Cell}
 use Rattle.query.specs.Choice.{rows_set}
 
--- what is kept with the first of some rows, behind others
+-- what is kept with the first of some rows, after others
 abbrev pub kept_front : (most : ℕ) → (others : List (List Cell)) → (mask : List ℕ) → (start : ℕ) → (xs : List (List Cell)) → (i : ℕ) → List (List Cell)
 kept_front most others mask start xs i = take most (others ++ rows_set mask start (take i xs))
 

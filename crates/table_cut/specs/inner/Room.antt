@@ -24,7 +24,7 @@ pub record AreRunsOf (s : PlainSchema) (runs : List RowRun) : Type 0 where
   pub sound : are_runs_sound (columns_of s.columns) runs ≡ true
   pub rows : list_all (is_row s) (runs_rows (columns_of s.columns) runs) ≡ true
 
--- a run behind a piece: both have rows of the schema, and its dictionaries have room for those of the piece
+-- a run after a piece: both have rows of the schema, and its dictionaries have room for those of the piece
 pub record IsRunBehind (s : PlainSchema) (piece : List RowRun) (run : RowRun) : Type 0 where
   pub limits : IsWithinLimits s
   pub before : AreRunsOf s piece
@@ -46,7 +46,7 @@ IsSeenWithin s rows seen = is_any_limited (columns_of s.columns) ≡ true → Is
 abbrev pub row_in : PlainSchema → RowRun → ℕ → List Cell
 row_in s run i = row_at (columns_of s.columns) (arrays_of_run run) (run.from + i)
 
--- behind some rows there is room for just so many of a run: for these, and not for the next
+-- after some rows there is room for just n of a run: for these, and not for the next
 pub record HasRoom (s : PlainSchema) (rows : List (List Cell)) (run : RowRun) (n : ℕ) : Type 0 where
   pub within : n ≤ run.len
   pub fits : dictionaries_fit s (rows ++ take n (run_rows (columns_of s.columns) run)) ≡ true

@@ -6,7 +6,7 @@ use Rattle.columns.specs.CellAt.{row_at}
 use Rattle.table_cut.specs.Rows.{arrays_of_run, run_rows}
 use Rattle.table_cut.specs.declared.row_run.RowRun.{RowRun}
 
--- the first so many of them
+-- the first n of them
 abbrev pub front_weight : PlainSchema → RowRun → (rows : ℕ) → ℕ
 front_weight s run rows = table_weight s (take rows (run_rows (columns_of s.columns) run))
 

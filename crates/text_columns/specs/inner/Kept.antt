@@ -27,7 +27,7 @@ use Rattle.text_columns.specs.declared.column_values.Values.TheVariants.{Nulls, 
 use Rattle.text_columns.specs.declared.builder.ColumnBuilder.{ColumnBuilder}
 use Rattle.text_columns.specs.declared.records.RowsRead.{RowsRead}
 
--- the bytes of an integer that a type of so many bits holds come behind others
+-- the bytes of an integer that a type of n bits holds come after others
 abbrev pub AppendsInteger : (bits : ℕ) → (signed : Bool) → ℤ → List ℕ → List ℕ → Type 0
 AppendsInteger bits signed n old new = (in_range bits signed n ≡ true) × (new ≡ old ++ integer_bytes (bits / 8) (number n))
 
@@ -103,11 +103,11 @@ pub record Takes (kind : Kind) (cells : List Cell) (values : Values) : Type 0 wh
   pub kind_is : IsOf kind values
   pub holds : Holds values cells
 
--- a null comes behind the cells
+-- a null comes after the cells
 abbrev pub TakesNull : Values → Values → Type 0
 TakesNull old new = (kind : Kind) (cells : List Cell) → Takes kind cells old → Takes kind (cells ++ null ∷ []) new
 
--- a cell of a text that weighs so much comes behind the cells of a type
+-- a cell of a text that weighs so much comes after the cells of a type
 pub record HasTaken (kind : Kind) (text : List ℕ) (heavy : ℕ) (cells : List Cell) (new : Values) : Type 0 where
   pub taken : Cell
   pub read : cell_of_text kind text ≡ Ok taken
@@ -152,7 +152,7 @@ pub record KeepAll (cs : List Column) (rows : List (List Cell)) (bs : List Colum
   pub count : length bs ≡ length cs
   pub each : (j : ℕ) (c : Column) (b : ColumnBuilder) → slice_get cs j ≡ Some c → slice_get bs j ≡ Some b → Keeps c (column_at j rows) b
 
--- the cells of fields come behind the rows: the row weighs so much
+-- the cells of fields come after the rows: the row weighs so much
 pub record HasRow (cs : List Column) (null_text : List ℕ) (ts : List (List ℕ)) (heavy : ℕ) (rows : List (List Cell)) (new : List ColumnBuilder) : Type 0 where
   pub row : List Cell
   pub read : field_cells null_text cs ts ≡ Ok row

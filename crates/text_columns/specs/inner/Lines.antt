@@ -28,7 +28,7 @@ use Rattle.text_columns.specs.inner.Kept.{AppendsBytes, AppendsFixed, KeepAll, K
 
 -- ---- one value
 
--- the integer that digits are, behind a sign or not
+-- the integer that digits are, after a sign or not
 abbrev pub integer_after : Bool → Parts → Option ℤ
 integer_after sign p = option_and_then as_integer (number_from sign p)
 
@@ -49,13 +49,13 @@ token_data (tokens.boolean b) = Some (boolean b)
 token_data tokens.null = Some null
 token_data tokens.bad = None
 
--- a token is a boolean, which comes behind others
+-- a token is a boolean, which comes after others
 pub record AppendsBit (t : Token) (old new : List Bool) : Type 0 where
   pub bit : Bool
   pub is : t ≡ tokens.boolean bit
   pub bits : new ≡ old ++ bit ∷ []
 
--- the integer that a number is comes behind others, of a type
+-- the integer that a number is comes after others, of a type
 pub record TakesNumber (integer : IntegerType) (text : List ℕ) (old new : List ℕ) : Type 0 where
   pub spelled : ℤ
   pub read : integer_in text ≡ Some spelled
@@ -68,7 +68,7 @@ pub record AppendsNumber (integer : IntegerType) (t : Token) (old new : List ℕ
   pub is : t ≡ tokens.number text
   pub takes : TakesNumber integer text old new
 
--- a token is a text, which comes behind others
+-- a token is a text, which comes after others
 pub record AppendsString (width : OffsetWidth) (t : Token) (heavy : ℕ) (offsets contents newer longer : List ℕ) : Type 0 where
   pub text : List ℕ
   pub is : t ≡ tokens.string text
@@ -106,7 +106,7 @@ pub record TakesToken (t : Token) (heavy : ℕ) (old new : Values) : Type 0 wher
   pub there : data_is ≡ null → ⊥
   pub takes : TakesValue data_is heavy old new
 
--- the cell of a value that weighs so much comes behind the cells of a column
+-- the cell of a value that weighs so much comes after the cells of a column
 pub record HasKeptValue (c : Column) (d : Data) (heavy : ℕ) (so : List Cell) (new : ColumnBuilder) : Type 0 where
   pub kept : Cell
   pub read : cell_in c d ≡ Ok kept
@@ -166,7 +166,7 @@ pub record PushesMembers (names : List (List ℕ)) (old new : List Token) (weigh
 
 -- ---- rows
 
--- the cell of a member that weighs so much is behind the cells of a column, or a null where there is none
+-- the cell of a member that weighs so much is after the cells of a column, or a null where there is none
 pub record HasMember (c : Column) (o : Option Data) (heavy : ℕ) (so : List Cell) (new : ColumnBuilder) : Type 0 where
   pub kept : Cell
   pub read : member_in (is_nullable_column c) (cell_in c) o ≡ Ok kept
@@ -176,7 +176,7 @@ pub record HasMember (c : Column) (o : Option Data) (heavy : ℕ) (so : List Cel
 abbrev pub Completes : Option ℕ → ℕ → ColumnBuilder → ColumnBuilder → Type 0
 Completes w heavy old new = (c : Column) (so : List Cell) (o : Option Data) → HoldsMember c so o w old → HasMember c o heavy so new
 
--- the cells of members come behind the rows: the row weighs so much
+-- the cells of members come after the rows: the row weighs so much
 pub record HasNamedRow (cs : List Column) (found : Members) (heavy : ℕ) (rows : List (List Cell)) (new : List ColumnBuilder) : Type 0 where
   pub row : List Cell
   pub read : cells_by_name (columns_of cs) found ≡ Ok (cells_of row)
@@ -187,7 +187,7 @@ abbrev pub CompletesRow : List (Option ℕ) → ℕ → List ColumnBuilder → L
 CompletesRow weights heavy old new =
     (cs : List Column) (rows : List (List Cell)) (found : Members) → HoldMembers cs rows found weights old → HasNamedRow cs found heavy rows new
 
--- the cells of a value come behind the rows
+-- the cells of a value come after the rows
 pub record HasValueRow (cs : List Column) (d : Data) (heavy : ℕ) (rows : List (List Cell)) (new : List ColumnBuilder) : Type 0 where
   pub row : List Cell
   pub read : cells_in (columns_of cs) d ≡ Ok (cells_of row)

@@ -47,7 +47,7 @@ pub record IsAppended (old buffer new : List ℕ) (span : Span) : Type 0 where
 abbrev pub is_layout_within : (size : ℕ) → PlacedLayout → Bool
 is_layout_within size = fold-PlacedLayout Bool Bool (layout_within size (λ part. true)) (array_within size)
 
--- the buffers of values come behind other bytes
+-- the buffers of values come after other bytes
 pub record IsLaid (values : Values) (old new : List ℕ) (layout : PlacedLayout) : Type 0 where
   pub more : List ℕ
   pub whole : new ≡ old ++ more

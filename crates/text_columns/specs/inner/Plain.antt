@@ -50,11 +50,11 @@ pub record SkipsRecord (text : List ℕ) (from next : ℕ) : Type 0 where
   pub plain : AllBetween (λ b. not (ends_line b || (b == 34))) text from last
   pub stops : ends_line (slice_index text last) ≡ true
 
--- the state behind a record, which reads on as the start of a text does
+-- the state after a record, which reads on as the start of a text does
 abbrev pub IsFresh : State → Type 0
 IsFresh s = (xs : List ℕ) → next_record default_config s [] [] xs ≡ next_record default_config st.StartRecord [] [] xs
 
--- a record that was read from a place of a text, and whose cells came behind the rows
+-- a record that was read from a place of a text, and whose cells came after the rows
 pub record PushesPlain (text null_text : List ℕ) (from : ℕ) (row : PlainRow) (old new : List ColumnBuilder) : Type 0 where
   pub fields : List (List ℕ)
   pub state : State

@@ -8,7 +8,7 @@ use Rattle.arrays.specs.inner.Weights.{coded_weight}
 use Rattle.arrays.proofs.SpanWeights.{slot_more}
 use Rattle.arrays.proofs.weights.sized_total.Goals as goal
 
--- a part more, and what is left behind it: the sum may be more than is told
+-- a part more, and what is left after it: the sum may be more than is reported
 next_sum : (whole total before part left weight new : ℕ) → capped_weight (total + before) ≡ whole → before ≡ part + left → weight ≡ capped_weight part
     → new ≡ min (total + weight) (2 ^ 64 - 1) → capped_weight (new + left) ≡ whole
 next_sum whole total before part left weight new sums more is total_is = omega (arith, sums, more, is, total_is)
