@@ -117,7 +117,7 @@ fn measure_sectors(rt: &HostRuntime, path: &str, sectors: u64) -> Result<()> {
     measure_step(rt, path, sectors, Step::Read)
 }
 
-/// Measures devices of so many mebibytes, each in a new file at the path.
+/// Measures devices of n mebibytes, each in a new file at the path.
 pub fn measure(rt: &HostRuntime, path: &str, mebibytes: &str) -> Result<()> {
     let mebibytes = mebibytes.parse::<u64>().context("a number of mebibytes")?;
     let sectors = mebibytes.saturating_mul(SECTORS_IN_A_MEBIBYTE);

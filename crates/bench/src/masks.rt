@@ -5,7 +5,7 @@ use std::time::{CpuClock, Duration};
 
 const MEGABYTE: usize = 1_000_000;
 
-/// Measures masks of so many megabytes. Four bits of each byte of the first one are set, and two of these in the second.
+/// Measures masks of n megabytes. Four bits of each byte of the first one are set, and two of these in the second.
 pub fn measure(rt: &HostRuntime, megabytes: &str) -> Result<()> {
     let megabytes = megabytes.parse::<u16>().context("a number of megabytes")?;
     let size = usize::from(megabytes) * MEGABYTE;

@@ -29,7 +29,7 @@ named name e = record { name = name; schema = e.schema; segments = e.segments; p
 abbrev pub renamed : PlainCatalogue → List ℕ → List ℕ → PlainCatalogue
 renamed c from to = elim (entry_of c from) [ None ↦ c | Some e ↦ with_entry (without c from) (named to e) ]
 
--- with these segments for the table of a name, and without its page, which doesn't say them; with more of them behind those that it has
+-- with these segments for the table of a name, and without its page, which doesn't say them; with more of them after those that it has
 abbrev pub with_segments : PlainCatalogue → List ℕ → List Segment → PlainCatalogue
 with_segments [] name segments = []
 with_segments (x ∷ xs) name segments =
@@ -40,7 +40,7 @@ abbrev pub with_more : PlainCatalogue → List ℕ → List Segment → PlainCat
 with_more c name [] = c
 with_more c name (s ∷ more) = elim (entry_of c name) [ None ↦ c | Some e ↦ with_segments c name (e.segments ++ s ∷ more) ]
 
--- so many segments from a place on, and with others in place of them
+-- n segments from a place on, and with others in place of them
 abbrev pub from_place : List Segment → (place count : ℕ) → List Segment
 from_place segments place count = take count (drop place segments)
 

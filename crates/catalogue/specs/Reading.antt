@@ -1,4 +1,4 @@
--- The catalogue, the root and the page that a text spells. A part of a text is read as a value and the bytes behind it.
+-- The catalogue, the root and the page that a text spells. A part of a text is read as a value and the bytes after it.
 use Rattle.std.specs.Prelude.{◌≡◌, ◌&&◌, ◌==◌, ℕ, zero, suc, nat_le, if◌then◌else◌, List, [], ◌∷◌, length, take, drop, Option, Some, None, Result, Ok, Err}
 use Rattle.std.specs.List.{list_all}
 use Rattle.std.specs.Str.{bytes_eq}
@@ -36,22 +36,22 @@ abbrev pub Gives : {X Y : Type 0} → (X → Y) → Result X DecodeError → Opt
 Gives view (Ok x) read = read ≡ Some (view x)
 Gives view (Err e) read = Fails e read
 
--- why a message was not read, as told of the text
+-- why a message was not read, as reported of the text
 abbrev pub decode_error : ImportError → DecodeError
 decode_error (errors.Fault f) = NoText
 decode_error errors.OutOfMemory = OutOfMemory
 
--- a number of so many bytes
+-- a number of n bytes
 abbrev pub front_number : ℕ → List ℕ → Option (ℕ × List ℕ)
 front_number size bytes = if nat_le size (length bytes) then Some (little_number size bytes, drop size bytes) else None
 
--- four bytes of length, and so many bytes
+-- four bytes of length, and n bytes
 unfoldable pub sized_at : List ℕ → Option (List ℕ × List ℕ)
 sized_at bytes = do
   size ← front_number 4 bytes
   if nat_le size.0 (length size.1) then Some (take size.0 size.1, drop size.0 size.1) else None
 
--- so many parts
+-- n parts
 unfoldable pub many_at : {A : Type 0} → (List ℕ → Option (A × List ℕ)) → ℕ → List ℕ → Option (List A × List ℕ)
 many_at one_at zero bytes = Some ([], bytes)
 many_at one_at (suc count) bytes = do
@@ -59,7 +59,7 @@ many_at one_at (suc count) bytes = do
   others ← many_at one_at count first.1
   Some (first.0 ∷ others.0, others.1)
 
--- four bytes of number, and so many parts
+-- four bytes of number, and n parts
 abbrev pub counted_at : {A : Type 0} → (List ℕ → Option (A × List ℕ)) → List ℕ → Option (List A × List ℕ)
 counted_at one_at bytes = do
   count ← front_number 4 bytes
@@ -165,7 +165,7 @@ root_entry_at bytes = do
   page ← extent_in name.1
   Some (record { name = name.0; page = page.0 }, page.1)
 
--- the tables of a root: each name comes before the next, there are not too many, and nothing stands behind them
+-- the tables of a root: each name comes before the next, there are not too many, and nothing stands after them
 unfoldable pub root_at : List ℕ → Option (List PlainRoot)
 root_at bytes = do
   entries ← counted_at root_entry_at bytes

@@ -6,7 +6,7 @@ use Rattle.segments.specs.declared.extent.Extent.{Extent}
 use Rattle.catalogue.specs.Entries.{PlainEntry, PlainCatalogue, PlainRoot}
 use Rattle.catalogue.specs.declared.entry.Segment.{Segment}
 
--- four bytes of length, and so many bytes
+-- four bytes of length, and n bytes
 abbrev pub sized : List ℕ → List ℕ
 sized bytes = little_bytes 4 (length bytes) ++ bytes
 

@@ -96,6 +96,9 @@ impl Catalogue {
 
     /// Puts a table into its place, instead of the one of its name, and hands back what stood there. What it asks for:
     /// `TableEntry::is_sound` and the laws of [`crate::counts_after_changes`].
+    ///
+    /// # Errors
+    /// `AllocError` where memory was refused. The catalogue is as it was then, and the entry is freed.
     pub fn put(&mut self, entry: TableEntry) -> Result<Option<TableEntry>, AllocError>
         requires entry { is_entry (plain_entry entry) ≡ true }
         requires tables { length (with_entry (catalogue_of self.old) (plain_entry entry)) ≤ MAX_TABLES }
@@ -123,8 +126,11 @@ impl Catalogue {
         rename_entry(&mut self.entries, from, to);
     }
 
-    /// Puts segments behind those of a table, which is without a page then. Where there are none, or no table of the name,
+    /// Puts segments after those of a table, which is without a page then. Where there are none, or no table of the name,
     /// nothing changes.
+    ///
+    /// # Errors
+    /// `AllocError` where memory was refused. The catalogue is as it was then.
     pub fn append_segments(&mut self, name: &str, more: &[Segment]) -> Result<(), AllocError>
         requires segments { list_all is_segment more.now ≡ true }
         requires most { segment_count (catalogue_of self.old) + length more.now ≤ MAX_SEGMENTS }
@@ -134,8 +140,11 @@ impl Catalogue {
         append_to(&mut self.entries, name, more)
     }
 
-    /// Exchanges so many segments of a table, from a place on, for others; the table is without a page then. Where there is
+    /// Exchanges n segments of a table, from a place on, for others; the table is without a page then. Where there is
     /// no table of the name, nothing changes.
+    ///
+    /// # Errors
+    /// `AllocError` where memory was refused. The catalogue is as it was then.
     pub fn exchange_segments(
         &mut self,
         name: &str,
@@ -172,6 +181,9 @@ impl Catalogue {
     }
 
     /// The name of each table and its rows, in order.
+    ///
+    /// # Errors
+    /// `AllocError` where memory was refused.
     pub fn tables(&self, alloc: Global) -> Result<Vec<(String, u64)>, AllocError>
         ensures { IfOk result (λ tables. map (λ t. (string_bytes t.0, t.1)) tables.items ≡ tables_of (catalogue_of self.now)) }
     {
@@ -183,6 +195,9 @@ impl Catalogue {
     }
 
     /// The runs that it names, table after table: that of the page, if it has one, and those of its segments.
+    ///
+    /// # Errors
+    /// `AllocError` where memory was refused.
     pub fn runs(&self, alloc: Global) -> Result<Vec<Run>, AllocError>
         ensures { IfOk result (λ runs. runs.items ≡ runs_of (catalogue_of self.now)) }
     {
@@ -194,6 +209,9 @@ impl Catalogue {
     }
 
     /// The same catalogue in memory of its own.
+    ///
+    /// # Errors
+    /// `AllocError` where memory was refused.
     pub fn copy(&self, alloc: Global) -> Result<Catalogue, AllocError>
         ensures { IfOk result (λ c. catalogue_of c ≡ catalogue_of self.now) }
     {

@@ -62,7 +62,7 @@ pub(crate) fn rename_entry(entries: &mut Vec<TableEntry>, from: &str, to: String
     }
 }
 
-// Puts segments behind those of an entry, whose page doesn't say them.
+// Puts segments after those of an entry, whose page doesn't say them.
 fn append_more(entry: &mut TableEntry, more: &[Segment]) -> Result<(), AllocError>
     ensures more { OnOk result (plain_entry entry.new ≡ refilled (plain_entry entry.old) ((plain_entry entry.old).segments ++ more.now)) }
     ensures err { OnErr result (plain_entry entry.new ≡ plain_entry entry.old) }
@@ -72,7 +72,7 @@ fn append_more(entry: &mut TableEntry, more: &[Segment]) -> Result<(), AllocErro
     Ok(())
 }
 
-// Puts segments behind those of the entry of a name.
+// Puts segments after those of the entry of a name.
 pub(crate) fn append_to(
     entries: &mut Vec<TableEntry>,
     name: &str,
@@ -91,7 +91,7 @@ pub(crate) fn append_to(
     }
 }
 
-// These segments, with others in place of so many of them from a place on.
+// These segments, with others in place of n of them from a place on.
 fn exchanged(
     alloc: Global,
     segments: &[Segment],
@@ -110,7 +110,7 @@ fn exchanged(
         .collect(alloc)
 }
 
-// Exchanges so many segments of an entry from a place on for others, which its page doesn't say.
+// Exchanges n segments of an entry from a place on for others, which its page doesn't say.
 fn exchange(
     entry: &mut TableEntry,
     place: usize,

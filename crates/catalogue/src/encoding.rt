@@ -106,6 +106,9 @@ fn put_entry(alloc: Global, out: &mut Vec<u8>, entry: &TableEntry) -> Result<(),
 }
 
 /// The text of a catalogue.
+///
+/// # Errors
+/// `AllocError` where memory was refused.
 pub fn encode(alloc: Global, catalogue: &Catalogue) -> Result<Vec<u8>, AllocError>
     ensures text { IfOk result (λ text. text.items ≡ list_text (catalogue_of catalogue.now)) }
 {
@@ -119,6 +122,9 @@ pub fn encode(alloc: Global, catalogue: &Catalogue) -> Result<Vec<u8>, AllocErro
 }
 
 /// The text of the page of a table: its schema and its segments, and nothing of its name.
+///
+/// # Errors
+/// `AllocError` where memory was refused.
 pub fn encode_page(alloc: Global, entry: &TableEntry) -> Result<Vec<u8>, AllocError>
     requires sound { is_entry (plain_entry entry.now) ≡ true }
     requires segments { length entry.now.segments.items < 2 ^ 32 }
@@ -154,6 +160,9 @@ fn segments_size(segments: &[Segment]) -> u64
 }
 
 /// How many bytes the text of the page of a table has. Where its segments lie makes no difference.
+///
+/// # Errors
+/// `AllocError` where memory was refused.
 pub fn page_size(alloc: Global, entry: &TableEntry) -> Result<u64, AllocError>
     requires sound { is_entry (plain_entry entry.now) ≡ true }
     requires segments { length entry.now.segments.items < 2 ^ 32 }

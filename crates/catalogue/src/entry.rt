@@ -116,6 +116,9 @@ impl TableEntry {
     }
 
     /// The runs of its segments, in order.
+    ///
+    /// # Errors
+    /// `AllocError` where memory was refused.
     pub fn runs(&self, alloc: Global) -> Result<Vec<Run>, AllocError>
         ensures { IfOk result (λ runs. runs.items ≡ runs_in_segments (plain_entry self.now).segments) }
     {
@@ -135,6 +138,9 @@ impl TableEntry {
     }
 
     /// The same entry in memory of its own.
+    ///
+    /// # Errors
+    /// `AllocError` where memory was refused.
     pub fn copy(&self, alloc: Global) -> Result<TableEntry, AllocError>
         ensures { IfOk result (λ e. plain_entry e ≡ plain_entry self.now) }
     {

@@ -85,6 +85,9 @@ fn put_root_entry(out: &mut Vec<u8>, entry: &RootEntry) -> Result<(), AllocError
 }
 
 /// The text of a root.
+///
+/// # Errors
+/// `AllocError` where memory was refused.
 pub fn encode_root(alloc: Global, entries: &[RootEntry]) -> Result<Vec<u8>, AllocError>
     requires { IsRoot (map plain_root entries.now) }
     ensures text { IfOk result (λ text. text.items ≡ root_text (map plain_root entries.now)) }

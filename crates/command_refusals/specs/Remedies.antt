@@ -1,4 +1,4 @@
--- What to do about each refusal, in a sentence: the page of refusals and a terminal tell the same ones.
+-- What to do about each refusal, in a sentence: the page of refusals and a terminal give the same ones.
 use Rattle.std.specs.Prelude.{ℕ, List}
 use Rattle.field_texts.specs.declared.parse.ParseError.{ParseError}
 use Rattle.field_texts.specs.declared.parse.ParseError.TheVariants as fields

@@ -28,7 +28,7 @@ no_exports = record { exports = []; next = 0 }
 abbrev pub runs_kept : List PlainExport → List Run
 runs_kept exports = flat_map (λ (e : PlainExport). runs_in_segments e.segments) exports
 
--- each has a lower id than those behind it
+-- each has a lower id than those after it
 abbrev pub AreRising : List PlainExport → Type 0
 AreRising [] = Unit {0}
 AreRising (e ∷ es) = AllByRecursion (λ (o : PlainExport). e.id < o.id) es × AreRising es

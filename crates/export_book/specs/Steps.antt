@@ -11,7 +11,7 @@ IsStep b c =
     ⊎ ((id : ℕ) × (c ≡ with_given id b))
     ⊎ ((id : ℕ) × (c ≡ without id b))
 
--- these books, each one step behind the one before it
+-- these books, each one step after the one before it
 abbrev pub AreSteps : PlainBook → List PlainBook → Type 0
 AreSteps b [] = Unit {0}
 AreSteps b (c ∷ cs) = IsStep b c × AreSteps c cs

@@ -25,7 +25,7 @@ Found = Result PlainCatalogue Cause
 abbrev Body : Type 0
 Body = PlainSchema × List Segment
 
--- tables behind those that were read
+-- tables after those that were read
 abbrev pub behind : PlainCatalogue → Found → Found
 behind front rest = then_read rest (λ others. Ok (front ++ others))
 

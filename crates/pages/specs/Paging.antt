@@ -20,7 +20,7 @@ if_pageless e = elim e.page [ None ↦ e ∷ [] | Some p ↦ [] ]
 abbrev pub pageless : PlainCatalogue → List PlainEntry
 pageless c = flat_map if_pageless c
 
--- how many bytes each page has that is to be written, and the list or the root behind them
+-- how many bytes each page has that is to be written, and the list or the root after them
 abbrev pub page_sizes : PlainCatalogue → List ℕ
 page_sizes c = if is_whole c then [] else map table_size (pageless c)
 

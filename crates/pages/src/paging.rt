@@ -16,7 +16,7 @@ use segments::{Extent, Part, Run};
 use std::alloc::{AllocError, Global};
 
 /// How a catalogue is to be kept: of which kind, how many bytes each page has that is to be written, in order of the names, and
-/// how many the list or the root behind them.
+/// how many the list or the root after them.
 #[derive(Drop)]
 pub struct Layout {
     pub kind: CatalogueKind,
@@ -120,7 +120,7 @@ fn put_text(alloc: Global, texts: &mut Vec<Vec<Part<'_>>>, text: Vec<u8>) -> Res
     Ok(())
 }
 
-// The table with its page: its own, or one in the next of these runs, whose text is put behind the others.
+// The table with its page: its own, or one in the next of these runs, whose text is put after the others.
 fn with_page(
     alloc: Global,
     entry: TableEntry,

@@ -1,4 +1,4 @@
--- What is told or written of a run.
+-- What is reported or written of a run.
 use Rattle.std.proofs.Common.{◌≡◌, ℕ, List, true, inl, inr, refl, subst, sym, true≢false}
 use Rattle.std.specs.Prelude.{◌≢◌, Option, Result, Ok, Err, OnOk, IfErr, IsOk, IsTrue, is_ok}
 use Rattle.clap.specs.Words.{Text}
@@ -21,7 +21,7 @@ pub own_version : (arguments : List Text) → asks_version arguments ≡ true �
 unfolding own_text
 own_version arguments asks = rw asks refl
 
--- arguments that are told to be wrong leave the output
+-- arguments that are reported to be wrong leave the output
 pub wrong_reported : {W E : Type 0} (contents : E → Option (List ℕ)) (tells : Refusal → List ℕ) (output : W) (errors errors' : E) (ended : Ended) → IsWrong ended.status → TellsRefusal tells ended (contents errors) (contents errors')
     → HasReported contents tells output output errors errors' ended
 wrong_reported contents tells output errors errors' ended (inl wrong) line = record {
@@ -41,7 +41,7 @@ pub wrong_undone : {P : Type 0} (status : Status) → IsWrong status → status 
 wrong_undone status (inl wrong) done = absurd (cc (wrong, done))
 wrong_undone status (inr memory) done = absurd (cc (memory, done))
 
--- help was given, where it is told so
+-- help was given, where it is reported so
 pub help_given : (written : Result (Unit {0}) Refusal) (status : Status) (P : Type 0) → OnOk written P → IfErr written (λ refusal. status ≡ Refused refusal) → status ≡ Done → P
 help_given (Ok unit) status P given refused done = given
 help_given (Err e) status P given refused done = absurd (cc (refused, done))

@@ -1,4 +1,4 @@
--- Rows behind those of a table: what is decided of an append is the verdict.
+-- Rows after those of a table: what is decided of an append is the verdict.
 use Rattle.std.specs.Prelude.{◌⊎◌, ◌<◌, ◌+◌, nat_le, not}
 use Rattle.std.proofs.Common.{◌≡◌, ℕ, ◌≤◌, Bool, true, false, List, [], ◌∷◌, ◌++◌, Option, Some, None, Result, Ok, Err, inl, inr, refl, sym, ap, ◌∙◌, subst, arith}
 use Rattle.std.proofs.lemmas.Bool.{leb-true, le-leb}
@@ -56,7 +56,7 @@ test_then None r f = refl
 -- ---- the verdict
 
 module _ (t : Tables) (name : List ℕ) (e : PlainEntry) (rows : List (List Cell)) (found : table_at t name ≡ Some (rows_under e.schema rows)) where
-  -- behind the rows that stand
+  -- after the rows that stand
   abbrev behind : Addition → Result Tables Refusal
   behind a = unless (too_heavy e.schema (rows ++ a.rows)) (Ok (with_table t name (rows_under e.schema (rows ++ a.rows))))
 
@@ -141,7 +141,7 @@ light_none : (b : Bool) → when (not b) (TooMany limits.Weight) ≡ None → b 
 light_none true h = refl
 light_none false h = absurd (cc h)
 
--- new rows under the entry's schema, that are light behind those that stand
+-- new rows under the entry's schema, that are light after those that stand
 pub new_table : LawsBelow → (e : PlainEntry) (a : Addition) (standing : List (List Cell)) → IsWithinLimits e.schema → IsFitting e a → nat_le (table_weight e.schema (standing ++ a.rows)) MAX_TABLE_WEIGHT ≡ true
     → IsTable (rows_under e.schema a.rows)
 new_table laws e a standing within fitting light =
@@ -254,7 +254,7 @@ module _ (tells : Bool) (image : Image) (name : List ℕ) (e : PlainEntry) (test
       let whole : nat_le (table_weight e.schema (standing.rows ++ rows)) MAX_TABLE_WEIGHT ≡ false = heavy_test (table_weight e.schema (standing.rows ++ rows)) MAX_TABLE_WEIGHT (omega (arith, heavy, split)) in
       added (Err (TooMany limits.Weight)) (sym (ap (λ (b : Bool). unless (when (not b) (TooMany limits.Weight)) (Ok (pieces_put (extend name) (rows_under e.schema rows)))) whole))
 
-  -- rows that are decided behind those that stand
+  -- rows that are decided after those that stand
   pub appended_behind : (d : Result PlainChange Refusal) (weight : ℕ) → weight ≡ table_weight e.schema (standing.rows ++ rows)
       → (d ≡ Err OutOfMemory) ⊎ ((s : List (List Cell)) → weight ≡ table_weight e.schema (s ++ rows) → d ≡ decided_behind name (record { entry = e; rows = rows }) s)
       → IsAppended tells image name tested d

@@ -243,7 +243,7 @@ pub ended_quiet : {T : Type 0} (r : Result T Refusal) → IfErr r (λ e. is_fail
 ended_quiet (Ok x) h = refl
 ended_quiet (Err e) h = h
 
--- what is found is told of openings and formattings alone
+-- what is found is reported of openings and formattings alone
 pub tells_command : (s : Setting) (d : Disk) (r : Result (Unit {0}) Refusal) → TellsFound s (ended r) d
 tells_command s d (Ok unit) = tt
 tells_command s d (Err e) = tt

@@ -56,7 +56,7 @@ formatting_limits (Err x) e is told =
     let other : x ≡ errors.Damaged DeviceSize = cc told in
     sym one ∙ other
 
--- which alone is told as damaged
+-- which alone is reported as damaged
 pub formatting_damaged : {T : Type 0} (r : Result T FormatError) (e : FormatError) (size : ℕ) → r ≡ Err e → ((cause : Cause) → e ≡ errors.Damaged cause → is_size size ≡ false)
     → (is_size size ≡ false → r ≡ Err (errors.Damaged DeviceSize)) → (cause : Cause) → e ≡ errors.Damaged cause → (cause ≡ DeviceSize) × (is_size size ≡ false)
 formatting_damaged r e size is outside told cause damaged =
@@ -75,7 +75,7 @@ pub no_runs : (size : ℕ) (text : Run) (c : PlainCatalogue) → c ≡ [] → ru
 unfolding runs_fault
 no_runs size text c none = ap (λ (d : PlainCatalogue). runs_fault size text (runs_of d)) none
 
--- what is told is so
+-- what is reported is so
 pub formatting_tells : (e : FormatError) (size : ℕ) (found : Option Commit) → (e ≡ errors.AlreadyAStore → found ≢ None) → ((cause : Cause) → e ≡ errors.Damaged cause → (cause ≡ DeviceSize) × (is_size size ≡ false))
     → (e ≡ errors.OutOfMemory → found ≡ None) → TellsFormatting (formatting_of e) size found
 formatting_tells errors.AlreadyAStore size found already damaged memory = already refl

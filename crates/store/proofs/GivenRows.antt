@@ -54,7 +54,7 @@ module _ (s : PlainSchema) (rows : List (List Cell)) where
       by_first (Some k) e h = let same : k ≡ i = cc h in e ∙ ap Some same
       by_first None e h = absurd (never (nat_le (table_weight s rows) MAX_TABLE_WEIGHT) h)
 
--- what is told of the first row that does not fit
+-- what is reported of the first row that does not fit
 abbrev told : Option ℕ → Option Refusal
 told o = elim o [ None ↦ None | Some i ↦ Some (refusals.RowUnfit i) ]
 

@@ -150,7 +150,7 @@ kept_given (b ∷ bs) id = λ i. by_test (books.is_of id b) i ++ kept_given bs i
     by_test true = refl
     by_test false = refl
 
--- those behind one with a lower id have other ids
+-- those after one with a lower id have other ids
 all_left : (low id : ℕ) (bs : List PlainExport) → id ≡ low → AllByRecursion (λ (o : PlainExport). low < o.id) bs → filter (λ (b : PlainExport). not (books.is_of id b)) bs ≡ bs
 all_left low id [] is above = refl
 all_left low id (b ∷ bs) is above =
@@ -197,7 +197,7 @@ each_count s (g ∷ gs) image lists is = by_rows (segment_rows s g image) (rows_
     by_rows (Some rows) None o h later = absurd (cc h)
     by_rows (Some rows) (Some more) o h later = let same : rows ∷ more ≡ lists = cc h in let all = ap (λ (ls : List (List (List Cell))). length ls) same in let count = later more o in omega (arith, all, count)
 
--- what is so of the segments behind the first
+-- what is so of the segments after the first
 abbrev LaterAt : PlainSchema → List Segment → Image → Segment → Type 0
 LaterAt s xs image g = (more : List (List (List Cell))) (n : ℕ) → rows_each s xs image ≡ Some more → slice_get xs n ≡ Some g → segment_rows s g image ≡ slice_get more n
 
@@ -217,7 +217,7 @@ each_at s (x ∷ xs) image lists place g is at = by_rows (segment_rows s x image
     by_rows (Some rows) None f o h later = absurd (cc h)
     by_rows (Some rows) (Some more) f o h later = let same : rows ∷ more ≡ lists = cc h in by_place place rows more f o at later ∙ ap (λ (ls : List (List (List Cell))). slice_get ls place) same
 
--- behind the messages of the lists comes one part more, and then none
+-- after the messages of the lists comes one part more, and then none
 part_within : (f : List (List Cell) → List ℕ) (lists : List (List (List Cell))) (last : List ℕ) (place : ℕ) (rows : List (List Cell)) → slice_get lists place ≡ Some rows → slice_get (map f lists ++ last ∷ []) place ≡ Some (f rows)
 part_within f [] last place rows at = absurd (cc at)
 part_within f (x ∷ xs) last zero rows at = let same : x ≡ rows = cc at in ap (λ (y : List (List Cell)). Some (f y)) same

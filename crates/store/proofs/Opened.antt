@@ -49,7 +49,7 @@ opening_counts (Err (errors.Damaged cause)) e f f' is counts = let same : errors
 opening_counts (Err errors.Device) e f f' is counts = let same : errors.Device ≡ e = cc is in subst (λ (k : OpenError). f' ≡ counted (shut_by (opening_of k)) f) same counts
 opening_counts (Err errors.OutOfMemory) e f f' is counts = let same : errors.OutOfMemory ≡ e = cc is in subst (λ (k : OpenError). f' ≡ counted (shut_by (opening_of k)) f) same counts
 
--- what is told of a store is so, in the words of openings
+-- what is reported of a store is so, in the words of openings
 pub opening_tells : (e : OpenError) (found : Standing PlainCatalogue) → TellsStanding e found → TellsOpening (opening_of e) found
 opening_tells errors.NotAStore found tells = tells
 opening_tells (errors.Damaged cause) found tells = tells

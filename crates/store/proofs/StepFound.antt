@@ -100,7 +100,7 @@ pub stays_more : (tells : Bool) (image : Image) (e : PlainEntry) (count : ℕ) �
 stays_more tells image e count stay next place lt within =
     ⊎_elim (λ (less : place < count). stay place less within) (λ (is : place ≡ count). subst (StaysTwo tells image e) (sym is) next) (below_or_at place count lt)
 
--- behind the last pair there is none
+-- after the last pair there is none
 pub stays_all : (tells : Bool) (image : Image) (e : PlainEntry) (count : ℕ) → length e.segments ≤ count + 1 → FirstStay tells image e count → FirstStay tells image e (length e.segments)
 stays_all tells image e count all stay place lt within = stay place (omega (arith, all, within)) within
 

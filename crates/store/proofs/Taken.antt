@@ -39,7 +39,7 @@ pub some_bytes : (input : Option (List ℕ)) → (bytes : List ℕ) × IfSome in
 some_bytes None = ([], tt)
 some_bytes (Some all) = (all, refl)
 
--- they are too many, where so many were given
+-- they are too many, where n were given
 many_bytes : (old new : Option (List ℕ)) (n : ℕ) → HasGiven old new (n + 1) → (bytes : List ℕ) × IfSome old (λ all. bytes ≡ all) × (n < length bytes)
 many_bytes None new n given = (given.0, tt, let all = given.2 in omega (arith, all))
 many_bytes (Some all) None n given = absurd given.1
@@ -48,7 +48,7 @@ many_bytes (Some all) (Some left) n given =
     let count = given.2 in
     (all, refl, let whole = ap length is ∙ length-append given.0 left in omega (arith, whole, count))
 
--- ---- what is told before the command is tried
+-- ---- what is reported before the command is tried
 
 module _ {D : Type 0} {g : Ghosts D} (story : D → Story) (tells : Bool) (store : Store D g) where
   abbrev shown : Image

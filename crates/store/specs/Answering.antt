@@ -60,7 +60,7 @@ IsShutWith P (places.Shut device) = P device
 abbrev pub RefusesSize : {D : Type 0} → (size : D → ℕ) → (story : D → Story) → D → OpeningRefusal → D → Type 0
 RefusesSize size story device refusal back = is_size (size device) ≡ false → (refusal ≡ openings.Damaged DeviceSize) × (story back ≡ story device)
 
--- a device that was not opened: what is told of it is so, and no moment has a write
+-- a device that was not opened: what is reported of it is so, and no moment has a write
 pub record LeavesUnopened {D : Type 0} (size : D → ℕ) (story : D → Story) (tells : Bool) (device : D) (refusal : OpeningRefusal) (back : D) : Type 0 where
   pub told : tells ≡ true → TellsOpening refusal (standing_shown stored_reading (size device) (story device))
   pub not_already : refusal ≢ openings.AlreadyAStore
@@ -117,7 +117,7 @@ AnswersStream size story tells old command done new = TakesStream size story tel
 AnswersStream size story tells old command (refused r) new = TakesStream size story tells old command (Err r) new
 AnswersStream size story tells old command _ new = ⊥
 
--- one that has all that a reader had left, where that is told: what it does on a store that stands for a machine, and on any store
+-- one that has all that a reader had left, where that is known: what it does on a store that stands for a machine, and on any store
 pub record TakesInput {D : Type 0} {g : Ghosts D} (size : D → ℕ) (story : D → Story) (failed : D → ℕ) (tells : Bool) (input : Option (List ℕ)) (command : List ℕ → PlainCommand) (old : Store D g)
     (result : Result (Unit {0}) Refusal) (new : Store D g) : Type 0 where
   pub bytes : List ℕ
@@ -237,7 +237,7 @@ abbrev pub AnswersPlace : {D : Type 0} {g : Ghosts D} → (size : D → ℕ) →
 AnswersPlace size story failed tells (places.Open store) call reply new = AnswersOpen size story failed tells store call reply new
 AnswersPlace size story failed tells (places.Shut device) call reply new = AnswersShut size story tells device call reply new
 
--- one call: its device has the size that it had, and counts a failure where the reply tells one
+-- one call: its device has the size that it had, and counts a failure where the reply reports one
 pub record Answers {D : Type 0} {g : Ghosts D} (size : D → ℕ) (story : D → Story) (failed : D → ℕ) (tells : Bool) (old : Place D g) (call : PlainCall) (reply : PlainReply) (new : Place D g) : Type 0 where
   pub answers : AnswersPlace size story failed tells old call reply new
   pub same : size (device_in new) ≡ size (device_in old)

@@ -23,7 +23,7 @@ use Rattle.store.specs.Deciding.{IsDecided, IsAnswered}
 use Rattle.store.specs.Changes.{PlainChange, placed_segments, HoldsStreams}
 use Rattle.store.specs.Carrying.{asked_sizes, placed, commit_placed, IsCarried}
 
--- how a decision ends on a store: a change is carried out, and a refusal is told
+-- how a decision ends on a store: a change is carried out, and a refusal is reported
 abbrev pub EndsAs : {D : Type 0} {g : Ghosts D} → (size : D → ℕ) → (old : Store D g) → Result PlainChange Refusal → Result (Unit {0}) Refusal → (new : Store D g) → Type 0
 EndsAs size old (Ok change) result new =
     IsCarried (size (device_of old)) (IsUsedIn old.opened.map.entries) (commit_of old) (listed_in old) change result (commit_of new) (listed_in new)

@@ -1,4 +1,4 @@
--- Devices behind a stop, and how a run begins with one.
+-- Devices after a stop, and how a run begins with one.
 use Rattle.std.specs.Prelude.{◌≡◌, ◌⊎◌, ◌∷◌, ℕ, false, []}
 use Rattle.sector_dev.specs.Disk.{Story, now, shown_image, MayLeave}
 use Rattle.sector_dev.specs.History.{all_synced}
@@ -7,7 +7,7 @@ use Rattle.tables.specs.Verdict.{after}
 use Rattle.store.specs.Machine.{Machine, with_doubt}
 use Rattle.store.specs.Fits.{DeviceFits, fresh, resumed}
 
--- a device behind a stop: it holds one of the images that the stop may leave of it, all synced, and has its size
+-- a device after a stop: it holds one of the images that the stop may leave of it, all synced, and has its size
 pub record IsLeftOf {D : Type 0} (size : D → ℕ) (story : D → Story) (before device : D) : Type 0 where
   pub same : size device ≡ size before
   pub synced : story device ≡ all_synced (shown_image (now (story device))) ∷ []

@@ -38,7 +38,7 @@ pub data PlainReply : Type 0 where
   bytes_are : List ℕ → PlainReply
   -- the id of an export
   export_is : ℕ → PlainReply
-  -- its next piece, none behind the last one
+  -- its next piece, none after the last one
   piece_is : Option (List ℕ) → PlainReply
   -- two segments became one, one lies elsewhere, and there is nothing to do
   merged : PlainReply

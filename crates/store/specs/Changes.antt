@@ -163,7 +163,7 @@ CanChange c change = AreShort change.streams → IsChange c change
 
 -- ---- the tables
 
--- the rows of some streams one after another, where each means so many rows of this schema
+-- the rows of some streams one after another, where each means n rows of this schema
 unfoldable pub stream_rows : PlainSchema → (streams : List (List ℕ)) → (counts : List ℕ) → Option (List (List Cell))
 stream_rows schema [] counts = Some []
 stream_rows schema (stream ∷ streams) [] = None

@@ -70,7 +70,7 @@ abbrev pub of_entry : {A : Type 0} → Option PlainEntry → (PlainEntry → Res
 of_entry None f = Err NoTable
 of_entry (Some e) f = f e
 
--- rows that go behind those of an entry's table
+-- rows that go after those of an entry's table
 pub record Addition : Type 0 where
   pub entry : PlainEntry
   pub rows : List (List Cell)
@@ -87,7 +87,7 @@ rows_of_table e table = unless (other_shape e.schema table.schema) (given_rows t
 abbrev pub streamed_rows : (bytes : List ℕ) → PlainEntry → Result Addition Refusal
 streamed_rows bytes e = unless (too_many_bytes bytes) (of_meaning (meaning supported_codes bytes) (rows_of_table e))
 
--- behind the rows that stand, under the entry's own schema
+-- after the rows that stand, under the entry's own schema
 abbrev pub decided_behind : List ℕ → Addition → (standing : List (List Cell)) → Result PlainChange Refusal
 decided_behind name a standing = unless (too_heavy a.entry.schema (standing ++ a.rows)) (Ok (pieces_put (extend name) (rows_under a.entry.schema a.rows)))
 
@@ -96,7 +96,7 @@ abbrev pub IsAdded : (tells : Bool) → Image → List ℕ → Result Addition R
 IsAdded tells image name (Err r) d = d ≡ Err r
 IsAdded tells image name (Ok a) d = (standing : PlainTable) × IsRead tells image a.entry standing × (d ≡ decided_behind name a standing.rows)
 
--- why a query makes nothing of the tables of a schema: the selection of one without rows tells it
+-- why a query makes nothing of the tables of a schema: the selection of one without rows shows it
 abbrev pub unselected : PlainSchema → PlainQuery → Option Refusal
 unselected schema query = elim (selection (empty_table schema) query) [ Ok table ↦ None | Err r ↦ Some (query_refusal r) ]
 

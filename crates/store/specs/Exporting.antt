@@ -62,7 +62,7 @@ abbrev pub PieceIs : (tells : Bool) → Image → PlainExport → (number : ℕ)
 PieceIs tells image e zero piece = piece ≡ Some (schema_message e.schema)
 PieceIs tells image e (suc place) piece = OfSegment tells image e (slice_get e.segments place) place piece
 
--- the piece behind those that were given
+-- the piece after those that were given
 abbrev pub GivesPiece : (halted tells : Bool) → Image → Option PlainExport → Option (List ℕ) → Type 0
 GivesPiece true tells image found piece = ⊥
 GivesPiece false tells image None piece = ⊥

@@ -23,12 +23,12 @@ use Rattle.store.specs.Machine.{Held, no_store, broken, holds}
 
 -- ---- a segment
 
--- the rows of a table that a stream means, where there are so many of them
+-- the rows of a table that a stream means, where there are n of them
 abbrev pub rows_where : ℕ → Result PlainTable Fault → Option (List (List Cell))
 rows_where count (Err fault) = None
 rows_where count (Ok table) = if length table.rows == count then Some table.rows else None
 
--- the rows that some bytes hold: a stream that begins with the message of this schema and means so many rows
+-- the rows that some bytes hold: a stream that begins with the message of this schema and means n rows
 abbrev pub rows_in_bytes : PlainSchema → ℕ → Option (List ℕ) → Option (List (List Cell))
 rows_in_bytes schema count None = None
 rows_in_bytes schema count (Some bytes) = if starts_with nat_eq bytes (schema_message schema) then rows_where count (meaning supported_codes bytes) else None

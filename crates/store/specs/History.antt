@@ -79,12 +79,12 @@ Keeps s m changed acknowledged begun image = HoldsSettled s m acknowledged begun
 
 -- ---- what never comes
 
--- a store is told as damaged
+-- a store is reported as damaged
 abbrev pub tells_damage : PlainReply → Bool
 tells_damage (shut_by (openings.Damaged cause)) = true
 tells_damage _ = false
 
--- a device is told as one without a store
+-- a device is reported as one without a store
 abbrev pub tells_no_store : PlainReply → Bool
 tells_no_store (shut_by openings.NotAStore) = true
 tells_no_store _ = false

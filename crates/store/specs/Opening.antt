@@ -1,4 +1,4 @@
--- Why a device is not opened or formatted, and what it tells of the device.
+-- Why a device is not opened or formatted, and what it reports of the device.
 use Rattle.std.specs.Prelude.{◌≡◌, ◌≢◌, ℕ, false, Option, None}
 use Rattle.catalogue.specs.Entries.{PlainCatalogue}
 use Rattle.commit.specs.Standing.{Standing, no_store, damaged, is_size}
@@ -11,14 +11,14 @@ use Rattle.commit.specs.declared.reading.OpenError.TheVariants as errors
 use Rattle.commit.specs.declared.opening_refusal.OpeningRefusal.{OpeningRefusal}
 use Rattle.commit.specs.declared.opening_refusal.OpeningRefusal.TheVariants as refusals
 
--- why a store is not opened, as it is told
+-- why a store is not opened, as it is reported
 abbrev pub opening_of : OpenError → OpeningRefusal
 opening_of errors.NotAStore = refusals.NotAStore
 opening_of (errors.Damaged cause) = refusals.Damaged cause
 opening_of errors.Device = refusals.Device
 opening_of errors.OutOfMemory = refusals.OutOfMemory
 
--- what a refused opening tells of what stood there is so; it never tells that there is a store already
+-- what a refused opening reports of what stood there is so; it never reports that there is a store already
 abbrev pub TellsOpening : OpeningRefusal → Standing PlainCatalogue → Type 0
 TellsOpening refusals.NotAStore found = found ≡ no_store
 TellsOpening refusals.AlreadyAStore found = ⊥
@@ -26,14 +26,14 @@ TellsOpening (refusals.Damaged cause) found = found ≡ damaged cause
 TellsOpening refusals.Device found = Unit {0}
 TellsOpening refusals.OutOfMemory found = Unit {0}
 
--- why a device is not formatted, as it is told
+-- why a device is not formatted, as it is reported
 abbrev pub formatting_of : FormatError → OpeningRefusal
 formatting_of formats.AlreadyAStore = refusals.AlreadyAStore
 formatting_of (formats.Damaged cause) = refusals.Damaged cause
 formatting_of formats.Device = refusals.Device
 formatting_of formats.OutOfMemory = refusals.OutOfMemory
 
--- what a refused formatting tells of the size of a device, and of the commit that reads showed to rule it, is so
+-- what a refused formatting reports of the size of a device, and of the commit that reads showed to rule it, is so
 abbrev pub TellsFormatting : OpeningRefusal → ℕ → Option Commit → Type 0
 TellsFormatting refusals.NotAStore size found = ⊥
 TellsFormatting refusals.AlreadyAStore size found = found ≢ None

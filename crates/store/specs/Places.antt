@@ -24,11 +24,11 @@ use Rattle.store.specs.Reached.{IsReplied, GivesSnapshot}
 use Rattle.store.specs.Halting.{phase_where, tells_halt_while_open}
 use Rattle.store.specs.Fits.{setting_of, DeviceFits, StoreFits}
 
--- a command with all the bytes that a reader had left, where that is told
+-- a command with all the bytes that a reader had left, where that is known
 abbrev pub IsStreamOf : Option (List ℕ) → (List ℕ → PlainCommand) → PlainCall → Type 0
 IsStreamOf input command plain = (bytes : List ℕ) × IfSome input (λ all. bytes ≡ all) × (plain ≡ stream_call (command bytes))
 
--- a call as plain data, by what is told of its reader
+-- a call as plain data, by what is known of its reader
 abbrev pub IsCallOf : {R : Type 0} → (remaining : R → Option (List ℕ)) → Call R → PlainCall → Type 0
 IsCallOf remaining (calls.Apply command) plain = plain ≡ apply_call (command_of command)
 IsCallOf remaining (calls.ImportFrom name reader) plain = IsStreamOf (remaining reader) (import_stream (string_bytes name)) plain
@@ -112,7 +112,7 @@ pub record PlaceLives {D : Type 0} {g : Ghosts D} (size : D → ℕ) (story : D 
       → LeftSince (story (device_in new)) (moment (story_at (setting_of (size old) base) calls replies m (story old) (failed old) runs.next (story (device_in new)) (failed (device_in new)) runs.run i)) image
       → IsLeftFrom (setting_of (size old) base) calls replies m (story old) (failed old) runs.next (story (device_in new)) (failed (device_in new)) runs.run i image
       × Keeps (setting_of (size old) base) m (any_change (take i calls) (take i replies)) (acknowledged (take i calls) (take i replies)) (begun calls replies) image
-  -- the reply to the call behind i others is that of a machine that settled what was acknowledged by those
+  -- the reply to the call after i others is that of a machine that settled what was acknowledged by those
   pub replied : (i : ℕ) (call : PlainCall) (more : List PlainCall) (reply : PlainReply) (others : List PlainReply) → drop i calls ≡ call ∷ more → drop i replies ≡ reply ∷ others
       → IsReplied (setting_of (size old) base) m (take i calls) (take i replies) call reply
   -- an export that is opened there, and comes to its end within k calls while it stays open, gives the table that it found

@@ -13,7 +13,7 @@ pub record IsReached (m : Machine) (calls : List PlainCall) (replies : List Plai
   pub settles : Settles m.settled reached.settled m.doubt reached.doubt (acknowledged calls replies) (begun calls replies)
   pub all_settled : m.doubt ≡ None → m.phase ≢ halted → list_any is_device_reply replies ≡ false → SettlesAll m reached (acknowledged calls replies)
 
--- a call behind these ones has this reply: it follows from the tables of that machine
+-- a call after these ones has this reply: it follows from the tables of that machine
 pub record IsReplied (s : Setting) (m : Machine) (calls : List PlainCall) (replies : List PlainReply) (call : PlainCall) (reply : PlainReply) : Type 0 where
   pub machine : Machine
   pub reached : IsReached m calls replies machine
@@ -21,7 +21,7 @@ pub record IsReplied (s : Setting) (m : Machine) (calls : List PlainCall) (repli
   pub next : Machine
   pub step : Step s machine call reply wrote next
 
--- an export that was opened behind these calls gave these pieces: joined, they are a stream of the table that this machine has at the name
+-- an export that was opened after these calls gave these pieces: joined, they are a stream of the table that this machine has at the name
 pub record GivesSnapshot (s : Setting) (m : Machine) (calls : List PlainCall) (replies : List PlainReply) (name : List ℕ) (pieces : List (List ℕ)) : Type 0 where
   pub machine : Machine
   pub reached : IsReached m calls replies machine

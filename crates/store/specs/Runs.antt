@@ -12,7 +12,7 @@ use Rattle.store.specs.Carrying.{IsCarriedOut}
 use Rattle.store.specs.Machine.{no_store, Setting, Machine, Allows, AllowsEach, SparesKept, has_written, pinned_by}
 use Rattle.store.specs.Steps.{Step}
 
--- what is told of a store that was there already, or of none, is what reads showed when the call began
+-- what is reported of a store that was there already, or of none, is what reads showed when the call began
 abbrev pub TellsFound : Setting → PlainReply → Disk → Type 0
 TellsFound s (shut_by openings.AlreadyAStore) d = s.held (shown_image d) ≢ no_store
 TellsFound s (shut_by openings.NotAStore) d = s.held (shown_image d) ≡ no_store

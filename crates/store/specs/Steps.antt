@@ -103,7 +103,7 @@ abbrev pub IsExportOf : Option PlainTable → Export → Type 0
 IsExportOf None e = ⊥
 IsExportOf (Some table) e = (meaning supported_codes (joined e.pieces) ≡ Ok table) × (e.given ≡ 0) × (length e.pieces ≡ length e.runs + 2)
 
--- while 64 are open, and behind the last id, no other one is opened
+-- while 64 are open, and after the last id, no other one is opened
 abbrev pub StepOpenExport : Setting → Machine → List ℕ → PlainReply → Bool → Machine → Type 0
 StepOpenExport s m name (export_is id) wrote new =
     (m.phase ≡ running) × (id ≡ m.next_id) × (id < 2 ^ 64) × (export_at m.exports id ≡ None) × (length m.exports < 64)
@@ -115,7 +115,7 @@ StepOpenExport s m name (refused refusals.Halted) wrote new = (m.phase ≢ runni
 StepOpenExport s m name (refused refusals.OutOfMemory) wrote new = (m.phase ≡ running) × Stays m wrote new
 StepOpenExport s m name _ wrote new = ⊥
 
--- the piece behind those that were given, and none behind the last one
+-- the piece after those that were given, and none after the last one
 abbrev pub StepExportNext : Machine → ℕ → PlainReply → Bool → Machine → Type 0
 StepExportNext m id (piece_is piece) wrote new =
     (m.phase ≡ running) × ((e : Export) × (export_at m.exports id ≡ Some e) × (piece ≡ slice_get e.pieces e.given)) × (wrote ≡ false) × (new ≡ after_piece piece id m)

@@ -14,7 +14,7 @@ use Rattle.store.specs.Held.{table_held, held_by}
 use Rattle.store.specs.Changes.{PlainChange, MakesOf}
 use Rattle.store.specs.Deciding.{reads_device}
 
--- what a catalogue tells of a table, by its entry
+-- what a catalogue says of a table, by its entry
 abbrev pub TellsTable : Option PlainEntry → Option PlainTable → Type 0
 TellsTable None found = found ≡ None
 TellsTable (Some e) found = (table : PlainTable) × (found ≡ Some table) × (table.schema ≡ e.schema) × (length table.rows ≡ row_count e)
@@ -24,7 +24,7 @@ pub record Lists (c : PlainCatalogue) (t : Tables) : Type 0 where
   pub each : (name : List ℕ) → TellsTable (entry_of c name) (table_at t name)
   pub count : table_count t ≡ length c
 
--- and of those that the image holds they have the rows; a table of which a segment can't be read may be any that its entry tells of
+-- and of those that the image holds they have the rows; a table of which a segment can't be read may be any that its entry speaks of
 pub record AreListed (image : Image) (c : PlainCatalogue) (t : Tables) : Type 0 where
   pub lists : Lists c t
   pub held : (name : List ℕ) (e : PlainEntry) (table : PlainTable) → entry_of c name ≡ Some e → table_held image e ≡ Some table → table_at t name ≡ Some table

@@ -40,7 +40,7 @@ fn test_weight(weight: u64) -> Result<(), Refusal>
     }
 }
 
-// New rows behind those of an entry's table, where both weigh so much together: the pieces of the new rows, under the entry's own schema.
+// New rows after those of an entry's table, where both weigh so much together: the pieces of the new rows, under the entry's own schema.
 fn decide_behind(
     alloc: Global,
     entry: &TableEntry,
@@ -113,7 +113,7 @@ impl<D: SectorDevice> Store<D> {
     ghost use Rattle.store.specs.Fits.{device_of, listed_in};
     ghost use Rattle.store.specs.Reading.{OnlyReadsStore};
 
-    // What new rows change, behind those of a table.
+    // What new rows change, after those of a table.
     pub(crate) fn decide_append(
         &mut self,
         alloc: Global,

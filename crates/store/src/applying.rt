@@ -67,7 +67,7 @@ impl<D: SectorDevice> Store<D> {
         ensures goes { D.tells ≡ true → (base : Tables) (m : Machine) → StoreFits D.size D.story base m self.old
             → GoesOn D.size D.story D.failed base m (apply_call (command_of command)) (ended result) self.old self.new }
         // On any store and any device: what its catalogue decides of the command, and for an append or a query that is saved the table that was
-        // read, is carried out or told; each refusal has its one reason.
+        // read, is carried out or reported; each refusal has its one reason.
         ensures applied { is_halted self.old ≡ false → IsApplied D.size D.story D.tells self.old (command_of command) result self.new }
         ensures refused { IfErr result (λ e. IsKept self.old self.new) }
         ensures quiet { IfErr result (λ e. e ≢ Refusal.Device → reads_device (command_of command) ≡ false

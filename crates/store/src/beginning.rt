@@ -48,6 +48,9 @@ pub fn left_devices_fit<D: SectorDevice>(before: &D, device: &D)
 }
 
 /// A run may begin with a new device in memory.
+///
+/// # Errors
+/// `AllocError` where memory was refused.
 pub fn new_devices_fit(alloc: Global, sectors: u64) -> Result<ModelDevice, AllocError>
     ensures { is_size sectors ≡ true → IfOk result (λ device. DeviceFits size_of history_of no_tables fresh device) }
 {
@@ -55,6 +58,9 @@ pub fn new_devices_fit(alloc: Global, sectors: u64) -> Result<ModelDevice, Alloc
 }
 
 /// What a crash makes of a device in memory is left of it by a stop.
+///
+/// # Errors
+/// `AllocError` where memory was refused.
 pub fn crashed_devices_are_left(
     device: &ModelDevice,
     choice: Choice,

@@ -12,7 +12,7 @@ pub enum Call<R = Empty> {
     Apply(Command),
     /// The table that all of a reader's bytes mean as a stream, at this name.
     ImportFrom { name: String, reader: R },
-    /// The rows that they mean, behind those of this table.
+    /// The rows that they mean, after those of this table.
     AppendFrom { name: String, reader: R },
     Format,
     Open,
@@ -46,7 +46,7 @@ pub enum Reply {
     Bytes(Vec<u8>),
     /// The id of an export.
     Export(u64),
-    /// Its next piece; `None` behind the last one.
+    /// Its next piece; `None` after the last one.
     Piece(Option<Vec<u8>>),
     /// Two neighbouring segments became one.
     Merged,

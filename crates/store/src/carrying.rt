@@ -44,7 +44,7 @@ struct Asked {
     back: Vec<Run>,
 }
 
-// The runs that were taken for pages: those behind the pieces', before the text's.
+// The runs that were taken for pages: those after the pieces', before the text's.
 fn page_runs<'a>(places: &'a Places<'_>) -> &'a [Run]
     requires { (pages : ℕ) × HasRoom pages places.now }
     ensures { places.now.runs.items ≡ (runs_of (plain_pieces places.now.pieces.items) ++ result.now) ++ places.now.text ∷ [] }
@@ -52,7 +52,7 @@ fn page_runs<'a>(places: &'a Places<'_>) -> &'a [Run]
     &places.runs[places.pieces.len()..places.runs.len() - 1]
 }
 
-// Bytes and more parts behind them, where they stand.
+// Bytes and more parts after them, where they stand.
 fn borrowed_parts<'a>(
     alloc: Global,
     first: &'a [u8],
@@ -136,7 +136,7 @@ fn next_catalogue<'a>(
     Ok((StoredCatalogue { list }, texts))
 }
 
-// Why no run is taken, as it is told of a command.
+// Why no run is taken, as it is reported for a command.
 fn taking_refusal(error: TakeError) -> Refusal
     ensures { result ≡ taking_refusal error }
 {

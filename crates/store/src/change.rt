@@ -19,7 +19,7 @@ pub enum Edit {
         name: String,
         schema: Schema,
     },
-    /// The new segments stand behind those of the table.
+    /// The new segments stand after those of the table.
     Extend {
         name: String,
     },
@@ -32,7 +32,7 @@ pub enum Edit {
     Remove {
         name: String,
     },
-    /// The new segments stand in place of so many of the table's, from a place on.
+    /// The new segments stand in place of n of the table's, from a place on.
     Exchange {
         name: String,
         place: usize,
@@ -57,7 +57,7 @@ pub struct SegmentRows {
 pub enum NewSegments {
     /// The pieces of these rows.
     Rows(SegmentRows),
-    /// These bytes, which are a stream of so many rows.
+    /// These bytes, which are a stream of n rows.
     Copied { bytes: Vec<u8>, rows: u64 },
 }
 

@@ -102,7 +102,7 @@ impl<D: SectorDevice> Store<D> {
     }
 
     /// One step of a compaction. The first two neighbouring segments, tables in byte order of their names, whose rows the cut keeps in one piece become one
-    /// segment. Where there are none, the segment of greatest start moves to the lowest free run that fits it, if this one starts in front of it. Else there
+    /// segment. Where there are none, the segment of greatest start moves to the lowest free run that fits it, if this one starts before it. Else there
     /// is nothing to do. The tables stay as they are, at each moment. After some steps there is nothing more to do ([`crate::compactions_end`]).
     ///
     /// # Errors

@@ -46,7 +46,7 @@ fn have_one_message(alloc: Global, a: &Schema, b: &Schema) -> Result<bool, Alloc
     Ok(one.as_slice() == other.as_slice())
 }
 
-// The page of a table that gets these segments behind its others: it stays where there are none.
+// The page of a table that gets these segments after its others: it stays where there are none.
 fn page_behind(segments: &[Segment], page: Option<Extent>) -> Option<Extent>
     ensures { result ≡ page_behind segments.now page }
 {
@@ -146,7 +146,7 @@ fn put_runs(runs: &mut Vec<Run>, segments: &[Segment]) -> Result<(), AllocError>
     Ok(())
 }
 
-// So many segments of a table, from a place on.
+// n segments of a table, from a place on.
 fn segments_from(entry: &TableEntry, place: usize, count: usize) -> &[Segment]
     requires { place + count ≤ length (plain_entry entry.now).segments }
     ensures { result.now ≡ from_place (plain_entry entry.now).segments place count }
@@ -272,7 +272,7 @@ fn segments_at(catalogue: &Catalogue, name: &str) -> u64
     }
 }
 
-// How many segments there are after an edit with so many new ones.
+// How many segments there are after an edit with n new ones.
 pub(crate) fn segments_after(catalogue: &Catalogue, edit: &Edit, new: u64) -> u64
     requires edit { (streams : List (List ℕ)) × IsEdit (catalogue_of catalogue.now) (edit_of edit.now) streams }
     requires few { new < 2 ^ 63 }

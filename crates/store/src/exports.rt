@@ -44,7 +44,7 @@ fn first_piece(alloc: Global, schema: &Schema) -> Result<Option<Vec<u8>>, Refusa
     }
 }
 
-// Behind the pieces of the segments: the end of stream, and then none.
+// After the pieces of the segments: the end of stream, and then none.
 fn last_piece(alloc: Global, ends: bool) -> Result<Option<Vec<u8>>, Refusal>
     ensures end { IfOk result (λ piece. option_map (λ v. v.items) piece ≡ (if ends then Some end_of_stream else None)) }
     ensures memory { IfErr result (λ e. (ends ≡ true) × (e ≡ Refusal.OutOfMemory)) }
@@ -117,7 +117,7 @@ pub(crate) fn segment_piece<D: SectorDevice>(
     }
 }
 
-// The piece of an export behind those that were given. One segment at the most is read.
+// The piece of an export after those that were given. One segment at the most is read.
 fn next_piece<D: SectorDevice>(
     alloc: Global,
     device: &mut D,

@@ -13,7 +13,7 @@ use pages::StoredCatalogue;
 use sector_dev::SectorDevice;
 use std::alloc::Global;
 
-// Why a device is not formatted, as it is told.
+// Why a device is not formatted, as it is reported.
 fn formatting_refusal(error: FormatError) -> OpeningRefusal
     ensures { result ≡ formatting_of error }
 {

@@ -40,7 +40,7 @@ impl Gathered {
         }
     }
 
-    /// The rows of a table of the same schema behind those so far. No cell is copied.
+    /// The rows of a table of the same schema after those so far. No cell is copied.
     ///
     /// # Errors
     /// `Weight` where the rows are too heavy together; `OutOfMemory`.

@@ -108,7 +108,7 @@ pub fn undisturbed_runs_tell_no_halt()
         → list_any is_device_reply replies ≡ false → tells_halt_while_open is_open calls replies ≡ false }
 {}
 
-/// No reply of a run tells that a store is damaged; and none tells that there is no store once there was one: when the run began, or after
+/// No reply of a run reports that a store is damaged; and none reports that there is no store once there was one: when the run began, or after
 /// a command, a formatting or an opening that was done.
 pub fn runs_tell_no_damage()
     ensures damage { (s : Setting) (calls : List PlainCall) (replies : List PlainReply) (m : Machine) (old : Story) (failed : ℕ)

@@ -1,4 +1,4 @@
-// The segment that starts last moves forward, where a free run in front of it fits.
+// The segment that starts last moves forward, where a free run before it fits.
 ghost use Rattle.std.specs.Prelude.{◌≡◌, ◌≤◌, ◌<◌, ◌+◌, ◌∷◌, [], Some, true, false, length, map, slice_get, IfOk, IfErr};
 ghost use Rattle.sector_dev.specs.Disk.{now, shown_image};
 ghost use Rattle.segments.specs.Runs.{IsLowest};
@@ -113,7 +113,7 @@ fn copy_of(
     })
 }
 
-// Whether the lowest free run that fits a segment starts in front of it.
+// Whether the lowest free run that fits a segment starts before it.
 fn fits_below(free: &FreeMap, segment: Segment) -> bool
     requires { 1 ≤ segment.place.run.count }
     ensures below { result ≡ true → (run : Run) × IsLowest free.now.size (IsUsedIn free.now.entries) segment.place.run.count (Some run)

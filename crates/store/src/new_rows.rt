@@ -45,7 +45,7 @@ fn test_rows(alloc: Global, own: &Schema, new: &Table) -> Result<(), Refusal>
     }
 }
 
-// The rows that a stream means, where they can go behind those of an entry's table but for their weight, and what they weigh there.
+// The rows that a stream means, where they can go after those of an entry's table but for their weight, and what they weigh there.
 fn pass_stream(alloc: Global, entry: &TableEntry, stream: Vec<u8>) -> Result<Weighed, Refusal>
     requires { IsWithinLimits (plain_entry entry.now).schema }
     ensures tested { IfOk result (λ new. streamed_rows stream.items (plain_entry entry.now)

@@ -4,7 +4,7 @@ ghost use Rattle.store.specs.Opening.{opening_of};
 
 use commit::{OpenError, OpeningRefusal};
 
-// Why a store is not opened, as it is told.
+// Why a store is not opened, as it is reported.
 pub(crate) fn opening_refusal(error: OpenError) -> OpeningRefusal
     ensures { result ≡ opening_of error }
 {

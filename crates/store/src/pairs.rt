@@ -22,7 +22,7 @@ use table_cut::next_piece;
 use tables::Refusal;
 use values::Table;
 
-// Where the catalogue tells that the rows of a pair are more than one piece, it isn't read.
+// Where the catalogue says that the rows of a pair are more than one piece, it isn't read.
 fn may_be_one(entry: &TableEntry, place: usize) -> bool
     requires sound { is_entry (plain_entry entry.now) ≡ true }
     requires within { place + 2 ≤ length (plain_entry entry.now).segments }

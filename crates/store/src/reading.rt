@@ -155,7 +155,7 @@ fn joining_refusal(error: TableError, place: usize) -> Refusal
     }
 }
 
-// The rows of the segment at a place behind those before it.
+// The rows of the segment at a place after those before it.
 fn append_segment<D: SectorDevice>(
     alloc: Global,
     device: &mut D,

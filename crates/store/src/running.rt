@@ -324,12 +324,16 @@ fn answer_all<D: SectorDevice, R: Read + Drop>(
 /// from the tables of the commands that were acknowledged before its call, in order (`replied`, `specs/Steps.antt`). Each image that a stop may leave
 /// at any moment has the tables of what was settled: all that was acknowledged before, in order, and the command in flight whole or not at all
 /// (`stops`). Only where no store is open, or its device failed, is a call refused as halted. A command whose bytes come from a reader has all
-/// that its reader had left, where that is told (`AreCallsOf`).
+/// that its reader had left, where that is known (`AreCallsOf`).
 ///
 /// An export that is opened in it, and comes to its end while it stays open, gives pieces that are a stream of the table that stood when it was
 /// opened, whatever commands and steps of a compaction came in between (`snapshots`); until it is closed no sector that it keeps is written. A step
-/// of a compaction settles nothing: the tables are the same before it, behind it and at each stop in it. On any device and any store, also where it
+/// of a compaction settles nothing: the tables are the same before it, after it and at each stop in it. On any device and any store, also where it
 /// stands for no machine, each call is answered as its method says (`AnswersEach`, `specs/Answering.antt`).
+///
+/// # Errors
+/// The place and the calls as they were given, where memory was refused for the replies: no call was made. Where a call is refused, or memory is while
+/// it is answered, its reply says so, and the calls after it are made.
 pub fn run<D: SectorDevice, R: Read + Drop>(
     alloc: Global,
     place: Place<D>,

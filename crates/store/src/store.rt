@@ -57,7 +57,7 @@ impl<D: SectorDevice> Store<D> {
             → Opens D.size D.story D.failed base m open_call device store) }
         ensures refused { IfErr result (λ e. D.tells ≡ true → (base : Tables) (m : Machine) → DeviceFits D.size D.story base m device
             → Shuts D.size D.story D.failed base m open_call device e.0 e.1) }
-        // On any device: what is found or told is so, and no moment has a write.
+        // On any device: what is found or reported is so, and no moment has a write.
         ensures found { IfOk result (λ store. D.tells ≡ true → FindsStore D.size D.story device store) }
         ensures told { IfErr result (λ e. D.tells ≡ true → TellsOpening e.0 (standing_shown stored_reading (D.size device) (D.story device))) }
         ensures not_already { IfErr result (λ e. e.0 ≢ OpeningRefusal.AlreadyAStore) }

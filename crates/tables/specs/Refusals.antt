@@ -55,7 +55,7 @@ abbrev pub import_refusal : ImportError → Refusal
 import_refusal (imports.Fault fault) = refusals.Import fault
 import_refusal imports.OutOfMemory = refusals.OutOfMemory
 
--- why a query makes nothing of a table, as it is told of a command
+-- why a query makes nothing of a table, as it is reported for a command
 abbrev pub query_refusal : bounds.Refusal → Refusal
 query_refusal bounds.unknown_column = refusals.Query queries.UnknownColumn
 query_refusal bounds.bad_condition = refusals.Query queries.BadCondition

@@ -74,7 +74,7 @@ of_query (Ok table) f = f table
 abbrev pub empty_table : PlainSchema → PlainTable
 empty_table schema = record { schema = schema; rows = [] }
 
--- the rows behind those of a table, under its own schema
+-- the rows after those of a table, under its own schema
 abbrev pub joined : PlainTable → List (List Cell) → PlainTable
 joined table rows = record { schema = table.schema; rows = table.rows ++ rows }
 

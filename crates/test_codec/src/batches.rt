@@ -7,12 +7,12 @@ use std::alloc::Global;
 use text_import::jsonl_rows;
 use values::Table;
 
-// Nodes, each of so many slots and so many nulls.
+// Nodes, each of a number of slots and of nulls.
 type Nodes = &'static [(u64, u64)];
 
 type Buffers = &'static [&'static [u8]];
 
-// The nodes and buffers of dictionaries, behind how many values each has.
+// The nodes and buffers of dictionaries, after how many values each has.
 type Dictionaries = &'static [(u64, Nodes, Buffers)];
 
 // The fields, a row as a line of JSON, the nodes and buffers of its batch, and its dictionaries. A table of cases stands in parts: what a

@@ -62,7 +62,7 @@ fn put(alloc: Global, out: &mut Vec<u8>, wanted: Wanted) -> Result<(), NotMade> 
 
 const BEFORE: [u8; 3] = [9, 8, 7];
 
-// The message stands behind bytes that were there before, which a refused call leaves alone.
+// The message stands after bytes that were there before, which a refused call leaves alone.
 fn is_written(alloc: Global, wanted: Wanted, bytes: &[u8]) -> Result<bool, NotMade> {
     let mut out = Vec::from_slice(alloc, &BEFORE)?;
     let is_refused = put(alloc, &mut out, wanted).is_err();

@@ -16,7 +16,7 @@ use values::Table;
 // The rows of the table, or its fault, the number of the faulty message, and that one's first byte.
 type Wanted = Result<&'static [&'static [&'static str]], (Fault, usize, usize)>;
 
-// Bytes of a stream, from one up to another and so many times, which bytes of these are changed, and what is wanted.
+// Bytes of a stream, from one up to another, a number of times, which bytes of these are changed, and what is wanted.
 type Row<'a> = (&'a [(usize, usize, usize)], &'a [(usize, u8)], Wanted);
 
 // A byte of a whole stream that is changed, and what is wanted: a table of these has no slices but those that are wanted, and costs less to prove.
@@ -154,7 +154,7 @@ const DICTIONARY_LEFT_OUT: &[Row<'static>] = &[
 ];
 
 const DICTIONARY_TWICE: &[Row<'static>] = &[
-    // the texts of another dictionary, in place of the first one and behind it
+    // the texts of another dictionary, in place of the first one and after it
     (
         TWICE,
         &[(824, 0x63), (825, 0x64)],
@@ -459,7 +459,7 @@ fn feed(alloc: Global, decoder: &mut Decoder, piece: &[u8]) -> Result<(), Import
     }
 }
 
-// Whether a decoder that is fed a piece may go on, or tells what is wanted.
+// Whether a decoder that is fed a piece may go on, or reports what is wanted.
 fn is_fed(
     alloc: Global,
     decoder: &mut Decoder,
@@ -644,7 +644,7 @@ fn is_read_on(alloc: Global) -> Result<bool, NotMade> {
     is_read_in_pieces(alloc, 0, 100, &DICTIONARY, &Ok(CODED))
 }
 
-// tests/refused_memory_in_crates refuses one allocation at the most: a decoder goes on behind it.
+// tests/refused_memory_in_crates refuses one allocation at the most: a decoder goes on after it.
 #[test]
 fn a_decoder_that_was_refused_goes_on_also_without_memory(rt: HostRuntime) {
     assert!(rt; matches!(is_read_on(rt.alloc()), Ok(true)));

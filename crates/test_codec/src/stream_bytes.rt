@@ -242,7 +242,7 @@ pub const LIST_OF_NULLS: [u8; 392] = [
     0xff, 0xff, 0xff, 0xff, 0x00, 0x00, 0x00, 0x00,
 ];
 
-/// The front of a schema message, up to 104, whose fields are one of the types behind it and a field of nulls twice; a struct of what follows, up to
+/// The front of a schema message, up to 104, whose fields are one of the types after it and a field of nulls twice; a struct of what follows, up to
 /// 140; a struct that names twice what follows, up to 180; and a field of nulls.
 pub const DEEP: [u8; 204] = [
     0xff, 0xff, 0xff, 0xff, 0x60, 0x00, 0x00, 0x00, 0x10, 0x00, 0x00, 0x00, 0x0c, 0x00, 0x18, 0x00,

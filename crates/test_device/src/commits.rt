@@ -198,7 +198,7 @@ fn epoch_of(alloc: Global, device: &mut ModelDevice) -> Option<u64>
     }
 }
 
-// Opens the store that so many acknowledged calls left, or one call more: its epoch.
+// Opens the store that n acknowledged calls left, or one call more: its epoch.
 fn epoch_left(alloc: Global, device: &mut ModelDevice, acknowledged: u64) -> Option<u64>
     ensures { size_of device.new ≡ size_of device.old }
 {

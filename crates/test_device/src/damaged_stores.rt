@@ -1,4 +1,4 @@
-// A store of which a sector can't be read after a stop. What is told of changed bytes is tested on files (tests/stores).
+// A store of which a sector can't be read after a stop. What is reported of changed bytes is tested on files (tests/stores).
 use crate::calls::{read_sector, write_sector};
 use crate::commits::run_script;
 use crate::few::Few;

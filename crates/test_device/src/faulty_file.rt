@@ -1,4 +1,4 @@
-// A file in memory that fails as it is told to. One for all tests: each kind of file costs the proof as much as ten functions.
+// A file in memory that fails as it is asked to. One for all tests: each kind of file costs the proof as much as ten functions.
 use std::cell::Cell;
 use std::fs::{Metadata, OpenFile};
 use std::io::{self, Cursor, ErrorKind, Read, Seek, SeekFrom, Write};
@@ -13,13 +13,13 @@ pub(crate) enum Fault {
     Call(u64),
     // each sync of the data
     Syncs,
-    // of the next long write a front is written, and the write behind it fails
+    // of the next long write a front is written, and the write after it fails
     LongWrite,
     // the next write
     Write,
 }
 
-// A file of so many bytes.
+// A file of n bytes.
 #[derive(Drop)]
 pub(crate) struct FaultyFile<const BYTES: usize> {
     bytes: Cursor<[u8; BYTES]>,

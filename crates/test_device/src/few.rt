@@ -8,7 +8,7 @@ use sector_dev::SectorDevice;
 use segments::Run;
 use std::alloc::{AllocError, Global};
 
-/// The runs that it names. In its text each is two bytes, its start and its count, behind four others.
+/// The runs that it names. In its text each is two bytes, its start and its count, after four others.
 #[derive(Clone, Copy, Drop)]
 pub enum Few {
     Nothing,

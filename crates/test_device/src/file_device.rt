@@ -88,7 +88,7 @@ fn are_read_ahead<D: SectorDevice>(device: &mut D) -> bool {
     well && is_written(device, 112, 3) && is_written(device, 200, 3)
 }
 
-// Each sector is read, from this one on in steps of so many.
+// Each sector is read, from this one on in steps of n.
 fn are_read<D: SectorDevice>(device: &mut D, step: u64) -> bool {
     let mut well = true;
     for i in 0..5000u64 {

@@ -153,7 +153,7 @@ const ENTERED_RUNS_ARE_TESTED: [Step; 25] = [
     Find(1, None),
 ];
 
-// Runs are taken in front of others, and each call is made where some entries stand before the last that came in and some behind it.
+// Runs are taken before others, and each call is made where some entries stand before the last that came in and some after it.
 const RUNS_ARE_TAKEN_IN_FRONT_OF_OTHERS: [Step; 39] = [
     Occupy(10, 1, None),
     Occupy(12, 1, None),
@@ -234,7 +234,7 @@ fn worked_rows_are_answered_also_without_memory(rt: HostRuntime) {
     assert!(rt; are_once_answered(rt.alloc()));
 }
 
-// A free run is looked for behind the last one, unless it may fit into a gap that was passed. Free are the sectors 3 to 4, 6 to 8 and 11 to 15.
+// A free run is looked for after the last one, unless it may fit into a gap that was passed. Free are the sectors 3 to 4, 6 to 8 and 11 to 15.
 fn takes_onward(map: &mut FreeMap) -> bool {
     let mut searched = Searched::nothing();
     let behind_two = map.take_onward(3, &mut searched) == Ok(Run { start: 6, count: 3 });
@@ -284,7 +284,7 @@ fn finds_among_65536(map: &mut FreeMap) -> bool {
     well
 }
 
-// Nor is each other run moved whenever one is taken. Whether a run is taken in front of each of those but the first.
+// Nor is each other run moved whenever one is taken. Whether a run is taken before each of those but the first.
 fn takes_among_65536(map: &mut FreeMap) -> bool {
     let mut searched = Searched::nothing();
     let mut well = true;

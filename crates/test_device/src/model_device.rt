@@ -139,7 +139,7 @@ const STEPS: &[Step] = &[
     // sector 6 is the second one that is not yet synced
     Crash(Lost(2)),
     Shows(&LOST),
-    // a sync without a write changes nothing, and a read that is told to fail fails
+    // a sync without a write changes nothing, and a read that is asked to fail fails
     Flush,
     FailRead(6),
     Leaves(New, &LOST),
@@ -169,7 +169,7 @@ fn are_taken_on(device: &mut ModelDevice) -> bool {
     for step in STEPS {
         well = well && goes_well(device, *step);
     }
-    // the read, the write and the row that were told to fail, and three calls after the stop
+    // the read, the write and the row that were asked to fail, and three calls after the stop
     well && device.failures() == 6
 }
 

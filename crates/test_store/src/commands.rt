@@ -16,7 +16,7 @@ use std::alloc::Global;
 
 const TWO: Input = Ints(&[7, -1]);
 
-// A device of so many sectors, what is asked of it, and where the store keeps what in the end. A table of them stands in parts: what a
+// A device of n sectors, what is asked of it, and where the store keeps what in the end. A table of them stands in parts: what a
 // constant costs to prove grows faster than its length.
 type Row = (u64, Steps, &'static str);
 
@@ -76,7 +76,7 @@ const REPLACED: &[Row] = &[
 ];
 
 const FITTING: &[Row] = &[
-    // The lowest run that fits, and not the smallest: two sectors stand behind a hole of one.
+    // The lowest run that fits, and not the smallest: two sectors stand after a hole of one.
     (
         16,
         &[
@@ -331,7 +331,7 @@ fn places(part: usize) -> Option<&'static [Row]> {
     })
 }
 
-// Room is told of a run that stands nowhere, and then nothing has changed.
+// Room is reported of a run that stands nowhere, and then nothing has changed.
 const FILLED: &[Row] = &[
     (
         16,
@@ -429,7 +429,7 @@ fn room(part: usize) -> Option<&'static [Row]> {
     })
 }
 
-// Of each command the tests in their order: the first that fails is told, and then nothing has changed.
+// Of each command the tests in their order: the first that fails is reported, and then nothing has changed.
 const FORMATTED: &[Row] = &[
     // A store that is open is not formatted: it is closed, and stands as before.
     (
@@ -622,7 +622,7 @@ const WITHOUT_CHANGE: &[Row] = &[(
 )];
 
 const HALTED: &[Row] = &[
-    // Where no store is open, that is told before all else.
+    // Where no store is open, that is reported before all else.
     (
         16,
         &[
@@ -652,7 +652,7 @@ const HALTED: &[Row] = &[
     ),
 ];
 
-// What is told before anything is read, and what of the bytes.
+// What is reported before anything is read, and what of the bytes.
 const FROM_REFUSED: &[Row] = &[(
     16,
     &[
@@ -729,7 +729,7 @@ const READ_ANEW: &[Row] = &[(
 )];
 
 const GIVEN: &[Row] = &[
-    // Rows that are given stand behind those of the table, also none.
+    // Rows that are given stand after those of the table, also none.
     (
         16,
         &[

@@ -11,7 +11,7 @@ use store::{Compaction, Place};
 
 const TWO: Input = Ints(&[7, -1]);
 
-// A device of so many sectors, what is asked of it first, what the steps of a compaction then do, and where the store keeps what behind them.
+// A device of n sectors, what is asked of it first, what the steps of a compaction then do, and where the store keeps what after them.
 type Row = (u64, Steps, &'static [Compaction], &'static str);
 
 const APPENDED: Steps = &[

@@ -1,4 +1,4 @@
-// Scripts with steps of a compaction and exports: each write or sync fails, or stops, in turn; each read fails in turn; and a second stop comes behind a
+// Scripts with steps of a compaction and exports: each write or sync fails, or stops, in turn; each read fails in turn; and a second stop comes after a
 // first one. A device has the tables of what was acknowledged then, or with the step in flight, and goes on.
 use crate::inputs::{INT, Input};
 use crate::made::{NotMade, assert_no_row};
@@ -25,7 +25,7 @@ pub struct Script {
     pub states: &'static [&'static str],
     /// How many writes and syncs were made after each step.
     calls: &'static [u64],
-    /// The step that opens the store once more. Behind it the tables go.
+    /// The step that opens the store once more. After it the tables go.
     opening: Option<usize>,
     /// Where the store keeps what in the end.
     pub layout: &'static str,
@@ -140,7 +140,7 @@ fn is_reopened(script: &Script, kind: Kind, done: usize) -> bool {
     }
 }
 
-// Whether the reply is well to the step of this place, where the step behind so many failed.
+// Whether the reply is well to the step of this place, where the step after n failed.
 fn is_told(
     alloc: Global,
     script: &Script,
@@ -196,7 +196,7 @@ fn may_show(script: &Script, kind: Kind, done: usize, found: &str) -> bool {
         || kind != FailedRead && is_state(script.states, next, found)
 }
 
-/// Whether these are the replies to a script of which so many steps were done when one call of the device failed.
+/// Whether these are the replies to a script of which n steps were done when one call of the device failed.
 pub fn are_told_after_failure(
     alloc: Global,
     script: &Script,
@@ -253,7 +253,7 @@ fn are_whole(
     Ok(well)
 }
 
-// Whether so many steps are done before this call.
+// Whether n steps are done before this call.
 fn is_counted(script: &Script, kind: Kind, k: u64, done: usize) -> bool {
     kind == FailedRead || count_below(script.calls, k) == done
 }

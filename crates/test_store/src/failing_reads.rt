@@ -37,7 +37,7 @@ fn reading() -> Steps {
 // How many sectors were read after each step: both commits, the root and three pages, and those of the table's segments.
 const READS: &[u64] = &[6, 8, 8, 10, 12, 14, 16, 16, 18, 18];
 
-// Whether just so many steps are answered as they are to, and the others refused.
+// Whether just n steps are answered as they are to, and the others refused.
 fn are_answered(alloc: Global, replies: &[Reply], done: usize) -> Result<bool, NotMade> {
     let (first, rest) = replies.split_at_checked(done).ok_or(NotMade)?;
     let steps = reading().get(..done).unwrap_or_default();
@@ -51,7 +51,7 @@ fn failing(alloc: Global, k: u64) -> Result<ModelDevice, NotMade> {
     Ok(device)
 }
 
-// Whether each step is answered as it is to, where so many are done before the read fails.
+// Whether each step is answered as it is to, where n are done before the read fails.
 fn is_halted(alloc: Global, slot: &mut Slot, done: usize, way: Way) -> Result<bool, NotMade> {
     are_answered(alloc, &replies_of(alloc, slot, reading(), way)?, done)
 }

@@ -55,19 +55,19 @@ pub fn rows_of(alloc: Global, given: &[&[Cell]]) -> Result<Vec<Row>, AllocError>
 pub enum Input {
     /// A column `a:int32?` with these values.
     Ints(&'static [i32]),
-    /// Such a column with so many values, from 0 on.
+    /// Such a column with n values, from 0 on.
     First(u32),
     /// One column of this field text, with these values.
     Column(&'static str, &'static [i32]),
-    /// These columns, with so many rows: the values of each row from this one on.
+    /// These columns, with n rows: the values of each row from this one on.
     Range(&'static [&'static str], i32, u32),
-    /// One column `l:list<utf8>` with a row for each number: so many texts, no two the same.
+    /// One column `l:list<utf8>` with a row for each number: n texts, no two the same.
     Texts(&'static [u32]),
-    /// So many rows without a column.
+    /// n rows without a column.
     NoColumns(usize),
     /// The stream of 7 and -1, 320 bytes, with these bytes changed.
     Changed(&'static [(usize, u8)]),
-    /// So many of its first bytes.
+    /// n of its first bytes.
     Front(usize),
 }
 
@@ -79,7 +79,7 @@ fn schema_of(alloc: Global, columns: &[&str]) -> Result<Schema, NotMade> {
     })
 }
 
-// The table of a schema and its cells, row after row, so many rows.
+// The table of a schema and its cells, row after row, n rows.
 fn table_of_cells(schema: Schema, cells: Vec<Value>, rows: usize) -> Result<Table, NotMade> {
     let filled = schema.fields.len().checked_mul(rows) == Some(cells.len());
     if schema.check().is_err() || !filled {
@@ -131,7 +131,7 @@ fn add_stream_alone(alloc: Global, stream: &mut Vec<u8>, rows: usize) -> Result<
     Ok(write_end(stream)?)
 }
 
-// So many rows without a column, in as few record batches as they may have: many take no longer to make than few.
+// n rows without a column, in as few record batches as they may have: many take no longer to make than few.
 fn rows_alone(alloc: Global, rows: usize) -> Result<Vec<u8>, NotMade> {
     let mut stream = Vec::new(alloc);
     add_stream_alone(alloc, &mut stream, rows)?;
@@ -164,7 +164,7 @@ fn range(alloc: Global, first: i32, count: u32) -> Result<Vec<i32>, AllocError> 
     Ok(values)
 }
 
-// A list of so many texts.
+// A list of n texts.
 fn list_of(alloc: Global, count: u32) -> Result<Value, NotMade> {
     let mut items = Vec::with_capacity(alloc, count as usize)?;
     for number in 0..count {

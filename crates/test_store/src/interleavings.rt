@@ -146,7 +146,7 @@ impl Chance {
     }
 }
 
-// So many steps, in a place of which this is known.
+// n steps, in a place of which this is known.
 fn drawn(
     alloc: Global,
     chance: &mut Chance,
@@ -383,7 +383,7 @@ fn is_crashed(
     Ok(well)
 }
 
-// A list of calls, and now and then a crash behind it.
+// A list of calls, and now and then a crash after it.
 fn is_run(
     alloc: Global,
     slot: &mut Slot,
@@ -402,7 +402,7 @@ fn is_run(
     Ok(true)
 }
 
-// The first of so many lists that goes wrong.
+// The first of n lists that goes wrong.
 fn wrong_list(
     alloc: Global,
     slot: &mut Slot,

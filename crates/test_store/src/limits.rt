@@ -62,7 +62,7 @@ fn a_store_has_1024_tables_at_most(rt: HostRuntime) {
 }
 
 // 268,435,456 rows without a column weigh as much as a table may, and are 65,536 segments of 4,096 rows, as many as a store may
-// have. Weight is told before segments, and segments before room.
+// have. Weight is reported before segments, and segments before room.
 const HEAVY: Steps = &[
     (Format, "ok"),
     (Create("u", &[]), "ok"),
@@ -80,7 +80,7 @@ const HEAVY: Steps = &[
     (Tables, "u 1"),
 ];
 
-// So many segments of which the last two can be one: the store is opened again, and compacted.
+// n segments of which the last two can be one: the store is opened again, and compacted.
 const AT_THE_LIMIT: Steps = &[
     (Format, "ok"),
     (Import("t", NoColumns(268_427_264)), "ok"),

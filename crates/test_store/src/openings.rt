@@ -27,7 +27,7 @@ const OF_ANOTHER_SIZE: Steps = &[
     (Open, "C3 Damaged DeviceSize"),
 ];
 
-// What is asked of a device of so many sectors, and what is answered.
+// What is asked of a device of n sectors, and what is answered.
 fn steps_of_size(sectors: u64) -> Steps {
     match sectors {
         16 => OF_THE_SMALLEST,
@@ -400,7 +400,7 @@ fn may_show(text: &str, (n, at, _): Change) -> bool {
         || (n, at) == NAME && text.as_bytes().ends_with(b": 1 2 3")
 }
 
-// Whether a device with one changed byte has the tables of an epoch. It may have a segment that does not hold the rows that the catalogue tells.
+// Whether a device with one changed byte has the tables of an epoch. It may have a segment that does not hold the rows that the catalogue says.
 fn is_no_other(alloc: Global, device: &ModelDevice, one: Change) -> Result<bool, NotMade> {
     match contents(alloc, &mut changed(device, &[one])?) {
         Ok(text) => Ok(may_show(text.as_str(), one)),
@@ -469,7 +469,7 @@ const LAST_BUT_ONE: &[Change] = &[
 ];
 
 // A store of epoch 1 or 2, what is changed in its commit, and what is answered: where the greatest epoch rules nothing is
-// published any more. That is told after what the tables tell, and before what there is no room for.
+// published any more. That is reported after what the tables say, and before what there is no room for.
 const EPOCHS: &[(Steps, &[Change], Steps)] = &[
     (
         &[(Format, "ok")],

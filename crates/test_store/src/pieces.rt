@@ -1,4 +1,4 @@
-// A reader that gives its bytes in pieces, and fails as it is told to.
+// A reader that gives its bytes in pieces, and fails as it is asked to.
 use std::io::{self, Cursor, ErrorKind, Read};
 
 /// How bytes are given.
@@ -8,7 +8,7 @@ pub enum Pieces {
     Whole,
     /// One by one.
     Single,
-    /// So many, and then a read fails.
+    /// n, and then a read fails.
     Failing(usize),
 }
 

@@ -74,7 +74,7 @@ fn is_kept(asked: Asked, value: i32) -> bool {
     asked.1.is_empty() || value >= 20
 }
 
-// Adds the values that a query keeps, so many at the most.
+// Adds the values that a query keeps, n at the most.
 fn add_kept(values: &mut Vec<i32>, asked: Asked, rows: &Rows) -> Result<(), NotMade> {
     let most = asked.2.unwrap_or(u64::MAX);
     for value in &rows.values {

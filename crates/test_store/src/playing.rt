@@ -274,7 +274,7 @@ pub fn play(
     wrong_reply(alloc, &replies_of(alloc, slot, steps, way)?, steps)
 }
 
-/// A device of so many sectors.
+/// A device of n sectors.
 pub fn new_slot(alloc: Global, sectors: u64) -> Result<Slot, NotMade> {
     Ok(Some(Place::Shut(ModelDevice::new(alloc, sectors)?)))
 }

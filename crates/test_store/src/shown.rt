@@ -27,7 +27,7 @@ fn table_at(alloc: Global, device: &mut ModelDevice, segment: Segment) -> Result
     decode(alloc, bytes).map_err(|_| NotMade)
 }
 
-// Whether a segment's table is the part of a table that the catalogue tells.
+// Whether a segment's table is the part of a table that the catalogue says.
 fn is_part(entry: &TableEntry, segment: Segment, table: &Table) -> bool {
     table.len() as u64 == segment.rows && same_shape(&entry.schema, table.schema())
 }

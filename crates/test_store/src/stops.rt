@@ -116,7 +116,7 @@ pub fn are_refused(alloc: Global, replies: &[Reply]) -> Result<bool, NotMade> {
     Ok(well)
 }
 
-// Whether just so many steps are acknowledged, and the others refused.
+// Whether just n steps are acknowledged, and the others refused.
 fn are_done(alloc: Global, replies: &[Reply], done: usize) -> Result<bool, NotMade> {
     let (first, rest) = replies.split_at_checked(done).ok_or(NotMade)?;
     let mut well = are_refused(alloc, rest)?;
@@ -126,7 +126,7 @@ fn are_done(alloc: Global, replies: &[Reply], done: usize) -> Result<bool, NotMa
     Ok(well)
 }
 
-// Whether these are the values of the tables after so many steps.
+// Whether these are the values of the tables after n steps.
 fn is_state(found: &str, done: usize) -> bool {
     match STATES.get(done) {
         Some(state) => *state == found,
@@ -134,7 +134,7 @@ fn is_state(found: &str, done: usize) -> bool {
     }
 }
 
-// How many steps were taken, where so many or one more may have been; `None`: another number.
+// How many steps were taken, where n or one more may have been; `None`: another number.
 fn steps_found(found: &str, done: usize) -> Option<usize> {
     let next = done.saturating_add(1);
     if is_state(found, done) {
@@ -152,7 +152,7 @@ fn has(alloc: Global, device: &mut ModelDevice, want: &str) -> Result<bool, NotM
     Ok(contents(alloc, device)?.as_str() == want)
 }
 
-// Takes the steps behind the first ones: whether they are done.
+// Takes the steps after the first ones: whether they are done.
 fn goes_on(alloc: Global, slot: &mut Slot, from: usize) -> Result<bool, NotMade> {
     let rest = script().get(from..).unwrap_or_default();
     if from > 0 && !is_played(alloc, slot, OPENING)? || !is_played(alloc, slot, rest)? {
@@ -161,7 +161,7 @@ fn goes_on(alloc: Global, slot: &mut Slot, from: usize) -> Result<bool, NotMade>
     has(alloc, &mut shut(slot)?, "s: 5, w: 5")
 }
 
-// How many steps were taken, of which so many were acknowledged.
+// How many steps were taken, of which n were acknowledged.
 fn steps_left(
     alloc: Global,
     device: &mut ModelDevice,
@@ -170,7 +170,7 @@ fn steps_left(
     Ok(steps_found(&contents(alloc, device)?, done))
 }
 
-/// Whether a device has the tables after so many steps, or one more, and goes on.
+/// Whether a device has the tables after n steps, or one more, and goes on.
 pub fn is_whole(alloc: Global, device: ModelDevice, done: usize) -> Result<bool, NotMade> {
     let mut device = device;
     match steps_left(alloc, &mut device, done)? {
@@ -206,7 +206,7 @@ fn is_left_whole(
     }
 }
 
-// Whether just so many steps of the script are acknowledged.
+// Whether just n steps of the script are acknowledged.
 fn is_done(alloc: Global, slot: &mut Slot, done: usize, way: Way) -> Result<bool, NotMade> {
     are_done(alloc, &replies_of(alloc, slot, script(), way)?, done)
 }
@@ -311,7 +311,7 @@ const IN_COMMIT: &[Row] = &[
 ];
 
 const IN_IMPORT: &[Row] = &[
-    // An import over it, in its commit and in the sync behind that: the table is the old one or the new one.
+    // An import over it, in its commit and in the sync after that: the table is the old one or the new one.
     (
         &[Fault::Stop(14)],
         &[

@@ -56,7 +56,7 @@ fn steps_done(alloc: Global, slot: &mut Slot, steps: Steps) -> Result<usize, Not
     Ok(steps.len())
 }
 
-// Whether a device that failed once, where so many steps are done, is whole.
+// Whether a device that failed once, where n steps are done, is whole.
 fn is_left_whole(alloc: Global, device: ModelDevice, done: usize) -> Result<bool, NotMade> {
     if device.failures() == 1 {
         is_whole(alloc, device, done)
@@ -131,7 +131,7 @@ fn listed() -> Steps {
     LISTED
 }
 
-// Whether a reply tells that memory was refused, to the store or to the device.
+// Whether a reply reports that memory was refused, to the store or to the device.
 fn is_disturbed(reply: &Reply) -> bool {
     match reply {
         Reply::Refused(refusal) => matches!(refusal, Refusal::OutOfMemory | Refusal::Device),

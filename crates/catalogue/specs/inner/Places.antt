@@ -10,7 +10,7 @@ abbrev pub place_of : List ℕ → ℕ → PlainCatalogue → Option ℕ
 place_of name at [] = None
 place_of name at (x ∷ xs) = if bytes_eq x.name name then Some at else place_of name (suc at) xs
 
--- `Ok`: of the entry of a name; `Err`: of the first one behind it
+-- `Ok`: of the entry of a name; `Err`: of the first one after it
 abbrev pub seat_of : List ℕ → ℕ → PlainCatalogue → Result ℕ ℕ
 seat_of name at [] = Err at
 seat_of name at (x ∷ xs) = match_ordering (slice_cmp nat_cmp x.name name) (seat_of name (suc at) xs) (Ok at) (Err at)

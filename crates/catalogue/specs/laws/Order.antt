@@ -69,7 +69,7 @@ none_found x xs name h =
       | inr f ↦ (f, sym (cond-false (bytes_eq x.name name) (Some x) (entry_of xs name) f) ∙ h)
     ]
 
--- behind a name that comes later stands none of this name
+-- after a name that comes later stands none of this name
 pub none_behind : (c : PlainCatalogue) (low name : List ℕ) → comes_before low (names_of c) ≡ true → ascends (names_of c) ≡ true → order name low ≡ Less → entry_of c name ≡ None
 none_behind [] low name first rises lt = refl
 none_behind (x ∷ xs) low name first rises lt =

@@ -15,7 +15,7 @@ use Rattle.catalogue.specs.Text.{table_text, table_size, list_size}
 use Rattle.pages.specs.Paging.{is_whole, pageless, page_sizes, root_bytes, text_size, AreFilled, AreRunsOf, ArePageRuns}
 use Rattle.pages.specs.laws.Written.{ArePages}
 
--- a run of so many sectors, behind the commit sectors and on the device
+-- a run of n sectors, after the commit sectors and on the device
 pub record IsTaken (size count : ℕ) (run : Run) : Type 0 where
   pub count_is : run.count ≡ count
   pub above : 2 ≤ run.start

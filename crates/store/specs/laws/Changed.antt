@@ -69,7 +69,7 @@ joined_after (Some xs) None c = refl
 joined_after (Some xs) (Some ys) None = refl
 joined_after (Some xs) (Some ys) (Some zs) = ap Some (append_assoc xs ys zs)
 
--- segments behind others
+-- segments after others
 pub rows_behind : (schema : PlainSchema) (a b : List Segment) (image : Image) → rows_held schema (a ++ b) image ≡ joined_rows (rows_held schema a image) (rows_held schema b image)
 unfolding rows_held
 rows_behind schema [] b image = by_rows (rows_held schema b image)
@@ -109,7 +109,7 @@ module _ (image : Image) where
       by_parts (Some table) None o r h = absurd (cc h)
       by_parts (Some table) (Some u) o r h = give table u o r (cc h)
 
-  -- the tables of an entry in front of others
+  -- the tables of an entry before others
   in_front : (x : PlainEntry) (xs : PlainCatalogue) (table : PlainTable) (u : Tables) → table_held image x ≡ Some table → tables_held image xs ≡ Some u
       → tables_held image (x ∷ xs) ≡ Some (with_table u x.name table)
   unfolding tables_held
@@ -204,7 +204,7 @@ module _ (image : Image) where
       let page = page_instead (entry_of c name) schema segments in
       held_with c t (new_entry name schema segments page) (rows_under schema makes.0) is (held_new name schema segments page makes.0 (rows_under schema makes.0) read makes.2) ∙ ap Some (sym makes.3)
 
-  -- segments behind those of a table, also where there are none
+  -- segments after those of a table, also where there are none
   more_held : (c : PlainCatalogue) (name : List ℕ) (e : PlainEntry) (more : List Segment) → entry_of c name ≡ Some e → tables_held image (with_more c name more) ≡ tables_held image (with_segments c name (e.segments ++ more))
   more_held c name e [] found = sym (same_with image c name e (e.segments ++ []) found (ap (λ (ss : List Segment). rows_held e.schema ss image) (append-nil e.segments)))
   more_held c name e (s ∷ ss) found = ap (tables_held image) (more_is c name e s ss found)

@@ -74,7 +74,7 @@ AreHeld image [] xs = xs ≡ []
 AreHeld image (e ∷ es) [] = ⊥
 AreHeld image (e ∷ es) (x ∷ xs) = (x.0 ≡ e.name) × (table_held image e ≡ Some x.1) × AreHeld image es xs
 
--- a name that comes before the others stands in front of them
+-- a name that comes before the others stands before them
 put_first : (image : Image) (c : PlainCatalogue) (name : List ℕ) (table : PlainTable) (xs : List (List ℕ × PlainTable)) → comes_before name (names_of c) ≡ true → AreHeld image c xs
     → maps.put (slice_cmp nat_cmp) name table xs ≡ (name, table) ∷ xs
 put_first image [] name table xs first held = ap (maps.put (slice_cmp nat_cmp) name table) held ∙ ap (λ (ys : List (List ℕ × PlainTable)). (name, table) ∷ ys) (sym held)
@@ -128,7 +128,7 @@ count_held image c t rises is = maps.len-entries t ∙ many c (maps.entries t) (
     many (e ∷ es) [] held = absurd held
     many (e ∷ es) (x ∷ xs) held = ap suc (many es xs held.2)
 
--- what the catalogue tells of each name
+-- what the catalogue says of each name
 tells_table : (image : Image) (c : PlainCatalogue) (t : Tables) → tables_held image c ≡ Some t → (name : List ℕ) → TellsTable (entry_of c name) (table_at t name)
 tells_table image c t is name = by_entry (entry_of c name) refl
   where

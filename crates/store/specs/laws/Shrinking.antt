@@ -42,7 +42,7 @@ count_is : (c : PlainCatalogue) → length (segment_runs c) ≡ segment_count c
 count_is [] = refl
 count_is (x ∷ xs) = omega (arith, length-append (runs_in_segments x.segments) (segment_runs xs), length-map x.segments (λ (s : Segment). s.place.run), count_is xs, sum_by-cons (λ (e : PlainEntry). length e.segments) x xs)
 
--- each run starts behind the commit sectors, and on the device
+-- each run starts after the commit sectors, and on the device
 low : (size : ℕ) (rs : List Run) → all_on_device size rs ≡ true → length rs ≤ starts rs
 low size [] on = omega arith
 low size (r ∷ rs) on =
@@ -61,7 +61,7 @@ high size (r ∷ rs) on =
     let within = leb-true (r.start + r.count) size (and_parts (nat_le 1 r.count) (nat_le (r.start + r.count) size) more.1).1 in
     omega (arith, high size rs parts.1, within, sum_by-cons (λ (x : Run). x.start) r rs, suc_times (length rs) size)
 
--- so many catalogues may follow one of so many segments, of which none ever has more than this
+-- as many catalogues may follow one of n segments, of which none ever has more than this
 abbrev bound : (each segments sum : ℕ) → ℕ
 bound each zero sum = 0
 bound each (suc k) sum = k * each + sum

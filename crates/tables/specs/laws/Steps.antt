@@ -201,7 +201,7 @@ told_by_tables t c r is = subst (λ (x : Result Tables Refusal). TellsTables x) 
 
 -- ---- effects
 
--- rows that are appended stand behind those of the table, all of them
+-- rows that are appended stand after those of the table, all of them
 pub passed : {A : Type 0} (o : Option Refusal) (x u : A) → unless o (Ok x) ≡ Ok u → u ≡ x
 passed None x u is = cc
 passed (Some e) x u is = absurd (cc is)

@@ -7,7 +7,7 @@ use Rattle.pages.specs.Stored.{pages_shown}
 use Rattle.pages.proofs.Behind.{behind}
 use Rattle.pages.proofs.reading.read_pages.Given as goal
 
--- all tables are those so far, and behind them those that are left, with as many segments as are left
+-- all tables are those so far, and after them those that are left, with as many segments as are left
 abbrev pub invariant-loop-root : goal.invariant-loop-root
 invariant-loop-root g l = let D = g.D.SectorDevice in record {
   same : D.size l.device ≡ D.size l.fn.device;

@@ -48,7 +48,7 @@ returns-then-len-rows-clause-schema c = λ s within front.
     let plain : plain_schema_of first.schema ≡ t.schema = same_ok (plain_schema_of first.schema) t.schema (Ok (plain_schema_of first.schema)) refl passed.1 in
     sym plain ∙ ap plain_schema_of same ∙ law.decoded s within
 
--- ---- the rows, where the bytes begin with the message and mean so many
+-- ---- the rows, where the bytes begin with the message and mean n
 
 pub returns-then-not-starts_with-clause-rows : goal.returns-then-not-starts_with-clause-rows
 returns-then-not-starts_with-clause-rows c = λ s front.
