@@ -19,6 +19,7 @@ mod Answered
 mod Began
 mod MoreRows
 mod ReadTables
+mod Undamaged
 mod Quiet
 mod ReadsStore
 mod Roomed

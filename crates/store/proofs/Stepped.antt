@@ -122,8 +122,8 @@ module _ {D : Type 0} {g : Ghosts D} (size : D → ℕ) (story : D → Story) (f
   still_held image kept = same_tables (synced_image before) image (listed_in old) catalogue.entries (λ n within. kept n (inr within)) ∙ sound.tables
 
   new_held : (image : Image) → ((n : ℕ) → InSome (used_runs stored_reading old.opened.commit (listed_in old)) n → image n ≡ (before.at n).synced) → (is : HasCarried (size old.device) used old.opened.commit (listed_in old) change image)
-      → tables_held image (placed (listed_in old) change is.places) ≡ Some (after base m.settled)
-  new_held image kept is = placed_held image (listed_in old) change is.places ∙ keeps image (λ n within. kept n (inr within)) (placed_segments is.places change.streams change.counts) is.holds ∙ still_held image kept
+      → tables_held image (placed old.opened.commit.version (listed_in old) change is.places) ≡ Some (after base m.settled)
+  new_held image kept is = placed_held image old.opened.commit.version (listed_in old) change is.places ∙ keeps image (λ n within. kept n (inr within)) (placed_segments old.opened.commit.version is.places change.streams change.counts) is.holds ∙ still_held image kept
 
   each : (image : Image) → IsOldOrCarried (size old.device) used old.opened.commit (listed_in old) before change image → held_by (size old.device) image ≡ holds (after base m.settled)
   each image is = by_which is.which
@@ -132,7 +132,7 @@ module _ {D : Type 0} {g : Ghosts D} (size : D → ℕ) (story : D → Story) (f
           → held_by (size old.device) image ≡ holds (after base m.settled)
       by_which (inl stood) = held_is (size old.device) image old.opened.commit (listed_in old) stood ∙ ap held_tables (still_held image is.kept)
       by_which (inr does) =
-          held_is (size old.device) image (commit_placed old.opened.commit (listed_in old) change does.text) (placed (listed_in old) change does.places) does.stands
+          held_is (size old.device) image (commit_placed old.opened.commit (listed_in old) change does.text) (placed old.opened.commit.version (listed_in old) change does.places) does.stands
           ∙ ap held_tables (new_held image is.kept does)
 
   each_allows : (image : Image) → IsOldOrCarried (size old.device) used old.opened.commit (listed_in old) before change image → Allows s m image
@@ -206,10 +206,10 @@ module _ {D : Type 0} {g : Ghosts D} (size : D → ℕ) (story : D → Story) (f
       stands = ap (λ (n : ℕ). standing stored_reading n (synced_image (now (story new.device)))) (sym sized) ∙ does.stands.found
 
       same_rules : rules new.opened.commit (listed_in new)
-          ≡ rules (commit_placed old.opened.commit (listed_in old) change does.holds.text) (placed (listed_in old) change does.holds.places)
+          ≡ rules (commit_placed old.opened.commit (listed_in old) change does.holds.text) (placed old.opened.commit.version (listed_in old) change does.holds.places)
       same_rules = sym stands ∙ does.holds.stands
 
-      listed : listed_in new ≡ placed (listed_in old) change does.holds.places
+      listed : listed_in new ≡ placed old.opened.commit.version (listed_in old) change does.holds.places
       listed = let both = same_rules in cc both
 
   failed_goes : failed new.device ≡ min (failed old.device + 1) (2 ^ 64 - 1) → new.halted ≡ true → IsCarryingAtEachMoment size story old change new → GoesOn size story failed base m compact_call (refused refusals.Device) old new
@@ -287,7 +287,7 @@ module _ {D : Type 0} {g : Ghosts D} (size : D → ℕ) (story : D → Story) (f
       }
 
   -- however it is refused
-  pub refusal_goes : segment_count (outline (listed_in old) change) ≤ MAX_SEGMENTS → (r : Refusal) → failed new.device ≡ counted (refused r) (failed old.device) → EndsAs size old (Ok change) (Err r) new
+  pub refusal_goes : segment_count (outline old.opened.commit.version (listed_in old) change) ≤ MAX_SEGMENTS → (r : Refusal) → failed new.device ≡ counted (refused r) (failed old.device) → EndsAs size old (Ok change) (Err r) new
       → (new.halted ≡ is_device_reply (refused r)) → IsKept old new → (r ≢ refusals.Device → story new.device ≡ story old.device) → IsCarryingAtEachMoment size story old change new
       → GoesOn size story failed base m compact_call (refused r) old new
   unfolding Step
@@ -377,7 +377,7 @@ module _ {D : Type 0} {g : Ghosts D} (size : D → ℕ) (story : D → Story) (f
   refused_goes r count carried halts kept quiet =
       goes_behind size story failed base m tells told old mid new done (refused r) refl fits reads tt
       (refusal_goes size story failed base m mid new there on sized book exportable change keeps
-      (step_few (listed_in mid) (catalogue_is (listed_in mid) mid.opened.catalogue.list.kept) tells (shown_image (now (story mid.device))) (size mid.device) (IsUsedIn mid.opened.map.entries) made change behind)
+      (step_few mid.opened.commit.version (listed_in mid) (catalogue_is (listed_in mid) mid.opened.catalogue.list.kept) tells (shown_image (now (story mid.device))) (size mid.device) (IsUsedIn mid.opened.map.entries) made change behind)
       r count carried (halts_by new.halted r halts) kept quiet carries)
 
 -- ---- nothing was decided

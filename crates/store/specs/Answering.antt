@@ -10,6 +10,7 @@ use Rattle.catalogue.specs.Edits.{entry_of, tables_of}
 use Rattle.commit.specs.Standing.{is_size}
 use Rattle.commit.specs.Opening.{IsOpening, standing_shown}
 use Rattle.commit.specs.Ruling.{ruling}
+use Rattle.commit.specs.declared.sector.FormatVersion.TheVariants.{One}
 use Rattle.commit.specs.Formatting.{IsFormatting}
 use Rattle.commit.specs.declared.cause.Cause.TheVariants.{DeviceSize}
 use Rattle.tables.specs.declared.refusal.Refusal.{Refusal}
@@ -70,7 +71,7 @@ pub record LeavesUnformatted {D : Type 0} (size : D → ℕ) (story : D → Stor
   pub reason : IsOfFormatting (size device) refusal
   pub untouched : tells ≡ true → ruling (shown_image (now (story device))) ≢ None → OnlyReads (story device) (story back)
   pub quiet : refusal ≢ openings.Device → tells ≡ true → now (story back) ≡ now (story device)
-  pub moments : tells ≡ true → Grows (IsFormatting (size device) (now (story device))) (story device) (story back)
+  pub moments : tells ≡ true → Grows (IsFormatting (size device) One (now (story device))) (story device) (story back)
   pub limits : RefusesSize size story device refusal back
 
 abbrev pub AnswersOpening : {D : Type 0} {g : Ghosts D} → (size : D → ℕ) → (story : D → Story) → (tells : Bool) → D → PlainReply → Place D g → Type 0
@@ -81,7 +82,7 @@ AnswersOpening size story tells device _ new = ⊥
 
 abbrev pub AnswersFormatting : {D : Type 0} {g : Ghosts D} → (size : D → ℕ) → (story : D → Story) → (tells : Bool) → D → PlainReply → Place D g → Type 0
 AnswersFormatting size story tells device done new =
-    (is_size (size device) ≡ true) × IsOpenWith (λ store. IsNewStore (size device) store × (tells ≡ true → FormatsStore size story device store)) new
+    (is_size (size device) ≡ true) × IsOpenWith (λ store. IsNewStore (size device) One store × (tells ≡ true → FormatsStore size story One device store)) new
 AnswersFormatting size story tells device (shut_by refusal) new = IsShutWith (λ back. LeavesUnformatted size story tells device refusal back) new
 AnswersFormatting size story tells device _ new = ⊥
 

@@ -2,6 +2,7 @@
 use Rattle.std.specs.Prelude.{◌≡◌, ◌≤◌, ◌<◌, ◌+◌, ◌^◌, ℕ, true, List, [], ◌∷◌, ◌++◌, length, Option, Some, None, if◌then◌else◌, Ok, string_bytes}
 use Rattle.std.specs.Str.{bytes_eq}
 use Rattle.std.specs.List.{list_all, AllByRecursion}
+use Rattle.sha2.specs.Sha256.{sha256}
 use Rattle.sector_dev.specs.Disk.{Image}
 use Rattle.segments.specs.Sectors.{bytes_at}
 use Rattle.segments.specs.declared.run.Run.{Run}
@@ -14,10 +15,12 @@ use Rattle.cells.specs.Cell.{Cell, PlainTable}
 use Rattle.values.specs.Table.{table_from}
 use Rattle.canonical_write.specs.Pieces.{piece_streams, piece_counts}
 use Rattle.commit.specs.Placing.{AreShort}
+use Rattle.commit.specs.declared.sector.FormatVersion.{FormatVersion}
+use Rattle.commit.specs.declared.sector.FormatVersion.TheVariants.{One, Two}
 use Rattle.catalogue.specs.declared.limits.TheConstants.{MAX_TABLES, MAX_SEGMENT_ROWS}
 use Rattle.catalogue.specs.declared.entry.Segment.{Segment}
 use Rattle.catalogue.specs.Entries.{PlainEntry, PlainCatalogue, is_name, is_between, page_runs, runs_in_segments, runs_in}
-use Rattle.catalogue.specs.Edits.{entry_of, with_entry, without, renamed, with_more, from_place, with_exchanged}
+use Rattle.catalogue.specs.Edits.{page_behind, entry_of, with_entry, without, renamed, with_more, from_place, with_exchanged}
 use Rattle.tables.specs.Tables.{Tables, table_at, with_table, without_table}
 use Rattle.tables.specs.Verdict.{joined}
 use Rattle.store.specs.declared.change.Edit.{Edit}
@@ -27,7 +30,7 @@ use Rattle.store.specs.declared.change.NewSegments.{NewSegments}
 use Rattle.store.specs.declared.change.NewSegments.TheVariants as news
 use Rattle.store.specs.declared.change.Change.{Change}
 use Rattle.store.specs.Under.{table_under}
-use Rattle.store.specs.Held.{rows_in_bytes, joined_rows}
+use Rattle.store.specs.Held.{is_undamaged, rows_in_bytes, joined_rows}
 
 pub data PlainEdit : Type 0 where
   put : (name : List ℕ) → PlainSchema → PlainEdit
@@ -73,12 +76,7 @@ change_of change = record { edit = edit_of change.edit; streams = new_streams ch
 abbrev pub new_entry : List ℕ → PlainSchema → List Segment → Option Extent → PlainEntry
 new_entry name schema segments page = record { name = name; schema = schema; segments = segments; page = page }
 
--- the page of a table that gets segments: it stays where there are none
-abbrev pub page_behind : {A : Type 0} → List A → Option Extent → Option Extent
-page_behind [] page = page
-page_behind (x ∷ xs) page = None
-
--- of one that takes the place of another one: it stays where neither has segments, and their schemas have one message
+-- the page of a table that takes the place of another one: it stays where neither has segments, and their schemas have one message
 abbrev pub page_over : PlainEntry → PlainSchema → List Segment → Option Extent
 page_over old schema (s ∷ ss) = None
 page_over old schema [] = if bytes_eq (schema_message old.schema) (schema_message schema) then page_behind old.segments old.page else None
@@ -179,18 +177,24 @@ MakesOf t change new = Makes t change.edit change.streams change.counts new
 
 -- ---- the new segments
 
--- their bytes go into these runs, one after another
-abbrev pub placed_segments : List Run → (streams : List (List ℕ)) → (counts : List ℕ) → List Segment
-placed_segments [] streams counts = []
-placed_segments (run ∷ runs) [] counts = []
-placed_segments (run ∷ runs) (stream ∷ streams) [] = []
-placed_segments (run ∷ runs) (stream ∷ streams) (count ∷ counts) =
-    record { place = record { run = run; bytes = length stream }; rows = count } ∷ placed_segments runs streams counts
+-- the digest of a segment that holds this stream: version 2 has one
+abbrev pub digest_for : FormatVersion → (stream : List ℕ) → Option (List ℕ)
+digest_for One stream = None
+digest_for Two stream = Some (sha256 stream)
 
--- an image has these streams in these segments, which have so many rows
+-- their bytes go into these runs, one after another
+abbrev pub placed_segments : FormatVersion → List Run → (streams : List (List ℕ)) → (counts : List ℕ) → List Segment
+placed_segments version [] streams counts = []
+placed_segments version (run ∷ runs) [] counts = []
+placed_segments version (run ∷ runs) (stream ∷ streams) [] = []
+placed_segments version (run ∷ runs) (stream ∷ streams) (count ∷ counts) =
+    record { place = record { run = run; bytes = length stream }; rows = count; digest = digest_for version stream } ∷ placed_segments version runs streams counts
+
+-- an image has these streams in these segments, which have so many rows, and their digests if they have any
 abbrev pub HoldsStreams : Image → List Segment → (streams : List (List ℕ)) → (counts : List ℕ) → Type 0
 HoldsStreams image [] streams counts = streams ≡ []
 HoldsStreams image (g ∷ gs) [] counts = ⊥
 HoldsStreams image (g ∷ gs) (stream ∷ streams) [] = ⊥
 HoldsStreams image (g ∷ gs) (stream ∷ streams) (count ∷ counts) =
-    (bytes_at image g.place.run.start g.place.bytes ≡ Some stream) × (g.rows ≡ count) × HoldsStreams image gs streams counts
+    (bytes_at image g.place.run.start g.place.bytes ≡ Some stream) × (g.rows ≡ count) × (is_undamaged g.digest (Some stream) ≡ true)
+    × HoldsStreams image gs streams counts

@@ -22,6 +22,7 @@ pub mod Compacting
 pub mod Verdicts
 pub mod Listing
 pub mod Reading
+pub mod Digests
 pub mod Input
 pub mod Exporting
 pub mod Places

@@ -2,7 +2,7 @@
 use Rattle.std.specs.Prelude.{◌≡◌, ◌≤◌, ◌+◌, ◌++◌, ◌&&◌, ◌||◌, ℕ, zero, suc, Bool, true, false, not, List, [], ◌∷◌, length, map, sum_by, Option, Some, None}
 use Rattle.std.specs.List.{list_all}
 use Rattle.std.proofs.Common.{◌⊎◌, inl, inr, ⊎_elim, if◌then◌else◌, refl, sym, ap, ◌∙◌, subst, arith, take, drop, length-take-le, length-drop}
-use Rattle.std.proofs.lemmas.List.{length-append, map-append}
+use Rattle.std.proofs.lemmas.List.{length-append, length-map, map-append}
 use Rattle.std.proofs.lemmas.List.Sums.{sum_by-cons}
 use Rattle.std.specs.Str.{bytes_eq}
 use Rattle.segments.specs.declared.run.Run.{Run}
@@ -11,8 +11,9 @@ use Rattle.arrow_schema.specs.Column.{PlainSchema}
 use Rattle.catalogue.specs.declared.limits.TheConstants.{MAX_SEGMENTS}
 use Rattle.catalogue.specs.declared.entry.Segment.{Segment}
 use Rattle.catalogue.specs.Entries.{PlainEntry, PlainCatalogue, is_segment, is_page, is_entry, page_runs, runs_in, runs_of, segment_count, IsCatalogue}
-use Rattle.catalogue.specs.Edits.{entry_of, with_entry, without, named, renamed, with_segments, with_more, from_place, with_others, with_exchanged}
+use Rattle.catalogue.specs.Edits.{page_behind, entry_of, with_entry, without, named, renamed, with_segments, with_more, from_place, with_others, with_exchanged}
 use Rattle.ipc_write.specs.Written.{schema_message}
+use Rattle.catalogue.specs.Text.{segment_size}
 use Rattle.catalogue.specs.laws.Shapes.{shapes, put_shapes, refilled_shapes}
 use Rattle.pages.specs.laws.Alike.{count_alike}
 use Rattle.catalogue.specs.laws.Kept.{entry_is, entry_stands, passes_catalogue, catalogue_is}
@@ -20,25 +21,44 @@ use Rattle.catalogue.specs.laws.Sums.{put_new, put_over, put_alike, taken_out, r
 use Rattle.catalogue.specs.laws.Changed.{put_stands, removed_stands, none_without, renamed_is, renamed_stands, more_is, more_none, more_stands, parted, found_passes, exchanged_none, exchanged_is, exchanged_stands}
 use Rattle.commit.specs.Placing.{is_among, times_among}
 use Rattle.commit.specs.laws.Fit.{times_both, times_some, some_times}
-use Rattle.store.specs.Changes.{PlainEdit, PlainChange, put, extend, move, remove, exchange, new_entry, page_behind, page_over, page_instead, edited, page_lost, given_by, name_edited, given_from, given_up, IsEdit, IsChange}
+use Rattle.store.specs.Changes.{PlainEdit, PlainChange, put, extend, move, remove, exchange, new_entry, page_over, page_instead, edited, page_lost, given_by, name_edited, given_from, given_up, IsEdit, IsChange}
 use Rattle.store.specs.laws.ExchangedRuns.{run_of, exchanged_times, exchanged_count}
 
 -- ---- what doesn't depend on the places of the new segments
 
-more_shapes : (c : PlainCatalogue) (name : List ℕ) (a b : List Segment) → length a ≡ length b → shapes (with_more c name a) ≡ shapes (with_more c name b)
+-- the sizes of the texts of segments
+abbrev pub sizes_in : List Segment → List ℕ
+sizes_in segments = map segment_size segments
+
+-- as many segments
+pub number_alike : (a b : List Segment) → sizes_in a ≡ sizes_in b → length a ≡ length b
+number_alike a b same = sym (length-map a segment_size) ∙ ap (λ (ns : List ℕ). length ns) same ∙ length-map b segment_size
+
+-- also between others
+between_alike : (front a b rest : List Segment) → sizes_in a ≡ sizes_in b → sizes_in (front ++ (a ++ rest)) ≡ sizes_in (front ++ (b ++ rest))
+between_alike front a b rest same =
+    map-append segment_size front (a ++ rest)
+    ∙ ap (λ (ns : List ℕ). sizes_in front ++ ns) (map-append segment_size a rest ∙ ap (λ (ns : List ℕ). ns ++ sizes_in rest) same ∙ sym (map-append segment_size b rest))
+    ∙ sym (map-append segment_size front (b ++ rest))
+
+behind_others : (front a b : List Segment) → sizes_in a ≡ sizes_in b → sizes_in (front ++ a) ≡ sizes_in (front ++ b)
+behind_others front a b same =
+    map-append segment_size front a ∙ ap (λ (ns : List ℕ). sizes_in front ++ ns) same ∙ sym (map-append segment_size front b)
+
+more_shapes : (c : PlainCatalogue) (name : List ℕ) (a b : List Segment) → sizes_in a ≡ sizes_in b → shapes (with_more c name a) ≡ shapes (with_more c name b)
 more_shapes c name [] [] same = refl
-more_shapes c name [] (y ∷ ys) same = absurd (omega (arith, same))
-more_shapes c name (x ∷ xs) [] same = absurd (omega (arith, same))
+more_shapes c name [] (y ∷ ys) same = absurd (cc same)
+more_shapes c name (x ∷ xs) [] same = absurd (cc same)
 more_shapes c name (x ∷ xs) (y ∷ ys) same = by_entry (entry_of c name) refl
   where
     by_entry : (o : Option PlainEntry) → entry_of c name ≡ o → shapes (with_more c name (x ∷ xs)) ≡ shapes (with_more c name (y ∷ ys))
     by_entry None h = ap shapes (more_none c name (x ∷ xs) h ∙ sym (more_none c name (y ∷ ys) h))
     by_entry (Some e) h =
         ap shapes (more_is c name e x xs h)
-        ∙ refilled_shapes c name (e.segments ++ x ∷ xs) (e.segments ++ y ∷ ys) (omega (arith, same, length-append e.segments (x ∷ xs), length-append e.segments (y ∷ ys)))
+        ∙ refilled_shapes c name (e.segments ++ x ∷ xs) (e.segments ++ y ∷ ys) (behind_others e.segments (x ∷ xs) (y ∷ ys) same)
         ∙ ap shapes (sym (more_is c name e y ys h))
 
-exchanged_shapes : (c : PlainCatalogue) (name : List ℕ) (place count : ℕ) (a b : List Segment) → length a ≡ length b → shapes (with_exchanged c name place count a) ≡ shapes (with_exchanged c name place count b)
+exchanged_shapes : (c : PlainCatalogue) (name : List ℕ) (place count : ℕ) (a b : List Segment) → sizes_in a ≡ sizes_in b → shapes (with_exchanged c name place count a) ≡ shapes (with_exchanged c name place count b)
 exchanged_shapes c name place count a b same = by_entry (entry_of c name) refl
   where
     by_entry : (o : Option PlainEntry) → entry_of c name ≡ o → shapes (with_exchanged c name place count a) ≡ shapes (with_exchanged c name place count b)
@@ -48,7 +68,7 @@ exchanged_shapes c name place count a b same = by_entry (entry_of c name) refl
         let other = with_others e.segments place count b in
         let rest = drop count (drop place e.segments) in
         ap shapes (exchanged_is c name e h place count a)
-        ∙ refilled_shapes c name one other (omega (arith, same, length-append (take place e.segments) (a ++ rest), length-append (take place e.segments) (b ++ rest), length-append a rest, length-append b rest))
+        ∙ refilled_shapes c name one other (between_alike (take place e.segments) a b rest same)
         ∙ ap shapes (sym (exchanged_is c name e h place count b))
 
 -- whether there are segments
@@ -68,16 +88,16 @@ behind_alike page [] (y ∷ ys) same = absurd (omega (arith, same))
 behind_alike page (x ∷ xs) [] same = absurd (omega (arith, same))
 behind_alike page (x ∷ xs) (y ∷ ys) same = refl
 
-pub edited_shapes : (c : PlainCatalogue) (edit : PlainEdit) (a b : List Segment) → length a ≡ length b → shapes (edited c edit a) ≡ shapes (edited c edit b)
+pub edited_shapes : (c : PlainCatalogue) (edit : PlainEdit) (a b : List Segment) → sizes_in a ≡ sizes_in b → shapes (edited c edit a) ≡ shapes (edited c edit b)
 edited_shapes c (put name schema) a b same =
-    let page = instead_alike (entry_of c name) schema a b same in
+    let page = instead_alike (entry_of c name) schema a b (number_alike a b same) in
     put_shapes c (new_entry name schema a (page_instead (entry_of c name) schema a)) (new_entry name schema b (page_instead (entry_of c name) schema b)) (λ i. ((name, schema), (same i, page i)))
 edited_shapes c (extend name) a b same = more_shapes c name a b same
 edited_shapes c (move from to) a b same = refl
 edited_shapes c (remove name) a b same = refl
 edited_shapes c (exchange name place count) a b same = exchanged_shapes c name place count a b same
 
-pub edited_count : (c : PlainCatalogue) (edit : PlainEdit) (a b : List Segment) → length a ≡ length b → segment_count (edited c edit a) ≡ segment_count (edited c edit b)
+pub edited_count : (c : PlainCatalogue) (edit : PlainEdit) (a b : List Segment) → sizes_in a ≡ sizes_in b → segment_count (edited c edit a) ≡ segment_count (edited c edit b)
 edited_count c edit a b same = count_alike (edited c edit a) (edited c edit b) (edited_shapes c edit a b same)
 
 -- what is given up doesn't, either

@@ -13,8 +13,9 @@ use Rattle.arrow_schema.specs.Column.{PlainSchema}
 use Rattle.arrow_schema.specs.Limits.{IsWithinLimits}
 use Rattle.ipc_write.specs.Written.{schema_message}
 use Rattle.catalogue.specs.declared.entry.Segment.{Segment}
+use Rattle.catalogue.specs.declared.entry.SegmentForm.{SegmentForm}
 use Rattle.catalogue.specs.Entries.{PlainEntry, PlainCatalogue, is_entry, page_runs, runs_in, runs_of, IsCatalogue}
-use Rattle.catalogue.specs.Edits.{entry_of, with_entry, without, named, with_segments, with_more, with_others}
+use Rattle.catalogue.specs.Edits.{page_behind, entry_of, with_entry, without, named, with_segments, with_more, with_others}
 use Rattle.catalogue.specs.laws.Kept.{entry_is}
 use Rattle.catalogue.specs.laws.Order.{by_seat, by_found}
 use Rattle.catalogue.specs.laws.Sums.{refilled}
@@ -22,7 +23,7 @@ use Rattle.catalogue.specs.laws.Changed.{renamed_is, more_is, found_passes, exch
 use Rattle.commit.specs.Placing.{is_among}
 use Rattle.commit.specs.Standing.{InSome}
 use Rattle.pages.specs.Stored.{page_in, HoldsPage, HoldsPages}
-use Rattle.store.specs.Changes.{PlainEdit, put, extend, move, remove, exchange, new_entry, page_behind, page_over, page_instead, edited, IsEdit}
+use Rattle.store.specs.Changes.{PlainEdit, put, extend, move, remove, exchange, new_entry, page_over, page_instead, edited, IsEdit}
 
 -- schemas of one message are one schema
 abbrev pub OneSchema : Type 0
@@ -93,12 +94,12 @@ module _ (Q : PlainEntry → Type 0) (pageless : OfPageless Q) (alike : OfSame Q
 no_page : {G : Type 0} (o : Option Extent) (p : Extent) → o ≡ None → o ≡ Some p → G
 no_page o p none some = absurd (cc (none, some))
 
-module _ (size : ℕ) (image : Image) where
-  pub edited_holds : OneSchema → (c : PlainCatalogue) (edit : PlainEdit) (streams : List (List ℕ)) (segments : List Segment) → IsCatalogue c → IsEdit c edit streams → HoldsPages size image c → HoldsPages size image (edited c edit segments)
+module _ (form : SegmentForm) (size : ℕ) (image : Image) where
+  pub edited_holds : OneSchema → (c : PlainCatalogue) (edit : PlainEdit) (streams : List (List ℕ)) (segments : List Segment) → IsCatalogue c → IsEdit c edit streams → HoldsPages form size image c → HoldsPages form size image (edited c edit segments)
   edited_holds one c edit streams segments k can holds =
-      edited_each (HoldsPage size image) (λ e none p here. no_page e.page p none here)
+      edited_each (HoldsPage form size image) (λ e none p here. no_page e.page p none here)
       (λ e f schema segments page h p here.
-      (λ i. page_in size image (length (segments i)) p) ∙ h p (sym page ∙ here) ∙ (λ i. Ok (sym schema i, sym segments i)))
+      (λ i. page_in form size image (length (segments i)) p) ∙ h p (sym page ∙ here) ∙ (λ i. Ok (sym schema i, sym segments i)))
       one c edit streams segments k can holds
 
 -- ---- and are among the runs that were named

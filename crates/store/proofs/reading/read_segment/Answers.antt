@@ -22,7 +22,7 @@ bytes_fit size s on sound =
     let run = s.place.run in
     let placed = and_parts (nat_le 2 run.start) (nat_le 1 run.count && nat_le (run.start + run.count) size) on in
     let ends = and_parts (nat_le 1 run.count) (nat_le (run.start + run.count) size) placed.1 in
-    let few = is_between 1 MAX_SEGMENT_ROWS s.rows in
+    let few = is_between 1 MAX_SEGMENT_ROWS s.rows && is_digest s.digest in
     let own = and_parts (nat_lt run.start (2 ^ 64) && nat_lt s.place.bytes (2 ^ 64)) (nat_le 1 s.place.bytes && ((run.count == sector_count s.place.bytes) && few)) sound in
     let some = and_parts (nat_le 1 s.place.bytes) ((run.count == sector_count s.place.bytes) && few) own.1 in
     let count = and_parts (run.count == sector_count s.place.bytes) few some.1 in
