@@ -41,7 +41,7 @@ mod store;
 
 pub use beginning::{crashed_devices_are_left, devices_fit, left_devices_fit, new_devices_fit};
 pub use call::{Call, Place, Reply};
-pub use commit::{Cause, OpeningRefusal};
+pub use commit::{Cause, FormatVersion, OpeningRefusal};
 pub use compacting::Compaction;
 pub use input::read_at_most;
 pub use laws::{

@@ -41,4 +41,6 @@ mod steps;
 #[cfg(test)]
 mod stops;
 #[cfg(test)]
+mod versions;
+#[cfg(test)]
 mod without_memory;
