@@ -33,7 +33,10 @@ mod StepParts
 mod StepChanges
 mod StepReads
 mod StepFound
+mod Staying
+mod Digesting
 mod Stepped
+mod Upgraded
 mod OpenExports
 mod ExportSteps
 mod ExportAnswers

@@ -57,7 +57,7 @@ use Rattle.pages.specs.laws.Written.{ArePages, IsFree}
 use Rattle.pages.specs.laws.Made.{GoesTo}
 use Rattle.pages.specs.laws.Taken.{AreTaken, taken_length, text_least, sizes_written, pages_are, piece_left, piece_right}
 use Rattle.tables.specs.declared.refusal.Refusal.TheVariants as refusals
-use Rattle.store.specs.Changes.{PlainChange, IsChange, edited, given_up, placed_segments, HoldsStreams}
+use Rattle.store.specs.Changes.{PlainChange, version_after, IsChange, edited, given_up, placed_segments, HoldsStreams}
 use Rattle.store.specs.Carrying.{HasNext, unplaced, outline, asked_sizes, placed, commit_placed, IsCarried}
 use Rattle.store.specs.inner.Prepared.{unpaged, in_runs, taking_refusal, ReadsAgain, IsPrepared}
 use Rattle.store.specs.laws.Segments.{own_digest, placed_front, placed_form, unplaced_number}
@@ -474,12 +474,12 @@ module _ (laws : PageLaws) (k : Commit) (old new : Space) (limits : is_size old.
           (λ r bytes is. subst (λ (xs : List PlainPiece). IsPieceOf xs r bytes) (sym whole_is) (piece_left (pieces ++ ps) last r bytes (piece_right pieces ps r bytes is))));
     }
 
-    reads_again : ReadsAgain old.size k c (unpaged k.version c change (runs_of pieces)) pages (settled_text (unpaged k.version c change (runs_of pieces)) pages) (plain_pieces plan.pieces.items)
+    reads_again : ReadsAgain old.size k (version_after change.edit k.version) c (unpaged k.version c change (runs_of pieces)) pages (settled_text (unpaged k.version c change (runs_of pieces)) pages) (plain_pieces plan.pieces.items)
     reads_again before image stood holds same spared =
         let found = rules_found stored_reading old.size before k c stood in
         let segments = placed_segments k.version (runs_of pieces) change.streams change.counts in
-        laws.read (form_of k.version) old.size before image (plain_pieces plan.pieces.items) holds same (unpaged k.version c change (runs_of pieces)) pages made_stands (edited_form (form_of k.version) c change.edit change.streams segments sound.edit (laws.form old.size before k found.text c found.spelled) (placed_form k.version (runs_of pieces) change.streams change.counts)) made_runs goes
-        (edited_holds (form_of k.version) old.size before laws.messages c change.edit change.streams segments stands sound.edit (laws.held old.size before k found.text c found.spelled))
+        laws.read (form_of (version_after change.edit k.version)) old.size before image (plain_pieces plan.pieces.items) holds same (unpaged k.version c change (runs_of pieces)) pages made_stands (edited_form k.version c change.edit change.streams segments sound.edit (laws.form old.size before k found.text c found.spelled) (placed_form k.version (runs_of pieces) change.streams change.counts)) made_runs goes
+        (edited_holds old.size before k.version laws.messages c change.edit change.streams segments stands sound.edit (laws.held old.size before k found.text c found.spelled))
         (each_spared (unpaged k.version c change (runs_of pieces)) (plain_pieces plan.pieces.items) (entries.runs_of c) spared (edited_pages laws.messages c change.edit change.streams segments stands sound.edit))
 
     counted_are : asked_sizes k.version c change ≡ map sectors_of (contents_of (plain_pieces plan.pieces.items))
@@ -495,7 +495,7 @@ module _ (laws : PageLaws) (k : Commit) (old new : Space) (limits : is_size old.
         let made = unpaged k.version c change (runs_of pieces) in
         let took_front : TookAll old new (asked_sizes k.version c change) (runs_of (pieces ++ paired pages (page_texts made)) ++ run ∷ []) = subst (λ (rs : List Run). TookAll old new (asked_sizes k.version c change) (rs ++ run ∷ [])) (sym front_runs) took in
         let took_plan : TookAll old new (asked_sizes k.version c change) (runs_of (plain_pieces plan.pieces.items)) = subst (λ (rs : List Run). TookAll old new (asked_sizes k.version c change) rs) (sym placed_are) took in
-        let published = plan_of old new (asked_sizes k.version c change) (pieces ++ paired pages (page_texts made)) run (settled_text made pages) (plain_pieces plan.pieces.items) k k.version (kind_of (outline k.version c change)) limits own (omega (arith, epoch))
+        let published = plan_of old new (asked_sizes k.version c change) (pieces ++ paired pages (page_texts made)) run (settled_text made pages) (plain_pieces plan.pieces.items) k (version_after change.edit k.version) (kind_of (outline k.version c change)) limits own (omega (arith, epoch))
         took_plan counted_are whole_is in
         record {
           next = epoch;
@@ -514,6 +514,6 @@ module _ (laws : PageLaws) (k : Commit) (old new : Space) (limits : is_size old.
           size = text_is_long;
           commit = commit_is;
           gives = back_is;
-          reads = subst (λ (rs : List Run). ReadsAgain old.size k c made rs (settled_text made pages) (plain_pieces plan.pieces.items)) (sym pages_in) reads_again;
-          publishes = subst (λ (x : Commit). IsPlan old.size k x (plain_pieces plan.pieces.items)) (sym (commit_is ∙ ap (next_commit k k.version (kind_of (outline k.version c change)) run) (sym text_is_long))) published;
+          reads = subst (λ (rs : List Run). ReadsAgain old.size k (version_after change.edit k.version) c made rs (settled_text made pages) (plain_pieces plan.pieces.items)) (sym pages_in) reads_again;
+          publishes = subst (λ (x : Commit). IsPlan old.size k x (plain_pieces plan.pieces.items)) (sym (commit_is ∙ ap (next_commit k (version_after change.edit k.version) (kind_of (outline k.version c change)) run) (sym text_is_long))) published;
         }

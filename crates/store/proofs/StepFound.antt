@@ -90,7 +90,7 @@ module _ (tells : Bool) (a b : Image) (same : tells ≡ true → b ≡ a) where
 
 -- ---- the first so many, and one more
 
-below_or_at : (j i : ℕ) → j < i + 1 → (j < i) ⊎ (j ≡ i)
+pub below_or_at : (j i : ℕ) → j < i + 1 → (j < i) ⊎ (j ≡ i)
 below_or_at zero zero lt = inr refl
 below_or_at zero (suc i) lt = inl (omega arith)
 below_or_at (suc j) zero lt = absurd (omega (arith, lt))

@@ -60,7 +60,7 @@ table_digest image e table place g d held at is =
 has_read_digest : (tells : Bool) (image : Image) (schema : PlainSchema) (g : Segment) (rows : List (List Cell)) (d : List ℕ) → g.digest ≡ Some d → HasRead tells image schema g rows → MeanRows schema g d rows
 has_read_digest tells image schema g rows d is r = record { bytes = r.bytes; digest = has_digest g.digest d r.bytes is r.copy.undamaged; means = r.means }
 
-read_at : (tells : Bool) (image : Image) (schema : PlainSchema) (gs : List Segment) (rows : List (List Cell)) (place : ℕ) (g : Segment) → HaveRead tells image schema gs rows → slice_get gs place ≡ Some g
+pub read_at : (tells : Bool) (image : Image) (schema : PlainSchema) (gs : List Segment) (rows : List (List Cell)) (place : ℕ) (g : Segment) → HaveRead tells image schema gs rows → slice_get gs place ≡ Some g
     → (own : List (List Cell)) × HasRead tells image schema g own
 read_at tells image schema [] rows place g read at = absurd (cc at)
 read_at tells image schema (x ∷ xs) rows zero g (own, others, (r, later, is)) at = let same : x ≡ g = cc at in (own, subst (λ (y : Segment). HasRead tells image schema y own) same r)

@@ -17,7 +17,7 @@ use Rattle.tables.specs.declared.refusal.Limit.TheVariants as limits
 use Rattle.tables.specs.Commands.{PlainCommand}
 use Rattle.pages.specs.Stored.{stored_reading}
 use Rattle.pages.specs.Paging.{kind_of, page_sizes, text_size, settled}
-use Rattle.store.specs.Changes.{PlainChange, digest_for, edited, placed_segments}
+use Rattle.store.specs.Changes.{PlainChange, version_after, digest_for, edited, placed_segments}
 use Rattle.store.specs.Deciding.{IsDecided}
 
 -- new segments of which no place is known yet
@@ -46,9 +46,9 @@ abbrev pub placed : FormatVersion → PlainCatalogue → PlainChange → List Ru
 placed version c change places =
     settled (edited c change.edit (placed_segments version places change.streams change.counts)) (drop (length change.streams) places)
 
--- the commit that it makes, where its text lies in this run: of the same version
+-- the commit that it makes, where its text lies in this run
 abbrev pub commit_placed : Commit → PlainCatalogue → PlainChange → Run → Commit
-commit_placed k c change text = next_commit k k.version (kind_of (outline k.version c change)) text (text_size (outline k.version c change))
+commit_placed k c change text = next_commit k (version_after change.edit k.version) (kind_of (outline k.version c change)) text (text_size (outline k.version c change))
 
 -- an epoch behind this one has 64 bits
 abbrev pub HasNext : Commit → Type 0

@@ -1,5 +1,5 @@
 -- What a command changes: the catalogue, by an edit, and the segments that are new in it. They have no places yet.
-use Rattle.std.specs.Prelude.{◌≡◌, ◌≤◌, ◌<◌, ◌+◌, ◌^◌, ℕ, true, List, [], ◌∷◌, ◌++◌, length, Option, Some, None, if◌then◌else◌, Ok, string_bytes}
+use Rattle.std.specs.Prelude.{◌≡◌, ◌≤◌, ◌<◌, ◌+◌, ◌^◌, ℕ, true, List, [], ◌∷◌, ◌++◌, length, flat_map, Option, Some, None, if◌then◌else◌, Ok, string_bytes}
 use Rattle.std.specs.Str.{bytes_eq}
 use Rattle.std.specs.List.{list_all, AllByRecursion}
 use Rattle.sha2.specs.Sha256.{sha256}
@@ -19,8 +19,8 @@ use Rattle.commit.specs.declared.sector.FormatVersion.{FormatVersion}
 use Rattle.commit.specs.declared.sector.FormatVersion.TheVariants.{One, Two}
 use Rattle.catalogue.specs.declared.limits.TheConstants.{MAX_TABLES, MAX_SEGMENT_ROWS}
 use Rattle.catalogue.specs.declared.entry.Segment.{Segment}
-use Rattle.catalogue.specs.Entries.{PlainEntry, PlainCatalogue, is_name, is_between, page_runs, runs_in_segments, runs_in}
-use Rattle.catalogue.specs.Edits.{page_behind, entry_of, with_entry, without, renamed, with_more, from_place, with_exchanged}
+use Rattle.catalogue.specs.Entries.{PlainEntry, PlainCatalogue, segment_count, is_name, is_digest, is_between, page_runs, runs_in_segments, runs_in}
+use Rattle.catalogue.specs.Edits.{page_behind, digested, entry_of, with_entry, without, renamed, with_more, from_place, with_exchanged}
 use Rattle.tables.specs.Tables.{Tables, table_at, with_table, without_table}
 use Rattle.tables.specs.Verdict.{joined}
 use Rattle.store.specs.declared.change.Edit.{Edit}
@@ -38,6 +38,7 @@ pub data PlainEdit : Type 0 where
   move : (from to : List ℕ) → PlainEdit
   remove : (name : List ℕ) → PlainEdit
   exchange : (name : List ℕ) → (place count : ℕ) → PlainEdit
+  digest : (digests : List (List ℕ)) → PlainEdit
 
 abbrev pub edit_of : Edit → PlainEdit
 edit_of (edits.Put name schema) = put (string_bytes name) (schema_of schema)
@@ -45,6 +46,7 @@ edit_of (edits.Extend name) = extend (string_bytes name)
 edit_of (edits.Move from to) = move (string_bytes from) (string_bytes to)
 edit_of (edits.Remove name) = remove (string_bytes name)
 edit_of (edits.Exchange name place count) = exchange (string_bytes name) place count
+edit_of (edits.Digest digests) = digest digests.items
 
 -- an edit, the streams of the new segments and how many rows each has
 pub record PlainChange : Type 0 where
@@ -92,11 +94,16 @@ edited c (extend name) segments = with_more c name segments
 edited c (move from to) segments = renamed c from to
 edited c (remove name) segments = without c name
 edited c (exchange name place count) segments = with_exchanged c name place count segments
+edited c (digest digests) segments = digested c digests
 
 -- the run of a page, where another one, or none, takes its place
 abbrev pub page_lost : (old new : Option Extent) → List Run
 page_lost old None = page_runs old
 page_lost old (Some page) = []
+
+-- the page of a table that gets digests: it says none, and stays only where there are no segments
+abbrev pub lost_page : PlainEntry → List Run
+lost_page e = page_lost e.page (page_behind e.segments e.page)
 
 -- what an edit with these new segments takes out of the entry that it finds: its page, if it no longer says what the table is, and segments
 abbrev pub given_by : PlainEdit → List Segment → PlainEntry → List Run
@@ -105,22 +112,28 @@ given_by (extend name) segments e = page_lost e.page (page_behind segments e.pag
 given_by (move from to) segments e = []
 given_by (remove name) segments e = runs_in e
 given_by (exchange name place count) segments e = page_runs e.page ++ runs_in_segments (from_place e.segments place count)
+given_by (digest digests) segments e = lost_page e
 
--- the name of the entry that an edit changes
-abbrev pub name_edited : PlainEdit → List ℕ
-name_edited (put name schema) = name
-name_edited (extend name) = name
-name_edited (move from to) = from
-name_edited (remove name) = name
-name_edited (exchange name place count) = name
+-- the name of the entry that an edit changes; none where it changes all
+abbrev pub name_edited : PlainEdit → Option (List ℕ)
+name_edited (put name schema) = Some name
+name_edited (extend name) = Some name
+name_edited (move from to) = Some from
+name_edited (remove name) = Some name
+name_edited (exchange name place count) = Some name
+name_edited (digest digests) = None
 
 -- the runs that an edit with these new segments takes out
 abbrev pub given_from : PlainEdit → List Segment → Option PlainEntry → List Run
 given_from edit segments None = []
 given_from edit segments (Some e) = given_by edit segments e
 
+abbrev pub given_of : PlainCatalogue → PlainEdit → List Segment → Option (List ℕ) → List Run
+given_of c edit segments None = flat_map lost_page c
+given_of c edit segments (Some name) = given_from edit segments (entry_of c name)
+
 abbrev pub given_up : PlainCatalogue → PlainEdit → List Segment → List Run
-given_up c edit segments = given_from edit segments (entry_of c (name_edited edit))
+given_up c edit segments = given_of c edit segments (name_edited edit)
 
 -- the catalogue can be edited so: with these numbers of new segments only their number is still to be tested
 abbrev pub HasEntry : PlainCatalogue → List ℕ → Type 0
@@ -133,6 +146,8 @@ IsEdit c (extend name) streams = HasEntry c name
 IsEdit c (move from to) streams = (is_name to ≡ true) × (entry_of c to ≡ None) × HasEntry c from × (streams ≡ [])
 IsEdit c (remove name) streams = HasEntry c name × (streams ≡ [])
 IsEdit c (exchange name place count) streams = (e : PlainEntry) × (entry_of c name ≡ Some e) × (place + count ≤ length e.segments)
+IsEdit c (digest digests) streams =
+    (length digests ≡ segment_count c) × (list_all (λ (d : List ℕ). is_digest (Some d)) digests ≡ true) × (streams ≡ [])
 
 -- a change of this catalogue: each new segment has a stream of some bytes, and as many rows as a segment may have
 pub record IsChange (c : PlainCatalogue) (change : PlainChange) : Type 0 where
@@ -169,13 +184,23 @@ Makes t (extend name) streams counts new =
     × (new ≡ with_table t name (joined table rows)))
 Makes t (move from to) streams counts new = (table : PlainTable) × (table_at t from ≡ Some table) × (new ≡ with_table (without_table t from) to table)
 Makes t (remove name) streams counts new = new ≡ without_table t name
--- no command asks for it: the tables stay as they are, where the new segments hold the same rows
+-- no command asks for these: the tables stay as they are, where the new segments hold the same rows, and the digests are those of the old ones
 Makes t (exchange name place count) streams counts new = ⊥
+Makes t (digest digests) streams counts new = ⊥
 
 abbrev pub MakesOf : Tables → PlainChange → Tables → Type 0
 MakesOf t change new = Makes t change.edit change.streams change.counts new
 
 -- ---- the new segments
+
+-- the version behind an edit: digests are those of version 2, and all else keeps it
+abbrev pub version_after : PlainEdit → FormatVersion → FormatVersion
+version_after (put name schema) version = version
+version_after (extend name) version = version
+version_after (move from to) version = version
+version_after (remove name) version = version
+version_after (exchange name place count) version = version
+version_after (digest digests) version = Two
 
 -- the digest of a segment that holds this stream: version 2 has one
 abbrev pub digest_for : FormatVersion → (stream : List ℕ) → Option (List ℕ)

@@ -19,6 +19,7 @@ pub mod Deciding
 pub mod Carrying
 pub mod Applying
 pub mod Compacting
+pub mod Upgrading
 pub mod Verdicts
 pub mod Listing
 pub mod Reading

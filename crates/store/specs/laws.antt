@@ -23,3 +23,4 @@ pub mod ExchangedRuns
 pub mod Spared
 pub mod Exported
 pub mod Same
+pub mod Upgraded

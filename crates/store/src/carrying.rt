@@ -17,7 +17,7 @@ ghost use Rattle.store.specs.inner.Prepared.{in_runs, taking_refusal, IsPrepared
 
 use crate::Store;
 use crate::change::{Change, Edit};
-use crate::editing::{edited, given_up, in_runs, segments_after, unplaced};
+use crate::editing::{edited, given_up, in_runs, segments_after, unplaced, version_after};
 use array_build::Buffer;
 use canonical_write::EncodedPieces;
 use catalogue::{MAX_SEGMENTS, Segment, one_page_each};
@@ -193,7 +193,7 @@ fn plan_change<'a>(
         Ok((next, texts)) => Ok(Prepared {
             plan: plan_next(
                 commit,
-                commit.version,
+                version_after(&change.edit, commit.version),
                 asked.layout.kind,
                 next,
                 places,

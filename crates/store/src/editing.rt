@@ -1,5 +1,5 @@
 // Edits of a catalogue, and the segments that are new in it.
-ghost use Rattle.std.specs.Prelude.{◌≡◌, ◌<◌, ◌≤◌, ◌+◌, ◌^◌, ◌++◌, ℕ, true, List, Some, map, length, string_bytes, IfOk, OnOk};
+ghost use Rattle.std.specs.Prelude.{◌≡◌, ◌<◌, ◌≤◌, ◌+◌, ◌^◌, ◌++◌, ℕ, true, List, Some, map, flat_map, option_map, length, string_bytes, IfOk, OnOk};
 ghost use Rattle.std.specs.List.{list_all};
 ghost use Rattle.std.specs.Str.{bytes_eq};
 ghost use Rattle.arrow_schema.specs.Limits.{IsWithinLimits};
@@ -13,7 +13,7 @@ ghost use Rattle.catalogue.specs.declared.entry.Segment.{Segment};
 ghost use Rattle.catalogue.specs.Edits.{page_behind, entry_of, from_place};
 ghost use Rattle.catalogue.specs.Entries.{plain_entry, is_segment, is_entry, segment_count, IsCatalogue};
 ghost use Rattle.catalogue.specs.View.{catalogue_of};
-ghost use Rattle.store.specs.Changes.{edit_of, new_entry, page_over, page_instead, edited, page_lost, given_by, name_edited, given_up, digest_for, IsEdit};
+ghost use Rattle.store.specs.Changes.{edit_of, new_entry, page_over, page_instead, edited, page_lost, given_by, lost_page, name_edited, given_up, version_after, digest_for, IsEdit};
 ghost use Rattle.store.specs.Carrying.{unplaced};
 ghost use Rattle.store.specs.inner.Prepared.{in_runs, CanGive};
 ghost use Rattle.store.specs.laws.Edited.{segments_at};
@@ -132,6 +132,7 @@ pub(crate) fn edited(
         Edit::Exchange { name, place, count } => {
             changed.exchange_segments(name, *place, *count, segments)?;
         }
+        Edit::Digest { digests } => changed.set_digests(digests),
     }
     Ok(changed)
 }
@@ -163,20 +164,21 @@ fn put_lost(runs: &mut Vec<Run>, old: Option<Extent>, new: Option<Extent>) -> Re
     }
 }
 
-// The name of the table that an edit changes.
-fn name_edited(edit: &Edit) -> &str
-    ensures { result.now ≡ name_edited (edit_of edit.now) }
+// The name of the table that an edit changes; none where it changes all.
+fn name_edited(edit: &Edit) -> Option<&str>
+    ensures { option_map (λ name. name.now) result ≡ name_edited (edit_of edit.now) }
 {
     match edit {
-        Edit::Put { name, schema: _ } => name,
-        Edit::Extend { name } => name,
-        Edit::Move { from, to: _ } => from,
-        Edit::Remove { name } => name,
+        Edit::Put { name, schema: _ } => Some(name),
+        Edit::Extend { name } => Some(name),
+        Edit::Move { from, to: _ } => Some(from),
+        Edit::Remove { name } => Some(name),
         Edit::Exchange {
             name,
             place: _,
             count: _,
-        } => name,
+        } => Some(name),
+        Edit::Digest { digests: _ } => None,
     }
 }
 
@@ -214,6 +216,20 @@ fn given_by(
             put_lost(&mut runs, entry.page, None)?;
             put_runs(&mut runs, segments_from(entry, *place, *count))?;
         }
+        Edit::Digest { digests: _ } => {
+            put_lost(&mut runs, entry.page, page_behind(&entry.segments, entry.page))?;
+        }
+    }
+    Ok(runs)
+}
+
+// The runs of the pages that go where all segments get digests.
+fn lost_pages(alloc: Global, entries: &[TableEntry]) -> Result<Vec<Run>, AllocError>
+    ensures { IfOk result (λ runs. runs.items ≡ flat_map lost_page (map plain_entry entries.now)) }
+{
+    let mut runs = Vec::new(alloc);
+    for entry in entries {
+        put_lost(&mut runs, entry.page, page_behind(&entry.segments, entry.page))?;
     }
     Ok(runs)
 }
@@ -228,9 +244,12 @@ pub(crate) fn given_up(
     requires edit { (streams : List (List ℕ)) × IsEdit (catalogue_of catalogue.now) (edit_of edit.now) streams }
     ensures { IfOk result (λ runs. runs.items ≡ given_up (catalogue_of catalogue.now) (edit_of edit.now) segments.now) }
 {
-    match catalogue.get(name_edited(edit)) {
-        Some(entry) => given_by(alloc, edit, segments, entry),
-        None => Ok(Vec::new(alloc)),
+    match name_edited(edit) {
+        Some(name) => match catalogue.get(name) {
+            Some(entry) => given_by(alloc, edit, segments, entry),
+            None => Ok(Vec::new(alloc)),
+        },
+        None => lost_pages(alloc, catalogue.entries()),
     }
 }
 
@@ -263,6 +282,17 @@ pub(crate) fn segments_after(catalogue: &Catalogue, edit: &Edit, new: u64) -> u6
             place: _place,
             count: exchanged,
         } => count - *exchanged as u64 + new,
+        Edit::Digest { digests: _ } => count,
+    }
+}
+
+// The version behind an edit.
+pub(crate) fn version_after(edit: &Edit, version: FormatVersion) -> FormatVersion
+    ensures { result ≡ version_after (edit_of edit.now) version }
+{
+    match edit {
+        Edit::Digest { digests: _ } => FormatVersion::Two,
+        _ => version,
     }
 }
 

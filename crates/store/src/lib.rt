@@ -38,6 +38,7 @@ mod reading;
 mod running;
 mod saving;
 mod store;
+mod upgrading;
 
 pub use beginning::{crashed_devices_are_left, devices_fit, left_devices_fit, new_devices_fit};
 pub use call::{Call, Place, Reply};
@@ -53,3 +54,4 @@ pub use laws::{
 pub use pages::StoredCatalogue;
 pub use running::{answer, run};
 pub use store::Store;
+pub use upgrading::Upgraded;

@@ -23,7 +23,7 @@ use Rattle.commit.specs.laws.Taking.{TookAll}
 use Rattle.tables.specs.declared.refusal.Refusal.{Refusal}
 use Rattle.tables.specs.declared.refusal.Refusal.TheVariants as refusals
 use Rattle.pages.specs.declared.stored.StoredCatalogue.{StoredCatalogue}
-use Rattle.store.specs.Changes.{PlainEdit, put, extend, move, remove, exchange, PlainChange, edited, given_up, placed_segments}
+use Rattle.store.specs.Changes.{PlainEdit, put, extend, move, remove, exchange, digest, PlainChange, version_after, edited, given_up, placed_segments}
 use Rattle.store.specs.laws.EditedEach.{OneSchema}
 use Rattle.store.specs.Carrying.{HasNext, asked_sizes, unplaced, outline, commit_placed}
 use Rattle.pages.specs.Stored.{stored_reading, form_of, by_kind}
@@ -46,6 +46,7 @@ CanGive (extend name) e = Unit {0}
 CanGive (move from to) e = Unit {0}
 CanGive (remove name) e = Unit {0}
 CanGive (exchange name place count) e = place + count ≤ length e.segments
+CanGive (digest digests) e = Unit {0}
 
 -- why no run is taken, as it is told of a command
 abbrev pub taking_refusal : TakeError → Refusal
@@ -53,11 +54,11 @@ taking_refusal (takings.NoRoom count) = refusals.NoRoom count
 taking_refusal takings.OutOfMemory = refusals.OutOfMemory
 
 -- an image that holds all pieces of a plan and has elsewhere what lay there before, where the pages that stay were spared, is read as what is made
-abbrev pub ReadsAgain : (size : ℕ) → Commit → PlainCatalogue → (made : PlainCatalogue) → (pages : List Run) → (text : List ℕ) → List PlainPiece → Type 0
-ReadsAgain size k c made pages text pieces =
+abbrev pub ReadsAgain : (size : ℕ) → Commit → (version : FormatVersion) → PlainCatalogue → (made : PlainCatalogue) → (pages : List Run) → (text : List ℕ) → List PlainPiece → Type 0
+ReadsAgain size k version c made pages text pieces =
     (before image : Image) → standing stored_reading size before ≡ rules k c → HoldsEach image pieces
     → ((n : ℕ) → 2 ≤ n → OutOf (runs_of pieces) n → image n ≡ before n) → ((n : ℕ) → InSome (catalogue_runs c) n → OutOf (runs_of pieces) n)
-    → by_kind (kind_of made) (form_of k.version) size image text ≡ Ok (settled made pages)
+    → by_kind (kind_of made) (form_of version) size image text ≡ Ok (settled made pages)
 
 -- runs were taken for the streams, the pages and the catalogue's text, and the plan has them as its pieces; `back` is what goes back after it
 -- was published
@@ -78,5 +79,5 @@ pub record IsPrepared (old new : Space) (k : Commit) (c : PlainCatalogue) (chang
   pub size : length text ≡ text_size (outline k.version c change)
   pub commit : plan.commit ≡ commit_placed k c change run
   pub gives : back ≡ given_up c change.edit (unplaced k.version change.streams change.counts) ++ (dropped_pages (outline k.version c change) ++ k.catalogue.run ∷ [])
-  pub reads : ReadsAgain old.size k c (unpaged k.version c change (runs_of pieces)) (runs_of pages) text (plain_pieces plan.pieces.items)
+  pub reads : ReadsAgain old.size k (version_after change.edit k.version) c (unpaged k.version c change (runs_of pieces)) (runs_of pages) text (plain_pieces plan.pieces.items)
   pub publishes : IsPlan old.size k plan.commit (plain_pieces plan.pieces.items)

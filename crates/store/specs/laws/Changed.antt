@@ -25,7 +25,7 @@ use Rattle.tables.specs.Tables.{Tables, no_tables, table_at, with_table, without
 use Rattle.tables.specs.Verdict.{joined}
 use Rattle.tables.specs.laws.Maps.{put_apart, put_over, put_and_taken, put_not_taken, none_taken}
 use Rattle.store.specs.Held.{rows_in_bytes, rows_in_segment, segment_rows, joined_rows, rows_held, table_where, table_of_rows, table_held, with_held, tables_held}
-use Rattle.store.specs.Changes.{PlainEdit, put, extend, move, remove, exchange, PlainChange, new_entry, page_instead, edited, placed_segments, HasEntry, stream_rows, rows_under, Makes, MakesOf, HoldsStreams}
+use Rattle.store.specs.Changes.{PlainEdit, put, extend, move, remove, exchange, digest, PlainChange, new_entry, page_instead, edited, placed_segments, HasEntry, stream_rows, rows_under, Makes, MakesOf, HoldsStreams}
 use Rattle.pages.specs.Paging.{is_whole, in_first, tail_of, with_pages, settled}
 use Rattle.pages.specs.laws.Paged.{by_page, kept_first, made_first}
 use Rattle.store.specs.Carrying.{placed}
@@ -249,6 +249,7 @@ module _ (image : Image) where
       by_edit (move from to) made = held_moved c t new from to catalogue.order is (has_entry from made.0 (entry_of c from) refl made.1) made
       by_edit (remove name) made = held_without c t name catalogue.order is ∙ ap Some (sym made)
       by_edit (exchange name place count) made = absurd made
+      by_edit (digest ds) made = absurd made
 
 -- ---- pages make no difference to what the tables are
 
