@@ -42,13 +42,13 @@ use Rattle.store.specs.Calls.{PlainCall, open_export_call, export_next_call, clo
 use Rattle.store.specs.Machine.{Setting, Machine, Export, running, halted, tables_now, Allows, pinned_by, export_at, gave, is_of}
 use Rattle.store.specs.Steps.{Step, IsExportOf}
 use Rattle.store.specs.Runs.{TellsFound, TellsRoom}
-use Rattle.store.specs.Held.{tables_held, table_held, rows_each, rows_held, pieces_held, is_undamaged, bytes_of, segment_rows}
+use Rattle.store.specs.Held.{tables_held, table_held, rows_each, rows_held, pieces_held, segment_rows}
 use Rattle.pages.specs.Stored.{stored_reading}
 use Rattle.store.specs.Fits.{setting_of, StoreFits, IsSound, ExportFits, ExportsFit, book_of, commit_of, listed_in}
 use Rattle.store.specs.Applying.{GoesOn}
 use Rattle.store.specs.Reading.{LacksRows, OnlyReadsDevice, OnlyReadsStore}
 use Rattle.store.specs.Exporting.{RefusesExport, RefusesRoom, OpensExport, OpensAt, PieceIs, GivesPiece, after_giving, RefusesSegment, RefusesNumber, RefusesPiece, ReadsForExport, RefusesClosing, ClosesAt}
-use Rattle.store.specs.laws.Digests.{rows_damaged}
+use Rattle.store.specs.laws.Digests.{damaged_lacks}
 use Rattle.store.specs.laws.Named.{entry_has, entry_lacks, held_has}
 use Rattle.store.specs.laws.Spared.{each_joined}
 use Rattle.store.specs.inner.LawsBelow.{TableLaws}
@@ -362,10 +362,6 @@ module _ {D : Type 0} {g : Ghosts D} (size : D → ℕ) (story : D → Story) (f
           let same = shown_is_synced (now (story old.device)) sound.stands.quiet.shown in
           readable image b found.0.pieces place g found.2.pieces within (ap (segment_rows b.schema g) (sym same) ∙ none)
 
-      no_rows : (schema : PlainSchema) (g : Segment) → is_undamaged g.digest (bytes_of g (shown_image (now (story old.device)))) ≡ false → segment_rows schema g (shown_image (now (story old.device))) ≡ None
-      unfolding segment_rows
-      no_rows schema g damaged = rows_damaged schema g (bytes_of g (shown_image (now (story old.device)))) damaged
-
       by_refusal : old.halted ≡ false → (b : PlainExport) (place : ℕ) (g : Segment) → open_at (book_of old) id ≡ Some b → slice_get b.segments place ≡ Some g → (q : Refusal) → r ≡ q
           → LacksRows tells (shown_image (now (story old.device))) b.schema g place q → GoesOn size story failed base m (export_next_call id) (refused r) old new
       by_refusal h b place g at within refusals.Device is u =
@@ -373,7 +369,7 @@ module _ {D : Type 0} {g : Ghosts D} (size : D → ℕ) (story : D → Story) (f
           (halts_reading size story failed base m tells told old new fits (export_next_call id) (runs_on h, refl, refl)) reads
       by_refusal h b place g at within refusals.OutOfMemory is u = without_memory h is
       by_refusal h b place g at within (refusals.SegmentUnread other) is u = absurd (no_segment h b place g at within (u.1 told).1)
-      by_refusal h b place g at within (refusals.SegmentDamaged other) is u = absurd (no_segment h b place g at within (no_rows b.schema g (u.1 told)))
+      by_refusal h b place g at within (refusals.SegmentDamaged other) is u = absurd (no_segment h b place g at within (damaged_lacks b.schema g (shown_image (now (story old.device))) (u.1 told)))
       by_refusal h b place g at within _ is u = absurd u
 
       by_number : old.halted ≡ false → (b : PlainExport) (n : ℕ) → open_at (book_of old) id ≡ Some b → RefusesNumber tells (shown_image (now (story old.device))) b n r → GoesOn size story failed base m (export_next_call id) (refused r) old new

@@ -31,7 +31,7 @@ use Rattle.store.specs.Reading.{HasRead, HaveRead, ArePast, IsUnread, IsDamaged,
 use Rattle.store.specs.inner.LawsBelow.{TableLaws}
 use Rattle.store.specs.inner.Reading.{UnreadsSegment}
 use Rattle.store.specs.laws.Changed.{rows_behind}
-use Rattle.store.specs.laws.Digests.{rows_damaged, have_more, has_then}
+use Rattle.store.specs.laws.Digests.{damaged_lacks, have_more, has_then}
 use Rattle.store.specs.laws.Named.{held_has}
 
 -- ---- segments
@@ -125,10 +125,8 @@ unread_not_held laws image e place table within unread is = past_not_held laws i
 
 -- or has other bytes than those that were written
 pub damaged_not_held : TableLaws → (image : Image) (e : PlainEntry) (place : ℕ) (table : PlainTable) → IsWithinLimits e.schema → IsDamaged image e place → table_held image e ≡ Some table → ⊥
-unfolding segment_rows
 damaged_not_held laws image e place table within d is =
-    let none : segment_rows e.schema d.segment image ≡ None = rows_damaged e.schema d.segment (bytes_of d.segment image) d.damaged in
-    past_not_held laws image e place table d.segment d.rows within d.at d.before (subst (ArePast e.schema d.rows) (sym none) tt) is
+    past_not_held laws image e place table d.segment d.rows within d.at d.before (subst (ArePast e.schema d.rows) (sym (damaged_lacks e.schema d.segment image d.damaged)) tt) is
 
 -- ---- the runs of an entry
 

@@ -19,7 +19,7 @@ use Rattle.table_cut.specs.Cut.{pieces, pieces_from}
 use Rattle.table_cut.specs.Piece.{pieces_of, within_piece}
 use Rattle.catalogue.specs.declared.entry.Segment.{Segment}
 use Rattle.catalogue.specs.declared.limits.TheConstants.{MAX_SEGMENTS, MAX_SEGMENT_ROWS}
-use Rattle.catalogue.specs.Entries.{PlainEntry, PlainCatalogue, is_digest, is_segment, is_entry, is_between, runs_in_segments, runs_of, segment_count, IsCatalogue}
+use Rattle.catalogue.specs.Entries.{PlainEntry, PlainCatalogue, is_filled, is_digest, is_segment, is_entry, is_between, runs_in_segments, runs_of, segment_count, IsCatalogue}
 use Rattle.catalogue.specs.Edits.{entry_of, with_segments, from_place, with_others, with_exchanged}
 use Rattle.catalogue.specs.laws.Kept.{entry_is}
 use Rattle.catalogue.specs.laws.Sums.{refilled_sum, segments_in}
@@ -57,12 +57,12 @@ use Rattle.store.proofs.StepParts.{at_name, entry_sectors, segment_sectors, fron
 pub parts_of_segment : (g : Segment) → is_segment g ≡ true → (1 ≤ g.place.bytes) × (g.place.bytes < 2 ^ 64) × (is_between 1 MAX_SEGMENT_ROWS g.rows ≡ true)
 parts_of_segment g sound =
     let e = g.place in
-    let few = is_between 1 MAX_SEGMENT_ROWS g.rows && is_digest g.digest in
-    let own = and_parts (nat_lt e.run.start (2 ^ 64) && nat_lt e.bytes (2 ^ 64)) (nat_le 1 e.bytes && ((e.run.count == sector_count e.bytes) && few)) sound in
-    let some = and_parts (nat_le 1 e.bytes) ((e.run.count == sector_count e.bytes) && few) own.1 in
+    let filled = and_parts (is_filled 1 e) (is_between 1 MAX_SEGMENT_ROWS g.rows && is_digest g.digest) sound in
+    let own = and_parts (nat_lt e.run.start (2 ^ 64) && nat_lt e.bytes (2 ^ 64)) (nat_le 1 e.bytes && (e.run.count == sector_count e.bytes)) filled.0 in
+    let some = and_parts (nat_le 1 e.bytes) (e.run.count == sector_count e.bytes) own.1 in
     let short = and_parts (nat_lt e.run.start (2 ^ 64)) (nat_lt e.bytes (2 ^ 64)) own.0 in
     let less : e.bytes < 2 ^ 64 = grind (arith, short) in
-    (leb-true 1 e.bytes some.0, less, (and_parts (is_between 1 MAX_SEGMENT_ROWS g.rows) (is_digest g.digest) (and_parts (e.run.count == sector_count e.bytes) few some.1).1).0)
+    (leb-true 1 e.bytes some.0, less, (and_parts (is_between 1 MAX_SEGMENT_ROWS g.rows) (is_digest g.digest) filled.1).0)
 
 within_at : (segments : List Segment) (i : ℕ) (g : Segment) → slice_get segments i ≡ Some g → i + 1 ≤ length segments
 within_at [] i g at = absurd (cc at)

@@ -15,7 +15,7 @@ use Rattle.store.specs.Held.{is_undamaged, bytes_of, rows_in_bytes, rows_in_segm
 use Rattle.store.specs.Reading.{HasRead, HaveRead, ArePast, IsUnread, IsDamaged, IsRead}
 use Rattle.store.specs.Exporting.{HasRows}
 use Rattle.store.specs.Digests.{HaveDigest, MeanRows}
-use Rattle.store.specs.laws.Digests.{rows_damaged, rows_come, has_digest}
+use Rattle.store.specs.laws.Digests.{damaged_lacks, rows_come, has_digest}
 use Rattle.store.specs.laws.Named.{held_has}
 use Rattle.store.proofs.ReadTables.{parts_of}
 
@@ -63,8 +63,8 @@ has_read_digest tells image schema g rows d is r = record { bytes = r.bytes; dig
 pub read_at : (tells : Bool) (image : Image) (schema : PlainSchema) (gs : List Segment) (rows : List (List Cell)) (place : ℕ) (g : Segment) → HaveRead tells image schema gs rows → slice_get gs place ≡ Some g
     → (own : List (List Cell)) × HasRead tells image schema g own
 read_at tells image schema [] rows place g read at = absurd (cc at)
-read_at tells image schema (x ∷ xs) rows zero g (own, others, (r, later, is)) at = let same : x ≡ g = cc at in (own, subst (λ (y : Segment). HasRead tells image schema y own) same r)
-read_at tells image schema (x ∷ xs) rows (suc place) g (own, others, (r, later, is)) at = read_at tells image schema xs others place g later at
+read_at tells image schema (x ∷ xs) rows zero g (own, others, r, later, is) at = let same : x ≡ g = cc at in (own, subst (λ (y : Segment). HasRead tells image schema y own) same r)
+read_at tells image schema (x ∷ xs) rows (suc place) g (own, others, r, later, is) at = read_at tells image schema xs others place g later at
 
 pub read_digest : (tells : Bool) (image : Image) (e : PlainEntry) (table : PlainTable) (place : ℕ) (g : Segment) (d : List ℕ) → IsRead tells image e table → slice_get e.segments place ≡ Some g → g.digest ≡ Some d
     → (rows : List (List Cell)) × MeanRows e.schema g d rows
@@ -96,21 +96,19 @@ front_rows schema (x ∷ xs) image (suc j) rows held (suc i) g before lt at fron
     let same : parts.0 ≡ first.0 = cc alike in
     let later = front_rows schema xs image j parts.1 parts.3 i g first.1 (omega (arith, lt)) at first.3 in
     let more = later.0 in
-    let rest = later.1 in
-    (
+    let rest = later.1 in (
       more,
       rest,
       later.2,
       parts.4
-      ∙ (λ k. same k ++ later.3 k)
-      ∙ sym (append_assoc first.0 (first.1 ++ more) rest)
-      ∙ ap (λ (b : List (List Cell)). b ++ rest) (sym (append_assoc first.0 first.1 more))
-      ∙ ap (λ (b : List (List Cell)). (b ++ more) ++ rest) (sym first.4),
+          ∙ (λ k. same k ++ later.3 k)
+          ∙ sym (append_assoc first.0 (first.1 ++ more) rest)
+          ∙ ap (λ (b : List (List Cell)). b ++ rest) (sym (append_assoc first.0 first.1 more))
+          ∙ ap (λ (b : List (List Cell)). (b ++ more) ++ rest) (sym first.4),
     )
 
 -- of one table there is one of them at the most
 pub told_apart : (image : Image) (e : PlainEntry) (i j : ℕ) → IsUnread image e i → IsDamaged image e j → ⊥
-unfolding segment_rows
 told_apart image e i j u d = by_order (nat_lt i j) (nat_lt j i) refl refl
   where
     -- the segment that can't be read is before the other one
@@ -125,7 +123,7 @@ told_apart image e i j u d = by_order (nat_lt i j) (nat_lt j i) refl refl
     damaged_first : j < i → ⊥
     damaged_first lt =
         let rows = front_rows e.schema e.segments image i u.rows u.before j d.segment d.rows lt d.at d.before in
-        let lacks : None ≡ Some rows.0 = sym (rows_damaged e.schema d.segment (bytes_of d.segment image) d.damaged) ∙ rows.2 in
+        let lacks : None ≡ Some rows.0 = sym (damaged_lacks e.schema d.segment image d.damaged) ∙ rows.2 in
         cc lacks
 
     one_place : i ≡ j → ⊥

@@ -47,8 +47,8 @@ pub use compacting::Compaction;
 pub use input::read_at_most;
 pub use laws::{
     a_stop_keeps_what_was_acknowledged, acknowledged_commands_are_settled, compactions_end,
-    decisions_are_verdicts, each_stop_is_allowed, rows_have_their_digest, runs_go_on, runs_tell_no_damage,
-    snapshots_give_their_table, undisturbed_runs_settle_what_was_acknowledged,
+    decisions_are_verdicts, each_stop_is_allowed, rows_have_their_digest, runs_go_on,
+    runs_tell_no_damage, snapshots_give_their_table, undisturbed_runs_settle_what_was_acknowledged,
     undisturbed_runs_tell_no_failure, undisturbed_runs_tell_no_halt, what_is_done_is_the_verdict,
 };
 pub use pages::StoredCatalogue;

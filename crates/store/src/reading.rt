@@ -1,5 +1,5 @@
 // A table is read from the segments of its entry.
-ghost use Rattle.std.specs.Prelude.{◌≡◌, ◌≤◌, ◌+◌, ◌++◌, ℕ, true, List, [], Option, Some, None, length, option_map, sum_by, IfOk, IfErr, IfSome};
+ghost use Rattle.std.specs.Prelude.{◌≡◌, ◌≢◌, ◌≤◌, ◌+◌, ◌++◌, ℕ, true, false, List, [], Option, Some, None, length, option_map, sum_by, IfOk, IfErr, IfSome};
 ghost use Rattle.std.specs.List.{list_all};
 ghost use Rattle.sector_dev.specs.Disk.{now, shown_image};
 ghost use Rattle.arrow_schema.specs.Column.{PlainSchema};
@@ -142,6 +142,19 @@ pub(crate) fn read_segment<D: SectorDevice>(
     }
 }
 
+// Why the rows of the segment at a place don't go behind others: they are too heavy, or there is no memory.
+fn joining_refusal(error: TableError, place: usize) -> Refusal
+    ensures memory { error ≡ TableError.OutOfMemory → result ≡ Refusal.OutOfMemory }
+    ensures segment { error ≢ TableError.OutOfMemory → result ≡ Refusal.SegmentUnread place }
+    ensures no_device { is_failure result ≡ false }
+{
+    match error {
+        TableError::OutOfMemory => Refusal::OutOfMemory,
+        TableError::Weight => Refusal::SegmentUnread(place),
+        TableError::Unfit(_) => Refusal::SegmentUnread(place),
+    }
+}
+
 // The rows of the segment at a place behind those before it.
 fn append_segment<D: SectorDevice>(
     alloc: Global,
@@ -170,8 +183,7 @@ fn append_segment<D: SectorDevice>(
     match read_segment(alloc, device, front, segment, place) {
         Ok(weighed) => match gathered.append(weighed) {
             Ok(more) => Ok(more),
-            Err(TableError::OutOfMemory) => Err(Refusal::OutOfMemory),
-            Err(_) => Err(Refusal::SegmentUnread(place)),
+            Err(error) => Err(joining_refusal(error, place)),
         },
         Err(refusal) => Err(refusal),
     }

@@ -9,6 +9,8 @@ mod commands;
 #[cfg(test)]
 mod compactions;
 #[cfg(test)]
+mod digests;
+#[cfg(test)]
 mod disturbed;
 #[cfg(test)]
 mod exports;

@@ -78,7 +78,8 @@ const ROWS: &[Row] = &[
     (FormatVersion::Two, COMPACTED, "epoch 5, 233 in 3, t: 2+1"),
 ];
 
-fn formatted(alloc: Global, version: FormatVersion) -> Result<Slot, NotMade> {
+/// A store of this version on 16 sectors.
+pub fn formatted(alloc: Global, version: FormatVersion) -> Result<Slot, NotMade> {
     match Store::format_version(alloc, ModelDevice::new(alloc, 16)?, version) {
         Ok(store) => Ok(Some(Place::Open(store))),
         Err(_) => Err(NotMade),

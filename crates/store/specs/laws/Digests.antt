@@ -9,7 +9,9 @@ use Rattle.arrow_schema.specs.Column.{PlainSchema}
 use Rattle.cells.specs.Cell.{Cell}
 use Rattle.catalogue.specs.declared.entry.Segment.{Segment}
 use Rattle.store.specs.Held.{is_undamaged, bytes_of, rows_in_bytes, rows_in_segment, segment_rows}
-use Rattle.store.specs.Reading.{IsCopy, HasRead, HaveRead}
+use Rattle.tables.specs.declared.refusal.Refusal.{Refusal}
+use Rattle.tables.specs.declared.refusal.Refusal.TheVariants as refusals
+use Rattle.store.specs.Reading.{IsCopy, LacksBytes, HasRead, HaveRead, LacksRows}
 
 -- ---- bytes of a segment
 
@@ -38,6 +40,11 @@ module _ (schema : PlainSchema) (g : Segment) where
       by_test true same h = (same, h)
       by_test false same h = absurd (cc h)
 
+-- a segment with other bytes has no rows
+pub damaged_lacks : (schema : PlainSchema) (g : Segment) (image : Image) → is_undamaged g.digest (bytes_of g image) ≡ false → segment_rows schema g image ≡ None
+unfolding segment_rows
+damaged_lacks schema g image is = rows_damaged schema g (bytes_of g image) is
+
 -- bytes of a segment that are undamaged have its digest
 pub has_digest : (digest : Option (List ℕ)) (d bytes : List ℕ) → digest ≡ Some d → is_undamaged digest (Some bytes) ≡ true → sha256 bytes ≡ d
 has_digest None d bytes is test = absurd (cc is)
@@ -46,9 +53,12 @@ has_digest (Some x) d bytes is test = let same : x ≡ d = cc is in (bytes_eq-De
 -- ---- what was read
 
 module _ (tells : Bool) (image : Image) (schema : PlainSchema) where
-  pub read_rows : (g : Segment) (rows : List (List Cell)) → HasRead tells image schema g rows → tells ≡ true → segment_rows schema g image ≡ Some rows
+  pub copy_rows : (g : Segment) (bytes : List ℕ) → IsCopy tells image g bytes → tells ≡ true → segment_rows schema g image ≡ rows_in_bytes schema g.rows (Some bytes)
   unfolding segment_rows
-  read_rows g rows r told = ap (rows_in_segment schema g) (r.copy.held told) ∙ rows_undamaged schema g (Some r.bytes) r.copy.undamaged ∙ r.means
+  copy_rows g bytes copy told = ap (rows_in_segment schema g) (copy.held told) ∙ rows_undamaged schema g (Some bytes) copy.undamaged
+
+  pub read_rows : (g : Segment) (rows : List (List Cell)) → HasRead tells image schema g rows → tells ≡ true → segment_rows schema g image ≡ Some rows
+  read_rows g rows r told = copy_rows g r.bytes r.copy told ∙ r.means
 
   -- where the device tells its story, its bytes are undamaged there
   pub copy_undamaged : (g : Segment) (bytes : List ℕ) → IsCopy tells image g bytes → tells ≡ true → is_undamaged g.digest (bytes_of g image) ≡ true
@@ -57,8 +67,23 @@ module _ (tells : Bool) (image : Image) (schema : PlainSchema) where
   -- one segment more
   pub have_more : (segments : List Segment) (g : Segment) (rows own : List (List Cell)) → HaveRead tells image schema segments rows → HasRead tells image schema g own → HaveRead tells image schema (segments ++ g ∷ []) (rows ++ own)
   have_more [] g rows own none r = (own, [], r, refl, ap (λ (xs : List (List Cell)). xs ++ own) none ∙ sym (append-nil own))
-  have_more (x ∷ xs) g rows own (first, others, (read, later, is)) r =
-      (first, others ++ own, (read, have_more xs g others own later r, ap (λ (ys : List (List Cell)). ys ++ own) is ∙ append_assoc first others own))
+  have_more (x ∷ xs) g rows own (first, others, read, later, is) r =
+      (first, others ++ own, read, have_more xs g others own later r, ap (λ (ys : List (List Cell)). ys ++ own) is ∙ append_assoc first others own)
+
+-- bytes that were not read are undamaged, whatever the digest
+undamaged_none : (digest : Option (List ℕ)) → is_undamaged digest None ≡ true
+undamaged_none None = refl
+undamaged_none (Some d) = refl
+
+-- where its bytes are not given, its rows are not
+pub lacks_rows : (tells : Bool) (image : Image) (schema : PlainSchema) (g : Segment) (place : ℕ) (r : Refusal) → LacksBytes tells image g place r → LacksRows tells image schema g place r
+unfolding segment_rows
+lacks_rows tells image schema g place refusals.Device u = tt
+lacks_rows tells image schema g place refusals.OutOfMemory u = tt
+lacks_rows tells image schema g place (refusals.SegmentUnread other) u =
+    (u.0, λ told. (ap (is_undamaged g.digest) (u.1 told) ∙ undamaged_none g.digest, ap (rows_in_segment schema g) (u.1 told) ∙ rows_unread schema g))
+lacks_rows tells image schema g place (refusals.SegmentDamaged other) u = u
+lacks_rows tells image schema g place _ u = absurd u
 
 -- as it was shown at first
 module _ (tells : Bool) (a b : Image) (same : tells ≡ true → b ≡ a) where
@@ -70,4 +95,4 @@ module _ (tells : Bool) (a b : Image) (same : tells ≡ true → b ≡ a) where
 
   pub have_then : (schema : PlainSchema) (segments : List Segment) (rows : List (List Cell)) → HaveRead tells b schema segments rows → HaveRead tells a schema segments rows
   have_then schema [] rows none = none
-  have_then schema (g ∷ gs) rows (own, others, (read, later, is)) = (own, others, (has_then schema g own read, have_then schema gs others later, is))
+  have_then schema (g ∷ gs) rows (own, others, read, later, is) = (own, others, has_then schema g own read, have_then schema gs others later, is)

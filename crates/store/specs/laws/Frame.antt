@@ -10,7 +10,7 @@ use Rattle.segments.specs.declared.run.Run.{Run}
 use Rattle.arrow_schema.specs.Column.{PlainSchema}
 use Rattle.catalogue.specs.declared.entry.Segment.{Segment}
 use Rattle.catalogue.specs.declared.limits.TheConstants.{MAX_SEGMENT_ROWS}
-use Rattle.catalogue.specs.Entries.{PlainEntry, PlainCatalogue, is_between, is_digest, is_segment, is_entry, page_runs, runs_in_segments, runs_in, runs_of}
+use Rattle.catalogue.specs.Entries.{PlainEntry, PlainCatalogue, is_between, is_filled, is_digest, is_segment, is_entry, page_runs, runs_in_segments, runs_in, runs_of}
 use Rattle.catalogue.specs.laws.Kept.{entry_is}
 use Rattle.commit.specs.declared.sector.Commit.{Commit}
 use Rattle.commit.specs.Standing.{rules, standing, InSome}
@@ -30,10 +30,9 @@ in_right (r ∷ rs) ss n some = inr (in_right rs ss n some)
 pub sectors_of : (segment : Segment) → is_segment segment ≡ true → segment.place.run.count ≡ sector_count segment.place.bytes
 sectors_of segment sound =
     let e = segment.place in
-    let rows = is_between 1 MAX_SEGMENT_ROWS segment.rows && is_digest segment.digest in
-    let parts = and_parts (nat_lt e.run.start (2 ^ 64) && nat_lt e.bytes (2 ^ 64)) (nat_le 1 e.bytes && ((e.run.count == sector_count e.bytes) && rows)) sound in
-    let more = and_parts (nat_le 1 e.bytes) ((e.run.count == sector_count e.bytes) && rows) parts.1 in
-    eqb-true e.run.count (sector_count e.bytes) (and_parts (e.run.count == sector_count e.bytes) rows more.1).0
+    let filled = and_parts (is_filled 1 e) (is_between 1 MAX_SEGMENT_ROWS segment.rows && is_digest segment.digest) sound in
+    let some = and_parts (nat_lt e.run.start (2 ^ 64) && nat_lt e.bytes (2 ^ 64)) (nat_le 1 e.bytes && (e.run.count == sector_count e.bytes)) filled.0 in
+    eqb-true e.run.count (sector_count e.bytes) (and_parts (nat_le 1 e.bytes) (e.run.count == sector_count e.bytes) some.1).1
 
 module _ (a b : Image) where
   pub same_segment : (schema : PlainSchema) (segment : Segment) → is_segment segment ≡ true
