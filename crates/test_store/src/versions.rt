@@ -73,7 +73,7 @@ const ROWS: &[Row] = &[
     (
         FormatVersion::One,
         APPENDED_BEHIND,
-        "epoch 5, 361 in 4, t: 3+1 2+1 6+1",
+        "epoch 5, 361 in 6, t: 3+1 2+1 5+1",
     ),
     (FormatVersion::Two, COMPACTED, "epoch 5, 233 in 3, t: 2+1"),
 ];
