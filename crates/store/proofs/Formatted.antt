@@ -117,7 +117,7 @@ some_store size image limits some = by_ruling (ruling image) refl
 module _ (size : ℕ) (version : FormatVersion) (limits : is_size size ≡ true) (spelled : (form : SegmentForm) → catalogue_at form empty_text ≡ Some []) where
   -- the empty store
   pub new_stands : (image : Image) → IsEmptyStore size version image → standing stored_reading size image ≡ rules (first_commit size version) []
-  new_stands image empty = empty_stands stored_reading size image [] limits empty (ap or_no_text (spelled (form_of version))) refl
+  new_stands image empty = empty_stands stored_reading size version image [] limits empty (ap or_no_text (spelled (form_of version))) refl
 
   new_held : (image : Image) → IsEmptyStore size version image → held_by size image ≡ holds no_tables
   unfolding held_by tables_held
