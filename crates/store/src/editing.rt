@@ -217,7 +217,11 @@ fn given_by(
             put_runs(&mut runs, segments_from(entry, *place, *count))?;
         }
         Edit::Digest { digests: _ } => {
-            put_lost(&mut runs, entry.page, page_behind(&entry.segments, entry.page))?;
+            put_lost(
+                &mut runs,
+                entry.page,
+                page_behind(&entry.segments, entry.page),
+            )?;
         }
     }
     Ok(runs)
@@ -229,7 +233,11 @@ fn lost_pages(alloc: Global, entries: &[TableEntry]) -> Result<Vec<Run>, AllocEr
 {
     let mut runs = Vec::new(alloc);
     for entry in entries {
-        put_lost(&mut runs, entry.page, page_behind(&entry.segments, entry.page))?;
+        put_lost(
+            &mut runs,
+            entry.page,
+            page_behind(&entry.segments, entry.page),
+        )?;
     }
     Ok(runs)
 }

@@ -1,4 +1,4 @@
-use Rattle.std.proofs.Common.{◌≡◌, ◌++◌, ◌∙◌, true, ℕ, List, length, map, take, take_all, refl, sym, ap, subst, arith}
+use Rattle.std.proofs.Common.{◌≡◌, ◌++◌, ◌∙◌, true, ℕ, List, Result, Err, length, map, take, take_all, refl, sym, ap, subst, arith}
 use Rattle.std.specs.Prelude.{◌<◌, slice_get, Some}
 use Rattle.sector_dev.specs.Disk.{now, shown_image}
 use Rattle.cells.specs.Cell.{PlainTable}
@@ -7,14 +7,20 @@ use Rattle.catalogue.specs.declared.entry.TableEntry.{TableEntry}
 use Rattle.catalogue.specs.Entries.{PlainEntry, plain_entry, is_entry, runs_in_segments}
 use Rattle.catalogue.specs.laws.Changed.{found_passes}
 use Rattle.commit.specs.Standing.{is_size, all_on_device}
+use Rattle.tables.specs.declared.refusal.Refusal.{Refusal}
+use Rattle.tables.specs.declared.refusal.Refusal.TheVariants as refusals
 use Rattle.store.specs.Calls.{done, refused}
 use Rattle.store.specs.Reading.{IsRead, Unreads}
 use Rattle.store.specs.Upgrading.{segments_of, AreDigests}
-use Rattle.store.proofs.ReadTables.{reads_none, reads_more, image_then, runs_on_device}
+use Rattle.store.proofs.ReadTables.{reads_none, reads_more, reads_ended, image_then, runs_on_device}
 use Rattle.store.proofs.StepParts.{at_name}
 use Rattle.store.proofs.StepFound.{item_at, read_then}
 use Rattle.store.proofs.Digesting.{digests_behind, digests_then, segments_more, tables_more, unreads_then, inside_map}
 use Rattle.store.proofs.upgrading.all_digests.Goals as goal
+
+-- memory was refused
+abbrev no_memory : Result ℕ Refusal
+no_memory = Err refusals.OutOfMemory
 
 pub loop-entry-init : goal.loop-entry-init
 loop-entry-init g c =
@@ -94,3 +100,20 @@ returns-clause-found g c =
     let D = g.D.SectorDevice in
     subst (λ (es : List TableEntry). AreDigests D.tells (shown_image (now (D.story c.args.device.now))) (segments_of (map plain_entry es)) c.loop-entry.digests.items)
     (take_all c.loop-entry.entry-index c.args.entries.now (omega (arith, c.loop-entry-test.false))) c.loop-entry.invariant.own
+
+pub returns-in-Err-extend_from_slice-clause-reads : goal.returns-in-Err-extend_from_slice-clause-reads
+returns-in-Err-extend_from_slice-clause-reads g c =
+    let D = g.D.SectorDevice in
+    reads_ended D.size D.story D.failed D.tells no_memory c.args.device.now c.entry_digests.new.device refl
+    (reads_more D.size D.story D.failed D.tells done c.args.device.now c.loop-entry.device c.entry_digests.new.device c.loop-entry.invariant.reads c.in-Ok.ensures.reads)
+
+pub returns-in-Err-extend_from_slice-clause-stops : goal.returns-in-Err-extend_from_slice-clause-stops
+returns-in-Err-extend_from_slice-clause-stops g c =
+    let item = c.entry-item.result in
+    record {
+      number = c.loop-entry.entry-index;
+      entry = plain_entry item;
+      at = item_at c.args.entries.now c.loop-entry.entry-index item c.loop-entry-test.true c.entry-item.is;
+      before = c.loop-entry.invariant.read;
+      stops = tt;
+    }

@@ -1,6 +1,6 @@
 use Rattle.std.specs.Prelude.{get_or, slice_get}
 use Rattle.std.specs.List.{list_all}
-use Rattle.std.proofs.Common.{◌≡◌, ◌<◌, Bool, true, false, ℕ, List, [], Some, None, inl, inr, length, refl, sym, ap, ◌∙◌, subst, arith, take_all}
+use Rattle.std.proofs.Common.{◌≡◌, ◌<◌, Bool, true, false, ℕ, List, [], Some, None, Result, Err, inl, inr, length, refl, sym, ap, ◌∙◌, subst, arith, take_all}
 use Rattle.std.proofs.lemmas.Bool.{true≢false}
 use Rattle.std.proofs.lemmas.List.{get_or_default}
 use Rattle.std.proofs.lemmas.List.Folds.{list_all_at}
@@ -10,13 +10,19 @@ use Rattle.sector_dev.specs.Disk.{now, shown_image}
 use Rattle.catalogue.specs.declared.entry.Segment.{Segment}
 use Rattle.catalogue.specs.Entries.{is_segment}
 use Rattle.commit.specs.Standing.{is_size, is_on_device}
+use Rattle.tables.specs.declared.refusal.Refusal.{Refusal}
+use Rattle.tables.specs.declared.refusal.Refusal.TheVariants as refusals
 use Rattle.store.specs.Calls.{done, refused}
 use Rattle.store.specs.Upgrading.{AreDigests}
 use Rattle.store.specs.laws.Digests.{copy_then}
-use Rattle.store.proofs.ReadTables.{run_at, reads_more, reads_none, image_then}
+use Rattle.store.proofs.ReadTables.{run_at, reads_more, reads_none, reads_ended, image_then}
 use Rattle.store.proofs.StepFound.{last_then}
 use Rattle.store.proofs.Digesting.{digests_more}
 use Rattle.store.proofs.upgrading.segment_digests.Goals as goal
+
+-- memory was refused
+abbrev no_memory : Result ℕ Refusal
+no_memory = Err refusals.OutOfMemory
 
 abbrev no_segment : Segment
 no_segment = record { place = record { run = record { start = 0; count = 0 }; bytes = 0 }; rows = 0; digest = None }
@@ -94,3 +100,9 @@ returns-clause-found g c =
 
 pub returns-clause-reads : goal.returns-clause-reads
 returns-clause-reads g c = c.loop-place.invariant.reads
+
+pub returns-in-Err-push-clause-reads : goal.returns-in-Err-push-clause-reads
+returns-in-Err-push-clause-reads g c =
+    let D = g.D.SectorDevice in
+    reads_ended D.size D.story D.failed D.tells no_memory c.args.device.now c.read_bytes.new.device refl
+    (reads_more D.size D.story D.failed D.tells done c.args.device.now c.loop-place.device c.read_bytes.new.device c.loop-place.invariant.reads c.in-Ok.ensures.reads)
