@@ -18,6 +18,6 @@ use Rattle.store.specs.Fits.{listed_in}
 use Rattle.store.specs.Upgrading.{IsUpgrade, RefusesUpgrade}
 use Rattle.store.proofs.Asked.{is_running}
 use Rattle.store.proofs.ReadsStore.{fits_reading}
-use Rattle.store.proofs.Applied.{ends_after}
+use Rattle.store.proofs.Applied.{ends_after, kept_after}
 use Rattle.store.proofs.Upgraded.{can_upgrade, upgraded_goes, unmade_goes, off_upgrade_goes, already_goes, stopped_goes}
 use Rattle.store.proofs.store.Store.upgrade.Goals as goal
