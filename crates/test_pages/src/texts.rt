@@ -1,9 +1,6 @@
-// The texts of a list, of a root and of a page, with digests and without (catalogue). The bytes were written by hand after docs/formats/store.md.
+// The texts of a root and of a page (catalogue). The bytes were written by hand after docs/formats/store.md.
 use arrow_schema::{BitWidth, DataType, Schema};
-use catalogue::{
-    Catalogue, DecodeError, RootEntry, Segment, SegmentForm, TableEntry, decode, decode_page,
-    decode_root, encode,
-};
+use catalogue::{DecodeError, RootEntry, Segment, decode_page, decode_root};
 use std::alloc::{AllocError, Global};
 
 /// Four tables in pages of 160 bytes each, in the sectors 2, 4, 5 and 6.
@@ -36,15 +33,6 @@ const PAGE: [u8; 192] = [
     0x20, 0x00, 0x00, 0x00, 0x01, 0x00, 0x00, 0x00, 0x00, 0x00, 0x00, 0x00, 0x01, 0x00, 0x00, 0x00,
     0x03, 0x00, 0x00, 0x00, 0x00, 0x00, 0x00, 0x00, 0x01, 0x00, 0x00, 0x00, 0x00, 0x00, 0x00, 0x00,
     0x48, 0x01, 0x00, 0x00, 0x00, 0x00, 0x00, 0x00, 0x02, 0x00, 0x00, 0x00, 0x00, 0x00, 0x00, 0x00,
-];
-
-/// What a list of the table `t` has before the text of its page: one table, and the name.
-const ONE_NAMED_T: [u8; 9] = [0x01, 0x00, 0x00, 0x00, 0x01, 0x00, 0x00, 0x00, 0x74];
-
-/// What stands as the digest of the segment behind its rows.
-const DIGEST: [u8; 32] = [
-    0x01, 0x02, 0x03, 0x04, 0x05, 0x06, 0x07, 0x08, 0x09, 0x0a, 0x0b, 0x0c, 0x0d, 0x0e, 0x0f, 0x10,
-    0x11, 0x12, 0x13, 0x14, 0x15, 0x16, 0x17, 0x18, 0x19, 0x1a, 0x1b, 0x1c, 0x1d, 0x1e, 0x1f, 0x20,
 ];
 
 /// Where a byte of the page may be another one: whether the column is nullable, its letter, whether its integers are signed,
@@ -92,21 +80,11 @@ fn seen_root(alloc: Global, bytes: &[u8]) -> Result<Seen, NotMade> {
     }
 }
 
-// Whether the segment has the digest that a text of this form says.
-fn has_digest(segment: &Segment, form: SegmentForm) -> bool {
-    match (form, segment.digest) {
-        (SegmentForm::Bare, None) => true,
-        (SegmentForm::Digested, Some(digest)) => digest == DIGEST,
-        _ => false,
-    }
-}
-
-fn is_one_segment(segments: &[Segment], form: SegmentForm) -> bool {
+fn is_one_segment(segments: &[Segment]) -> bool {
     match segments {
         [segment] => {
             let place = segment.place;
-            let numbers = (place.run.start, place.run.count, place.bytes, segment.rows);
-            numbers == (3, 1, 328, 2) && has_digest(segment, form)
+            (place.run.start, place.run.count, place.bytes, segment.rows) == (3, 1, 328, 2)
         }
         _ => false,
     }
@@ -126,21 +104,15 @@ fn is_one_column(schema: &Schema) -> bool {
     }
 }
 
-fn is_one_table(schema: &Schema, segments: &[Segment], form: SegmentForm) -> bool {
-    is_one_column(schema) && is_one_segment(segments, form)
-}
-
-fn seen_formed(alloc: Global, form: SegmentForm, most: u64, bytes: &[u8]) -> Result<Seen, NotMade> {
-    match decode_page(alloc, form, most, bytes) {
-        Ok((schema, segments)) if is_one_table(&schema, &segments, form) => Ok(Seen::Same),
+fn seen_page(alloc: Global, most: u64, bytes: &[u8]) -> Result<Seen, NotMade> {
+    match decode_page(alloc, most, bytes) {
+        Ok((schema, segments)) if is_one_column(&schema) && is_one_segment(&segments) => Ok(
+            Seen::Same,
+        ),
         Ok(_) => Ok(Seen::Other),
         Err(DecodeError::NoText) => Ok(Seen::Refused),
         Err(DecodeError::OutOfMemory) => Err(NotMade),
     }
-}
-
-fn seen_page(alloc: Global, most: u64, bytes: &[u8]) -> Result<Seen, NotMade> {
-    seen_formed(alloc, SegmentForm::Bare, most, bytes)
 }
 
 // The bytes with another one at this place.
@@ -217,100 +189,6 @@ fn no_place(wrong: Result<Option<usize>, NotMade>) -> bool {
 #[test]
 fn a_root_and_a_page_are_read(rt: HostRuntime) {
     assert!(rt; matches!(are_read(rt.alloc()), Ok(true)));
-}
-
-/// A text of the table, with this behind its rows, is read in this form, or refused.
-struct FormCase {
-    digest: &'static [u8],
-    form: SegmentForm,
-    bytes: usize,
-    wanted: Seen,
-}
-
-const FORMS: &[FormCase] = &[
-    FormCase {
-        digest: &[],
-        form: SegmentForm::Bare,
-        bytes: 201,
-        wanted: Seen::Same,
-    },
-    FormCase {
-        digest: &[],
-        form: SegmentForm::Digested,
-        bytes: 201,
-        wanted: Seen::Refused,
-    },
-    FormCase {
-        digest: &DIGEST,
-        form: SegmentForm::Bare,
-        bytes: 233,
-        wanted: Seen::Refused,
-    },
-    FormCase {
-        digest: &DIGEST,
-        form: SegmentForm::Digested,
-        bytes: 233,
-        wanted: Seen::Same,
-    },
-];
-
-fn is_table_t(entries: &[TableEntry], form: SegmentForm) -> bool {
-    match entries {
-        [entry] => {
-            entry.name.as_str() == "t" && is_one_table(&entry.schema, &entry.segments, form)
-        }
-        _ => false,
-    }
-}
-
-// The list, which is written as it was read.
-fn seen_again(
-    alloc: Global,
-    list: &Catalogue,
-    form: SegmentForm,
-    bytes: &[u8],
-) -> Result<Seen, NotMade> {
-    let again = encode(alloc, list)?;
-    if is_table_t(list.entries(), form) && again.as_slice() == bytes {
-        Ok(Seen::Same)
-    } else {
-        Ok(Seen::Other)
-    }
-}
-
-fn seen_list(alloc: Global, form: SegmentForm, bytes: &[u8]) -> Result<Seen, NotMade> {
-    match decode(alloc, form, bytes) {
-        Ok(list) => seen_again(alloc, &list, form, bytes),
-        Err(DecodeError::NoText) => Ok(Seen::Refused),
-        Err(DecodeError::OutOfMemory) => Err(NotMade),
-    }
-}
-
-fn is_as_wanted(alloc: Global, case: &FormCase) -> Result<bool, NotMade> {
-    let mut page = Vec::from_slice(alloc, &PAGE)?;
-    page.extend_from_slice(case.digest)?;
-    let mut list = Vec::from_slice(alloc, &ONE_NAMED_T)?;
-    list.extend_from_slice(&page)?;
-    let seen = (
-        seen_formed(alloc, case.form, 1, &page)?,
-        seen_list(alloc, case.form, &list)?,
-    );
-    Ok(seen == (case.wanted, case.wanted) && list.len() == case.bytes)
-}
-
-// The first text that is not read as it should be.
-fn wrong_form(alloc: Global) -> Result<Option<usize>, NotMade> {
-    for (place, case) in FORMS.iter().enumerate() {
-        if !is_as_wanted(alloc, case)? {
-            return Ok(Some(place));
-        }
-    }
-    Ok(None)
-}
-
-#[test]
-fn texts_are_read_in_the_form_that_they_have(rt: HostRuntime) {
-    assert!(rt; no_place(wrong_form(rt.alloc())));
 }
 
 #[test]

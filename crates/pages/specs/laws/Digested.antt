@@ -7,7 +7,7 @@ use Rattle.segments.specs.declared.extent.Extent.{Extent}
 use Rattle.catalogue.specs.declared.entry.Segment.{Segment}
 use Rattle.catalogue.specs.declared.entry.SegmentForm.{SegmentForm}
 use Rattle.catalogue.specs.declared.entry.SegmentForm.TheVariants.{Digested}
-use Rattle.catalogue.specs.Entries.{PlainEntry, PlainCatalogue}
+use Rattle.catalogue.specs.Entries.{PlainCatalogue}
 use Rattle.catalogue.specs.Edits.{page_behind, with_digests, digested}
 use Rattle.catalogue.specs.Reading.{page_at}
 use Rattle.catalogue.specs.laws.Forms.{body_none}
