@@ -12,6 +12,7 @@ use Rattle.sector_dev.specs.declared.file.TheConstants.{LEAST_SECTORS, MOST_SECT
 use Rattle.commit.specs.Standing.{is_size}
 use Rattle.text_import.specs.declared.part.RefusedPart.{RefusedPart}
 use Rattle.store.specs.declared.store.Store.{Store}
+use Rattle.commit.specs.declared.sector.FormatVersion.TheVariants.{One}
 use Rattle.store.specs.Fits.{device_of, IsNewStore}
 use Rattle.store.specs.Answering.{LeavesUnformatted}
 use Rattle.command_refusals.specs.declared.refusal.Refusal.{Refusal}
@@ -88,11 +89,11 @@ RefusesFormat g sectors refusals.BadSize = ¬ ((LEAST_SECTORS ≤ sectors) × (s
 RefusesFormat g sectors (refusals.Opening r) = (is_size sectors ≡ true) × FailsToFormat g sectors (refusals.Opening r)
 RefusesFormat g sectors _ = ⊥
 
--- an empty store of this number of sectors was made on a device, and `ok` is written
+-- an empty store of this number of sectors was made on a device, in version 1, and `ok` is written
 pub record MakesStore {D : Type 0} (g : Ghosts D) {W : Type 0} (contents : W → Option (List ℕ)) (sectors : ℕ) (output output' : W)
     (result : Result (Unit {0}) Refusal) : Type 0 where
   pub store : Store D g
-  pub made : IsNewStore sectors store
+  pub made : IsNewStore sectors One store
   pub size : g.size (device_of store) ≡ sectors
   pub written : OnOk result (Appends (contents output) (contents output') (codes "ok\n"))
   pub failed : IfErr result (λ refusal. refusal ≡ refusals.Io)
@@ -118,7 +119,7 @@ FailsToOpen {D} g is_opened refusal = IsOfFile refusal ⊎ ((device : D) × is_o
 -- a new store of this number of sectors was made, and the tables of another one were copied into it, which was answered so
 pub record CopiesInto {D : Type 0} (g : Ghosts D) (sectors : ℕ) (from : Store D g) (answer : Result (Unit {0}) tables.Refusal) : Type 0 where
   pub made : Store D g
-  pub new : IsNewStore sectors made
+  pub new : IsNewStore sectors One made
   pub size : g.size (device_of made) ≡ sectors
   pub after_it : Store D g
   pub full : Store D g

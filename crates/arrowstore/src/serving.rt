@@ -1,5 +1,6 @@
 // The commands of a store, on its file.
 ghost use Rattle.std.specs.Prelude.{◌≡◌, ◌≢◌, ◌⊎◌, true, IfOk, IfErr};
+ghost use Rattle.commit.specs.declared.sector.FormatVersion.TheVariants.{One};
 ghost use Rattle.store.specs.Fits.{device_of, IsNewStore};
 ghost use Rattle.store_requests.specs.Asked.{command_word, request_word};
 ghost use Rattle.store_requests.specs.StoreWords.{takes_input_word};
@@ -22,7 +23,7 @@ use text_import::RefusedPart;
 
 // An empty store on a device, or why not, with the device.
 fn format_on<D: SectorDevice + Drop>(alloc: Global, device: D) -> Result<Store<D>, (Refusal, D)>
-    ensures made { IfOk result (IsNewStore (D.size device)) }
+    ensures made { IfOk result (IsNewStore (D.size device) One) }
     ensures size { IfOk result (λ store. D.size (device_of store) ≡ D.size device) }
     ensures refused { IfErr result (λ e. FailsToFormat ⟦<D as SectorDevice>⟧ (D.size device) e.0) }
 {
@@ -63,7 +64,7 @@ pub(crate) fn format_file<
     F: Read + Write + Seek + OpenFile + LockFile + Drop,
     H: Files<File = F> + AllocGlobal,
 >(rt: &H, path: &str, sectors: u64) -> Result<Store<FileDevice<F>>, Refusal>
-    ensures made { IfOk result (IsNewStore sectors) }
+    ensures made { IfOk result (IsNewStore sectors One) }
     ensures size { IfOk result (λ store. ⟦<FileDevice<F> as SectorDevice>⟧.size (device_of store) ≡ sectors) }
     ensures refused { IfErr result (RefusesFormat ⟦<FileDevice<F> as SectorDevice>⟧ sectors) }
 {

@@ -1,8 +1,8 @@
 -- What is written is read again.
-use Rattle.std.proofs.Common.{◌≡◌, ◌≤◌, ◌<◌, ◌+◌, ◌/◌, ◌^◌, ◌&&◌, ltb, leb, eqb, ℕ, zero, suc, true, cond, List, [], ◌∷◌, ◌++◌, length, take, drop, map, Option, Some, None, refl, sym, ap, ◌∙◌, append_assoc, arith}
+use Rattle.std.proofs.Common.{◌≡◌, ◌≤◌, ◌<◌, ◌+◌, ◌/◌, ◌^◌, leb, ℕ, zero, suc, true, cond, List, [], ◌∷◌, ◌++◌, length, take, drop, map, Option, Some, None, refl, sym, ap, ◌∙◌, append_assoc, arith}
 use Rattle.std.specs.List.{list_all, flat_map, AllByRecursion}
 use Rattle.std.specs.Str.{IsUtf8, IsAscii}
-use Rattle.std.proofs.lemmas.Bool.{and_parts, leb-true, le-leb, ltb-true, eqb-true, cond-true}
+use Rattle.std.proofs.lemmas.Bool.{and_parts, leb-true, le-leb, eqb-true, cond-true}
 use Rattle.std.proofs.lemmas.Bool.Decides.{nat_tests}
 use Rattle.std.proofs.lemmas.List.{take_at, drop_at, length-append, append-nil}
 use Rattle.std.proofs.lemmas.List.Sums.{sum_by-cons}
@@ -12,16 +12,18 @@ use Rattle.byteorder.specs.Numbers.{little_number-reads_back, length-bytes_low_f
 use Rattle.ipc_write.specs.Written.{schema_message}
 use Rattle.arrow_schema.specs.Column.{PlainSchema}
 use Rattle.arrow_schema.specs.Limits.{IsWithinLimits}
-use Rattle.segments.specs.Sectors.{sector_count}
 use Rattle.segments.specs.declared.extent.Extent.{Extent}
 use Rattle.catalogue.specs.declared.entry.Segment.{Segment}
+use Rattle.catalogue.specs.declared.entry.SegmentForm.{SegmentForm}
+use Rattle.catalogue.specs.declared.entry.SegmentForm.TheVariants.{Bare, Digested}
 use Rattle.catalogue.specs.declared.limits.TheConstants.{MAX_NAME_BYTES, MAX_SEGMENT_ROWS, MAX_SEGMENTS, MAX_TABLES}
-use Rattle.catalogue.specs.Entries.{PlainEntry, PlainCatalogue, PlainRoot, is_between, is_name_byte, is_name, is_segment, is_filled, is_entry, bare, is_root_entry, segment_count, IsTable, IsRoot, IsCatalogue}
-use Rattle.catalogue.specs.Text.{sized, counted, extent_text, segment_text, table_text, entry_text, list_text, root_entry_text, root_text}
-use Rattle.catalogue.specs.Reading.{◌>>=◌, front_number, sized_at, name_at, many_at, counted_at, extent_in, segment_at, schema_in, body_at, entry_from, entry_at, catalogue_at, page_at, root_entry_at, root_at}
+use Rattle.catalogue.specs.Entries.{PlainEntry, PlainCatalogue, PlainRoot, is_between, is_name_byte, is_name, is_filled, is_digest, is_segment, is_entry, bare, has_digest, has_digests, has_form, is_root_entry, segment_count, IsTable, IsRoot, IsCatalogue}
+use Rattle.catalogue.specs.Text.{sized, counted, extent_text, digest_text, segment_text, table_text, entry_text, list_text, root_entry_text, root_text}
+use Rattle.catalogue.specs.Reading.{◌>>=◌, front_number, sized_at, name_at, many_at, counted_at, extent_in, digest_in, segment_at, schema_in, body_at, entry_from, entry_at, catalogue_at, page_at, root_entry_at, root_at}
 use Rattle.catalogue.specs.inner.Messages.{AllAgain}
-use Rattle.catalogue.specs.laws.Kept.{is_within, entry_is, passes_catalogue}
+use Rattle.catalogue.specs.laws.Kept.{is_within, IsFilled, filled_is, segment_is, entry_is, passes_catalogue}
 use Rattle.catalogue.specs.laws.Bare.{bare_stands}
+use Rattle.catalogue.specs.laws.Forms.{bound_is}
 
 -- ---- numbers and sized bytes
 
@@ -30,10 +32,6 @@ number_again size x rest lt =
     let len = length-bytes_low_first 0 size x in
     let long : leb size (length (little_bytes size x ++ rest)) ≡ true = le-leb _ _ (omega (arith, length-append (little_bytes size x) rest, len)) in
     rw (long, little_number-reads_back size x rest lt, drop_at (little_bytes size x) rest size len) refl
-
--- a step that gives a value, and what follows it
-bound_is : {A B : Type 0} (o : Option A) (x : A) (f : A → Option B) (y : Option B) → o ≡ Some x → f x ≡ y → (o >>= f) ≡ y
-bound_is o x f y h k = ap (λ p. p >>= f) h ∙ k
 
 pub sized_again : (bytes rest : List ℕ) → length bytes < 2 ^ 32 → sized_at (sized bytes ++ rest) ≡ Some (bytes, rest)
 unfolding sized_at
@@ -69,9 +67,11 @@ record Fits (e : Extent) : Type 0 where
   pub count : e.run.count < 256 ^ 8
   pub bytes : e.bytes < 256 ^ 8
 
-fits : (e : Extent) → e.run.start < 2 ^ 64 → e.bytes < 2 ^ 64 → e.run.count ≡ sector_count e.bytes → Fits e
-fits e start bytes is =
-    let count : e.run.count ≡ (e.bytes + 511) / 512 = is in
+fits : (least : ℕ) (e : Extent) → IsFilled least e → Fits e
+fits least e is =
+    let start = is.start in
+    let bytes = is.bytes in
+    let count : e.run.count ≡ (e.bytes + 511) / 512 = is.sectors in
     record { start = omega (arith, start); count = omega (arith, bytes, count); bytes = omega (arith, bytes) }
 
 extent_again : (e : Extent) (rest : List ℕ) → Fits e → extent_in (extent_text e ++ rest) ≡ Some (e, rest)
@@ -89,34 +89,39 @@ extent_again e rest f =
     (bound_is (front_number 8 (c ++ rest)) (e.bytes, rest) (λ size.
     Some (record { run = record { start = e.run.start; count = e.run.count }; bytes = size.0 }, size.1)) (Some (e, rest)) (number_again 8 e.bytes rest f.bytes) refl))
 
--- what the test of a segment tells
-record SegmentFits (s : Segment) : Type 0 where
-  pub place : Fits s.place
-  pub rows : s.rows < 256 ^ 8
+digest_again : (form : SegmentForm) (digest : Option (List ℕ)) (rest : List ℕ) → is_digest digest ≡ true → has_digest form digest ≡ true → digest_in form (digest_text digest ++ rest) ≡ Some (digest, rest)
+unfolding digest_in
+digest_again Bare None rest sized has = refl
+digest_again Bare (Some d) rest sized has = absurd (cc has)
+digest_again Digested None rest sized has = absurd (cc has)
+digest_again Digested (Some d) rest sized has =
+    let len : length d ≡ 32 = eqb-true _ _ sized in
+    let long : leb 32 (length (d ++ rest)) ≡ true = le-leb _ _ (omega (arith, length-append d rest, len)) in
+    rw (long, take_at d rest 32 len, drop_at d rest 32 len) refl
 
-segment_fits : (s : Segment) → is_segment s ≡ true → SegmentFits s
-segment_fits s h =
-    let parts = and_parts (ltb s.place.run.start (2 ^ 64) && ltb s.place.bytes (2 ^ 64)) (leb 1 s.place.bytes && (eqb s.place.run.count (sector_count s.place.bytes) && is_between 1 MAX_SEGMENT_ROWS s.rows)) h in
-    let numbers = and_parts (ltb s.place.run.start (2 ^ 64)) (ltb s.place.bytes (2 ^ 64)) parts.0 in
-    let some = and_parts (leb 1 s.place.bytes) (eqb s.place.run.count (sector_count s.place.bytes) && is_between 1 MAX_SEGMENT_ROWS s.rows) parts.1 in
-    let sectors = and_parts (eqb s.place.run.count (sector_count s.place.bytes)) (is_between 1 MAX_SEGMENT_ROWS s.rows) some.1 in
-    let rows = and_parts (leb 1 s.rows) (leb s.rows MAX_SEGMENT_ROWS) sectors.1 in
-    let most : s.rows ≤ 4096 = leb-true _ _ rows.1 in
-    record { place = fits s.place (ltb-true _ _ numbers.0) (ltb-true _ _ numbers.1) (eqb-true _ _ sectors.0); rows = omega (arith, most) }
-
-segment_again : (s : Segment) (rest : List ℕ) → is_segment s ≡ true → segment_at (segment_text s ++ rest) ≡ Some (s, rest)
+segment_again : (form : SegmentForm) (s : Segment) (rest : List ℕ) → is_segment s ≡ true → has_digest form s.digest ≡ true → segment_at form (segment_text s ++ rest) ≡ Some (s, rest)
 unfolding segment_at
-segment_again s rest h =
-    let f = segment_fits s h in
+segment_again form s rest h has =
+    let is = segment_is s h in
+    let most : s.rows ≤ 4096 = leb-true _ _ (and_parts (leb 1 s.rows) (leb s.rows MAX_SEGMENT_ROWS) is.rows).1 in
     let a = extent_text s.place in
     let b = little_bytes 8 s.rows in
-    let e0 : extent_in (segment_text s ++ rest) ≡ Some (s.place, b ++ rest) = ap extent_in (append_assoc a b rest) ∙ extent_again s.place (b ++ rest) f.place in
-    bound_is (extent_in (segment_text s ++ rest)) (s.place, b ++ rest) (λ place. front_number 8 place.1 >>= λ rows. Some (record { place = place.0; rows = rows.0 }, rows.1)) (Some (s, rest)) e0
-    (bound_is (front_number 8 (b ++ rest)) (s.rows, rest) (λ rows. Some (record { place = s.place; rows = rows.0 }, rows.1)) (Some (s, rest)) (number_again 8 s.rows rest f.rows) refl)
+    let c = digest_text s.digest in
+    let text : (a ++ (b ++ c)) ++ rest ≡ a ++ (b ++ (c ++ rest)) = append_assoc a (b ++ c) rest ∙ ap (λ x. a ++ x) (append_assoc b c rest) in
+    let e0 : extent_in (segment_text s ++ rest) ≡ Some (s.place, b ++ (c ++ rest)) = ap extent_in text ∙ extent_again s.place (b ++ (c ++ rest)) (fits 1 s.place is.place) in
+    bound_is (extent_in (segment_text s ++ rest)) (s.place, b ++ (c ++ rest)) (λ place. front_number 8 place.1 >>= λ rows. digest_in form rows.1 >>= λ digest.
+    Some (record { place = place.0; rows = rows.0; digest = digest.0 }, digest.1)) (Some (s, rest)) e0
+    (bound_is (front_number 8 (b ++ (c ++ rest))) (s.rows, c ++ rest) (λ rows. digest_in form rows.1 >>= λ digest.
+    Some (record { place = s.place; rows = rows.0; digest = digest.0 }, digest.1)) (Some (s, rest)) (number_again 8 s.rows (c ++ rest) (omega (arith, most)))
+    (bound_is (digest_in form (c ++ rest)) (s.digest, rest) (λ digest.
+    Some (record { place = s.place; rows = s.rows; digest = digest.0 }, digest.1)) (Some (s, rest)) (digest_again form s.digest rest is.digest has) refl))
 
-segments_again : (ss : List Segment) → list_all is_segment ss ≡ true → AllByRecursion (ReadAgain segment_at segment_text) ss
-segments_again [] all = tt
-segments_again (s ∷ ss) all = let parts = and_parts (is_segment s) (list_all is_segment ss) all in ((λ rest. segment_again s rest parts.0), segments_again ss parts.1)
+segments_again : (form : SegmentForm) (ss : List Segment) → list_all is_segment ss ≡ true → has_digests form ss ≡ true → AllByRecursion (ReadAgain (segment_at form) segment_text) ss
+segments_again form [] all has = tt
+segments_again form (s ∷ ss) all has =
+    let parts = and_parts (is_segment s) (list_all is_segment ss) all in
+    let own = and_parts (has_digest form s.digest) (has_digests form ss) has in
+    ((λ rest. segment_again form s rest parts.0 own.0), segments_again form ss parts.1 own.1)
 
 -- ---- names
 
@@ -143,22 +148,23 @@ name_again name rest is = rw (sized_again name rest (name_short name is), is) re
 
 -- ---- a table without its name
 
-body_again : AllAgain → (e : PlainEntry) (rest : List ℕ) → IsWithinLimits e.schema → length e.segments ≤ MAX_SEGMENTS → list_all is_segment e.segments ≡ true → body_at (table_text e ++ rest) ≡ Some ((e.schema, e.segments), rest)
+body_again : AllAgain → (form : SegmentForm) (e : PlainEntry) (rest : List ℕ) → IsWithinLimits e.schema → length e.segments ≤ MAX_SEGMENTS → list_all is_segment e.segments ≡ true → has_digests form e.segments ≡ true
+    → body_at form (table_text e ++ rest) ≡ Some ((e.schema, e.segments), rest)
 unfolding body_at table_text
-body_again schemas e rest within few sound =
+body_again schemas form e rest within few sound has =
     let message = schemas e.schema within in
     let text = schema_message e.schema in
     let after = counted segment_text e.segments ++ rest in
     let e0 : sized_at ((sized text ++ counted segment_text e.segments) ++ rest) ≡ Some (text, after) = ap sized_at (append_assoc (sized text) (counted segment_text e.segments) rest) ∙ sized_again text after message.short in
-    let e2 = counted_again segment_at segment_text e.segments rest (omega (arith, few)) (segments_again e.segments sound) in
-    bound_is (sized_at ((sized text ++ counted segment_text e.segments) ++ rest)) (text, after) (λ text. schema_in text.0 >>= λ schema. counted_at segment_at text.1 >>= λ segments. Some ((schema, segments.0), segments.1)) (Some ((e.schema, e.segments), rest)) e0
-    (bound_is (schema_in text) e.schema (λ schema. counted_at segment_at after >>= λ segments. Some ((schema, segments.0), segments.1)) (Some ((e.schema, e.segments), rest)) message.read
-    (bound_is (counted_at segment_at after) (e.segments, rest) (λ segments. Some ((e.schema, segments.0), segments.1)) (Some ((e.schema, e.segments), rest)) e2 refl))
+    let e2 = counted_again (segment_at form) segment_text e.segments rest (omega (arith, few)) (segments_again form e.segments sound has) in
+    bound_is (sized_at ((sized text ++ counted segment_text e.segments) ++ rest)) (text, after) (λ text. schema_in text.0 >>= λ schema. counted_at (segment_at form) text.1 >>= λ segments. Some ((schema, segments.0), segments.1)) (Some ((e.schema, e.segments), rest)) e0
+    (bound_is (schema_in text) e.schema (λ schema. counted_at (segment_at form) after >>= λ segments. Some ((schema, segments.0), segments.1)) (Some ((e.schema, e.segments), rest)) message.read
+    (bound_is (counted_at (segment_at form) after) (e.segments, rest) (λ segments. Some ((e.schema, segments.0), segments.1)) (Some ((e.schema, e.segments), rest)) e2 refl))
 
-pub page_again : AllAgain → (most : ℕ) (e : PlainEntry) → IsTable e → length e.segments ≤ most → page_at most (table_text e) ≡ Some (e.schema, e.segments)
+pub page_again : AllAgain → (form : SegmentForm) (most : ℕ) (e : PlainEntry) → IsTable e → has_digests form e.segments ≡ true → length e.segments ≤ most → page_at form most (table_text e) ≡ Some (e.schema, e.segments)
 unfolding page_at
-page_again schemas most e is few =
-    let body : body_at (table_text e) ≡ Some ((e.schema, e.segments), []) = ap body_at (sym (append-nil (table_text e))) ∙ body_again schemas e [] (is_within e.schema is.schema) is.few is.segments in
+page_again schemas form most e is has few =
+    let body : body_at form (table_text e) ≡ Some ((e.schema, e.segments), []) = ap (body_at form) (sym (append-nil (table_text e))) ∙ body_again schemas form e [] (is_within e.schema is.schema) is.few is.segments has in
     rw (body, is.schema, is.segments, le-leb (length e.segments) most few) refl
 
 abbrev Body : Type 0
@@ -171,49 +177,52 @@ same_body a b h = ap (λ (o : Option (Body × List ℕ)). front o) h
     front None = a.0
     front (Some p) = p.0
 
-pub pages_apart : AllAgain → (e f : PlainEntry) (x y : List ℕ) → IsTable e → IsTable f → table_text e ++ x ≡ table_text f ++ y → (e.schema ≡ f.schema) × (e.segments ≡ f.segments)
-pages_apart schemas e f x y h k same =
+pub pages_apart : AllAgain → (form : SegmentForm) (e f : PlainEntry) (x y : List ℕ) → IsTable e → IsTable f → has_digests form e.segments ≡ true → has_digests form f.segments ≡ true → table_text e ++ x ≡ table_text f ++ y
+    → (e.schema ≡ f.schema) × (e.segments ≡ f.segments)
+pages_apart schemas form e f x y h k one_has other_has same =
     let one : Body = (e.schema, e.segments) in
     let other : Body = (f.schema, f.segments) in
     let both : one ≡ other =
     same_body (one, x) (other, y)
-    (sym (body_again schemas e x (is_within e.schema h.schema) h.few h.segments) ∙ ap body_at same ∙ body_again schemas f y (is_within f.schema k.schema) k.few k.segments) in
+    (sym (body_again schemas form e x (is_within e.schema h.schema) h.few h.segments one_has) ∙ ap (body_at form) same ∙ body_again schemas form f y (is_within f.schema k.schema) k.few k.segments other_has) in
     (ap (λ (b : Body). b.0) both, ap (λ (b : Body). b.1) both)
 
 -- ---- entries
 
 -- its text says nothing of its page
-entry_again : AllAgain → (e : PlainEntry) → is_entry e ≡ true → length e.segments ≤ MAX_SEGMENTS → (rest : List ℕ) → entry_at (entry_text e ++ rest) ≡ Some (bare e, rest)
+entry_again : AllAgain → (form : SegmentForm) (e : PlainEntry) → is_entry e ≡ true → has_digests form e.segments ≡ true → length e.segments ≤ MAX_SEGMENTS → (rest : List ℕ) → entry_at form (entry_text e ++ rest) ≡ Some (bare e, rest)
 unfolding entry_at
-entry_again schemas e h few rest =
+entry_again schemas form e h has few rest =
     let known = entry_is e h in
     let after = table_text e ++ rest in
     let e0 : name_at (entry_text e ++ rest) ≡ Some (e.name, after) = ap name_at (append_assoc (sized e.name) (table_text e) rest) ∙ name_again e.name after known.name in
-    bound_is (name_at (entry_text e ++ rest)) (e.name, after) (λ name. body_at name.1 >>= λ body. Some (entry_from name.0 None body.0, body.1)) (Some (bare e, rest)) e0
-    (bound_is (body_at after) ((e.schema, e.segments), rest) (λ body. Some (entry_from e.name None body.0, body.1)) (Some (bare e, rest)) (body_again schemas e rest known.schema few known.segments) refl)
+    bound_is (name_at (entry_text e ++ rest)) (e.name, after) (λ name. body_at form name.1 >>= λ body. Some (entry_from name.0 None body.0, body.1)) (Some (bare e, rest)) e0
+    (bound_is (body_at form after) ((e.schema, e.segments), rest) (λ body. Some (entry_from e.name None body.0, body.1)) (Some (bare e, rest)) (body_again schemas form e rest known.schema few known.segments has) refl)
 
-entries_again : AllAgain → (c : PlainCatalogue) (rest : List ℕ) → list_all is_entry c ≡ true → segment_count c ≤ MAX_SEGMENTS → many_at entry_at (length c) (flat_map entry_text c ++ rest) ≡ Some (map bare c, rest)
+entries_again : AllAgain → (form : SegmentForm) (c : PlainCatalogue) (rest : List ℕ) → list_all is_entry c ≡ true → has_form form c ≡ true → segment_count c ≤ MAX_SEGMENTS
+    → many_at (entry_at form) (length c) (flat_map entry_text c ++ rest) ≡ Some (map bare c, rest)
 unfolding many_at
-entries_again schemas [] rest all few = refl
-entries_again schemas (e ∷ es) rest all few =
+entries_again schemas form [] rest all has few = refl
+entries_again schemas form (e ∷ es) rest all has few =
     let parts = and_parts (is_entry e) (list_all is_entry es) all in
+    let own = and_parts (has_digests form e.segments) (has_form form es) has in
     let count = sum_by-cons (λ (x : PlainEntry). length x.segments) e es in
-    let first = entry_again schemas e parts.0 (omega (arith, few, count)) (flat_map entry_text es ++ rest) in
-    let others = entries_again schemas es rest parts.1 (omega (arith, few, count)) in
+    let first = entry_again schemas form e parts.0 own.0 (omega (arith, few, count)) (flat_map entry_text es ++ rest) in
+    let others = entries_again schemas form es rest parts.1 own.1 (omega (arith, few, count)) in
     rw (append_assoc (entry_text e) (flat_map entry_text es) rest, first, others) refl
 
 -- ---- catalogues
 
 -- the entries of a text, and what follows it
-pub front_again : AllAgain → (c : PlainCatalogue) (rest : List ℕ) → IsCatalogue c → counted_at entry_at (list_text c ++ rest) ≡ Some (map bare c, rest)
-front_again schemas c rest k =
+pub front_again : AllAgain → (form : SegmentForm) (c : PlainCatalogue) (rest : List ℕ) → IsCatalogue c → has_form form c ≡ true → counted_at (entry_at form) (list_text c ++ rest) ≡ Some (map bare c, rest)
+front_again schemas form c rest k has =
     let few : length c < 2 ^ 32 = let t = k.tables in omega (arith, t) in
-    rw (append_assoc (little_bytes 4 (length c)) (flat_map entry_text c) rest, number_again 4 (length c) (flat_map entry_text c ++ rest) (omega (arith, few))) (entries_again schemas c rest k.entries k.segments)
+    rw (append_assoc (little_bytes 4 (length c)) (flat_map entry_text c) rest, number_again 4 (length c) (flat_map entry_text c ++ rest) (omega (arith, few))) (entries_again schemas form c rest k.entries has k.segments)
 
-pub catalogue_again : AllAgain → (c : PlainCatalogue) → IsCatalogue c → catalogue_at (list_text c) ≡ Some (map bare c)
+pub catalogue_again : AllAgain → (form : SegmentForm) (c : PlainCatalogue) → IsCatalogue c → has_form form c ≡ true → catalogue_at form (list_text c) ≡ Some (map bare c)
 unfolding catalogue_at
-catalogue_again schemas c k =
-    let alone : counted_at entry_at (list_text c) ≡ Some (map bare c, []) = ap (counted_at entry_at) (sym (append-nil (list_text c))) ∙ front_again schemas c [] k in
+catalogue_again schemas form c k has =
+    let alone : counted_at (entry_at form) (list_text c) ≡ Some (map bare c, []) = ap (counted_at (entry_at form)) (sym (append-nil (list_text c))) ∙ front_again schemas form c [] k has in
     rw (alone, bare_stands c (passes_catalogue c k)) refl
 
 same_front : (a b : PlainCatalogue × List ℕ) → Some a ≡ Some b → a.0 ≡ b.0
@@ -223,8 +232,9 @@ same_front a b h = ap (λ (o : Option (PlainCatalogue × List ℕ)). front o) h
     front None = []
     front (Some p) = p.0
 
-pub texts_apart : AllAgain → (c d : PlainCatalogue) (x y : List ℕ) → IsCatalogue c → IsCatalogue d → list_text c ++ x ≡ list_text d ++ y → map bare c ≡ map bare d
-texts_apart schemas c d x y k l same = same_front (map bare c, x) (map bare d, y) (sym (front_again schemas c x k) ∙ ap (counted_at entry_at) same ∙ front_again schemas d y l)
+pub texts_apart : AllAgain → (form : SegmentForm) (c d : PlainCatalogue) (x y : List ℕ) → IsCatalogue c → IsCatalogue d → has_form form c ≡ true → has_form form d ≡ true → list_text c ++ x ≡ list_text d ++ y → map bare c ≡ map bare d
+texts_apart schemas form c d x y k l one_has other_has same =
+    same_front (map bare c, x) (map bare d, y) (sym (front_again schemas form c x k one_has) ∙ ap (counted_at (entry_at form)) same ∙ front_again schemas form d y l other_has)
 
 -- ---- roots
 
@@ -232,10 +242,7 @@ root_entry_again : (r : PlainRoot) (rest : List ℕ) → is_root_entry r ≡ tru
 unfolding root_entry_at
 root_entry_again r rest h =
     let parts = and_parts (is_name r.name) (is_filled 8 r.page) h in
-    let filled = and_parts (ltb r.page.run.start (2 ^ 64) && ltb r.page.bytes (2 ^ 64)) (leb 8 r.page.bytes && eqb r.page.run.count (sector_count r.page.bytes)) parts.1 in
-    let numbers = and_parts (ltb r.page.run.start (2 ^ 64)) (ltb r.page.bytes (2 ^ 64)) filled.0 in
-    let own = and_parts (leb 8 r.page.bytes) (eqb r.page.run.count (sector_count r.page.bytes)) filled.1 in
-    let f = fits r.page (ltb-true _ _ numbers.0) (ltb-true _ _ numbers.1) (eqb-true _ _ own.1) in
+    let f = fits 8 r.page (filled_is 8 r.page parts.1) in
     let after = extent_text r.page ++ rest in
     let front : name_at (root_entry_text r ++ rest) ≡ Some (r.name, after) = ap name_at (append_assoc (sized r.name) (extent_text r.page) rest) ∙ name_again r.name after parts.0 in
     bound_is (name_at (root_entry_text r ++ rest)) (r.name, after) (λ name. extent_in name.1 >>= λ page. Some (record { name = name.0; page = page.0 }, page.1)) (Some (r, rest)) front

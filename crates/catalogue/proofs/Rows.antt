@@ -1,25 +1,21 @@
 -- Rows, segments and runs of entries that are gone over one after another.
-use Rattle.std.proofs.Common.{◌≡◌, ◌≤◌, ◌<◌, ◌+◌, ◌*◌, ◌^◌, ◌&&◌, ◌++◌, ltb, leb, eqb, ℕ, zero, suc, true, List, [], ◌∷◌, length, get_or, take, map, append-nil, append_assoc, sym, ap, subst, ◌∙◌, arith}
+use Rattle.std.proofs.Common.{◌≡◌, ◌≤◌, ◌<◌, ◌+◌, ◌*◌, ◌^◌, ◌++◌, leb, ℕ, zero, suc, true, List, [], ◌∷◌, length, get_or, take, map, append-nil, append_assoc, sym, ap, subst, ◌∙◌, arith}
 use Rattle.std.specs.List.{list_all, sum_by}
 use Rattle.std.proofs.lemmas.Bool.{and_parts, leb-true}
 use Rattle.std.proofs.lemmas.List.{length-map, map-append, take-map, take_more}
 use Rattle.std.proofs.lemmas.Grind.{flat_map-append}
 use Rattle.std.proofs.lemmas.List.Sums.{sum_by-cons, sum_by_more_le}
 use Rattle.facts.specs.laws.Lists.{take-item}
-use Rattle.segments.specs.Sectors.{sector_count}
 use Rattle.catalogue.specs.declared.entry.Segment.{Segment}
 use Rattle.catalogue.specs.declared.entry.TableEntry.{TableEntry}
 use Rattle.catalogue.specs.declared.limits.TheConstants.{MAX_SEGMENT_ROWS}
-use Rattle.catalogue.specs.Entries.{PlainEntry, PlainCatalogue, plain_entry, is_between, is_segment, is_entry, row_count, runs_in, runs_of, segment_count, is_catalogue}
-use Rattle.catalogue.specs.laws.Kept.{entry_is, catalogue_is}
+use Rattle.catalogue.specs.Entries.{PlainEntry, PlainCatalogue, plain_entry, is_segment, is_entry, row_count, runs_in, runs_of, segment_count, is_catalogue}
+use Rattle.catalogue.specs.laws.Kept.{segment_is, entry_is, catalogue_is}
 use Rattle.catalogue.proofs.Standing.{map_at}
 
 few_rows : (s : Segment) → is_segment s ≡ true → s.rows ≤ 4096
 few_rows s h =
-    let parts = and_parts (ltb s.place.run.start (2 ^ 64) && ltb s.place.bytes (2 ^ 64)) (leb 1 s.place.bytes && (eqb s.place.run.count (sector_count s.place.bytes) && is_between 1 MAX_SEGMENT_ROWS s.rows)) h in
-    let some = and_parts (leb 1 s.place.bytes) (eqb s.place.run.count (sector_count s.place.bytes) && is_between 1 MAX_SEGMENT_ROWS s.rows) parts.1 in
-    let sectors = and_parts (eqb s.place.run.count (sector_count s.place.bytes)) (is_between 1 MAX_SEGMENT_ROWS s.rows) some.1 in
-    leb-true _ _ (and_parts (leb 1 s.rows) (leb s.rows MAX_SEGMENT_ROWS) sectors.1).1
+    leb-true _ _ (and_parts (leb 1 s.rows) (leb s.rows MAX_SEGMENT_ROWS) (segment_is s h).rows).1
 
 pub rows_le : (ss : List Segment) → list_all is_segment ss ≡ true → sum_by (λ (s : Segment). s.rows) ss ≤ 4096 * length ss
 rows_le [] all = omega arith

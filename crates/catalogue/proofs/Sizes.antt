@@ -1,5 +1,5 @@
 -- How many bytes a text has, and what the limits say of rows and runs.
-use Rattle.std.proofs.Common.{◌≡◌, ◌≤◌, ◌<◌, ◌+◌, ◌*◌, ℕ, zero, suc, true, List, [], ◌∷◌, ◌++◌, length, get_or, map, refl, sym, ap, subst, ◌∙◌, arith}
+use Rattle.std.proofs.Common.{◌≡◌, ◌≤◌, ◌<◌, ◌+◌, ℕ, zero, suc, true, List, [], ◌∷◌, ◌++◌, length, get_or, map, refl, sym, ap, subst, ◌∙◌, arith}
 use Rattle.std.specs.List.{flat_map, sum_by, Contains}
 use Rattle.std.proofs.lemmas.List.{length-append, length-map}
 use Rattle.std.proofs.lemmas.List.Elements.{Contains-append_left, Contains-append_right}
@@ -11,7 +11,7 @@ use Rattle.segments.specs.declared.run.Run.{Run}
 use Rattle.catalogue.specs.declared.entry.Segment.{Segment}
 use Rattle.segments.specs.declared.extent.Extent.{Extent}
 use Rattle.catalogue.specs.Entries.{PlainEntry, PlainCatalogue, PlainRoot, is_entry, row_count, page_runs, runs_in_segments, runs_in, runs_of, segment_count, IsCatalogue}
-use Rattle.catalogue.specs.Text.{sized, counted, extent_text, segment_text, table_text, table_size, entry_text, entry_size, list_text, list_size, root_entry_text, root_text, root_size}
+use Rattle.catalogue.specs.Text.{sized, counted, extent_text, digest_text, segment_text, segment_size, table_text, table_size, entry_text, entry_size, list_text, list_size, root_entry_text, root_text, root_size}
 use Rattle.catalogue.specs.laws.Kept.{entry_is}
 use Rattle.catalogue.proofs.Standing.{map_at}
 use Rattle.catalogue.proofs.Rows.{rows_le, passes_at}
@@ -23,12 +23,14 @@ extent_size e =
     let c = little_bytes 8 e.bytes in
     omega (arith, length-append a (b ++ c), length-append b c, length-bytes_low_first 0 8 e.run.start, length-bytes_low_first 0 8 e.run.count, length-bytes_low_first 0 8 e.bytes)
 
-segment_size : (s : Segment) → length (segment_text s) ≡ 32
-segment_size s = omega (arith, length-append (extent_text s.place) (little_bytes 8 s.rows), extent_size s.place, length-bytes_low_first 0 8 s.rows)
+segment_has_size : (s : Segment) → length (segment_text s) ≡ segment_size s
+segment_has_size s =
+    let rows = little_bytes 8 s.rows in
+    omega (arith, length-append (extent_text s.place) (rows ++ digest_text s.digest), length-append rows (digest_text s.digest), extent_size s.place, length-bytes_low_first 0 8 s.rows)
 
-segments_size : (ss : List Segment) → length (flat_map segment_text ss) ≡ 32 * length ss
-segments_size [] = omega arith
-segments_size (s ∷ ss) = omega (arith, length-append (segment_text s) (flat_map segment_text ss), segment_size s, segments_size ss)
+segments_size : (ss : List Segment) → length (flat_map segment_text ss) ≡ sum_by segment_size ss
+segments_size [] = refl
+segments_size (s ∷ ss) = omega (arith, length-append (segment_text s) (flat_map segment_text ss), segment_has_size s, segments_size ss, sum_by-cons segment_size s ss)
 
 sized_size : (bytes : List ℕ) → length (sized bytes) ≡ 4 + length bytes
 sized_size bytes = omega (arith, length-append (little_bytes 4 (length bytes)) bytes, length-bytes_low_first 0 4 (length bytes))

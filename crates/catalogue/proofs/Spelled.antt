@@ -18,13 +18,16 @@ use Rattle.ipc_message.specs.Header.{supported_codes}
 use Rattle.ipc_message.specs.Checks.{checked_schema}
 use Rattle.ipc_write.specs.Written.{schema_message}
 use Rattle.catalogue.specs.declared.entry.Segment.{Segment}
+use Rattle.catalogue.specs.declared.entry.SegmentForm.{SegmentForm}
+use Rattle.catalogue.specs.declared.entry.SegmentForm.TheVariants.{Bare, Digested}
 use Rattle.segments.specs.declared.extent.Extent.{Extent}
 use Rattle.catalogue.specs.declared.limits.TheConstants.{MAX_TABLES}
 use Rattle.catalogue.specs.Schemas.{is_within_limits}
-use Rattle.catalogue.specs.Entries.{PlainEntry, PlainCatalogue, PlainRoot, bare, is_name, is_segment, ascends, root_names, IsCatalogue, is_catalogue}
-use Rattle.catalogue.specs.Text.{sized, counted, extent_text, segment_text, table_text, entry_text, list_text, root_entry_text, root_text}
-use Rattle.catalogue.specs.Reading.{◌>>=◌, front_number, sized_at, name_at, many_at, counted_at, extent_in, segment_at, raw_schema_in, schema_in, unfaulted, body_at, entry_from, entry_at, catalogue_at, page_at, root_entry_at, root_at}
+use Rattle.catalogue.specs.Entries.{PlainEntry, PlainCatalogue, PlainRoot, bare, is_name, is_segment, ascends, root_names, IsCatalogue, is_catalogue, has_digest, has_digests, has_form}
+use Rattle.catalogue.specs.Text.{sized, counted, extent_text, digest_text, segment_text, table_text, entry_text, list_text, root_entry_text, root_text}
+use Rattle.catalogue.specs.Reading.{◌>>=◌, front_number, sized_at, name_at, many_at, counted_at, extent_in, bytes_in, digest_in, segment_at, raw_schema_in, schema_in, unfaulted, body_at, entry_from, entry_at, catalogue_at, page_at, root_entry_at, root_at}
 use Rattle.catalogue.specs.laws.Kept.{catalogue_is}
+use Rattle.catalogue.specs.laws.Forms.{bound}
 
 -- ---- numbers
 
@@ -60,11 +63,6 @@ pub record Takes (bytes text rest : List ℕ) : Type 0 where
 
 then_takes : (a x b y c : List ℕ) → Takes a x b → Takes b y c → Takes a (x ++ y) c
 then_takes a x b y c p q = record { parts = p.parts ∙ ap (λ t. x ++ t) q.parts ∙ sym (append_assoc x y c); small = q.small }
-
--- the value of a step that was made
-pub bound : {A B : Type 0} (o : Option A) (f : A → Option B) (y : B) → (o >>= f) ≡ Some y → (x : A) × (o ≡ Some x) × (f x ≡ Some y)
-bound (Some x) f y e = (x, refl, e)
-bound None f y e = absurd cc
 
 number_takes : (size : ℕ) (bytes : List ℕ) (r : ℕ × List ℕ) → AreBytes bytes → front_number size bytes ≡ Some r → Takes bytes (little_bytes size r.0) r.1
 number_takes size bytes r small e =
@@ -122,6 +120,24 @@ counted_takes one_at text one bytes r small e =
     let q = many_takes one_at text one a.0.0 a.0.1 r p.small a.2 in
     subst (λ k. Takes bytes (little_bytes 4 k ++ flat_map text r.0) r.1) (sym q.1) (then_takes bytes (little_bytes 4 a.0.0) a.0.1 (flat_map text r.0) r.1 p q.0)
 
+-- each part that is read passes a test
+abbrev PassesOne : {A : Type 0} → (List ℕ → Option (A × List ℕ)) → (A → Bool) → Type 0
+PassesOne {A = A} one_at p = (bytes : List ℕ) (r : A × List ℕ) → one_at bytes ≡ Some r → p r.0 ≡ true
+
+many_pass : {A : Type 0} (one_at : List ℕ → Option (A × List ℕ)) (p : A → Bool) → PassesOne one_at p → (count : ℕ) (bytes : List ℕ) (r : List A × List ℕ) → many_at one_at count bytes ≡ Some r → list_all p r.0 ≡ true
+unfolding many_at
+many_pass {A = A} one_at p one zero bytes r e = ap (λ (x : List A × List ℕ). list_all p x.0) (sym (some_is ([], bytes) r e))
+  where
+    some_is : (x y : List A × List ℕ) → Some x ≡ Some y → x ≡ y
+    some_is x y h = cc
+many_pass {A = A} one_at p one (suc count) bytes r e =
+    let a = bound (one_at bytes) (λ first. many_at one_at count first.1 >>= λ others. Some (first.0 ∷ others.0, others.1)) r e in
+    let b = bound (many_at one_at count a.0.1) (λ others. Some (a.0.0 ∷ others.0, others.1)) r a.2 in
+    ap (λ (x : List A × List ℕ). list_all p x.0) (sym (some_is (a.0.0 ∷ b.0.0, b.0.1) r b.2)) ∙ and_from (p a.0.0) (list_all p b.0.0) (one bytes a.0 a.1) (many_pass one_at p one count a.0.1 b.0 b.1)
+  where
+    some_is : (x y : List A × List ℕ) → Some x ≡ Some y → x ≡ y
+    some_is x y h = cc
+
 extent_takes : TakesOne extent_in extent_text
 unfolding extent_in
 extent_takes bytes r small e =
@@ -140,15 +156,59 @@ extent_takes bytes r small e =
     some_is : (x y : Extent × List ℕ) → Some x ≡ Some y → x ≡ y
     some_is x y h = cc
 
-segment_takes : TakesOne segment_at segment_text
+digest_takes : (form : SegmentForm) → TakesOne (digest_in form) digest_text
+unfolding digest_in
+digest_takes Bare bytes r small e =
+    subst (λ (x : Option (List ℕ) × List ℕ). Takes bytes (digest_text x.0) x.1) (some_is (None, bytes) r e) (record { parts = refl; small = small })
+  where
+    some_is : (x y : Option (List ℕ) × List ℕ) → Some x ≡ Some y → x ≡ y
+    some_is x y h = cc
+digest_takes Digested bytes r small e =
+    let a = bound (bytes_in 32 bytes) (λ digest. Some (Some digest.0, digest.1)) r e in
+    let t = cond_some (leb 32 (length bytes)) (take 32 bytes, drop 32 bytes) a.0 a.1 in
+    let front : Takes bytes (take 32 bytes) (drop 32 bytes) = record { parts = sym (take-append-drop 32 bytes); small = drop-bytes 32 bytes small } in
+    subst (λ (x : Option (List ℕ) × List ℕ). Takes bytes (digest_text x.0) x.1) (some_is (Some a.0.0, a.0.1) r a.2)
+    (subst (λ (x : List ℕ × List ℕ). Takes bytes x.0 x.1) t.1 front)
+  where
+    some_is : (x y : Option (List ℕ) × List ℕ) → Some x ≡ Some y → x ≡ y
+    some_is x y h = cc
+
+segment_takes : (form : SegmentForm) → TakesOne (segment_at form) segment_text
 unfolding segment_at
-segment_takes bytes r small e =
-    let a = bound (extent_in bytes) (λ place. front_number 8 place.1 >>= λ rows. Some (record { place = place.0; rows = rows.0 }, rows.1)) r e in
-    let b = bound (front_number 8 a.0.1) (λ rows. Some (record { place = a.0.0; rows = rows.0 }, rows.1)) r a.2 in
+segment_takes form bytes r small e =
+    let a = bound (extent_in bytes) (λ place. front_number 8 place.1 >>= λ rows. digest_in form rows.1 >>= λ digest. Some (record { place = place.0; rows = rows.0; digest = digest.0 }, digest.1)) r e in
+    let b = bound (front_number 8 a.0.1) (λ rows. digest_in form rows.1 >>= λ digest. Some (record { place = a.0.0; rows = rows.0; digest = digest.0 }, digest.1)) r a.2 in
+    let c = bound (digest_in form b.0.1) (λ digest. Some (record { place = a.0.0; rows = b.0.0; digest = digest.0 }, digest.1)) r b.2 in
     let p = extent_takes bytes a.0 small a.1 in
     let q = number_takes 8 a.0.1 b.0 p.small b.1 in
-    let all = then_takes bytes (extent_text a.0.0) a.0.1 (little_bytes 8 b.0.0) b.0.1 p q in
-    subst (λ (x : Segment × List ℕ). Takes bytes (segment_text x.0) x.1) (some_is (record { place = a.0.0; rows = b.0.0 }, b.0.1) r b.2) all
+    let s = digest_takes form b.0.1 c.0 q.small c.1 in
+    let qs = then_takes a.0.1 (little_bytes 8 b.0.0) b.0.1 (digest_text c.0.0) c.0.1 q s in
+    let all = then_takes bytes (extent_text a.0.0) a.0.1 (little_bytes 8 b.0.0 ++ digest_text c.0.0) c.0.1 p qs in
+    subst (λ (x : Segment × List ℕ). Takes bytes (segment_text x.0) x.1) (some_is (record { place = a.0.0; rows = b.0.0; digest = c.0.0 }, c.0.1) r c.2) all
+  where
+    some_is : (x y : Segment × List ℕ) → Some x ≡ Some y → x ≡ y
+    some_is x y h = cc
+
+digest_formed : (form : SegmentForm) → PassesOne (digest_in form) (has_digest form)
+unfolding digest_in
+digest_formed Bare bytes r e = ap (λ (x : Option (List ℕ) × List ℕ). has_digest Bare x.0) (sym (some_is (None, bytes) r e))
+  where
+    some_is : (x y : Option (List ℕ) × List ℕ) → Some x ≡ Some y → x ≡ y
+    some_is x y h = cc
+digest_formed Digested bytes r e =
+    let a = bound (bytes_in 32 bytes) (λ digest. Some (Some digest.0, digest.1)) r e in
+    ap (λ (x : Option (List ℕ) × List ℕ). has_digest Digested x.0) (sym (some_is (Some a.0.0, a.0.1) r a.2))
+  where
+    some_is : (x y : Option (List ℕ) × List ℕ) → Some x ≡ Some y → x ≡ y
+    some_is x y h = cc
+
+segment_formed : (form : SegmentForm) → PassesOne (segment_at form) (λ (s : Segment). has_digest form s.digest)
+unfolding segment_at
+segment_formed form bytes r e =
+    let a = bound (extent_in bytes) (λ place. front_number 8 place.1 >>= λ rows. digest_in form rows.1 >>= λ digest. Some (record { place = place.0; rows = rows.0; digest = digest.0 }, digest.1)) r e in
+    let b = bound (front_number 8 a.0.1) (λ rows. digest_in form rows.1 >>= λ digest. Some (record { place = a.0.0; rows = rows.0; digest = digest.0 }, digest.1)) r a.2 in
+    let c = bound (digest_in form b.0.1) (λ digest. Some (record { place = a.0.0; rows = b.0.0; digest = digest.0 }, digest.1)) r b.2 in
+    ap (λ (x : Segment × List ℕ). has_digest form x.0.digest) (sym (some_is (record { place = a.0.0; rows = b.0.0; digest = c.0.0 }, c.0.1) r c.2)) ∙ digest_formed form b.0.1 c.0 c.1
   where
     some_is : (x y : Segment × List ℕ) → Some x ≡ Some y → x ≡ y
     some_is x y h = cc
@@ -186,14 +246,14 @@ schema_takes bytes s e =
 abbrev table_of : PlainSchema × List Segment → PlainEntry
 table_of body = entry_from [] None body
 
-body_takes : TakesOne body_at (λ (body : PlainSchema × List Segment). table_text (table_of body))
+body_takes : (form : SegmentForm) → TakesOne (body_at form) (λ (body : PlainSchema × List Segment). table_text (table_of body))
 unfolding body_at table_text
-body_takes bytes r small e =
-    let a = bound (sized_at bytes) (λ text. schema_in text.0 >>= λ schema. counted_at segment_at text.1 >>= λ segments. Some ((schema, segments.0), segments.1)) r e in
-    let b = bound (schema_in a.0.0) (λ schema. counted_at segment_at a.0.1 >>= λ segments. Some ((schema, segments.0), segments.1)) r a.2 in
-    let c = bound (counted_at segment_at a.0.1) (λ segments. Some ((b.0, segments.0), segments.1)) r b.2 in
+body_takes form bytes r small e =
+    let a = bound (sized_at bytes) (λ text. schema_in text.0 >>= λ schema. counted_at (segment_at form) text.1 >>= λ segments. Some ((schema, segments.0), segments.1)) r e in
+    let b = bound (schema_in a.0.0) (λ schema. counted_at (segment_at form) a.0.1 >>= λ segments. Some ((schema, segments.0), segments.1)) r a.2 in
+    let c = bound (counted_at (segment_at form) a.0.1) (λ segments. Some ((b.0, segments.0), segments.1)) r b.2 in
     let p = sized_takes bytes a.0 small a.1 in
-    let q = counted_takes segment_at segment_text segment_takes a.0.1 c.0 p.0.small c.1 in
+    let q = counted_takes (segment_at form) segment_text (segment_takes form) a.0.1 c.0 p.0.small c.1 in
     let message : Takes bytes (sized (schema_message b.0)) a.0.1 = subst (λ m. Takes bytes (sized m) a.0.1) (schema_takes a.0.0 b.0 b.1) p.0 in
     subst (λ (x : (PlainSchema × List Segment) × List ℕ). Takes bytes (sized (schema_message x.0.0) ++ counted segment_text x.0.1) x.1) (some_is ((b.0, c.0.0), c.0.1) r c.2)
     (then_takes bytes (sized (schema_message b.0)) a.0.1 (counted segment_text c.0.0) c.0.1 message q)
@@ -201,18 +261,38 @@ body_takes bytes r small e =
     some_is : (x y : (PlainSchema × List Segment) × List ℕ) → Some x ≡ Some y → x ≡ y
     some_is x y h = cc
 
+body_formed : (form : SegmentForm) → PassesOne (body_at form) (λ (body : PlainSchema × List Segment). has_digests form body.1)
+unfolding body_at
+body_formed form bytes r e =
+    let a = bound (sized_at bytes) (λ text. schema_in text.0 >>= λ schema. counted_at (segment_at form) text.1 >>= λ segments. Some ((schema, segments.0), segments.1)) r e in
+    let b = bound (schema_in a.0.0) (λ schema. counted_at (segment_at form) a.0.1 >>= λ segments. Some ((schema, segments.0), segments.1)) r a.2 in
+    let c = bound (counted_at (segment_at form) a.0.1) (λ segments. Some ((b.0, segments.0), segments.1)) r b.2 in
+    let n = bound (front_number 4 a.0.1) (λ count. many_at (segment_at form) count.0 count.1) c.0 c.1 in
+    ap (λ (x : (PlainSchema × List Segment) × List ℕ). has_digests form x.0.1) (sym (some_is ((b.0, c.0.0), c.0.1) r c.2))
+    ∙ many_pass (segment_at form) (λ (s : Segment). has_digest form s.digest) (segment_formed form) n.0.0 n.0.1 c.0 n.2
+  where
+    some_is : (x y : (PlainSchema × List Segment) × List ℕ) → Some x ≡ Some y → x ≡ y
+    some_is x y h = cc
+
+entry_formed : (form : SegmentForm) → PassesOne (entry_at form) (λ (x : PlainEntry). has_digests form x.segments)
+unfolding entry_at
+entry_formed form bytes r e =
+    let a = bound (name_at bytes) (λ name. body_at form name.1 >>= λ body. Some (entry_from name.0 None body.0, body.1)) r e in
+    let b = bound (body_at form a.0.1) (λ body. Some (entry_from a.0.0 None body.0, body.1)) r a.2 in
+    ap (λ (x : PlainEntry × List ℕ). has_digests form x.0.segments) (sym (entry_is (entry_from a.0.0 None b.0.0, b.0.1) r b.2)) ∙ body_formed form a.0.1 b.0 b.1
+
 -- a name makes no difference to the text of a table
 same_table : (e : PlainEntry) → table_text (table_of (e.schema, e.segments)) ≡ table_text e
 unfolding table_text
 same_table e = refl
 
-entry_takes : TakesOne entry_at entry_text
+entry_takes : (form : SegmentForm) → TakesOne (entry_at form) entry_text
 unfolding entry_at
-entry_takes bytes r small e =
-    let a = bound (name_at bytes) (λ name. body_at name.1 >>= λ body. Some (entry_from name.0 None body.0, body.1)) r e in
-    let b = bound (body_at a.0.1) (λ body. Some (entry_from a.0.0 None body.0, body.1)) r a.2 in
+entry_takes form bytes r small e =
+    let a = bound (name_at bytes) (λ name. body_at form name.1 >>= λ body. Some (entry_from name.0 None body.0, body.1)) r e in
+    let b = bound (body_at form a.0.1) (λ body. Some (entry_from a.0.0 None body.0, body.1)) r a.2 in
     let p = (sized_takes bytes a.0 small (name_is_at bytes a.0 a.1).sized).0 in
-    let q = body_takes a.0.1 b.0 p.small b.1 in
+    let q = body_takes form a.0.1 b.0 p.small b.1 in
     let made : PlainEntry × List ℕ = (entry_from a.0.0 None b.0.0, b.0.1) in
     let table : Takes a.0.1 (table_text made.0) b.0.1 = subst (λ t. Takes a.0.1 t b.0.1) (same_table made.0) q in
     subst (λ (x : PlainEntry × List ℕ). Takes bytes (entry_text x.0) x.1) (entry_is made r b.2) (then_takes bytes (sized a.0.0) a.0.1 (table_text made.0) b.0.1 p table)
@@ -220,68 +300,73 @@ entry_takes bytes r small e =
 -- ---- the catalogue
 
 -- what is read of a text
-pub record IsSpelled (bytes : List ℕ) (c : PlainCatalogue) : Type 0 where
+pub record IsSpelled (form : SegmentForm) (bytes : List ℕ) (c : PlainCatalogue) : Type 0 where
   pub kept : IsCatalogue c
+  pub formed : has_form form c ≡ true
   pub spelled : AreBytes bytes → bytes ≡ list_text c
 
-pub catalogue_spelled : (bytes : List ℕ) (c : PlainCatalogue) → catalogue_at bytes ≡ Some c → IsSpelled bytes c
+pub catalogue_spelled : (form : SegmentForm) (bytes : List ℕ) (c : PlainCatalogue) → catalogue_at form bytes ≡ Some c → IsSpelled form bytes c
 unfolding catalogue_at
-catalogue_spelled bytes c e =
-    let a = bound (counted_at entry_at bytes) (λ entries. cond (eqb (length entries.1) 0 && is_catalogue entries.0) (Some entries.0) None) c e in
+catalogue_spelled form bytes c e =
+    let a = bound (counted_at (entry_at form) bytes) (λ entries. cond (eqb (length entries.1) 0 && is_catalogue entries.0) (Some entries.0) None) c e in
     let t = cond_some (eqb (length a.0.1) 0 && is_catalogue a.0.0) a.0.0 c a.2 in
     let parts = and_parts (eqb (length a.0.1) 0) (is_catalogue a.0.0) t.0 in
+    let n = bound (front_number 4 bytes) (λ count. many_at (entry_at form) count.0 count.1) a.0 a.1 in
     record {
       kept = subst IsCatalogue t.1 (catalogue_is a.0.0 parts.1);
+      formed = subst (λ (x : PlainCatalogue). has_form form x ≡ true) t.1
+          (many_pass (entry_at form) (λ (x : PlainEntry). has_digests form x.segments) (entry_formed form) n.0.0 n.0.1 a.0 n.2);
       spelled = λ small.
-          let p = counted_takes entry_at entry_text entry_takes bytes a.0 small a.1 in
+          let p = counted_takes (entry_at form) entry_text (entry_takes form) bytes a.0 small a.1 in
           p.parts ∙ ap (λ rest. list_text a.0.0 ++ rest) (nil_from_length a.0.1 (eqb-true (length a.0.1) 0 parts.0)) ∙ append-nil (list_text a.0.0) ∙ ap list_text t.1;
     }
 
 -- the entries of a text have no pages
-entry_pageless : (bytes : List ℕ) (r : PlainEntry × List ℕ) → entry_at bytes ≡ Some r → bare r.0 ≡ r.0
+entry_pageless : (form : SegmentForm) (bytes : List ℕ) (r : PlainEntry × List ℕ) → entry_at form bytes ≡ Some r → bare r.0 ≡ r.0
 unfolding entry_at
-entry_pageless bytes r e =
-    let a = bound (name_at bytes) (λ name. body_at name.1 >>= λ body. Some (entry_from name.0 None body.0, body.1)) r e in
-    let b = bound (body_at a.0.1) (λ body. Some (entry_from a.0.0 None body.0, body.1)) r a.2 in
+entry_pageless form bytes r e =
+    let a = bound (name_at bytes) (λ name. body_at form name.1 >>= λ body. Some (entry_from name.0 None body.0, body.1)) r e in
+    let b = bound (body_at form a.0.1) (λ body. Some (entry_from a.0.0 None body.0, body.1)) r a.2 in
     subst (λ (x : PlainEntry × List ℕ). bare x.0 ≡ x.0) (entry_is (entry_from a.0.0 None b.0.0, b.0.1) r b.2) refl
 
-entries_pageless : (count : ℕ) (bytes : List ℕ) (r : PlainCatalogue × List ℕ) → many_at entry_at count bytes ≡ Some r → map bare r.0 ≡ r.0
+entries_pageless : (form : SegmentForm) (count : ℕ) (bytes : List ℕ) (r : PlainCatalogue × List ℕ) → many_at (entry_at form) count bytes ≡ Some r → map bare r.0 ≡ r.0
 unfolding many_at
-entries_pageless zero bytes r e = subst (λ (x : PlainCatalogue × List ℕ). map bare x.0 ≡ x.0) (some_is ([], bytes) r e) refl
+entries_pageless form zero bytes r e = subst (λ (x : PlainCatalogue × List ℕ). map bare x.0 ≡ x.0) (some_is ([], bytes) r e) refl
   where
     some_is : (x y : PlainCatalogue × List ℕ) → Some x ≡ Some y → x ≡ y
     some_is x y h = cc
-entries_pageless (suc count) bytes r e =
-    let a = bound (entry_at bytes) (λ first. many_at entry_at count first.1 >>= λ others. Some (first.0 ∷ others.0, others.1)) r e in
-    let b = bound (many_at entry_at count a.0.1) (λ others. Some (a.0.0 ∷ others.0, others.1)) r a.2 in
-    let first = entry_pageless bytes a.0 a.1 in
-    let others = entries_pageless count a.0.1 b.0 b.1 in
+entries_pageless form (suc count) bytes r e =
+    let a = bound (entry_at form bytes) (λ first. many_at (entry_at form) count first.1 >>= λ others. Some (first.0 ∷ others.0, others.1)) r e in
+    let b = bound (many_at (entry_at form) count a.0.1) (λ others. Some (a.0.0 ∷ others.0, others.1)) r a.2 in
+    let first = entry_pageless form bytes a.0 a.1 in
+    let others = entries_pageless form count a.0.1 b.0 b.1 in
     subst (λ (x : PlainCatalogue × List ℕ). map bare x.0 ≡ x.0) (some_is (a.0.0 ∷ b.0.0, b.0.1) r b.2) (λ i. first i ∷ others i)
   where
     some_is : (x y : PlainCatalogue × List ℕ) → Some x ≡ Some y → x ≡ y
     some_is x y h = cc
 
-pub catalogue_pageless : (bytes : List ℕ) (c : PlainCatalogue) → catalogue_at bytes ≡ Some c → map bare c ≡ c
+pub catalogue_pageless : (form : SegmentForm) (bytes : List ℕ) (c : PlainCatalogue) → catalogue_at form bytes ≡ Some c → map bare c ≡ c
 unfolding catalogue_at
-catalogue_pageless bytes c e =
-    let a = bound (counted_at entry_at bytes) (λ entries. cond (eqb (length entries.1) 0 && is_catalogue entries.0) (Some entries.0) None) c e in
+catalogue_pageless form bytes c e =
+    let a = bound (counted_at (entry_at form) bytes) (λ entries. cond (eqb (length entries.1) 0 && is_catalogue entries.0) (Some entries.0) None) c e in
     let t = cond_some (eqb (length a.0.1) 0 && is_catalogue a.0.0) a.0.0 c a.2 in
-    let n = bound (front_number 4 bytes) (λ count. many_at entry_at count.0 count.1) a.0 a.1 in
-    subst (λ (x : PlainCatalogue). map bare x ≡ x) t.1 (entries_pageless n.0.0 n.0.1 a.0 n.2)
+    let n = bound (front_number 4 bytes) (λ count. many_at (entry_at form) count.0 count.1) a.0 a.1 in
+    subst (λ (x : PlainCatalogue). map bare x ≡ x) t.1 (entries_pageless form n.0.0 n.0.1 a.0 n.2)
 
 -- ---- pages
 
-pub record IsPageSpelled (most : ℕ) (bytes : List ℕ) (e : PlainEntry) : Type 0 where
+pub record IsPageSpelled (form : SegmentForm) (most : ℕ) (bytes : List ℕ) (e : PlainEntry) : Type 0 where
   pub kept : is_within_limits e.schema ≡ true
   pub segments : list_all is_segment e.segments ≡ true
   pub few : length e.segments ≤ most
+  pub formed : has_digests form e.segments ≡ true
   pub spelled : AreBytes bytes → bytes ≡ table_text e
 
-pub page_spelled : (most : ℕ) (bytes : List ℕ) (e : PlainEntry) → page_at most bytes ≡ Some (e.schema, e.segments) → IsPageSpelled most bytes e
+pub page_spelled : (form : SegmentForm) (most : ℕ) (bytes : List ℕ) (e : PlainEntry) → page_at form most bytes ≡ Some (e.schema, e.segments) → IsPageSpelled form most bytes e
 unfolding page_at
-page_spelled most bytes e h =
+page_spelled form most bytes e h =
     let b : PlainSchema × List Segment = (e.schema, e.segments) in
-    let a = bound (body_at bytes) (λ body. cond (eqb (length body.1) 0 && (is_within_limits body.0.0 && (list_all is_segment body.0.1 && leb (length body.0.1) most))) (Some body.0) None) b h in
+    let a = bound (body_at form bytes) (λ body. cond (eqb (length body.1) 0 && (is_within_limits body.0.0 && (list_all is_segment body.0.1 && leb (length body.0.1) most))) (Some body.0) None) b h in
     let t = cond_some (eqb (length a.0.1) 0 && (is_within_limits a.0.0.0 && (list_all is_segment a.0.0.1 && leb (length a.0.0.1) most))) a.0.0 b a.2 in
     let parts = and_parts (eqb (length a.0.1) 0) (is_within_limits a.0.0.0 && (list_all is_segment a.0.0.1 && leb (length a.0.0.1) most)) t.0 in
     let own = and_parts (is_within_limits a.0.0.0) (list_all is_segment a.0.0.1 && leb (length a.0.0.1) most) parts.1 in
@@ -290,8 +375,9 @@ page_spelled most bytes e h =
       kept = subst (λ (x : PlainSchema × List Segment). is_within_limits x.0 ≡ true) t.1 own.0;
       segments = subst (λ (x : PlainSchema × List Segment). list_all is_segment x.1 ≡ true) t.1 last.0;
       few = subst (λ (x : PlainSchema × List Segment). length x.1 ≤ most) t.1 (leb-true (length a.0.0.1) most last.1);
+      formed = subst (λ (x : PlainSchema × List Segment). has_digests form x.1 ≡ true) t.1 (body_formed form bytes a.0 a.1);
       spelled = λ small.
-          let p = body_takes bytes a.0 small a.1 in
+          let p = body_takes form bytes a.0 small a.1 in
           p.parts ∙ ap (λ rest. table_text (table_of a.0.0) ++ rest) (nil_from_length a.0.1 (eqb-true (length a.0.1) 0 parts.0)) ∙ append-nil (table_text (table_of a.0.0))
           ∙ ap (λ (x : PlainSchema × List Segment). table_text (table_of x)) t.1 ∙ same_table e;
     }
@@ -306,24 +392,6 @@ root_entry_takes bytes r small e =
     let p = (sized_takes bytes a.0 small (name_is_at bytes a.0 a.1).sized).0 in
     let q = extent_takes a.0.1 b.0 p.small b.1 in
     subst (λ (x : PlainRoot × List ℕ). Takes bytes (root_entry_text x.0) x.1) (root_entry_is (record { name = a.0.0; page = b.0.0 }, b.0.1) r b.2) (then_takes bytes (sized a.0.0) a.0.1 (extent_text b.0.0) b.0.1 p q)
-
--- each part that is read passes a test
-abbrev PassesOne : {A : Type 0} → (List ℕ → Option (A × List ℕ)) → (A → Bool) → Type 0
-PassesOne {A = A} one_at p = (bytes : List ℕ) (r : A × List ℕ) → one_at bytes ≡ Some r → p r.0 ≡ true
-
-many_pass : {A : Type 0} (one_at : List ℕ → Option (A × List ℕ)) (p : A → Bool) → PassesOne one_at p → (count : ℕ) (bytes : List ℕ) (r : List A × List ℕ) → many_at one_at count bytes ≡ Some r → list_all p r.0 ≡ true
-unfolding many_at
-many_pass {A = A} one_at p one zero bytes r e = ap (λ (x : List A × List ℕ). list_all p x.0) (sym (some_is ([], bytes) r e))
-  where
-    some_is : (x y : List A × List ℕ) → Some x ≡ Some y → x ≡ y
-    some_is x y h = cc
-many_pass {A = A} one_at p one (suc count) bytes r e =
-    let a = bound (one_at bytes) (λ first. many_at one_at count first.1 >>= λ others. Some (first.0 ∷ others.0, others.1)) r e in
-    let b = bound (many_at one_at count a.0.1) (λ others. Some (a.0.0 ∷ others.0, others.1)) r a.2 in
-    ap (λ (x : List A × List ℕ). list_all p x.0) (sym (some_is (a.0.0 ∷ b.0.0, b.0.1) r b.2)) ∙ and_from (p a.0.0) (list_all p b.0.0) (one bytes a.0 a.1) (many_pass one_at p one count a.0.1 b.0 b.1)
-  where
-    some_is : (x y : List A × List ℕ) → Some x ≡ Some y → x ≡ y
-    some_is x y h = cc
 
 root_entry_named : PassesOne root_entry_at (λ (r : PlainRoot). is_name r.name)
 unfolding root_entry_at

@@ -1,8 +1,9 @@
 -- Changes of a catalogue.
-use Rattle.std.specs.Prelude.{ℕ, if◌then◌else◌, List, [], ◌∷◌, ◌++◌, map, take, drop, find, Option, Some, None}
+use Rattle.std.specs.Prelude.{ℕ, if◌then◌else◌, List, [], ◌∷◌, ◌++◌, length, map, take, drop, find, Option, Some, None}
 use Rattle.std.specs.Str.{bytes_eq}
 use Rattle.std.specs.Cmp.Lexicographic.{slice_cmp}
 use Rattle.std.specs.Ordering.{nat_cmp, match_ordering}
+use Rattle.segments.specs.declared.extent.Extent.{Extent}
 use Rattle.catalogue.specs.Entries.{PlainEntry, PlainCatalogue, row_count}
 use Rattle.catalogue.specs.declared.entry.Segment.{Segment}
 
@@ -49,6 +50,29 @@ with_others segments place count others = take place segments ++ (others ++ drop
 -- the same of the table of a name
 abbrev pub with_exchanged : PlainCatalogue → List ℕ → (place count : ℕ) → List Segment → PlainCatalogue
 with_exchanged c name place count others = elim (entry_of c name) [ None ↦ c | Some e ↦ with_segments c name (with_others e.segments place count others) ]
+
+-- a page stays where nothing comes: the text in it is still the table's
+abbrev pub page_behind : {A : Type 0} → List A → Option Extent → Option Extent
+page_behind [] page = page
+page_behind (x ∷ xs) page = None
+
+-- each segment with the digest in its place
+abbrev pub with_digest : Segment → List ℕ → Segment
+with_digest s digest = record { place = s.place; rows = s.rows; digest = Some digest }
+
+abbrev pub with_digests : List Segment → List (List ℕ) → List Segment
+with_digests [] ds = []
+with_digests (s ∷ ss) [] = s ∷ with_digests ss []
+with_digests (s ∷ ss) (d ∷ ds) = with_digest s d ∷ with_digests ss ds
+
+-- a table with these digests; its page says none, and stays only where there are no segments
+abbrev pub entry_digested : PlainEntry → List (List ℕ) → PlainEntry
+entry_digested e ds = record { name = e.name; schema = e.schema; segments = with_digests e.segments ds; page = page_behind e.segments e.page }
+
+-- the segments of each table with the next digests
+unfoldable pub digested : PlainCatalogue → List (List ℕ) → PlainCatalogue
+digested [] ds = []
+digested (e ∷ es) ds = entry_digested e (take (length e.segments) ds) ∷ digested es (drop (length e.segments) ds)
 
 -- the name of each table and its rows
 abbrev pub tables_of : PlainCatalogue → List (List ℕ × ℕ)

@@ -1,5 +1,5 @@
 -- What a catalogue keeps: the name of each table, its schema, its segments and its page (docs/formats/store.md).
-use Rattle.std.specs.Prelude.{◌≡◌, ◌≤◌, ◌^◌, ◌==◌, ◌&&◌, ◌||◌, ℕ, Bool, true, nat_le, nat_lt, List, [], ◌∷◌, ◌++◌, length, map, flat_map, sum_by, string_bytes, Option, Some, None}
+use Rattle.std.specs.Prelude.{◌≡◌, ◌≤◌, ◌^◌, ◌==◌, ◌&&◌, ◌||◌, ℕ, Bool, true, false, nat_le, nat_lt, List, [], ◌∷◌, ◌++◌, length, map, flat_map, sum_by, string_bytes, Option, Some, None}
 use Rattle.std.specs.List.{list_all}
 use Rattle.std.specs.Cmp.Lexicographic.{slice_cmp}
 use Rattle.std.specs.Ordering.{nat_cmp, is_lt}
@@ -11,6 +11,8 @@ use Rattle.segments.specs.declared.extent.Extent.{Extent}
 use Rattle.catalogue.specs.Schemas.{is_within_limits}
 use Rattle.catalogue.specs.declared.limits.TheConstants.{MAX_NAME_BYTES, MAX_SEGMENT_ROWS, MAX_TABLES, MAX_SEGMENTS}
 use Rattle.catalogue.specs.declared.entry.Segment.{Segment}
+use Rattle.catalogue.specs.declared.entry.SegmentForm.{SegmentForm}
+use Rattle.catalogue.specs.declared.entry.SegmentForm.TheVariants.{Bare, Digested}
 use Rattle.catalogue.specs.declared.entry.TableEntry.{TableEntry}
 use Rattle.catalogue.specs.declared.entry.RootEntry.{RootEntry}
 
@@ -50,15 +52,18 @@ is_name_byte b = is_between 97 122 b || (is_between 65 90 b || (is_between 48 57
 abbrev pub is_name : List ℕ → Bool
 is_name name = is_between 1 MAX_NAME_BYTES (length name) && list_all is_name_byte name
 
--- a segment has some bytes, just the sectors that they need, and 1 to 4,096 rows; its numbers have 64 bits
-abbrev pub is_segment : Segment → Bool
-is_segment s =
-    (nat_lt s.place.run.start (2 ^ 64) && nat_lt s.place.bytes (2 ^ 64))
-    && (nat_le 1 s.place.bytes && ((s.place.run.count == sector_count s.place.bytes) && is_between 1 MAX_SEGMENT_ROWS s.rows))
-
 -- a run of just the sectors that its bytes need, which are so many at least; its numbers have 64 bits
 abbrev pub is_filled : (least : ℕ) → Extent → Bool
 is_filled least e = (nat_lt e.run.start (2 ^ 64) && nat_lt e.bytes (2 ^ 64)) && (nat_le least e.bytes && (e.run.count == sector_count e.bytes))
+
+-- a digest has 32 bytes
+abbrev pub is_digest : Option (List ℕ) → Bool
+is_digest None = true
+is_digest (Some digest) = length digest == 32
+
+-- a segment has some bytes, just the sectors that they need, 1 to 4,096 rows, and a digest or none
+abbrev pub is_segment : Segment → Bool
+is_segment s = is_filled 1 s.place && (is_between 1 MAX_SEGMENT_ROWS s.rows && is_digest s.digest)
 
 -- a page has eight bytes at least, those of its two numbers
 abbrev pub is_page : Option Extent → Bool
@@ -118,6 +123,20 @@ pub record IsCatalogue (c : PlainCatalogue) : Type 0 where
 -- the same as a test
 abbrev pub is_catalogue : PlainCatalogue → Bool
 is_catalogue c = (list_all is_entry c && ascends (names_of c)) && (nat_le (length c) MAX_TABLES && nat_le (segment_count c) MAX_SEGMENTS)
+
+-- there is a digest just where the form asks for one
+abbrev pub has_digest : SegmentForm → Option (List ℕ) → Bool
+has_digest Bare None = true
+has_digest Bare (Some digest) = false
+has_digest Digested None = false
+has_digest Digested (Some digest) = true
+
+abbrev pub has_digests : SegmentForm → List Segment → Bool
+has_digests form segments = list_all (λ (s : Segment). has_digest form s.digest) segments
+
+-- each segment of each table is of this form
+abbrev pub has_form : SegmentForm → PlainCatalogue → Bool
+has_form form c = list_all (λ (e : PlainEntry). has_digests form e.segments) c
 
 -- a table whose text may be that of a page
 pub record IsTable (e : PlainEntry) : Type 0 where

@@ -17,6 +17,8 @@ use Rattle.catalogue.specs.Schemas.{is_within_limits}
 use Rattle.catalogue.specs.Entries.{PlainEntry, PlainCatalogue, PlainRoot, is_name, is_segment, ascends, root_names, is_catalogue}
 use Rattle.catalogue.specs.declared.limits.TheConstants.{MAX_TABLES}
 use Rattle.catalogue.specs.declared.entry.Segment.{Segment}
+use Rattle.catalogue.specs.declared.entry.SegmentForm.{SegmentForm}
+use Rattle.catalogue.specs.declared.entry.SegmentForm.TheVariants.{Bare, Digested}
 use Rattle.catalogue.specs.declared.decoding.DecodeError.{DecodeError}
 use Rattle.catalogue.specs.declared.decoding.DecodeError.TheVariants.{NoText, OutOfMemory}
 
@@ -70,11 +72,23 @@ extent_in bytes = do
   size ← front_number 8 count.1
   Some (record { run = record { start = start.0; count = count.0 }; bytes = size.0 }, size.1)
 
-unfoldable pub segment_at : List ℕ → Option (Segment × List ℕ)
-segment_at bytes = do
+-- so many bytes as they are
+abbrev pub bytes_in : ℕ → List ℕ → Option (List ℕ × List ℕ)
+bytes_in size bytes = if nat_le size (length bytes) then Some (take size bytes, drop size bytes) else None
+
+-- the digest, where the form has one
+unfoldable pub digest_in : SegmentForm → List ℕ → Option (Option (List ℕ) × List ℕ)
+digest_in Bare bytes = Some (None, bytes)
+digest_in Digested bytes = do
+  digest ← bytes_in 32 bytes
+  Some (Some digest.0, digest.1)
+
+unfoldable pub segment_at : SegmentForm → List ℕ → Option (Segment × List ℕ)
+segment_at form bytes = do
   place ← extent_in bytes
   rows ← front_number 8 place.1
-  Some (record { place = place.0; rows = rows.0 }, rows.1)
+  digest ← digest_in form rows.1
+  Some (record { place = place.0; rows = rows.0; digest = digest.0 }, digest.1)
 
 -- four bytes of length, and a name of a table
 unfoldable pub name_at : List ℕ → Option (List ℕ × List ℕ)
@@ -114,35 +128,35 @@ schema_in bytes = do
 -- ---- the catalogue
 
 -- a schema and segments
-unfoldable pub body_at : List ℕ → Option ((PlainSchema × List Segment) × List ℕ)
-body_at bytes = do
+unfoldable pub body_at : SegmentForm → List ℕ → Option ((PlainSchema × List Segment) × List ℕ)
+body_at form bytes = do
   text ← sized_at bytes
   schema ← schema_in text.0
-  segments ← counted_at segment_at text.1
+  segments ← counted_at (segment_at form) text.1
   Some ((schema, segments.0), segments.1)
 
 -- the table of this name and page that has them
 abbrev pub entry_from : List ℕ → Option Extent → PlainSchema × List Segment → PlainEntry
 entry_from name page body = record { name = name; schema = body.0; segments = body.1; page = page }
 
-unfoldable pub entry_at : List ℕ → Option (PlainEntry × List ℕ)
-entry_at bytes = do
+unfoldable pub entry_at : SegmentForm → List ℕ → Option (PlainEntry × List ℕ)
+entry_at form bytes = do
   name ← name_at bytes
-  body ← body_at name.1
+  body ← body_at form name.1
   Some (entry_from name.0 None body.0, body.1)
 
--- the catalogue whose text these bytes are: its entries, which may stand so, and nothing behind them
-unfoldable pub catalogue_at : List ℕ → Option PlainCatalogue
-catalogue_at bytes = do
-  entries ← counted_at entry_at bytes
+-- the catalogue whose text of this form these bytes are: its entries, which may stand so, and nothing behind them
+unfoldable pub catalogue_at : SegmentForm → List ℕ → Option PlainCatalogue
+catalogue_at form bytes = do
+  entries ← counted_at (entry_at form) bytes
   if (length entries.1 == 0) && is_catalogue entries.0 then Some entries.0 else None
 
 -- ---- a root and pages
 
--- what a page says, with at most so many segments, and nothing behind them
-unfoldable pub page_at : (most : ℕ) → List ℕ → Option (PlainSchema × List Segment)
-page_at most bytes = do
-  body ← body_at bytes
+-- what a page of this form says, with at most so many segments, and nothing behind them
+unfoldable pub page_at : SegmentForm → (most : ℕ) → List ℕ → Option (PlainSchema × List Segment)
+page_at form most bytes = do
+  body ← body_at form bytes
   if (length body.1 == 0) && (is_within_limits body.0.0 && (list_all is_segment body.0.1 && nat_le (length body.0.1) most)) then Some body.0 else None
 
 unfoldable pub root_entry_at : List ℕ → Option (PlainRoot × List ℕ)

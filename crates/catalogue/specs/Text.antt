@@ -1,5 +1,5 @@
 -- The texts of a catalogue (docs/formats/store.md): the list of its tables, or a root and a page for each table. Every number is little-endian.
-use Rattle.std.specs.Prelude.{ℕ, ◌+◌, ◌*◌, List, ◌++◌, length, flat_map, sum_by}
+use Rattle.std.specs.Prelude.{ℕ, ◌+◌, List, [], ◌++◌, length, flat_map, sum_by, Option, Some, None}
 use Rattle.byteorder.specs.Endian.{little_bytes}
 use Rattle.ipc_write.specs.Written.{schema_message}
 use Rattle.segments.specs.declared.extent.Extent.{Extent}
@@ -18,9 +18,14 @@ counted text xs = little_bytes 4 (length xs) ++ flat_map text xs
 abbrev pub extent_text : Extent → List ℕ
 extent_text e = little_bytes 8 e.run.start ++ (little_bytes 8 e.run.count ++ little_bytes 8 e.bytes)
 
--- where it lies, and its rows as a number of 64 bits
+-- the bytes of a digest as they are, if there is one
+abbrev pub digest_text : Option (List ℕ) → List ℕ
+digest_text None = []
+digest_text (Some digest) = digest
+
+-- where it lies, its rows as a number of 64 bits, and its digest, if it has one
 abbrev pub segment_text : Segment → List ℕ
-segment_text s = extent_text s.place ++ little_bytes 8 s.rows
+segment_text s = extent_text s.place ++ (little_bytes 8 s.rows ++ digest_text s.digest)
 
 -- a table without its name: the message of its schema, and its segments. It is the text of a page
 unfoldable pub table_text : PlainEntry → List ℕ
@@ -41,8 +46,11 @@ abbrev pub root_text : List PlainRoot → List ℕ
 root_text rs = counted root_entry_text rs
 
 -- how many bytes they have; where runs start doesn't matter
+abbrev pub segment_size : Segment → ℕ
+segment_size s = 32 + length (digest_text s.digest)
+
 abbrev pub table_size : PlainEntry → ℕ
-table_size e = 8 + length (schema_message e.schema) + 32 * length e.segments
+table_size e = 8 + length (schema_message e.schema) + sum_by segment_size e.segments
 
 abbrev pub entry_size : PlainEntry → ℕ
 entry_size e = 4 + length e.name + table_size e

@@ -5,3 +5,5 @@ pub mod Sums
 pub mod Changed
 pub mod Bare
 pub mod Shapes
+pub mod Digests
+pub mod Forms

@@ -3,7 +3,8 @@ ghost use Rattle.std.specs.Prelude.{◌≡◌, true, map};
 ghost use Rattle.catalogue.specs.Entries.{plain_entry, is_catalogue};
 
 use crate::edits::{
-    append_to, copy_entries, exchange_in, put_entry, put_entry_runs, rename_entry, take_entry,
+    append_to, copy_entries, digest_entries, exchange_in, put_entry, put_entry_runs, rename_entry,
+    take_entry,
 };
 use crate::limits::MAX_TABLES;
 use crate::places::place_of;
@@ -23,8 +24,8 @@ impl Catalogue {
     ghost use Rattle.std.specs.Prelude.{◌≤◌, ◌+◌, [], Some, None, if◌then◌else◌, length, option_map, string_bytes, OnOk, OnErr, IfOk};
     ghost use Rattle.std.specs.List.{list_all};
     ghost use Rattle.catalogue.specs.declared.limits.TheConstants.{MAX_TABLES, MAX_SEGMENTS};
-    ghost use Rattle.catalogue.specs.Entries.{is_name, is_segment, is_entry, IsCatalogue, segment_count, runs_of};
-    ghost use Rattle.catalogue.specs.Edits.{entry_of, with_entry, without, renamed, with_more, with_exchanged, tables_of};
+    ghost use Rattle.catalogue.specs.Entries.{is_name, is_digest, is_segment, is_entry, IsCatalogue, segment_count, runs_of};
+    ghost use Rattle.catalogue.specs.Edits.{entry_of, with_entry, without, renamed, with_more, with_exchanged, digested, tables_of};
     ghost use Rattle.catalogue.specs.View.{catalogue_of};
 
     /// Without tables.
@@ -147,6 +148,16 @@ impl Catalogue {
         ensures err { OnErr result (catalogue_of self.new ≡ catalogue_of self.old) }
     {
         exchange_in(&mut self.entries, name, place, count, others)
+    }
+
+    /// Gives each segment its digest, in the order of the tables and of their segments; a table that has some is without a
+    /// page then. It takes no memory.
+    pub fn set_digests(&mut self, digests: &[[u8; 32]])
+        requires count { segment_count (catalogue_of self.old) ≡ length digests.now }
+        requires digests { list_all (λ digest. is_digest (Some digest)) digests.now ≡ true }
+        ensures { catalogue_of self.new ≡ digested (catalogue_of self.old) digests.now }
+    {
+        digest_entries(&mut self.entries, digests);
     }
 
     /// All segments of all tables.

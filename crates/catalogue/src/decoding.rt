@@ -1,7 +1,7 @@
 // A text is read.
 ghost use Rattle.std.specs.Prelude.{◌≡◌, ◌≤◌, map, length, string_bytes, IfOk};
 ghost use Rattle.catalogue.specs.Entries.{plain_entry};
-ghost use Rattle.catalogue.specs.Reading.{Gives, front_number, sized_at, name_at, many_at, extent_in, segment_at, raw_schema_in, schema_in, body_at, entry_at, catalogue_at, page_at};
+ghost use Rattle.catalogue.specs.Reading.{Gives, front_number, sized_at, name_at, many_at, extent_in, digest_in, segment_at, raw_schema_in, schema_in, body_at, entry_at, catalogue_at, page_at};
 ghost use Rattle.arrow_schema.specs.View.{schema_of};
 ghost use Rattle.ipc_message.specs.View.{raw_schema_of};
 ghost use Rattle.catalogue.specs.View.{catalogue_of};
@@ -9,7 +9,7 @@ ghost use Rattle.catalogue.specs.View.{catalogue_of};
 use crate::encoding::message_of;
 use crate::entry::{are_sound, is_within_limits};
 use crate::names::is_name;
-use crate::{Catalogue, Segment, TableEntry};
+use crate::{Catalogue, Segment, SegmentForm, TableEntry};
 use arrow_schema::Schema;
 use byteorder::{ByteOrder, LittleEndian};
 use ipc_message::{Header, ImportError, NextMessage, RawSchema, read_message, read_schema};
@@ -83,26 +83,52 @@ pub(crate) fn extent_in(bytes: &[u8]) -> Result<(Extent, &[u8]), DecodeError>
     Ok((Extent { run, bytes }, rest))
 }
 
+// The digest of a segment, where the form has one.
+#[tactic(auto, unfolding(crate::specs::Reading::digest_in))]
+fn digest_in(form: SegmentForm, bytes: &[u8]) -> Result<(Option<[u8; 32]>, &[u8]), DecodeError>
+    ensures { Gives (λ x. (x.0, x.1.now)) result (digest_in form bytes.now) }
+{
+    match form {
+        SegmentForm::Bare => Ok((None, bytes)),
+        SegmentForm::Digested => {
+            if bytes.len() < 32 {
+                return Err(DecodeError::NoText);
+            }
+            let (front, rest) = bytes.split_at(32);
+            let mut digest = [0; 32];
+            digest.copy_from_slice(front);
+            Ok((Some(digest), rest))
+        }
+    }
+}
+
 #[tactic(auto, unfolding(crate::specs::Reading::segment_at))]
-fn segment_at(bytes: &[u8]) -> Result<(Segment, &[u8]), DecodeError>
-    ensures { Gives (λ x. (x.0, x.1.now)) result (segment_at bytes.now) }
+fn segment_at(form: SegmentForm, bytes: &[u8]) -> Result<(Segment, &[u8]), DecodeError>
+    ensures { Gives (λ x. (x.0, x.1.now)) result (segment_at form bytes.now) }
 {
     let (place, rest) = extent_in(bytes)?;
     let (rows, rest) = u64_at(rest)?;
-    Ok((Segment { place, rows }, rest))
+    let (digest, rest) = digest_in(form, rest)?;
+    let segment = Segment {
+        place,
+        rows,
+        digest,
+    };
+    Ok((segment, rest))
 }
 
 fn segments_at(
     alloc: Global,
+    form: SegmentForm,
     count: u32,
     bytes: &[u8],
 ) -> Result<(Vec<Segment>, &[u8]), DecodeError>
-    ensures { Gives (λ x. (x.0.items, x.1.now)) result (many_at segment_at count bytes.now) }
+    ensures { Gives (λ x. (x.0.items, x.1.now)) result (many_at (segment_at form) count bytes.now) }
 {
     let mut segments = Vec::new(alloc);
     let mut rest = bytes;
     for _ in 0..count {
-        let (segment, after) = segment_at(rest)?;
+        let (segment, after) = segment_at(form, rest)?;
         segments.push(segment)?;
         rest = after;
     }
@@ -138,22 +164,30 @@ fn schema_in(alloc: Global, bytes: &[u8]) -> Result<Schema, DecodeError>
 
 // A schema, segments, and the bytes behind them.
 #[tactic(auto, unfolding(crate::specs::Reading::body_at))]
-fn body_at(alloc: Global, bytes: &[u8]) -> Result<(Schema, Vec<Segment>, &[u8]), DecodeError>
-    ensures { Gives (λ x. ((schema_of x.0, x.1.items), x.2.now)) result (body_at bytes.now) }
+fn body_at(
+    alloc: Global,
+    form: SegmentForm,
+    bytes: &[u8],
+) -> Result<(Schema, Vec<Segment>, &[u8]), DecodeError>
+    ensures { Gives (λ x. ((schema_of x.0, x.1.items), x.2.now)) result (body_at form bytes.now) }
 {
     let (message, rest) = sized_at(bytes)?;
     let schema = schema_in(alloc, message)?;
     let (count, rest) = u32_at(rest)?;
-    let (segments, rest) = segments_at(alloc, count, rest)?;
+    let (segments, rest) = segments_at(alloc, form, count, rest)?;
     Ok((schema, segments, rest))
 }
 
 #[tactic(auto, unfolding(crate::specs::Reading::entry_at))]
-fn entry_at(alloc: Global, bytes: &[u8]) -> Result<(TableEntry, &[u8]), DecodeError>
-    ensures { Gives (λ x. (plain_entry x.0, x.1.now)) result (entry_at bytes.now) }
+fn entry_at(
+    alloc: Global,
+    form: SegmentForm,
+    bytes: &[u8],
+) -> Result<(TableEntry, &[u8]), DecodeError>
+    ensures { Gives (λ x. (plain_entry x.0, x.1.now)) result (entry_at form bytes.now) }
 {
     let (name, rest) = name_at(alloc, bytes)?;
-    let (schema, segments, rest) = body_at(alloc, rest)?;
+    let (schema, segments, rest) = body_at(alloc, form, rest)?;
     let entry = TableEntry {
         name,
         schema,
@@ -165,51 +199,53 @@ fn entry_at(alloc: Global, bytes: &[u8]) -> Result<(TableEntry, &[u8]), DecodeEr
 
 fn entries_at(
     alloc: Global,
+    form: SegmentForm,
     count: u32,
     bytes: &[u8],
 ) -> Result<(Vec<TableEntry>, &[u8]), DecodeError>
-    ensures { Gives (λ x. (map plain_entry x.0.items, x.1.now)) result (many_at entry_at count bytes.now) }
+    ensures { Gives (λ x. (map plain_entry x.0.items, x.1.now)) result (many_at (entry_at form) count bytes.now) }
 {
     let mut entries = Vec::new(alloc);
     let mut rest = bytes;
     for _ in 0..count {
-        let (entry, after) = entry_at(alloc, rest)?;
+        let (entry, after) = entry_at(alloc, form, rest)?;
         entries.push(entry)?;
         rest = after;
     }
     Ok((entries, rest))
 }
 
-/// The catalogue whose text these bytes are.
+/// The catalogue whose text of this form these bytes are.
 ///
 /// # Errors
 /// `NoText` where they are the text of none.
 #[tactic(auto, unfolding(crate::specs::Reading::catalogue_at))]
-pub fn decode(alloc: Global, bytes: &[u8]) -> Result<Catalogue, DecodeError>
-    ensures exact { Gives catalogue_of result (catalogue_at bytes.now) }
+pub fn decode(alloc: Global, form: SegmentForm, bytes: &[u8]) -> Result<Catalogue, DecodeError>
+    ensures exact { Gives catalogue_of result (catalogue_at form bytes.now) }
 {
     let (count, rest) = u32_at(bytes)?;
-    let (entries, rest) = entries_at(alloc, count, rest)?;
+    let (entries, rest) = entries_at(alloc, form, count, rest)?;
     if !rest.is_empty() {
         return Err(DecodeError::NoText);
     }
     Catalogue::of(entries).ok_or(DecodeError::NoText)
 }
 
-/// The schema and the segments, at most so many, that a page of this text says.
+/// The schema and the segments, at most so many, that a page of this text and form says.
 ///
 /// # Errors
 /// `NoText` where they are the text of no such page.
 #[tactic(auto, unfolding(crate::specs::Reading::page_at))]
 pub fn decode_page(
     alloc: Global,
+    form: SegmentForm,
     most: u64,
     bytes: &[u8],
 ) -> Result<(Schema, Vec<Segment>), DecodeError>
-    ensures exact { Gives (λ x. (schema_of x.0, x.1.items)) result (page_at most bytes.now) }
+    ensures exact { Gives (λ x. (schema_of x.0, x.1.items)) result (page_at form most bytes.now) }
     ensures few { IfOk result (λ x. length x.1.items ≤ most) }
 {
-    let (schema, segments, rest) = body_at(alloc, bytes)?;
+    let (schema, segments, rest) = body_at(alloc, form, bytes)?;
     if rest.is_empty()
         && is_within_limits(&schema)
         && are_sound(&segments)

@@ -1,8 +1,8 @@
 // Changes of a list of entries, and copies of it.
-ghost use Rattle.std.specs.Prelude.{◌≡◌, ◌<◌, ◌++◌, true, map, option_map, string_bytes, vec_len, OnOk, OnErr, IfOk, IsOk, IsSome};
+ghost use Rattle.std.specs.Prelude.{◌≡◌, ◌<◌, ◌++◌, true, map, length, option_map, string_bytes, vec_len, OnOk, OnErr, IfOk, IsOk, IsSome};
 ghost use Rattle.std.specs.Vec.{vec_capacity};
-ghost use Rattle.catalogue.specs.Entries.{plain_entry, names_of, ascends, runs_in};
-ghost use Rattle.catalogue.specs.Edits.{entry_of, with_entry, without, renamed, with_more, with_others, with_exchanged};
+ghost use Rattle.catalogue.specs.Entries.{plain_entry, names_of, ascends, segment_count, runs_in};
+ghost use Rattle.catalogue.specs.Edits.{entry_of, with_entry, without, renamed, with_more, with_others, with_exchanged, with_digests, entry_digested, digested};
 ghost use Rattle.catalogue.specs.laws.Sums.{refilled};
 ghost use Rattle.catalogue.specs.declared.entry.Segment.{Segment};
 
@@ -141,6 +141,40 @@ pub(crate) fn exchange_in(
     match place_of(entries, name) {
         Some(at) => exchange(&mut entries[at], place, count, others),
         None => Ok(()),
+    }
+}
+
+// Gives segments their digests, in order.
+fn digest_segments(segments: &mut Vec<Segment>, digests: &[[u8; 32]])
+    requires { vec_len segments.old ≡ length digests.now }
+    ensures { segments.new.items ≡ with_digests segments.old.items digests.now }
+{
+    for place in 0..segments.len() {
+        segments[place].digest = Some(digests[place]);
+    }
+}
+
+// Gives the segments of an entry their digests. Its page, which says none, stays only where it has no segments.
+fn digest_entry(entry: &mut TableEntry, digests: &[[u8; 32]])
+    requires { vec_len entry.old.segments ≡ length digests.now }
+    ensures { plain_entry entry.new ≡ entry_digested (plain_entry entry.old) digests.now }
+{
+    if !entry.segments.is_empty() {
+        digest_segments(&mut entry.segments, digests);
+        entry.page = None;
+    }
+}
+
+// Gives the segments of each entry the next digests.
+pub(crate) fn digest_entries(entries: &mut Vec<TableEntry>, digests: &[[u8; 32]])
+    requires { segment_count (map plain_entry entries.old.items) ≡ length digests.now }
+    ensures { map plain_entry entries.new.items ≡ digested (map plain_entry entries.old.items) digests.now }
+{
+    let mut rest = digests;
+    for entry in entries.iter_mut() {
+        let (own, others) = rest.split_at(entry.segments.len());
+        digest_entry(entry, own);
+        rest = others;
     }
 }
 

@@ -1,11 +1,12 @@
 // The text of a catalogue is written.
-ghost use Rattle.std.specs.Prelude.{◌≡◌, ◌<◌, ◌^◌, ◌++◌, true, length, OnOk, IfOk};
+ghost use Rattle.std.specs.Prelude.{◌≡◌, ◌≤◌, ◌<◌, ◌*◌, ◌^◌, ◌++◌, true, length, sum_by, OnOk, IfOk};
+ghost use Rattle.std.specs.List.{list_all};
 ghost use Rattle.byteorder.specs.Endian.{little_bytes};
 ghost use Rattle.arrow_schema.specs.Limits.{IsWithinLimits};
 ghost use Rattle.arrow_schema.specs.View.{schema_of};
 ghost use Rattle.ipc_write.specs.Written.{schema_message};
-ghost use Rattle.catalogue.specs.Entries.{plain_entry, is_entry};
-ghost use Rattle.catalogue.specs.Text.{sized, counted, extent_text, segment_text, table_text, table_size, entry_text, list_text};
+ghost use Rattle.catalogue.specs.Entries.{plain_entry, is_segment, is_entry};
+ghost use Rattle.catalogue.specs.Text.{sized, counted, extent_text, digest_text, segment_text, segment_size, table_text, table_size, entry_text, list_text};
 ghost use Rattle.catalogue.specs.View.{catalogue_of};
 
 use crate::{Catalogue, Segment, TableEntry};
@@ -43,11 +44,21 @@ pub(crate) fn put_extent(out: &mut Vec<u8>, extent: Extent) -> Result<(), AllocE
     put_number(out, extent.bytes)
 }
 
+fn put_digest(out: &mut Vec<u8>, digest: Option<[u8; 32]>) -> Result<(), AllocError>
+    ensures { OnOk result (out.new.items ≡ out.old.items ++ digest_text digest) }
+{
+    match digest {
+        Some(digest) => out.extend_from_slice(digest.as_slice()),
+        None => Ok(()),
+    }
+}
+
 fn put_segment(out: &mut Vec<u8>, segment: &Segment) -> Result<(), AllocError>
     ensures { OnOk result (out.new.items ≡ out.old.items ++ segment_text segment.now) }
 {
     put_extent(out, segment.place)?;
-    put_number(out, segment.rows)
+    put_number(out, segment.rows)?;
+    put_digest(out, segment.digest)
 }
 
 fn put_segments(out: &mut Vec<u8>, segments: &[Segment]) -> Result<(), AllocError>
@@ -118,6 +129,30 @@ pub fn encode_page(alloc: Global, entry: &TableEntry) -> Result<Vec<u8>, AllocEr
     Ok(out)
 }
 
+fn segment_size(segment: &Segment) -> u64
+    requires { is_segment segment.now ≡ true }
+    ensures size { result ≡ segment_size segment.now }
+    ensures most { result ≤ 64 }
+{
+    match segment.digest {
+        Some(_) => 64,
+        None => 32,
+    }
+}
+
+fn segments_size(segments: &[Segment]) -> u64
+    requires sound { list_all is_segment segments.now ≡ true }
+    requires few { length segments.now < 2 ^ 32 }
+    ensures size { result ≡ sum_by segment_size segments.now }
+    ensures most { result ≤ 64 * length segments.now }
+{
+    let mut size = 0;
+    for segment in segments {
+        size += segment_size(segment);
+    }
+    size
+}
+
 /// How many bytes the text of the page of a table has. Where its segments lie makes no difference.
 pub fn page_size(alloc: Global, entry: &TableEntry) -> Result<u64, AllocError>
     requires sound { is_entry (plain_entry entry.now) ≡ true }
@@ -126,5 +161,5 @@ pub fn page_size(alloc: Global, entry: &TableEntry) -> Result<u64, AllocError>
     ensures short { IfOk result (λ size. size < 2 ^ 40) }
 {
     let message = message_of(alloc, &entry.schema)?;
-    Ok(8 + message.len() as u64 + 32 * entry.segments.len() as u64)
+    Ok(8 + message.len() as u64 + segments_size(&entry.segments))
 }

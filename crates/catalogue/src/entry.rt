@@ -3,7 +3,7 @@ ghost use Rattle.std.specs.Prelude.{◌≡◌, ◌<◌, ◌^◌, IfOk};
 ghost use Rattle.std.specs.List.{list_all};
 ghost use Rattle.arrow_schema.specs.View.{schema_of};
 ghost use Rattle.catalogue.specs.Schemas.{is_within_limits};
-ghost use Rattle.catalogue.specs.Entries.{is_segment, is_page, is_entry, plain_entry, row_count, runs_in_segments};
+ghost use Rattle.catalogue.specs.Entries.{is_digest, is_segment, is_page, is_entry, plain_entry, row_count, runs_in_segments};
 
 use crate::edits::put_runs;
 use crate::limits::MAX_SEGMENT_ROWS;
@@ -12,11 +12,22 @@ use arrow_schema::Schema;
 use segments::{Extent, Run};
 use std::alloc::{AllocError, Global};
 
-/// A run that holds one stream of a table, and how many rows it has.
+/// How a text says segments.
+#[derive(Clone, Copy, Debug, PartialEq, Eq)]
+pub enum SegmentForm {
+    /// Without digests.
+    Bare,
+    /// Each with the digest of its bytes.
+    Digested,
+}
+
+/// A run that holds one stream of a table, how many rows it has, and the SHA-256 of its bytes (FIPS 180-4), if the text that
+/// names it says one.
 #[derive(Clone, Copy)]
 pub struct Segment {
     pub place: Extent,
     pub rows: u64,
+    pub digest: Option<[u8; 32]>,
 }
 
 /// A table: its name, its schema, and its rows in segments, in order.
@@ -45,6 +56,17 @@ impl Segment {
             && self.place.run.count == self.place.bytes.div_ceil(512)
             && self.rows >= 1
             && self.rows <= MAX_SEGMENT_ROWS
+            && is_digest(self.digest)
+    }
+}
+
+// Whether it has the bytes of a digest, if there is one, as each array of 32 has.
+fn is_digest(digest: Option<[u8; 32]>) -> bool
+    ensures { result ≡ is_digest digest }
+{
+    match digest {
+        Some(digest) => digest.as_slice().len() == 32,
+        None => true,
     }
 }
 

@@ -3,9 +3,10 @@ ghost use Rattle.std.specs.Prelude.{◌≡◌, ◌≤◌, ◌*◌, ◌++◌, ℕ
 ghost use Rattle.std.specs.List.{Contains, list_all};
 ghost use Rattle.facts.specs.Bytes.{AreBytes};
 ghost use Rattle.catalogue.specs.declared.entry.Segment.{Segment};
+ghost use Rattle.catalogue.specs.declared.entry.SegmentForm.{SegmentForm};
 ghost use Rattle.catalogue.specs.declared.limits.TheConstants.{MAX_TABLES, MAX_SEGMENTS, MAX_SEGMENT_ROWS};
 ghost use Rattle.catalogue.specs.Schemas.{is_within_limits};
-ghost use Rattle.catalogue.specs.Entries.{PlainEntry, PlainCatalogue, PlainRoot, bare, is_name, is_segment, ascends, root_names, row_count, runs_of, IsTable, IsRoot, IsCatalogue};
+ghost use Rattle.catalogue.specs.Entries.{PlainEntry, PlainCatalogue, PlainRoot, bare, is_name, is_segment, ascends, root_names, row_count, has_digests, has_form, runs_of, IsTable, IsRoot, IsCatalogue};
 ghost use Rattle.catalogue.specs.Edits.{entry_of, with_entry, without};
 ghost use Rattle.catalogue.specs.Counts.{HasMore, HasSame, HasFewer};
 ghost use Rattle.catalogue.specs.Text.{list_text, list_size, table_text, table_size, root_text, root_size};
@@ -20,16 +21,19 @@ fn schemas_are_read_again()
     ipc_write::metadata_is_within_its_limit();
 }
 
-/// One text for each catalogue, and one catalogue for each text. `kept`: what is read is a catalogue;
-/// `found`: it was written so; `again`: what is written is read, without the pages, of which a list says nothing;
-/// `pageless`: what is read has none; `apart`: no text begins another one.
+/// One text for each catalogue, and in each form one catalogue for each text. `kept`: what is read is a catalogue;
+/// `formed`: of the form in which it is read; `found`: it was written so; `again`: what is written is read, without the pages,
+/// of which a list says nothing; `pageless`: what is read has none; `apart`: no text begins another one of its form.
 pub fn one_text_each()
-    ensures kept { (bytes : List ℕ) (c : PlainCatalogue) → catalogue_at bytes ≡ Some c → IsCatalogue c }
-    ensures found { (bytes : List ℕ) (c : PlainCatalogue) → AreBytes bytes → catalogue_at bytes ≡ Some c → bytes ≡ list_text c }
-    ensures again { (c : PlainCatalogue) → IsCatalogue c → catalogue_at (list_text c) ≡ Some (map bare c) }
-    ensures pageless { (bytes : List ℕ) (c : PlainCatalogue) → catalogue_at bytes ≡ Some c → map bare c ≡ c }
-    ensures apart { (c d : PlainCatalogue) (x y : List ℕ) → IsCatalogue c → IsCatalogue d
-        → list_text c ++ x ≡ list_text d ++ y → map bare c ≡ map bare d }
+    ensures kept { (form : SegmentForm) (bytes : List ℕ) (c : PlainCatalogue) → catalogue_at form bytes ≡ Some c → IsCatalogue c }
+    ensures formed { (form : SegmentForm) (bytes : List ℕ) (c : PlainCatalogue) → catalogue_at form bytes ≡ Some c → has_form form c ≡ true }
+    ensures found { (form : SegmentForm) (bytes : List ℕ) (c : PlainCatalogue) → AreBytes bytes → catalogue_at form bytes ≡ Some c
+        → bytes ≡ list_text c }
+    ensures again { (form : SegmentForm) (c : PlainCatalogue) → IsCatalogue c → has_form form c ≡ true
+        → catalogue_at form (list_text c) ≡ Some (map bare c) }
+    ensures pageless { (form : SegmentForm) (bytes : List ℕ) (c : PlainCatalogue) → catalogue_at form bytes ≡ Some c → map bare c ≡ c }
+    ensures apart { (form : SegmentForm) (c d : PlainCatalogue) (x y : List ℕ) → IsCatalogue c → IsCatalogue d
+        → has_form form c ≡ true → has_form form d ≡ true → list_text c ++ x ≡ list_text d ++ y → map bare c ≡ map bare d }
 {
     schemas_are_read_again();
 }
@@ -37,13 +41,16 @@ pub fn one_text_each()
 /// One text for the page of each table, and one table for each page; a name makes no difference to it. The clauses are
 /// those of [`one_text_each`]; `size`: how many bytes it has.
 pub fn one_page_each()
-    ensures kept { (most : ℕ) (bytes : List ℕ) (e : PlainEntry) → page_at most bytes ≡ Some (e.schema, e.segments)
+    ensures kept { (form : SegmentForm) (most : ℕ) (bytes : List ℕ) (e : PlainEntry) → page_at form most bytes ≡ Some (e.schema, e.segments)
         → (is_within_limits e.schema ≡ true) × (list_all is_segment e.segments ≡ true) × (length e.segments ≤ most) }
-    ensures found { (most : ℕ) (bytes : List ℕ) (e : PlainEntry) → AreBytes bytes → page_at most bytes ≡ Some (e.schema, e.segments)
-        → bytes ≡ table_text e }
-    ensures again { (most : ℕ) (e : PlainEntry) → IsTable e → length e.segments ≤ most → page_at most (table_text e) ≡ Some (e.schema, e.segments) }
-    ensures apart { (e f : PlainEntry) (x y : List ℕ) → IsTable e → IsTable f → table_text e ++ x ≡ table_text f ++ y
-        → (e.schema ≡ f.schema) × (e.segments ≡ f.segments) }
+    ensures formed { (form : SegmentForm) (most : ℕ) (bytes : List ℕ) (e : PlainEntry) → page_at form most bytes ≡ Some (e.schema, e.segments)
+        → has_digests form e.segments ≡ true }
+    ensures found { (form : SegmentForm) (most : ℕ) (bytes : List ℕ) (e : PlainEntry) → AreBytes bytes
+        → page_at form most bytes ≡ Some (e.schema, e.segments) → bytes ≡ table_text e }
+    ensures again { (form : SegmentForm) (most : ℕ) (e : PlainEntry) → IsTable e → has_digests form e.segments ≡ true → length e.segments ≤ most
+        → page_at form most (table_text e) ≡ Some (e.schema, e.segments) }
+    ensures apart { (form : SegmentForm) (e f : PlainEntry) (x y : List ℕ) → IsTable e → IsTable f → has_digests form e.segments ≡ true
+        → has_digests form f.segments ≡ true → table_text e ++ x ≡ table_text f ++ y → (e.schema ≡ f.schema) × (e.segments ≡ f.segments) }
     ensures size { (e : PlainEntry) → length (table_text e) ≡ table_size e }
 {
     schemas_are_read_again();

@@ -1,13 +1,14 @@
 //! The catalogue of a store: its tables, and the texts in which they are kept.
 //!
 //! `encode` writes the text of a catalogue, and `decode` reads just such texts: each catalogue has one text, and each
-//! text is that of one catalogue. A catalogue is changed by name.
+//! text is that of one catalogue. A catalogue is changed by name. The segments of a text have digests or they have none: that
+//! is its form, which a reader must know.
 //!
 //! A long one is kept in pages: `encode_page` writes the text of one table, and `encode_root` where the page of each lies;
 //! `decode_page` and `decode_root` read just such texts. A renamed table keeps its page.
 //!
 //! ```
-//! let mut catalogue = decode(alloc, &text)?;
+//! let mut catalogue = decode(alloc, SegmentForm::Bare, &text)?;
 //! catalogue.remove("old");
 //! catalogue.put(TableEntry { name, schema, segments, page: None })?;
 //! let text = encode(alloc, &catalogue)?;
@@ -29,7 +30,7 @@ mod testing;
 pub use catalogue::Catalogue;
 pub use decoding::{DecodeError, decode, decode_page};
 pub use encoding::{encode, encode_page, page_size};
-pub use entry::{RootEntry, Segment, TableEntry};
+pub use entry::{RootEntry, Segment, SegmentForm, TableEntry};
 pub use laws::{
     counts_after_changes, one_page_each, one_root_each, one_text_each, rows_are_few,
     runs_are_named, texts_have_these_sizes,

@@ -15,7 +15,7 @@ use std::alloc::{AllocError, Global};
 
 /// What each refusal means, and what to do: strings one after another, among them the sentences of `remedies`. The file
 /// `docs/refusals.md` has the same bytes.
-pub const REFUSALS: [&str; 79] = [
+pub const REFUSALS: [&str; 81] = [
     "# What each refusal means
 
 A refusal is one line on standard error: `refused`, a code, a name, and what it carries, as
@@ -241,6 +241,11 @@ appended. A refusal without a remedy of its own lies with that record.
 - S13 SegmentUnread N: the segment N of the table, counted from 0, can't be read: its bytes were changed.
   `check` reads all tables, in byte order of their names, and is refused so at the first that can't be
   read: an `export` of each shows which it is.
+  ",
+    IMPORT_AGAIN,
+    "
+- S15 SegmentDamaged N: the bytes of the segment N of the table, counted from 0, are not those that were
+  written: they have another SHA-256 than the store kept of them. `check` is refused so as by S13.
   ",
     IMPORT_AGAIN,
     "

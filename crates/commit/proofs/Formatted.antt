@@ -13,6 +13,7 @@ use Rattle.commit.specs.declared.sector.Commit.{Commit}
 use Rattle.commit.specs.Sector.{commit_at, commit_text, IsCommit}
 use Rattle.commit.proofs.Texts.{found_in}
 use Rattle.commit.specs.Ruling.{newer, ruling}
+use Rattle.commit.specs.declared.sector.FormatVersion.{FormatVersion}
 use Rattle.commit.specs.Formatting.{HoldsNoCommit, HasNoCommit, IsNoneOrEmpty, IsEmptyStore, IsFormatting, IsFormatted, IsMadeEmpty, first_commit, empty_text}
 use Rattle.commit.specs.laws.Sectors.{none_unreadable, none_begins}
 use Rattle.sector_dev.specs.laws.Crash.{one_more}
@@ -108,59 +109,59 @@ pub flushes_same : (s t : Story) → Flushes s t → (now t).writes ≡ (now s).
 flushes_same s t is = ap (λ (v : Story). (now v).writes) is ∙ flush_counts (now s)
 
 -- a formatting of a disk with so many writes is one of a disk with fewer
-pub formatted_since : (size : ℕ) (before between d : Disk) → before.writes ≤ between.writes → IsFormatted size between d → IsFormatted size before d
-formatted_since size before between d le is = record { rests = is.rests; text = is.text; begun = omega (arith, is.begun) }
+pub formatted_since : (size : ℕ) (version : FormatVersion) (before between d : Disk) → before.writes ≤ between.writes → IsFormatted size version between d → IsFormatted size version before d
+formatted_since size version before between d le is = record { rests = is.rests; text = is.text; begun = omega (arith, is.begun) }
 
-module _ (size : ℕ) (d : Disk) (p : IsPrepared d) (c : List ℕ) (spells : commit_at 1 (Some c) ≡ Some (first_commit size)) where
-  first_rules : (image : Image) → ((n : ℕ) → n ≢ 1 → image n ≡ (d.at n).synced) → image 1 ≡ Some c → IsEmptyStore size image
+module _ (size : ℕ) (version : FormatVersion) (d : Disk) (p : IsPrepared d) (c : List ℕ) (spells : commit_at 1 (Some c) ≡ Some (first_commit size version)) where
+  first_rules : (image : Image) → ((n : ℕ) → n ≢ 1 → image n ≡ (d.at n).synced) → image 1 ≡ Some c → IsEmptyStore size version image
   unfolding ruling newer
   first_rules image others is = record {
     rules = λ i. newer ((ap (commit_at 0) (others 0 (λ e. omega arith)) ∙ p.none.0) i) ((ap (commit_at 1) is ∙ spells) i);
     text = same_bytes image (synced_image d) 2 4 (λ j lt. others (2 + j) (λ e. omega arith)) ∙ p.text;
   }
 
-  begun_image : (image : Image) → ((n : ℕ) → n ≢ 1 → image n ≡ (d.at n).synced) → (image 1 ≡ (d.at 1).synced) ⊎ (image 1 ≡ Some c) ⊎ (image 1 ≡ None) → IsNoneOrEmpty size image
+  begun_image : (image : Image) → ((n : ℕ) → n ≢ 1 → image n ≡ (d.at n).synced) → (image 1 ≡ (d.at 1).synced) ⊎ (image 1 ≡ Some c) ⊎ (image 1 ≡ None) → IsNoneOrEmpty size version image
   begun_image image others (inl was) = inl (ap (commit_at 0) (others 0 (λ e. omega arith)) ∙ p.none.0, ap (commit_at 1) was ∙ p.none.1)
   begun_image image others (inr (inl is)) = inr (first_rules image others is)
   begun_image image others (inr (inr lost)) = inl (ap (commit_at 0) (others 0 (λ e. omega arith)) ∙ p.none.0, none_unreadable 1 (image 1) lost)
 
-  pub while_begun : (x : Option (List ℕ)) → LeavesOnly (IsNoneOrEmpty size) (put d 1 c x)
+  pub while_begun : (x : Option (List ℕ)) → LeavesOnly (IsNoneOrEmpty size version) (put d 1 c x)
   unfolding MayLeave
   while_begun x image may = begun_image image (λ n other. holds_synced (d.at n) (image n) (p.quiet.pending n) (subst (λ (z : Sector). MayHold z (image n)) (put_other d 1 c x n other) (may n)))
       (holds_one (d.at 1) c x (image 1) (p.quiet.pending 1) (subst (λ (z : Sector). MayHold z (image 1)) (put_same d 1 c x) (may 1)))
 
-  pub at_rest : LeavesOnly (IsNoneOrEmpty size) d
+  pub at_rest : LeavesOnly (IsNoneOrEmpty size version) d
   at_rest image may = inl (ap (commit_at 0) (leaves_synced d image 0 (p.quiet.pending 0) may) ∙ p.none.0, ap (commit_at 1) (leaves_synced d image 1 (p.quiet.pending 1) may) ∙ p.none.1)
 
-  pub begin_done : (x : Disk) → x ≡ put d 1 c (Some c) → LeavesOnly (IsNoneOrEmpty size) (flushed x) × IsFormatted size d (flushed x)
+  pub begin_done : (x : Disk) → x ≡ put d 1 c (Some c) → LeavesOnly (IsNoneOrEmpty size version) (flushed x) × IsFormatted size version d (flushed x)
   unfolding flushed
   begin_done x is =
       let others : (n : ℕ) → n ≢ 1 → (x.at n).shown ≡ (d.at n).synced = λ n other. ap (λ (y : Disk). (y.at n).shown) is ∙ ap (λ (z : Sector). z.shown) (put_other d 1 c (Some c) n other) ∙ p.quiet.shown n in
       let here : (x.at 1).shown ≡ Some c = ap (λ (y : Disk). (y.at 1).shown) is ∙ ap (λ (z : Sector). z.shown) (put_same d 1 c (Some c)) in
       let both = first_rules (shown_image x) others here in (
-        λ image may. subst (IsNoneOrEmpty size) (sym (only_flushed x image may)) (inr both),
+        λ image may. subst (IsNoneOrEmpty size version) (sym (only_flushed x image may)) (inr both),
         record { rests = record { quiet = record { pending = λ n. refl; shown = λ n. refl }; rules = both.rules }; text = both.text; begun = omega (arith, ap (λ (y : Disk). y.writes) is, put_counts d 1 c (Some c)) },
       )
 
-  pub begin_put : (s t : Story) (x : Option (List ℕ)) → now s ≡ d → Puts s 1 c x t → Grows (LeavesOnly (IsNoneOrEmpty size)) s t
-  begin_put s t x same is = two (LeavesOnly (IsNoneOrEmpty size)) s t _ _ is (subst (λ (y : Disk). LeavesOnly (IsNoneOrEmpty size) (put y 1 c x)) (sym same) (while_begun x)) (subst (λ (y : Disk). LeavesOnly (IsNoneOrEmpty size) (put y 1 c (y.at 1).shown)) (sym same) (while_begun (d.at 1).shown))
+  pub begin_put : (s t : Story) (x : Option (List ℕ)) → now s ≡ d → Puts s 1 c x t → Grows (LeavesOnly (IsNoneOrEmpty size version)) s t
+  begin_put s t x same is = two (LeavesOnly (IsNoneOrEmpty size version)) s t _ _ is (subst (λ (y : Disk). LeavesOnly (IsNoneOrEmpty size version) (put y 1 c x)) (sym same) (while_begun x)) (subst (λ (y : Disk). LeavesOnly (IsNoneOrEmpty size version) (put y 1 c (y.at 1).shown)) (sym same) (while_begun (d.at 1).shown))
 
-  pub begin_failed : (s t : Story) → now s ≡ d → FailsToPut s 1 c t → Grows (LeavesOnly (IsNoneOrEmpty size)) s t
+  pub begin_failed : (s t : Story) → now s ≡ d → FailsToPut s 1 c t → Grows (LeavesOnly (IsNoneOrEmpty size version)) s t
   begin_failed s t same (inl stays') = record { fresh = []; joined = stays'; each = tt }
   begin_failed s t same (inr (inl is)) = begin_put s t _ same is
   begin_failed s t same (inr (inr is)) = begin_put s t _ same is
 
 -- a sync of a disk on which reads give no commit: from then on no stop leaves one
-pub cleaned : (size : ℕ) (s t : Story) → HoldsNoCommit (shown_image (now s)) → Flushes s t → Grows (IsFormatting size (now s)) s t × HasNoCommit (now t)
-cleaned size s t none is =
+pub cleaned : (size : ℕ) (version : FormatVersion) (s t : Story) → HoldsNoCommit (shown_image (now s)) → Flushes s t → Grows (IsFormatting size version (now s)) s t × HasNoCommit (now t)
+cleaned size version s t none is =
     let clean : HasNoCommit (flushed (now s)) = λ image may. subst HoldsNoCommit (sym (only_flushed (now s) image may)) none in
-    (two (IsFormatting size (now s)) s t _ _ is (inr (λ image may. inl (clean image may))) (inl refl), subst HasNoCommit (sym (ap now is)) clean)
+    (two (IsFormatting size version (now s)) s t _ _ is (inr (λ image may. inl (clean image may))) (inl refl), subst HasNoCommit (sym (ap now is)) clean)
 
-as_none : (size : ℕ) (before : Disk) (s t : Story) → Grows HasNoCommit s t → Grows (IsFormatting size before) s t
-as_none size before s t g = weaken (λ d has. inr (λ image may. inl (has image may))) g
+as_none : (size : ℕ) (version : FormatVersion) (before : Disk) (s t : Story) → Grows HasNoCommit s t → Grows (IsFormatting size version before) s t
+as_none size version before s t g = weaken (λ d has. inr (λ image may. inl (has image may))) g
 
-as_empty : (size : ℕ) (before : Disk) (s t : Story) → Grows (LeavesOnly (IsNoneOrEmpty size)) s t → Grows (IsFormatting size before) s t
-as_empty size before s t g = weaken (λ d leaves. inr leaves) g
+as_empty : (size : ℕ) (version : FormatVersion) (before : Disk) (s t : Story) → Grows (LeavesOnly (IsNoneOrEmpty size version)) s t → Grows (IsFormatting size version before) s t
+as_empty size version before s t g = weaken (λ d leaves. inr leaves) g
 
 -- where no commit rules, neither sector holds one
 pub none_rules : (image : Image) → ruling image ≡ None → HoldsNoCommit image
@@ -178,34 +179,34 @@ none_rules image is = by_both (commit_at 0 (image 0)) (commit_at 1 (image 1)) is
     by_both (Some a) (Some b) is = by_test a b (nat_lt a.epoch b.epoch) is
 
 -- a sync, and then zeros
-pub cleared : (size : ℕ) (s0 s1 s2 : Story) → HoldsNoCommit (shown_image (now s0)) → Flushes s0 s1 → (HasNoCommit (now s1) → Grows HasNoCommit s1 s2) → Grows (IsFormatting size (now s0)) s0 s2
-cleared size s0 s1 s2 none synced clears =
-    let clean = cleaned size s0 s1 none synced in
-    goes_on clean.0 (as_none size (now s0) s1 s2 (clears clean.1))
+pub cleared : (size : ℕ) (version : FormatVersion) (s0 s1 s2 : Story) → HoldsNoCommit (shown_image (now s0)) → Flushes s0 s1 → (HasNoCommit (now s1) → Grows HasNoCommit s1 s2) → Grows (IsFormatting size version (now s0)) s0 s2
+cleared size version s0 s1 s2 none synced clears =
+    let clean = cleaned size version s0 s1 none synced in
+    goes_on clean.0 (as_none size version (now s0) s1 s2 (clears clean.1))
 
 -- and then the first commit, for the size that the device has still
-pub cleared_and_begun : (size n : ℕ) (s0 s1 s2 s3 : Story) → n ≡ size → HoldsNoCommit (shown_image (now s0)) → Flushes s0 s1 → (HasNoCommit (now s1) → Grows HasNoCommit s1 s2)
-    → (HasNoCommit (now s1) → IsPrepared (now s2)) → Begins n s2 s3 → Grows (IsFormatting size (now s0)) s0 s3
-cleared_and_begun size n s0 s1 s2 s3 same none synced clears prepares begins =
-    let begun = begins (prepares (cleaned size s0 s1 none synced).1) in
-    goes_on (cleared size s0 s1 s2 none synced clears) (as_empty size (now s0) s2 s3 (subst (λ (m : ℕ). Grows (LeavesOnly (IsNoneOrEmpty m)) s2 s3) same begun))
+pub cleared_and_begun : (size n : ℕ) (version : FormatVersion) (s0 s1 s2 s3 : Story) → n ≡ size → HoldsNoCommit (shown_image (now s0)) → Flushes s0 s1 → (HasNoCommit (now s1) → Grows HasNoCommit s1 s2)
+    → (HasNoCommit (now s1) → IsPrepared (now s2)) → Begins n version s2 s3 → Grows (IsFormatting size version (now s0)) s0 s3
+cleared_and_begun size n version s0 s1 s2 s3 same none synced clears prepares begins =
+    let begun = begins (prepares (cleaned size version s0 s1 none synced).1) in
+    goes_on (cleared size version s0 s1 s2 none synced clears) (as_empty size version (now s0) s2 s3 (subst (λ (m : ℕ). Grows (LeavesOnly (IsNoneOrEmpty m version)) s2 s3) same begun))
 
 -- reads leave no commit where none ruled
 pub still_none : (s t : Story) → OnlyReads s t → ruling (shown_image (now s)) ≡ None → HoldsNoCommit (shown_image (now t))
 still_none s t reads none = none_rules (shown_image (now t)) (ap (λ (d : Disk). ruling (shown_image d)) (now_read s t reads) ∙ none)
 
 -- reads, and then a formatting, for the size that the device has still
-pub read_first : (size n : ℕ) (s t u : Story) → n ≡ size → OnlyReads s t → ruling (shown_image (now s)) ≡ None → Clears n t u → Grows (IsFormatting size (now s)) s u
-read_first size n s t u same reads none clears =
-    let g = subst (λ (m : ℕ). Grows (IsFormatting m (now t)) t u) same (clears (still_none s t reads none)) in
-    goes_on (weaken (λ d is. inl is) reads) (subst (λ (before : Disk). Grows (IsFormatting size before) t u) (now_read s t reads) g)
+pub read_first : (size n : ℕ) (version : FormatVersion) (s t u : Story) → n ≡ size → OnlyReads s t → ruling (shown_image (now s)) ≡ None → Clears n version t u → Grows (IsFormatting size version (now s)) s u
+read_first size n version s t u same reads none clears =
+    let g = subst (λ (m : ℕ). Grows (IsFormatting m version (now t)) t u) same (clears (still_none s t reads none)) in
+    goes_on (weaken (λ d is. inl is) reads) (subst (λ (before : Disk). Grows (IsFormatting size version before) t u) (now_read s t reads) g)
 
-first_is_commit : (size : ℕ) → size ≤ 4194304 → IsCommit (first_commit size)
-first_is_commit size le = record { epoch = omega arith; epoch_fits = omega arith; start_fits = omega arith; count_fits = omega arith; bytes_fit = omega arith; sectors_fit = omega arith }
+first_is_commit : (size : ℕ) (version : FormatVersion) → size ≤ 4194304 → IsCommit (first_commit size version)
+first_is_commit size version le = record { epoch = omega arith; epoch_fits = omega arith; start_fits = omega arith; count_fits = omega arith; bytes_fit = omega arith; sectors_fit = omega arith }
 
 -- the sector that is written holds the first commit
-pub first_found : (size : ℕ) (sector : List ℕ) → 16 ≤ size → size ≤ 4194304 → sector ≡ commit_text (first_commit size) → commit_at 1 (Some sector) ≡ Some (first_commit size)
-first_found size sector least most is = found_in (first_commit size) sector (first_is_commit size most) is
+pub first_found : (size : ℕ) (version : FormatVersion) (sector : List ℕ) → 16 ≤ size → size ≤ 4194304 → sector ≡ commit_text (first_commit size version) → commit_at 1 (Some sector) ≡ Some (first_commit size version)
+first_found size version sector least most is = found_in (first_commit size version) sector (first_is_commit size version most) is
 
 -- ---- what reads give after a formatting
 
@@ -226,15 +227,15 @@ has_zeros s0 s1 s2 s3 c is one two synced = record {
   others = λ n not_zeroth not_second. flush_leaves s2 s3 n synced ∙ put_leaves s1 s2 2 n c (Some c) two not_second ∙ put_leaves s0 s1 0 n c (Some c) one not_zeroth;
 }
 
-pub has_first : (size : ℕ) (s0 s1 s2 : Story) (c : List ℕ) → c ≡ commit_text (first_commit size) → Puts s0 1 c (Some c) s1 → Flushes s1 s2 → HasFirst size (shown_image (now s0)) (shown_image (now s2))
-has_first size s0 s1 s2 c is one synced = record {
+pub has_first : (size : ℕ) (version : FormatVersion) (s0 s1 s2 : Story) (c : List ℕ) → c ≡ commit_text (first_commit size version) → Puts s0 1 c (Some c) s1 → Flushes s1 s2 → HasFirst size version (shown_image (now s0)) (shown_image (now s2))
+has_first size version s0 s1 s2 c is one synced = record {
   first = flush_leaves s1 s2 1 synced ∙ put_shown s0 s1 1 c one ∙ ap Some is;
   others = λ n other. flush_leaves s1 s2 n synced ∙ put_leaves s0 s1 1 n c (Some c) one other;
 }
 
-pub made_empty : (size : ℕ) (s0 s1 s2 s3 : Story) → Flushes s0 s1 → HasZeros (shown_image (now s1)) (shown_image (now s2)) → HasFirst size (shown_image (now s2)) (shown_image (now s3))
-    → IsMadeEmpty size (shown_image (now s0)) (shown_image (now s3))
-made_empty size s0 s1 s2 s3 synced cleared begun = record {
+pub made_empty : (size : ℕ) (version : FormatVersion) (s0 s1 s2 s3 : Story) → Flushes s0 s1 → HasZeros (shown_image (now s1)) (shown_image (now s2)) → HasFirst size version (shown_image (now s2)) (shown_image (now s3))
+    → IsMadeEmpty size version (shown_image (now s0)) (shown_image (now s3))
+made_empty size version s0 s1 s2 s3 synced cleared begun = record {
   zeroth = begun.others 0 (λ e. omega arith) ∙ cleared.zeroth;
   first = begun.first;
   second = begun.others 2 (λ e. omega arith) ∙ cleared.second;

@@ -5,7 +5,7 @@ use Rattle.sector_dev.specs.Time.{LeavesOnly}
 use Rattle.sector_dev.specs.History.{zeros}
 use Rattle.segments.specs.Sectors.{bytes_at}
 use Rattle.commit.specs.declared.sector.CatalogueKind.TheVariants.{Whole}
-use Rattle.commit.specs.declared.sector.FormatVersion.TheVariants.{One}
+use Rattle.commit.specs.declared.sector.FormatVersion.{FormatVersion}
 use Rattle.commit.specs.declared.sector.Commit.{Commit}
 use Rattle.commit.specs.declared.formatting.FormatError.{FormatError}
 use Rattle.commit.specs.declared.formatting.FormatError.TheVariants.{AlreadyAStore, Damaged, Device, OutOfMemory}
@@ -24,40 +24,40 @@ HasNoCommit d = LeavesOnly HoldsNoCommit d
 abbrev pub empty_text : List ℕ
 empty_text = 0 ∷ 0 ∷ 0 ∷ 0 ∷ []
 
--- the commit of an empty store on a device of this size: epoch 1, its catalogue in sector 2
-abbrev pub first_commit : ℕ → Commit
-first_commit size = record {
+-- the commit of an empty store of this version on a device of this size: epoch 1, its catalogue in sector 2
+abbrev pub first_commit : ℕ → FormatVersion → Commit
+first_commit size version = record {
   epoch = 1;
   catalogue = record { run = record { start = 2; count = 1 }; bytes = 4 };
   device_sectors = size;
-  version = One;
+  version = version;
   kind = Whole;
 }
 
 -- the empty store: its commit rules and its catalogue has no table
-pub record IsEmptyStore (size : ℕ) (image : Image) : Type 0 where
-  pub rules : ruling image ≡ Some (first_commit size)
+pub record IsEmptyStore (size : ℕ) (version : FormatVersion) (image : Image) : Type 0 where
+  pub rules : ruling image ≡ Some (first_commit size version)
   pub text : bytes_at image 2 4 ≡ Some empty_text
 
 -- no store, or the empty one
-abbrev pub IsNoneOrEmpty : ℕ → Image → Type 0
-IsNoneOrEmpty size image = HoldsNoCommit image ⊎ IsEmptyStore size image
+abbrev pub IsNoneOrEmpty : ℕ → FormatVersion → Image → Type 0
+IsNoneOrEmpty size version image = HoldsNoCommit image ⊎ IsEmptyStore size version image
 
 -- at a moment of the formatting: the disk is as it was, or each image that a stop may leave is no store or the empty one
-abbrev pub IsFormatting : ℕ → Disk → Disk → Type 0
-IsFormatting size before d = (d ≡ before) ⊎ LeavesOnly (IsNoneOrEmpty size) d
+abbrev pub IsFormatting : ℕ → FormatVersion → Disk → Disk → Type 0
+IsFormatting size version before d = (d ≡ before) ⊎ LeavesOnly (IsNoneOrEmpty size version) d
 
 -- after the formatting: all is synced, it is the empty store, and a write had begun
-pub record IsFormatted (size : ℕ) (before d : Disk) : Type 0 where
-  pub rests : Rests d (first_commit size)
+pub record IsFormatted (size : ℕ) (version : FormatVersion) (before d : Disk) : Type 0 where
+  pub rests : Rests d (first_commit size version)
   pub text : bytes_at (synced_image d) 2 4 ≡ Some empty_text
   pub begun : before.writes < d.writes
 
 -- what a formatting makes of a device, as reads give it: zeros in sector 0, the first commit in sector 1, the empty text with zeros behind
 -- it in sector 2, which are zeros too, and all else as it was
-pub record IsMadeEmpty (size : ℕ) (before after : Image) : Type 0 where
+pub record IsMadeEmpty (size : ℕ) (version : FormatVersion) (before after : Image) : Type 0 where
   pub zeroth : after 0 ≡ Some zeros
-  pub first : after 1 ≡ Some (commit_text (first_commit size))
+  pub first : after 1 ≡ Some (commit_text (first_commit size version))
   pub second : after 2 ≡ Some zeros
   pub others : (n : ℕ) → 3 ≤ n → after n ≡ before n
 

@@ -6,7 +6,7 @@ use Rattle.segments.specs.Sectors.{filled}
 use Rattle.commit.specs.declared.sector.CatalogueKind.{CatalogueKind}
 use Rattle.commit.specs.declared.sector.CatalogueKind.TheVariants.{Whole, Pages}
 use Rattle.commit.specs.declared.sector.FormatVersion.{FormatVersion}
-use Rattle.commit.specs.declared.sector.FormatVersion.TheVariants.{One}
+use Rattle.commit.specs.declared.sector.FormatVersion.TheVariants.{One, Two}
 use Rattle.commit.specs.declared.sector.Commit.{Commit}
 
 -- "ARWSTOR1"
@@ -15,6 +15,7 @@ letters = 65 ∷ 82 ∷ 87 ∷ 83 ∷ 84 ∷ 79 ∷ 82 ∷ 49 ∷ []
 
 abbrev pub version_number : FormatVersion → ℕ
 version_number One = 1
+version_number Two = 2
 
 abbrev pub kind_number : CatalogueKind → ℕ
 kind_number Whole = 0
@@ -38,6 +39,10 @@ u64_at at bytes = little_number 8 (drop at bytes)
 abbrev pub u32_at : ℕ → List ℕ → ℕ
 u32_at at bytes = little_number 4 (drop at bytes)
 
+-- the version whose number stands there. Where another number stands, the text of the commit is another one too
+abbrev pub version_in : List ℕ → FormatVersion
+version_in bytes = if u32_at 48 bytes == 2 then Two else One
+
 -- the kind whose number stands there. Where another number stands, the text of the commit is another one too
 abbrev pub kind_in : List ℕ → CatalogueKind
 kind_in bytes = if u32_at 52 bytes == 1 then Pages else Whole
@@ -48,7 +53,7 @@ fields_of bytes = record {
   epoch = u64_at 8 bytes;
   catalogue = record { run = record { start = u64_at 16 bytes; count = u64_at 24 bytes }; bytes = u64_at 32 bytes };
   device_sectors = u64_at 40 bytes;
-  version = One;
+  version = version_in bytes;
   kind = kind_in bytes;
 }
 

@@ -35,8 +35,8 @@ pub enum FormatError {
 const FIRST_RUN: Run = Run { start: 2, count: 1 };
 
 // The commit of an empty store.
-fn first_commit(sectors: u64) -> Commit
-    ensures { result ≡ first_commit sectors }
+fn first_commit(sectors: u64, version: FormatVersion) -> Commit
+    ensures { result ≡ first_commit sectors version }
 {
     Commit {
         epoch: 1,
@@ -45,7 +45,7 @@ fn first_commit(sectors: u64) -> Commit
             bytes: 4,
         },
         device_sectors: sectors,
-        version: FormatVersion::One,
+        version,
         kind: CatalogueKind::Whole,
     }
 }
@@ -69,18 +69,18 @@ fn prepare<D: SectorDevice>(device: &mut D) -> Result<(), DevError>
 }
 
 // Writes the first commit, and syncs.
-fn begin<D: SectorDevice>(device: &mut D) -> Result<(), DevError>
+fn begin<D: SectorDevice>(device: &mut D, version: FormatVersion) -> Result<(), DevError>
     requires room { LEAST_SECTORS ≤ D.size device.old }
     requires most { D.size device.old ≤ MOST_SECTORS }
     ensures size { D.size device.new ≡ D.size device.old }
     ensures count { Counts (D.failed device.old) (D.failed device.new) result }
     ensures error { IfErr result (λ e. e ≡ DevError.Failed) }
-    ensures moments { D.tells ≡ true → Begins (D.size device.old) (D.story device.old) (D.story device.new) }
-    ensures formatted { OnOk result (D.tells ≡ true → EndsBegun (D.size device.old) (D.story device.old) (D.story device.new)) }
+    ensures moments { D.tells ≡ true → Begins (D.size device.old) version (D.story device.old) (D.story device.new) }
+    ensures formatted { OnOk result (D.tells ≡ true → EndsBegun (D.size device.old) version (D.story device.old) (D.story device.new)) }
     ensures first { OnOk result
-        (D.tells ≡ true → HasFirst (D.size device.old) (shown_image (now (D.story device.old))) (shown_image (now (D.story device.new)))) }
+        (D.tells ≡ true → HasFirst (D.size device.old) version (shown_image (now (D.story device.old))) (shown_image (now (D.story device.new)))) }
 {
-    let first = first_commit(device.sectors());
+    let first = first_commit(device.sectors(), version);
     let sector = commit_sector(first);
     device.write(1, &sector)?;
     device.sync()?;
@@ -88,28 +88,28 @@ fn begin<D: SectorDevice>(device: &mut D) -> Result<(), DevError>
 }
 
 // Makes what reads give safe, so that no stop brings back an older commit, and then writes the empty store.
-fn clear_and_begin<D: SectorDevice>(device: &mut D) -> Result<(), DevError>
+fn clear_and_begin<D: SectorDevice>(device: &mut D, version: FormatVersion) -> Result<(), DevError>
     requires room { LEAST_SECTORS ≤ D.size device.old }
     requires most { D.size device.old ≤ MOST_SECTORS }
     ensures size { D.size device.new ≡ D.size device.old }
     ensures count { Counts (D.failed device.old) (D.failed device.new) result }
     ensures error { IfErr result (λ e. e ≡ DevError.Failed) }
-    ensures moments { D.tells ≡ true → Clears (D.size device.old) (D.story device.old) (D.story device.new) }
-    ensures formatted { OnOk result (D.tells ≡ true → EndsCleared (D.size device.old) (D.story device.old) (D.story device.new)) }
+    ensures moments { D.tells ≡ true → Clears (D.size device.old) version (D.story device.old) (D.story device.new) }
+    ensures formatted { OnOk result (D.tells ≡ true → EndsCleared (D.size device.old) version (D.story device.old) (D.story device.new)) }
     ensures made { OnOk result
-        (D.tells ≡ true → IsMadeEmpty (D.size device.old) (shown_image (now (D.story device.old))) (shown_image (now (D.story device.new)))) }
+        (D.tells ≡ true → IsMadeEmpty (D.size device.old) version (shown_image (now (D.story device.old))) (shown_image (now (D.story device.new)))) }
 {
     device.sync()?;
     prepare(device)?;
-    begin(device)?;
+    begin(device, version)?;
     Ok(())
 }
 
 // A map in which the first catalogue's run is in use.
-fn first_map(alloc: Global, sectors: u64) -> Result<FreeMap, FormatError>
+fn first_map(alloc: Global, sectors: u64, version: FormatVersion) -> Result<FreeMap, FormatError>
     requires { LEAST_SECTORS ≤ sectors }
     ensures size { IfOk result (λ map. map.size ≡ sectors) }
-    ensures uses { IfOk result (λ map. Uses map.entries ((first_commit sectors).catalogue.run ∷ []) []) }
+    ensures uses { IfOk result (λ map. Uses map.entries ((first_commit sectors version).catalogue.run ∷ []) []) }
     ensures err { IfErr result (λ e. e ≡ FormatError.OutOfMemory) }
 {
     let mut map = FreeMap::new(alloc, sectors);
@@ -119,7 +119,7 @@ fn first_map(alloc: Global, sectors: u64) -> Result<FreeMap, FormatError>
     }
 }
 
-/// Makes an empty store of a device on which none is: its commit, and the runs in use.
+/// Makes an empty store of this version of a device on which none is: its commit, and the runs in use.
 ///
 /// At each moment a stop leaves the disk as it was, or no store, or the empty one.
 ///
@@ -129,6 +129,7 @@ fn first_map(alloc: Global, sectors: u64) -> Result<FreeMap, FormatError>
 pub fn format<D: SectorDevice>(
     alloc: Global,
     device: &mut D,
+    version: FormatVersion,
 ) -> Result<(Commit, FreeMap), FormatError>
     ensures size { D.size device.new ≡ D.size device.old }
     ensures count { CountsFormat (D.failed device.old) (D.failed device.new) result }
@@ -139,12 +140,12 @@ pub fn format<D: SectorDevice>(
     ensures none_before { OnOk result (D.tells ≡ true → ruling (shown_image (now (D.story device.old))) ≡ None) }
     ensures memory { IsErrOf result FormatError.OutOfMemory → D.tells ≡ true → ruling (shown_image (now (D.story device.old))) ≡ None }
     ensures untouched { D.tells ≡ true → ruling (shown_image (now (D.story device.old))) ≢ None → OnlyReads (D.story device.old) (D.story device.new) }
-    ensures moments { D.tells ≡ true → Grows (IsFormatting (D.size device.old) (now (D.story device.old))) (D.story device.old) (D.story device.new) }
+    ensures moments { D.tells ≡ true → Grows (IsFormatting (D.size device.old) version (now (D.story device.old))) (D.story device.old) (D.story device.new) }
     ensures quiet { IfErr result (λ e. e ≢ FormatError.Device → D.tells ≡ true → now (D.story device.new) ≡ now (D.story device.old)) }
-    ensures commit { IfOk result (λ store. store.0 ≡ first_commit (D.size device.old)) }
-    ensures formatted { OnOk result (D.tells ≡ true → IsFormatted (D.size device.old) (now (D.story device.old)) (now (D.story device.new))) }
+    ensures commit { IfOk result (λ store. store.0 ≡ first_commit (D.size device.old) version) }
+    ensures formatted { OnOk result (D.tells ≡ true → IsFormatted (D.size device.old) version (now (D.story device.old)) (now (D.story device.new))) }
     ensures made { OnOk result
-        (D.tells ≡ true → IsMadeEmpty (D.size device.old) (shown_image (now (D.story device.old))) (shown_image (now (D.story device.new)))) }
+        (D.tells ≡ true → IsMadeEmpty (D.size device.old) version (shown_image (now (D.story device.old))) (shown_image (now (D.story device.new)))) }
     ensures map_size { IfOk result (λ store. store.1.size ≡ D.size device.old) }
     ensures uses { IfOk result (λ store. Uses store.1.entries (store.0.catalogue.run ∷ []) []) }
 {
@@ -158,11 +159,11 @@ pub fn format<D: SectorDevice>(
     if ruling.is_some() {
         return Err(FormatError::AlreadyAStore);
     }
-    let Ok(map) = first_map(alloc, sectors) else {
+    let Ok(map) = first_map(alloc, sectors, version) else {
         return Err(FormatError::OutOfMemory);
     };
-    match clear_and_begin(device) {
-        Ok(()) => Ok((first_commit(sectors), map)),
+    match clear_and_begin(device, version) {
+        Ok(()) => Ok((first_commit(sectors, version), map)),
         Err(_) => Err(FormatError::Device),
     }
 }

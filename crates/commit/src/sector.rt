@@ -1,7 +1,7 @@
 // The commit sector and its text.
 ghost use Rattle.std.specs.Prelude.{◌≡◌, ◌+◌, ◌≤◌, ◌<◌, ◌^◌, ◌%◌, ◌++◌, ℕ, List, length, Option, Some};
 ghost use Rattle.segments.specs.Sectors.{filled};
-ghost use Rattle.commit.specs.Sector.{version_number, kind_number, commit_text, u64_at, u32_at, kind_in, fields_of, commit_at, IsCommit};
+ghost use Rattle.commit.specs.Sector.{version_number, kind_number, commit_text, u64_at, u32_at, version_in, kind_in, fields_of, commit_at, IsCommit};
 ghost use Rattle.commit.specs.laws.Sectors.{IsFoundAt};
 
 use byteorder::{ByteOrder, LittleEndian};
@@ -19,7 +19,10 @@ pub enum CatalogueKind {
 /// The version of the store's format.
 #[derive(Clone, Copy, Debug, PartialEq, Eq)]
 pub enum FormatVersion {
+    /// Segments without digests.
     One,
+    /// Each segment with the digest of its bytes.
+    Two,
 }
 
 /// A state of the store: where its catalogue lies. The newest one rules.
@@ -42,6 +45,7 @@ impl FormatVersion {
     {
         match self {
             FormatVersion::One => 1,
+            FormatVersion::Two => 2,
         }
     }
 }
@@ -96,6 +100,17 @@ fn u32_at(sector: &[u8; 512], at: usize) -> u32
     LittleEndian::read_u32(&sector[at..])
 }
 
+// The version whose number stands here. The text of the commit that is found has the same number, so no other one is taken for it.
+fn version(sector: &[u8; 512]) -> FormatVersion
+    ensures { result ≡ version_in sector.now }
+{
+    if u32_at(sector, 48) == 2 {
+        FormatVersion::Two
+    } else {
+        FormatVersion::One
+    }
+}
+
 // The kind whose number stands here. The text of the commit that is found has the same number, so no other one is taken for it.
 fn kind(sector: &[u8; 512]) -> CatalogueKind
     ensures { result ≡ kind_in sector.now }
@@ -121,7 +136,7 @@ fn fields(sector: &[u8; 512]) -> Commit
             bytes,
         },
         device_sectors: u64_at(sector, 40),
-        version: FormatVersion::One,
+        version: version(sector),
         kind: kind(sector),
     }
 }

@@ -7,6 +7,7 @@ use Rattle.sector_dev.specs.Time.{OnlyReads}
 use Rattle.sector_dev.specs.laws.Time.{now_read}
 use Rattle.arrow_schema.specs.Column.{PlainSchema}
 use Rattle.segments.specs.declared.extent.Extent.{Extent}
+use Rattle.catalogue.specs.declared.entry.SegmentForm.{SegmentForm}
 use Rattle.catalogue.specs.declared.entry.Segment.{Segment}
 use Rattle.catalogue.specs.declared.entry.TableEntry.{TableEntry}
 use Rattle.catalogue.specs.declared.entry.RootEntry.{RootEntry}
@@ -36,43 +37,43 @@ one_behind : (front : PlainCatalogue) (e : PlainEntry) (rest : Found) → behind
 one_behind front e (Ok others) = ap Ok (sym (append_assoc front (e ∷ []) others))
 one_behind front e (Err cause) = refl
 
-module _ (size : ℕ) (image : Image) where
+module _ (form : SegmentForm) (size : ℕ) (image : Image) where
   left_at : (rs : List RootEntry) (i : ℕ) (x : RootEntry) → i < length rs → x ≡ get_or rs i x → map plain_root (drop i rs) ≡ plain_root x ∷ map plain_root (drop (i + 1) rs)
   left_at rs i x lt is = ap (map plain_root) (drop_more rs i x lt) ∙ ap (λ (y : RootEntry). plain_root y ∷ map plain_root (drop (i + 1) rs)) (sym is)
 
   -- the tables behind one whose page says this
   rest_at : ℕ → List RootEntry → ℕ → RootEntry → Body → Found
-  rest_at most rs i x body = then_read (pages_at size image (most - length body.1) (map plain_root (drop (i + 1) rs))) (λ others. Ok (entry_from (string_bytes x.name) (Some x.page) body ∷ others))
+  rest_at most rs i x body = then_read (pages_at form size image (most - length body.1) (map plain_root (drop (i + 1) rs))) (λ others. Ok (entry_from (string_bytes x.name) (Some x.page) body ∷ others))
 
   -- what is left is read by its first page, and then the others
-  first_left : (most : ℕ) (rs : List RootEntry) (i : ℕ) (x : RootEntry) → i < length rs → x ≡ get_or rs i x → pages_at size image most (map plain_root (drop i rs)) ≡ then_read (page_in size image most x.page) (rest_at most rs i x)
+  first_left : (most : ℕ) (rs : List RootEntry) (i : ℕ) (x : RootEntry) → i < length rs → x ≡ get_or rs i x → pages_at form size image most (map plain_root (drop i rs)) ≡ then_read (page_in form size image most x.page) (rest_at most rs i x)
   unfolding pages_at rest_at
-  first_left most rs i x lt is = ap (pages_at size image most) (left_at rs i x lt is)
+  first_left most rs i x lt is = ap (pages_at form size image most) (left_at rs i x lt is)
 
   pub next_read : (most : ℕ) (rs : List RootEntry) (i : ℕ) (x : RootEntry) (es fs : List TableEntry) (e : TableEntry) → i < length rs → x ≡ get_or rs i x
-      → page_in size image most x.page ≡ Ok ((plain_entry e).schema, (plain_entry e).segments)
+      → page_in form size image most x.page ≡ Ok ((plain_entry e).schema, (plain_entry e).segments)
       → plain_entry e ≡ entry_from (string_bytes x.name) (Some x.page) ((plain_entry e).schema, (plain_entry e).segments) → fs ≡ es ++ e ∷ []
-      → behind (map plain_entry es) (pages_at size image most (map plain_root (drop i rs)))
-      ≡ behind (map plain_entry fs) (pages_at size image (most - length e.segments.items) (map plain_root (drop (i + 1) rs)))
+      → behind (map plain_entry es) (pages_at form size image most (map plain_root (drop i rs)))
+      ≡ behind (map plain_entry fs) (pages_at form size image (most - length e.segments.items) (map plain_root (drop (i + 1) rs)))
   unfolding rest_at
   next_read most rs i x es fs e lt is page entry more =
-      let rest = pages_at size image (most - length e.segments.items) (map plain_root (drop (i + 1) rs)) in
+      let rest = pages_at form size image (most - length e.segments.items) (map plain_root (drop (i + 1) rs)) in
       ap (behind (map plain_entry es)) (first_left most rs i x lt is ∙ ap (λ (r : Result Body Cause). then_read r (rest_at most rs i x)) page)
       ∙ ap (λ (y : PlainEntry). behind (map plain_entry es) (then_read rest (λ others. Ok (y ∷ others)))) (sym entry)
       ∙ one_behind (map plain_entry es) (plain_entry e) rest
       ∙ ap (λ (front : PlainCatalogue). behind front rest) (sym (ap (map plain_entry) more ∙ map-append plain_entry es (e ∷ [])))
 
-  pub not_read : (most : ℕ) (rs : List RootEntry) (i : ℕ) (x : RootEntry) (es : List TableEntry) (cause : Cause) → i < length rs → x ≡ get_or rs i x → page_in size image most x.page ≡ Err cause
-      → behind (map plain_entry es) (pages_at size image most (map plain_root (drop i rs))) ≡ Err cause
+  pub not_read : (most : ℕ) (rs : List RootEntry) (i : ℕ) (x : RootEntry) (es : List TableEntry) (cause : Cause) → i < length rs → x ≡ get_or rs i x → page_in form size image most x.page ≡ Err cause
+      → behind (map plain_entry es) (pages_at form size image most (map plain_root (drop i rs))) ≡ Err cause
   not_read most rs i x es cause lt is page = ap (behind (map plain_entry es)) (first_left most rs i x lt is ∙ ap (λ (r : Result Body Cause). then_read r (rest_at most rs i x)) page)
 
-  pub all_read : (most : ℕ) (rs : List RootEntry) (i : ℕ) (es : List TableEntry) → length rs ≤ i → behind (map plain_entry es) (pages_at size image most (map plain_root (drop i rs))) ≡ Ok (map plain_entry es)
+  pub all_read : (most : ℕ) (rs : List RootEntry) (i : ℕ) (es : List TableEntry) → length rs ≤ i → behind (map plain_entry es) (pages_at form size image most (map plain_root (drop i rs))) ≡ Ok (map plain_entry es)
   unfolding pages_at
-  all_read most rs i es past = ap (λ (ys : List RootEntry). behind (map plain_entry es) (pages_at size image most (map plain_root ys))) (drop_all i rs past) ∙ ap Ok (append-nil (map plain_entry es))
+  all_read most rs i es past = ap (λ (ys : List RootEntry). behind (map plain_entry es) (pages_at form size image most (map plain_root ys))) (drop_all i rs past) ∙ ap Ok (append-nil (map plain_entry es))
 
 -- as the device tells it at a later call
-pub page_then : (size later : ℕ) (old new : Story) (most : ℕ) (page : Extent) → later ≡ size → OnlyReads old new → page_shown later new most page ≡ page_shown size old most page
-page_then size later old new most page sized reads = λ i. page_in (sized i) (shown_image (now_read old new reads i)) most page
+pub page_then : (form : SegmentForm) (size later : ℕ) (old new : Story) (most : ℕ) (page : Extent) → later ≡ size → OnlyReads old new → page_shown form later new most page ≡ page_shown form size old most page
+page_then form size later old new most page sized reads = λ i. page_in form (sized i) (shown_image (now_read old new reads i)) most page
 
 -- what is told of a page is told of all
 pub told_of_all : (one : Result Body Cause) (all : Found) (e : OpenError) → ((cause : Cause) → one ≡ Err cause → all ≡ Err cause) → TellsCause e one → TellsCause e all

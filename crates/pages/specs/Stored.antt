@@ -9,10 +9,19 @@ use Rattle.commit.specs.declared.cause.Cause.TheVariants.{CatalogueText}
 use Rattle.commit.specs.declared.sector.CatalogueKind.{CatalogueKind}
 use Rattle.commit.specs.declared.sector.CatalogueKind.TheVariants.{Whole, Pages}
 use Rattle.commit.specs.Standing.{Reading, extent_at}
+use Rattle.commit.specs.declared.sector.FormatVersion.{FormatVersion}
+use Rattle.commit.specs.declared.sector.FormatVersion.TheVariants.{One, Two}
 use Rattle.catalogue.specs.declared.entry.Segment.{Segment}
+use Rattle.catalogue.specs.declared.entry.SegmentForm.{SegmentForm}
+use Rattle.catalogue.specs.declared.entry.SegmentForm.TheVariants.{Bare, Digested}
 use Rattle.catalogue.specs.declared.limits.TheConstants.{MAX_SEGMENTS, MAX_TABLES}
 use Rattle.catalogue.specs.Entries.{PlainEntry, PlainCatalogue, PlainRoot, is_name, ascends, root_names, runs_of}
 use Rattle.catalogue.specs.Reading.{catalogue_at, page_at, root_at, entry_from}
+
+-- the form of the texts in a version
+abbrev pub form_of : FormatVersion → SegmentForm
+form_of One = Bare
+form_of Two = Digested
 
 -- what is read once something was read; the first cause is told
 abbrev pub then_read : {A B : Type 0} → Result A Cause → (A → Result B Cause) → Result B Cause
@@ -23,9 +32,9 @@ abbrev pub or_no_text : {A : Type 0} → Option A → Result A Cause
 or_no_text None = Err CatalogueText
 or_no_text (Some x) = Ok x
 
--- what a page says that lies there, with at most so many segments
-abbrev pub page_in : ℕ → Image → (most : ℕ) → Extent → Result (PlainSchema × List Segment) Cause
-page_in size image most page = then_read (extent_at size image 8 page) (λ bytes. or_no_text (page_at most bytes))
+-- what a page of this form says that lies there, with at most so many segments
+abbrev pub page_in : SegmentForm → ℕ → Image → (most : ℕ) → Extent → Result (PlainSchema × List Segment) Cause
+page_in form size image most page = then_read (extent_at size image 8 page) (λ bytes. or_no_text (page_at form most bytes))
 
 -- the names of a root's tables may stand, in order, and there are not too many
 pub record AreTables (rs : List PlainRoot) : Type 0 where
@@ -34,30 +43,30 @@ pub record AreTables (rs : List PlainRoot) : Type 0 where
   pub tables : length rs ≤ MAX_TABLES
 
 -- page after page in the order of the root, each tested whole before the next; segments are counted over the pages so far
-unfoldable pub pages_at : ℕ → Image → (most : ℕ) → List PlainRoot → Result PlainCatalogue Cause
-pages_at size image most [] = Ok []
-pages_at size image most (r ∷ rs) =
-    then_read (page_in size image most r.page)
-    (λ body. then_read (pages_at size image (most - length body.1) rs) (λ others. Ok (entry_from r.name (Some r.page) body ∷ others)))
+unfoldable pub pages_at : SegmentForm → ℕ → Image → (most : ℕ) → List PlainRoot → Result PlainCatalogue Cause
+pages_at form size image most [] = Ok []
+pages_at form size image most (r ∷ rs) =
+    then_read (page_in form size image most r.page)
+    (λ body. then_read (pages_at form size image (most - length body.1) rs) (λ others. Ok (entry_from r.name (Some r.page) body ∷ others)))
 
--- the catalogue that the text of a commit of this kind spells: a list says all of it, a root where the pages lie
-abbrev pub by_kind : CatalogueKind → ℕ → Image → List ℕ → Result PlainCatalogue Cause
-by_kind Whole size image text = or_no_text (catalogue_at text)
-by_kind Pages size image text = then_read (or_no_text (root_at text)) (pages_at size image MAX_SEGMENTS)
+-- the catalogue that the text of a commit of this kind and form spells: a list says all of it, a root where the pages lie
+abbrev pub by_kind : CatalogueKind → SegmentForm → ℕ → Image → List ℕ → Result PlainCatalogue Cause
+by_kind Whole form size image text = or_no_text (catalogue_at form text)
+by_kind Pages form size image text = then_read (or_no_text (root_at text)) (pages_at form size image MAX_SEGMENTS)
 
 abbrev pub stored_reading : Reading PlainCatalogue
-stored_reading = record { at = λ size image k text. by_kind k.kind size image text; runs = runs_of }
+stored_reading = record { at = λ size image k text. by_kind k.kind (form_of k.version) size image text; runs = runs_of }
 
 -- the entry has no page, or its page says what the entry does
-abbrev pub HoldsPage : ℕ → Image → PlainEntry → Type 0
-HoldsPage size image e = (page : Extent) → e.page ≡ Some page → page_in size image (length e.segments) page ≡ Ok (e.schema, e.segments)
+abbrev pub HoldsPage : SegmentForm → ℕ → Image → PlainEntry → Type 0
+HoldsPage form size image e = (page : Extent) → e.page ≡ Some page → page_in form size image (length e.segments) page ≡ Ok (e.schema, e.segments)
 
-abbrev pub HoldsPages : ℕ → Image → PlainCatalogue → Type 0
-HoldsPages size image c = AllByRecursion (HoldsPage size image) c
+abbrev pub HoldsPages : SegmentForm → ℕ → Image → PlainCatalogue → Type 0
+HoldsPages form size image c = AllByRecursion (HoldsPage form size image) c
 
 -- the same as reads give it
-abbrev pub page_shown : ℕ → Story → (most : ℕ) → Extent → Result (PlainSchema × List Segment) Cause
-page_shown size story most page = page_in size (shown_image (now story)) most page
+abbrev pub page_shown : SegmentForm → ℕ → Story → (most : ℕ) → Extent → Result (PlainSchema × List Segment) Cause
+page_shown form size story most page = page_in form size (shown_image (now story)) most page
 
-abbrev pub pages_shown : ℕ → Story → (most : ℕ) → List PlainRoot → Result PlainCatalogue Cause
-pages_shown size story most rs = pages_at size (shown_image (now story)) most rs
+abbrev pub pages_shown : SegmentForm → ℕ → Story → (most : ℕ) → List PlainRoot → Result PlainCatalogue Cause
+pages_shown form size story most rs = pages_at form size (shown_image (now story)) most rs

@@ -1,5 +1,6 @@
 -- Laws that the crates above use.
 pub mod Read
+pub mod Digested
 pub mod Local
 pub mod Sizes
 pub mod Alike

@@ -13,17 +13,19 @@ ghost use Rattle.pages.specs.Stored.{page_shown, pages_shown, AreTables};
 
 use arrow_schema::Schema;
 use catalogue::{
-    DecodeError, MAX_SEGMENTS, RootEntry, Segment, TableEntry, decode_page, one_page_each,
+    DecodeError, MAX_SEGMENTS, RootEntry, Segment, SegmentForm, TableEntry, decode_page,
+    one_page_each,
 };
 use commit::{Cause, OpenError, read_extent};
 use sector_dev::SectorDevice;
 use segments::Extent;
 use std::alloc::Global;
 
-// What a page says that lies there, with at most so many segments.
+// What a page of this form says that lies there, with at most so many segments.
 fn read_page<D: SectorDevice>(
     alloc: Global,
     device: &mut D,
+    form: SegmentForm,
     most: u64,
     page: Extent,
 ) -> Result<(Schema, Vec<Segment>), OpenError>
@@ -32,8 +34,8 @@ fn read_page<D: SectorDevice>(
     ensures count { CountsOpen (D.failed device.old) (D.failed device.new) result }
     ensures moments { D.tells ≡ true → OnlyReads (D.story device.old) (D.story device.new) }
     ensures found { IfOk result (λ x. D.tells ≡ true
-        → page_shown (D.size device.old) (D.story device.old) most page ≡ Ok (schema_of x.0, x.1.items)) }
-    ensures damaged { IfErr result (λ e. D.tells ≡ true → TellsCause e (page_shown (D.size device.old) (D.story device.old) most page)) }
+        → page_shown form (D.size device.old) (D.story device.old) most page ≡ Ok (schema_of x.0, x.1.items)) }
+    ensures damaged { IfErr result (λ e. D.tells ≡ true → TellsCause e (page_shown form (D.size device.old) (D.story device.old) most page)) }
     ensures a_store { IfErr result (λ e. e ≢ OpenError.NotAStore) }
     // Also of a device that doesn't tell its story.
     ensures few { IfOk result (λ x. length x.1.items ≤ most) }
@@ -43,7 +45,7 @@ fn read_page<D: SectorDevice>(
 {
     one_page_each();
     match read_extent(alloc, device, 8, page) {
-        Ok(bytes) => match decode_page(alloc, most, &bytes) {
+        Ok(bytes) => match decode_page(alloc, form, most, &bytes) {
             Ok(body) => Ok(body),
             Err(DecodeError::NoText) => Err(OpenError::Damaged(Cause::CatalogueText)),
             Err(DecodeError::OutOfMemory) => Err(OpenError::OutOfMemory),
@@ -56,6 +58,7 @@ fn read_page<D: SectorDevice>(
 fn read_table<D: SectorDevice>(
     alloc: Global,
     device: &mut D,
+    form: SegmentForm,
     most: u64,
     root: &RootEntry,
 ) -> Result<TableEntry, OpenError>
@@ -64,16 +67,16 @@ fn read_table<D: SectorDevice>(
     ensures count { CountsOpen (D.failed device.old) (D.failed device.new) result }
     ensures moments { D.tells ≡ true → OnlyReads (D.story device.old) (D.story device.new) }
     ensures found { IfOk result (λ e. D.tells ≡ true
-        → page_shown (D.size device.old) (D.story device.old) most root.now.page ≡ Ok ((plain_entry e).schema, (plain_entry e).segments)) }
+        → page_shown form (D.size device.old) (D.story device.old) most root.now.page ≡ Ok ((plain_entry e).schema, (plain_entry e).segments)) }
     ensures damaged { IfErr result (λ e. D.tells ≡ true
-        → TellsCause e (page_shown (D.size device.old) (D.story device.old) most root.now.page)) }
+        → TellsCause e (page_shown form (D.size device.old) (D.story device.old) most root.now.page)) }
     ensures a_store { IfErr result (λ e. e ≢ OpenError.NotAStore) }
     ensures few { IfOk result (λ e. length (plain_entry e).segments ≤ most) }
     ensures entry { IfOk result (λ e. plain_entry e
         ≡ entry_from (string_bytes root.now.name) (Some root.now.page) ((plain_entry e).schema, (plain_entry e).segments)) }
     ensures sound { IfOk result (λ e. is_name (string_bytes root.now.name) ≡ true → is_entry (plain_entry e) ≡ true) }
 {
-    match read_page(alloc, device, most, root.page) {
+    match read_page(alloc, device, form, most, root.page) {
         Ok((schema, segments)) => match root.name.clone() {
             Ok(name) => Ok(TableEntry {
                 name,
@@ -91,6 +94,7 @@ fn read_table<D: SectorDevice>(
 pub(crate) fn read_pages<D: SectorDevice>(
     alloc: Global,
     device: &mut D,
+    form: SegmentForm,
     roots: &[RootEntry],
 ) -> Result<Vec<TableEntry>, OpenError>
     requires size { is_size (D.size device.old) ≡ true }
@@ -99,16 +103,16 @@ pub(crate) fn read_pages<D: SectorDevice>(
     ensures count { CountsOpen (D.failed device.old) (D.failed device.new) result }
     ensures moments { D.tells ≡ true → OnlyReads (D.story device.old) (D.story device.new) }
     ensures found { IfOk result (λ entries. D.tells ≡ true
-        → pages_shown (D.size device.old) (D.story device.old) MAX_SEGMENTS (map plain_root roots.now) ≡ Ok (map plain_entry entries.items)) }
+        → pages_shown form (D.size device.old) (D.story device.old) MAX_SEGMENTS (map plain_root roots.now) ≡ Ok (map plain_entry entries.items)) }
     ensures damaged { IfErr result (λ e. D.tells ≡ true
-        → TellsCause e (pages_shown (D.size device.old) (D.story device.old) MAX_SEGMENTS (map plain_root roots.now))) }
+        → TellsCause e (pages_shown form (D.size device.old) (D.story device.old) MAX_SEGMENTS (map plain_root roots.now))) }
     ensures a_store { IfErr result (λ e. e ≢ OpenError.NotAStore) }
     ensures sound { IfOk result (λ entries. is_catalogue (map plain_entry entries.items) ≡ true) }
 {
     let mut entries = Vec::new(alloc);
     let mut left = MAX_SEGMENTS;
     for root in roots {
-        match read_table(alloc, device, left, root) {
+        match read_table(alloc, device, form, left, root) {
             Ok(entry) => {
                 left -= entry.segments.len() as u64;
                 match entries.push(entry) {

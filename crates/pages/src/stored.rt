@@ -1,15 +1,26 @@
 // The catalogue of a store, as commits know one.
 ghost use Rattle.catalogue.specs.Entries.{PlainCatalogue};
 ghost use Rattle.catalogue.specs.View.{catalogue_of};
-ghost use Rattle.pages.specs.Stored.{stored_reading};
+ghost use Rattle.std.specs.Prelude.{◌≡◌};
+ghost use Rattle.pages.specs.Stored.{form_of, stored_reading};
 ghost use Rattle.pages.specs.laws.Local.{stored_is_local};
 
 use crate::reading::read_pages;
-use catalogue::{Catalogue, DecodeError, decode, decode_root, one_root_each};
-use commit::{CatalogueKind, Cause, Commit, OpenError, ReadCatalogue};
+use catalogue::{Catalogue, DecodeError, SegmentForm, decode, decode_root, one_root_each};
+use commit::{CatalogueKind, Cause, Commit, FormatVersion, OpenError, ReadCatalogue};
 use sector_dev::SectorDevice;
 use segments::Run;
 use std::alloc::{AllocError, Global};
+
+// The form of the texts in a version: from 2 on each segment has its digest.
+fn form_of(version: FormatVersion) -> SegmentForm
+    ensures { result ≡ form_of version }
+{
+    match version {
+        FormatVersion::One => SegmentForm::Bare,
+        FormatVersion::Two => SegmentForm::Digested,
+    }
+}
 
 /// A catalogue of either kind: its tables in order, each with its page, if it has one.
 #[derive(Drop)]
@@ -31,14 +42,15 @@ impl ReadCatalogue for StoredCatalogue {
         text: &[u8],
     ) -> Result<Self, OpenError> {
         one_root_each();
+        let form = form_of(commit.version);
         match commit.kind {
-            CatalogueKind::Whole => match decode(alloc, text) {
+            CatalogueKind::Whole => match decode(alloc, form, text) {
                 Ok(list) => Ok(StoredCatalogue { list }),
                 Err(DecodeError::NoText) => Err(OpenError::Damaged(Cause::CatalogueText)),
                 Err(DecodeError::OutOfMemory) => Err(OpenError::OutOfMemory),
             },
             CatalogueKind::Pages => match decode_root(alloc, text) {
-                Ok(roots) => match read_pages(alloc, device, &roots) {
+                Ok(roots) => match read_pages(alloc, device, form, &roots) {
                     Ok(entries) => Ok(StoredCatalogue {
                         list: Catalogue::of_entries(entries),
                     }),

@@ -16,7 +16,7 @@ use Rattle.store.specs.declared.call.Place.{Place}
 use Rattle.store.specs.declared.call.Place.TheVariants as places
 use Rattle.store.specs.declared.store.Store.{Store}
 use Rattle.commit.specs.declared.opening_refusal.OpeningRefusal.{OpeningRefusal}
-use Rattle.store.specs.Calls.{PlainCall, needs_store, apply_call, format_call, open_call, close_call, tables_call, schema_call, read_call, export_call, stream_call, open_export_call, export_next_call, close_export_call, compact_call, PlainReply, done, refused, shut_by}
+use Rattle.store.specs.Calls.{PlainCall, needs_store, apply_call, format_call, open_call, close_call, tables_call, schema_call, read_call, export_call, stream_call, open_export_call, export_next_call, close_export_call, compact_call, upgrade_call, PlainReply, done, refused, shut_by}
 use Rattle.store.specs.Machine.{pinned_by, Setting, Machine, Phase, shut, running, halted, shut_down, Allows, AllowsEach, SparesKept}
 use Rattle.store.specs.Steps.{Step}
 use Rattle.store.specs.Runs.{Goes}
@@ -54,6 +54,7 @@ halted_step s m (open_export_call name) n needs is = (not_running m.phase is, (n
 halted_step s m (export_next_call id) n needs is = (not_running m.phase is, (not_less n, refl))
 halted_step s m (close_export_call id) n needs is = (not_running m.phase is, (not_less n, refl))
 halted_step s m compact_call n needs is = (not_running m.phase is, (not_less n, refl))
+halted_step s m upgrade_call n needs is = (not_running m.phase is, (not_less n, refl))
 
 -- where no store is open such a call is refused, and nothing happens
 pub refused_shut : (s : Setting) (m : Machine) (call : PlainCall) (story : Story) (failed : ℕ) → needs_store call ≡ true → m.phase ≡ shut → LeavesOnly (Allows s m) (now story)
@@ -188,6 +189,7 @@ plain_of remaining (calls_in.OpenExport name) asks = (open_export_call (string_b
 plain_of remaining (calls_in.ExportNext id) asks = (export_next_call id, refl, refl)
 plain_of remaining (calls_in.CloseExport id) asks = (close_export_call id, refl, refl)
 plain_of remaining calls_in.Compact asks = (compact_call, refl, refl)
+plain_of remaining calls_in.Upgrade asks = (upgrade_call, refl, refl)
 
 pub are_more : {R : Type 0} (remaining : R → Option (List ℕ)) (calls : List (Call R)) (plains : List PlainCall) (call : Call R) (plain : PlainCall) → AreCallsOf remaining calls plains → IsCallOf remaining call plain
     → AreCallsOf remaining (calls ++ call ∷ []) (plains ++ plain ∷ [])

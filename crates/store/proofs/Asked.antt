@@ -11,7 +11,7 @@ use Rattle.tables.specs.declared.refusal.Refusal.{Refusal}
 use Rattle.tables.specs.Refusals.{Origin, by_tables, by_room, by_memory, by_device, by_halt, elsewhere, origin_of}
 use Rattle.tables.specs.Commands.{PlainCommand}
 use Rattle.store.specs.declared.store.Store.{Store}
-use Rattle.store.specs.Calls.{PlainCall, apply_call, format_call, open_call, close_call, tables_call, schema_call, read_call, export_call, stream_call, open_export_call, export_next_call, close_export_call, compact_call, PlainReply, refused, is_device_reply}
+use Rattle.store.specs.Calls.{PlainCall, apply_call, format_call, open_call, close_call, tables_call, schema_call, read_call, export_call, stream_call, open_export_call, export_next_call, close_export_call, compact_call, upgrade_call, PlainReply, refused, is_device_reply}
 use Rattle.store.specs.Machine.{Setting, Phase, running, halted, Machine, AllowsEach, pinned_by, SparesKept}
 use Rattle.store.specs.Steps.{Step}
 use Rattle.store.specs.Runs.{TellsFound, RoomFrom, TellsRoom}
@@ -55,6 +55,7 @@ refused_elsewhere s pinned (open_export_call name) r before after other = tt
 refused_elsewhere s pinned (export_next_call id) r before after other = tt
 refused_elsewhere s pinned (close_export_call id) r before after other = tt
 refused_elsewhere s pinned compact_call r before after other = tt
+refused_elsewhere s pinned upgrade_call r before after other = tt
 
 -- a step that writes nothing, of a store that stays as it is
 pub still : {D : Type 0} {g : Ghosts D} (size : D → ℕ) (story : D → Story) (failed : D → ℕ) (base : Tables) (m : Machine) (call : PlainCall) (reply : PlainReply) (store : Store D g)

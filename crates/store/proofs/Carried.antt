@@ -87,10 +87,10 @@ module _ (size : ℕ) (base : Tables) (m : Machine) (c : PlainCommand) (new : Ta
 -- what the disk holds of a change
 module _ (old new : Space) (k : Commit) (was : PlainCatalogue) (change : PlainChange) (plan : Plan StoredCatalogue) (back : List Run) (p : IsPrepared old new k was change plan back)
     (size : ℕ) (same : old.size ≡ size) (sound : IsChange was change) (d : Disk) where
-  takes : Takes size (IsUsedIn old.entries) (asked_sizes was change) (Ok (runs_of (p.pieces ++ p.pages) ++ p.run ∷ []))
+  takes : Takes size (IsUsedIn old.entries) (asked_sizes k.version was change) (Ok (runs_of (p.pieces ++ p.pages) ++ p.run ∷ []))
   takes =
-      subst (λ (n : ℕ). Takes n (IsUsedIn old.entries) (asked_sizes was change) (Ok (runs_of (p.pieces ++ p.pages) ++ p.run ∷ []))) same
-      (took_takes old.size (IsUsedIn old.entries) (asked_sizes was change) (runs_of (p.pieces ++ p.pages) ++ p.run ∷ []) p.took.took)
+      subst (λ (n : ℕ). Takes n (IsUsedIn old.entries) (asked_sizes k.version was change) (Ok (runs_of (p.pieces ++ p.pages) ++ p.run ∷ []))) same
+      (took_takes old.size (IsUsedIn old.entries) (asked_sizes k.version was change) (runs_of (p.pieces ++ p.pages) ++ p.run ∷ []) p.took.took)
 
   pub has_carried : (image : Image) → StandsAs stored_reading size plan.commit (catalogue_of plan.catalogue.list) image → HoldsEach image (plain_pieces plan.pieces.items)
       → HasCarried size (IsUsedIn old.entries) k was change image

@@ -1,7 +1,7 @@
 -- How many segments there are after each edit, and what the catalogue's own calls ask for.
 use Rattle.std.proofs.Common.{◌≡◌, ◌≤◌, ◌+◌, ◌-◌, ℕ, true, List, length, Some, refl, sym, ap, ◌∙◌, subst, arith}
 use Rattle.std.specs.Prelude.{String, string_bytes}
-use Rattle.std.specs.Global.{Global}
+use Rattle.std.specs.Global.{Global, Vec}
 use Rattle.std.specs.List.{list_all}
 use Rattle.arrow_schema.specs.declared.types.Schema.{Schema}
 use Rattle.arrow_schema.specs.View.{schema_of}
@@ -9,10 +9,11 @@ use Rattle.catalogue.specs.declared.limits.TheConstants.{MAX_SEGMENTS}
 use Rattle.catalogue.specs.declared.entry.Segment.{Segment}
 use Rattle.catalogue.specs.Entries.{PlainEntry, PlainCatalogue, is_segment, is_entry, segment_count, IsCatalogue}
 use Rattle.catalogue.specs.Edits.{entry_of}
+use Rattle.catalogue.specs.laws.Digests.{digested_count}
 use Rattle.catalogue.specs.laws.Kept.{entry_stands}
 use Rattle.store.specs.declared.change.Edit.{Edit}
 use Rattle.store.specs.declared.change.Edit.TheVariants as edits
-use Rattle.store.specs.Changes.{PlainEdit, put, extend, move, remove, exchange, edit_of, new_entry, page_instead, edited, name_edited, IsEdit}
+use Rattle.store.specs.Changes.{PlainEdit, put, extend, move, remove, exchange, digest, edit_of, new_entry, page_instead, edited, name_edited, IsEdit}
 use Rattle.store.specs.inner.Prepared.{CanGive}
 use Rattle.store.specs.laws.Edited.{segments_at, instead_sound, put_count, more_count, moved_count, removed_count, exchange_count, at_found, segments_within}
 
@@ -60,6 +61,9 @@ after_exchange c edit name place count new is can segments len =
     let has = (subst (λ (x : Edit). CanEdit c x) is can).1 in
     omega (arith, after, len, exchange_count c (string_bytes name) place count has.0 segments has.1 has.2, exchange_fits c edit name place count is can)
 
+pub after_digest : (c : PlainCatalogue) (edit : Edit) (digests : Vec (List ℕ)) → edit ≡ edits.Digest digests → (segments : List Segment) → segment_count c ≡ count_after c edit segments
+after_digest c edit digests is segments = let after = ap (λ (x : Edit). count_after c x segments) is in omega (arith, after, digested_count c digests.items)
+
 -- ---- what the catalogue's own calls ask for
 
 pub put_is_entry : (c : PlainCatalogue) (edit : Edit) (name : String Global) (schema : Schema) (segments : List Segment) → edit ≡ edits.Put name schema → CanEdit c edit → IsCatalogue c → list_all is_segment segments ≡ true
@@ -76,12 +80,14 @@ extend_is_few c edit name segments is can stands =
     omega (arith, most, count)
 
 -- what is taken out of the entry that is found
-pub can_give : (c : PlainCatalogue) (edit : PlainEdit) (streams : List (List ℕ)) (e : PlainEntry) → IsEdit c edit streams → entry_of c (name_edited edit) ≡ Some e → CanGive edit e
-can_give c (put name schema) streams e can found = can.1
-can_give c (extend name) streams e can found = tt
-can_give c (move from to) streams e can found = tt
-can_give c (remove name) streams e can found = tt
-can_give c (exchange name place count) streams e can found =
-    let both : Some can.0 ≡ Some e = sym can.1 ∙ found in
+pub can_give : (c : PlainCatalogue) (edit : PlainEdit) (streams : List (List ℕ)) (name : List ℕ) (e : PlainEntry) → IsEdit c edit streams → name_edited edit ≡ Some name → entry_of c name ≡ Some e → CanGive edit e
+can_give c (put name schema) streams other e can named found = can.1
+can_give c (extend name) streams other e can named found = tt
+can_give c (move from to) streams other e can named found = tt
+can_give c (remove name) streams other e can named found = tt
+can_give c (exchange name place count) streams other e can named found =
+    let own : name ≡ other = cc named in
+    let both : Some can.0 ≡ Some e = sym can.1 ∙ ap (entry_of c) own ∙ found in
     let same : can.0 ≡ e = cc both in
     subst (λ (x : PlainEntry). place + count ≤ length x.segments) same can.2
+can_give c (digest digests) streams other e can named found = tt

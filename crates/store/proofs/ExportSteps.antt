@@ -46,8 +46,9 @@ use Rattle.store.specs.Held.{tables_held, table_held, rows_each, rows_held, piec
 use Rattle.pages.specs.Stored.{stored_reading}
 use Rattle.store.specs.Fits.{setting_of, StoreFits, IsSound, ExportFits, ExportsFit, book_of, commit_of, listed_in}
 use Rattle.store.specs.Applying.{GoesOn}
-use Rattle.store.specs.Reading.{OnlyReadsDevice, OnlyReadsStore}
-use Rattle.store.specs.Exporting.{RefusesExport, RefusesRoom, OpensExport, OpensAt, PieceIs, GivesPiece, after_giving, LacksRows, RefusesSegment, RefusesNumber, RefusesPiece, ReadsForExport, RefusesClosing, ClosesAt}
+use Rattle.store.specs.Reading.{LacksRows, OnlyReadsDevice, OnlyReadsStore}
+use Rattle.store.specs.Exporting.{RefusesExport, RefusesRoom, OpensExport, OpensAt, PieceIs, GivesPiece, after_giving, RefusesSegment, RefusesNumber, RefusesPiece, ReadsForExport, RefusesClosing, ClosesAt}
+use Rattle.store.specs.laws.Digests.{damaged_lacks}
 use Rattle.store.specs.laws.Named.{entry_has, entry_lacks, held_has}
 use Rattle.store.specs.laws.Spared.{each_joined}
 use Rattle.store.specs.inner.LawsBelow.{TableLaws}
@@ -367,7 +368,8 @@ module _ {D : Type 0} {g : Ghosts D} (size : D → ℕ) (story : D → Story) (f
           subst (λ (q : Refusal). OnlyReadsStore size story failed tells (refused q) old new → GoesOn size story failed base m (export_next_call id) (refused q) old new) (sym is)
           (halts_reading size story failed base m tells told old new fits (export_next_call id) (runs_on h, refl, refl)) reads
       by_refusal h b place g at within refusals.OutOfMemory is u = without_memory h is
-      by_refusal h b place g at within (refusals.SegmentUnread other) is u = absurd (no_segment h b place g at within (u.1 told))
+      by_refusal h b place g at within (refusals.SegmentUnread other) is u = absurd (no_segment h b place g at within (u.1 told).1)
+      by_refusal h b place g at within (refusals.SegmentDamaged other) is u = absurd (no_segment h b place g at within (damaged_lacks b.schema g (shown_image (now (story old.device))) (u.1 told)))
       by_refusal h b place g at within _ is u = absurd u
 
       by_number : old.halted ≡ false → (b : PlainExport) (n : ℕ) → open_at (book_of old) id ≡ Some b → RefusesNumber tells (shown_image (now (story old.device))) b n r → GoesOn size story failed base m (export_next_call id) (refused r) old new

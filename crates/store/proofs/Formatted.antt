@@ -7,6 +7,7 @@ use Rattle.sector_dev.specs.Time.{Grows, LeavesOnly, OnlyReads}
 use Rattle.sector_dev.specs.laws.Time.{weaken, now_has}
 use Rattle.sector_dev.specs.laws.Crash.{only_image}
 use Rattle.commit.specs.declared.sector.Commit.{Commit}
+use Rattle.commit.specs.declared.sector.FormatVersion.{FormatVersion}
 use Rattle.commit.specs.declared.cause.Cause.{Cause}
 use Rattle.commit.specs.declared.cause.Cause.TheVariants.{DeviceSize}
 use Rattle.commit.specs.declared.formatting.FormatError.{FormatError}
@@ -18,6 +19,7 @@ use Rattle.commit.specs.Formatting.{IsNoneOrEmpty, IsEmptyStore, IsFormatting, I
 use Rattle.commit.specs.laws.Frame.{stands_nowhere, none_stands, empty_stands}
 use Rattle.segments.specs.declared.run.Run.{Run}
 use Rattle.catalogue.specs.Entries.{PlainCatalogue, runs_of}
+use Rattle.catalogue.specs.declared.entry.SegmentForm.{SegmentForm}
 use Rattle.catalogue.specs.Reading.{catalogue_at}
 use Rattle.tables.specs.Tables.{Tables, no_tables}
 use Rattle.tables.specs.Verdict.{after}
@@ -26,7 +28,7 @@ use Rattle.store.specs.Steps.{Step}
 use Rattle.store.specs.Runs.{Goes}
 use Rattle.store.specs.Machine.{no_store, holds, Machine, opened, shut_down, Allows, AllowsEach, meanwhile, has_written}
 use Rattle.store.specs.Held.{tables_held, held_tables, held_of, held_by}
-use Rattle.pages.specs.Stored.{stored_reading, or_no_text}
+use Rattle.pages.specs.Stored.{stored_reading, form_of, or_no_text}
 use Rattle.store.specs.Fits.{setting_of, IsFresh}
 use Rattle.store.specs.Opening.{formatting_of, TellsFormatting, IsOfFormatting}
 use Rattle.store.proofs.Asked.{not_less}
@@ -41,8 +43,8 @@ formatting_counts (Err errors.Device) e f f' is counts = let same : errors.Devic
 formatting_counts (Err errors.OutOfMemory) e f f' is counts = let same : errors.OutOfMemory ≡ e = cc is in subst (λ (k : FormatError). f' ≡ counted (shut_by (formatting_of k)) f) same counts
 
 -- the run of the first catalogue lies on the device
-pub first_placed : (size : ℕ) → is_size size ≡ true → is_on_device size (first_commit size).catalogue.run ≡ true
-first_placed size limits =
+pub first_placed : (size : ℕ) (version : FormatVersion) → is_size size ≡ true → is_on_device size (first_commit size version).catalogue.run ≡ true
+first_placed size version limits =
     let least : 16 ≤ size = leb-true _ _ (and_parts (nat_le 16 size) (nat_le size 4194304) limits).0 in
     le-leb 3 size (omega (arith, least))
 
@@ -112,12 +114,12 @@ some_store size image limits some = by_ruling (ruling image) refl
     by_ruling None is = absurd (some is)
     by_ruling (Some k) is = λ none. named_some size image k (named_by stored_reading size image k) (sym (found (Some k) is) ∙ none)
 
-module _ (size : ℕ) (limits : is_size size ≡ true) (spelled : catalogue_at empty_text ≡ Some []) where
+module _ (size : ℕ) (version : FormatVersion) (limits : is_size size ≡ true) (spelled : (form : SegmentForm) → catalogue_at form empty_text ≡ Some []) where
   -- the empty store
-  pub new_stands : (image : Image) → IsEmptyStore size image → standing stored_reading size image ≡ rules (first_commit size) []
-  new_stands image empty = empty_stands stored_reading size image [] limits empty (ap or_no_text spelled) refl
+  pub new_stands : (image : Image) → IsEmptyStore size version image → standing stored_reading size image ≡ rules (first_commit size version) []
+  new_stands image empty = empty_stands stored_reading size version image [] limits empty (ap or_no_text (spelled (form_of version))) refl
 
-  new_held : (image : Image) → IsEmptyStore size image → held_by size image ≡ holds no_tables
+  new_held : (image : Image) → IsEmptyStore size version image → held_by size image ≡ holds no_tables
   unfolding held_by tables_held
   new_held image empty = ap (held_of image) (new_stands image empty)
 
@@ -127,17 +129,17 @@ module _ (size : ℕ) (limits : is_size size ≡ true) (spelled : catalogue_at e
     nothing_yet fresh = λ i. after (fresh.began i) (fresh.settled i)
 
     -- before the start no store and the empty one are allowed
-    allows_new : m.started ≡ false → IsFresh base m → (image : Image) → IsNoneOrEmpty size image → Allows (setting_of size base) m image
+    allows_new : m.started ≡ false → IsFresh base m → (image : Image) → IsNoneOrEmpty size version image → Allows (setting_of size base) m image
     unfolding Allows held_by
     allows_new early fresh image (inl none) = inr (inr (early, ap (held_of image) (none_stands stored_reading size image limits none)))
     allows_new early fresh image (inr empty) = inl (new_held image empty ∙ ap holds (sym (nothing_yet fresh)))
 
     -- at a moment of a formatting: as it was, or the run has not started and no store or the empty one lies there
     abbrev pub IsEarly : Disk → Disk → Type 0
-    IsEarly before d = (d ≡ before) ⊎ ((m.started ≡ false) × LeavesOnly (IsNoneOrEmpty size) d)
+    IsEarly before d = (d ≡ before) ⊎ ((m.started ≡ false) × LeavesOnly (IsNoneOrEmpty size version) d)
 
     -- where reads show no commit the run has not started; where they show one the formatting only reads
-    pub early_moments : (s0 s1 : Story) → ShowsImage (now s0) → LeavesOnly (Allows (setting_of size base) m) (now s0) → (ruling (shown_image (now s0)) ≢ None → OnlyReads s0 s1) → Grows (IsFormatting size (now s0)) s0 s1
+    pub early_moments : (s0 s1 : Story) → ShowsImage (now s0) → LeavesOnly (Allows (setting_of size base) m) (now s0) → (ruling (shown_image (now s0)) ≢ None → OnlyReads s0 s1) → Grows (IsFormatting size version (now s0)) s0 s1
         → Grows (IsEarly (now s0)) s0 s1
     unfolding ShowsImage
     early_moments s0 s1 shows allows untouched grows = by_ruling (ruling (shown_image (now s0))) refl
@@ -148,7 +150,7 @@ module _ (size : ℕ) (limits : is_size size ≡ true) (spelled : catalogue_at e
             let early = not_started size base m (shown_image (now s0)) (allows (shown_image (now s0)) shows) (stands_nowhere stored_reading size (shown_image (now s0)) limits is) in
             weaken (each early) grows
           where
-            each : m.started ≡ false → (d : Disk) → IsFormatting size (now s0) d → IsEarly (now s0) d
+            each : m.started ≡ false → (d : Disk) → IsFormatting size version (now s0) d → IsEarly (now s0) d
             each early d (inl same) = inl same
             each early d (inr leaves) = inr (early, leaves)
 
@@ -227,10 +229,10 @@ module _ (size : ℕ) (limits : is_size size ≡ true) (spelled : catalogue_at e
     -- ---- one that was done
 
     -- all is synced, and it is the empty store
-    pub formatted_stands : (before d : Disk) → IsFormatted size before d → Stands stored_reading size d (first_commit size) []
+    pub formatted_stands : (before d : Disk) → IsFormatted size version before d → Stands stored_reading size d (first_commit size version) []
     formatted_stands before d is = record { quiet = is.rests.quiet; found = new_stands (synced_image d) (record { rules = is.rests.rules; text = is.text }) }
 
-    settled_new : IsFresh base m → (before d : Disk) → IsFormatted size before d → LeavesOnly (Allows (setting_of size base) (opened [])) d
+    settled_new : IsFresh base m → (before d : Disk) → IsFormatted size version before d → LeavesOnly (Allows (setting_of size base) (opened [])) d
     unfolding Allows after
     settled_new fresh before d is image may =
         let same : image ≡ synced_image d = only_image d image is.rests.quiet.pending may in
@@ -238,7 +240,7 @@ module _ (size : ℕ) (limits : is_size size ≡ true) (spelled : catalogue_at e
         inl (ap (held_by size) same ∙ new_held (synced_image d) (record { rules = is.rests.rules; text = is.text }) ∙ ap holds (sym began))
 
     pub format_done : (s0 s1 : Story) (f f' : ℕ) → (m.started ≡ false → IsFresh base m) → LeavesOnly (Allows (setting_of size base) m) (now s0) → Grows (IsEarly (now s0)) s0 s1 → m.started ≡ false
-        → IsFormatted size (now s0) (now s1) → f' ≡ f → Goes (setting_of size base) m format_call done s0 s1 f f' (opened [])
+        → IsFormatted size version (now s0) (now s1) → f' ≡ f → Goes (setting_of size base) m format_call done s0 s1 f f' (opened [])
     unfolding Step
     format_done s0 s1 f f' fresh allows grows early is same =
         record {

@@ -79,9 +79,9 @@ module _ (size : ℕ) (used : Run → Type 0) (k : Commit) (c : PlainCatalogue) 
   still_held kept = same_tables (synced_image before) image c catalogue.entries (λ n within. kept n (inr within)) ∙ held
 
   pub made_held : ((n : ℕ) → InSome (used_runs stored_reading k c) n → image n ≡ (before.at n).synced) → (is : HasCarried size used k c change image)
-      → tables_held image (placed c change is.places) ≡ Some u
+      → tables_held image (placed k.version c change is.places) ≡ Some u
   made_held kept is =
-      placed_held image c change is.places ∙ edited_held image c change t u (placed_segments is.places change.streams change.counts) catalogue (still_held kept) makes is.holds
+      placed_held image k.version c change is.places ∙ edited_held image c change t u (placed_segments k.version is.places change.streams change.counts) catalogue (still_held kept) makes is.holds
 
   pub either_held : IsOldOrCarried size used k c before change image → (held_by size image ≡ holds t) ⊎ (held_by size image ≡ holds u)
   either_held is = by_which is.which
@@ -89,7 +89,7 @@ module _ (size : ℕ) (used : Run → Type 0) (k : Commit) (c : PlainCatalogue) 
       by_which : (standing stored_reading size image ≡ rules k c) ⊎ HasCarried size used k c change image → (held_by size image ≡ holds t) ⊎ (held_by size image ≡ holds u)
       by_which (inl stood) = inl (held_is size image k c stood ∙ ap held_tables (still_held is.kept))
       by_which (inr does) =
-          inr (held_is size image (commit_placed k c change does.text) (placed c change does.places) does.stands ∙ ap held_tables (made_held is.kept does))
+          inr (held_is size image (commit_placed k c change does.text) (placed k.version c change does.places) does.stands ∙ ap held_tables (made_held is.kept does))
 
 -- ---- the machine goes on
 
@@ -194,10 +194,10 @@ module _ {D : Type 0} {g : Ghosts D} (size : D → ℕ) (story : D → Story) (f
       stands : standing stored_reading (size old.device) (synced_image (now (story new.device))) ≡ rules new.opened.commit (listed_in new)
       stands = ap (λ (n : ℕ). standing stored_reading n (synced_image (now (story new.device)))) (sym sized) ∙ does.stands.found
 
-      same_rules : rules new.opened.commit (listed_in new) ≡ rules (commit_placed old.opened.commit (listed_in old) change does.holds.text) (placed (listed_in old) change does.holds.places)
+      same_rules : rules new.opened.commit (listed_in new) ≡ rules (commit_placed old.opened.commit (listed_in old) change does.holds.text) (placed old.opened.commit.version (listed_in old) change does.holds.places)
       same_rules = sym stands ∙ does.holds.stands
 
-      listed : listed_in new ≡ placed (listed_in old) change does.holds.places
+      listed : listed_in new ≡ placed old.opened.commit.version (listed_in old) change does.holds.places
       listed = let is = same_rules in cc is
 
   -- the device failed

@@ -19,6 +19,7 @@ mod Answered
 mod Began
 mod MoreRows
 mod ReadTables
+mod Undamaged
 mod Quiet
 mod ReadsStore
 mod Roomed
@@ -32,7 +33,10 @@ mod StepParts
 mod StepChanges
 mod StepReads
 mod StepFound
+mod Staying
+mod Digesting
 mod Stepped
+mod Upgraded
 mod OpenExports
 mod ExportSteps
 mod ExportAnswers

@@ -31,6 +31,7 @@ use Rattle.store.specs.Exported.{IsExportable, AreExportable}
 use Rattle.store.specs.Held.{segment_rows, with_rows, rows_each, pieces_held}
 use Rattle.store.specs.Fits.{ExportFits, ExportsFit}
 use Rattle.store.specs.Exporting.{OfSegment, PieceIs}
+use Rattle.store.specs.laws.Digests.{read_rows}
 use Rattle.commit.specs.Placing.{Uses}
 use Rattle.catalogue.specs.Schemas.{is_within_limits}
 use Rattle.catalogue.specs.laws.Kept.{passes_limits, entry_is}
@@ -250,7 +251,7 @@ piece_at image b pieces number piece held is = by_lists (rows_each b.schema b.se
     by_place : (lists : List (List (List Cell))) (place : ℕ) (o : Option Segment) → rows_each b.schema b.segments image ≡ Some lists → slice_get b.segments place ≡ o → OfSegment true image b o place piece
         → piece ≡ slice_get (map (rows_messages b.schema) lists ++ end_of_stream ∷ []) place
     by_place lists place (Some g) each at of =
-        let own : slice_get lists place ≡ Some of.0 = sym (each_at b.schema b.segments image lists place g each at) ∙ of.1 refl in
+        let own : slice_get lists place ≡ Some of.0 = sym (each_at b.schema b.segments image lists place g each at) ∙ read_rows true image b.schema g of.0 of.1 refl in
         of.2 ∙ sym (part_within (rows_messages b.schema) lists end_of_stream place of.0 own)
     by_place lists place None each at of =
         let count = each_count b.schema b.segments image lists each in

@@ -27,15 +27,17 @@ use Rattle.segments.specs.laws.ReadBack.{read_back}
 use Rattle.ipc_write.specs.Written.{schema_message}
 use Rattle.catalogue.specs.declared.limits.TheConstants.{MAX_SEGMENTS}
 use Rattle.catalogue.specs.declared.entry.Segment.{Segment}
-use Rattle.catalogue.specs.Entries.{PlainEntry, PlainCatalogue, is_segment, IsTable, IsCatalogue, segment_count}
+use Rattle.catalogue.specs.declared.entry.SegmentForm.{SegmentForm}
+use Rattle.catalogue.specs.declared.entry.SegmentForm.TheVariants.{Bare}
+use Rattle.catalogue.specs.Entries.{PlainEntry, PlainCatalogue, is_segment, has_digests, has_form, IsTable, IsCatalogue, segment_count}
 use Rattle.catalogue.specs.Entries as entries
 use Rattle.catalogue.specs.Text.{sized, counted, segment_text, table_text, table_size}
 use Rattle.catalogue.specs.Reading.{entry_from}
 use Rattle.catalogue.specs.laws.Kept.{passes_limits}
 use Rattle.catalogue.specs.laws.Shapes.{shapes}
 use Rattle.catalogue.specs.View.{catalogue_of}
-use Rattle.commit.specs.declared.sector.CatalogueKind.{CatalogueKind}
 use Rattle.commit.specs.declared.sector.Commit.{Commit}
+use Rattle.commit.specs.declared.sector.FormatVersion.{FormatVersion}
 use Rattle.commit.specs.declared.publishing.Plan.{Plan}
 use Rattle.commit.specs.Placing.{is_among, times_among, Uses, AreWritten, sectors_of, counts_of, contents_of, plain_contents, Takes}
 use Rattle.commit.specs.Publishing.{IsPlan, next_commit}
@@ -48,34 +50,42 @@ use Rattle.commit.specs.laws.Frame.{fault_none, rules_found}
 use Rattle.commit.specs.laws.Placed.{plan_of, counts_are, text_last, placed_extent, taken_free, uses_used, taken_uses, given_uses}
 use Rattle.commit.specs.laws.Fit.{fit_again, times_both, times_some, some_times, once, all_on}
 use Rattle.pages.specs.declared.stored.StoredCatalogue.{StoredCatalogue}
-use Rattle.pages.specs.Stored.{stored_reading, by_kind, HoldsPages}
+use Rattle.pages.specs.Stored.{stored_reading, form_of, by_kind, HoldsPages}
 use Rattle.pages.specs.Paging.{kind_of, pageless, page_sizes, text_size, ArePageRuns, settled, dropped_pages, page_texts, settled_text}
 use Rattle.pages.specs.laws.Alike.{kind_alike, text_alike, sizes_alike}
 use Rattle.pages.specs.laws.Written.{ArePages, IsFree}
 use Rattle.pages.specs.laws.Made.{GoesTo}
 use Rattle.pages.specs.laws.Taken.{AreTaken, taken_length, text_least, sizes_written, pages_are, piece_left, piece_right}
 use Rattle.tables.specs.declared.refusal.Refusal.TheVariants as refusals
-use Rattle.store.specs.Changes.{PlainChange, IsChange, edited, given_up, placed_segments, HoldsStreams}
+use Rattle.store.specs.Changes.{PlainChange, version_after, IsChange, edited, given_up, placed_segments, HoldsStreams}
 use Rattle.store.specs.Carrying.{HasNext, unplaced, outline, asked_sizes, placed, commit_placed, IsCarried}
-use Rattle.store.specs.inner.Prepared.{unpaged, taking_refusal, ReadsAgain, IsPrepared}
-use Rattle.store.specs.laws.Segments.{placed_front, unplaced_number}
+use Rattle.store.specs.inner.Prepared.{unpaged, in_runs, taking_refusal, ReadsAgain, IsPrepared}
+use Rattle.store.specs.laws.Segments.{own_digest, placed_front, placed_form, unplaced_number}
+use Rattle.store.specs.laws.EditedForm.{edited_form}
 use Rattle.store.specs.laws.EditedEach.{OneSchema, IsPageAmong, edited_holds, edited_pages, among_sectors}
-use Rattle.store.proofs.Placed.{unpaged_shapes, segments_sound, unpaged_stands, made_times, gone_named, made_among, as_many, taken_streams, taken_own_pages, page_runs_are}
+use Rattle.store.proofs.Placed.{in_runs_are, unpaged_shapes, segments_sound, unpaged_stands, made_times, gone_named, made_among, as_many, taken_streams, taken_own_pages, page_runs_are}
 
 -- ---- the catalogues of a change
 
 -- as many segments without places as there are pieces
-pub unplaced_count : (pieces : EncodedPieces) (change : PlainChange) (n : ℕ) → n ≡ vec_len pieces.parts → streams_in pieces ≡ change.streams → length change.streams ≡ length change.counts
-    → length (unplaced change.streams change.counts) ≡ n
-unplaced_count pieces change n count same each =
+pub unplaced_count : (v : FormatVersion) (pieces : EncodedPieces) (change : PlainChange) (n : ℕ) → n ≡ vec_len pieces.parts → streams_in pieces ≡ change.streams → length change.streams ≡ length change.counts
+    → length (unplaced v change.streams change.counts) ≡ n
+unplaced_count v pieces change n count same each =
     let whole = pieces.parts.ok in
     let streams = length-map pieces.parts.items (λ (v : Vec Buffer). pieces.schema_message.items ++ joined_parts v.items) in
-    omega (arith, unplaced_number change.streams change.counts each, streams, ap (λ (xs : List (List ℕ)). length xs) same, count, whole)
+    omega (arith, unplaced_number v change.streams change.counts each, streams, ap (λ (xs : List (List ℕ)). length xs) same, count, whole)
 
--- as many numbers of rows as pieces
-pub as_many_rows : (pieces : List Piece) (rows : List ℕ) (change : PlainChange) → contents_of (plain_pieces pieces) ≡ change.streams → rows ≡ change.counts → length change.streams ≡ length change.counts → length pieces ≡ length rows
-as_many_rows pieces rows change contents counts each =
-    sym (length-map pieces plain_piece) ∙ sym (length-map (plain_pieces pieces) (λ (p : PlainPiece). p.bytes)) ∙ ap (λ (xs : List (List ℕ)). length xs) contents ∙ each ∙ ap (λ (ns : List ℕ). length ns) (sym counts)
+-- as many numbers of rows as streams
+pub as_many_rows : (streams : List (Vec Part)) (rows : List ℕ) (change : PlainChange) → plain_contents streams ≡ change.streams → rows ≡ change.counts → length change.streams ≡ length change.counts → length streams ≡ length rows
+as_many_rows streams rows change contents counts each =
+    sym (length-map streams (λ (parts : Vec Part). bytes_of_parts parts.items)) ∙ ap (λ (xs : List (List ℕ)). length xs) contents ∙ each ∙ ap (λ (ns : List ℕ). length ns) (sym counts)
+
+-- as many segments without places as pieces with these contents
+pub as_many_pieces : (v : FormatVersion) (pieces : List Piece) (segments : List Segment) (change : PlainChange) → contents_of (plain_pieces pieces) ≡ change.streams → segments ≡ unplaced v change.streams change.counts
+    → length change.streams ≡ length change.counts → length segments ≡ length pieces
+as_many_pieces v pieces segments change contents are each =
+    ap (λ (ss : List Segment). length ss) are ∙ unplaced_number v change.streams change.counts each ∙ ap (λ (xs : List (List ℕ)). length xs) (sym contents)
+    ∙ length-map (plain_pieces pieces) (λ (p : PlainPiece). p.bytes) ∙ length-map pieces plain_piece
 
 -- the text of a catalogue is not empty
 pub some_bytes : (c : PlainCatalogue) (bytes : ℕ) → bytes ≡ text_size c → 1 ≤ bytes
@@ -91,11 +101,11 @@ runs_more : (pieces : List PlainPiece) (p : PlainPiece) → runs_of (pieces ++ p
 runs_more [] p = refl
 runs_more (x ∷ xs) p = ap (λ (rs : List Run). x.run ∷ rs) (runs_more xs p)
 
-holds_streams : (image : Image) (pieces more : List PlainPiece) (counts : List ℕ) → length pieces ≡ length counts → HoldsEach image (pieces ++ more)
-    → HoldsStreams image (placed_segments (runs_of pieces) (contents_of pieces) counts) (contents_of pieces) counts
-holds_streams image [] more counts many holds = refl
-holds_streams image (x ∷ xs) more [] many holds = absurd (omega arith)
-holds_streams image (x ∷ xs) more (count ∷ counts) many holds = (read_back image x.run.start x.bytes holds.0, refl, holds_streams image xs more counts (omega arith) holds.1)
+holds_streams : (v : FormatVersion) (image : Image) (pieces more : List PlainPiece) (counts : List ℕ) → length pieces ≡ length counts → HoldsEach image (pieces ++ more)
+    → HoldsStreams image (placed_segments v (runs_of pieces) (contents_of pieces) counts) (contents_of pieces) counts
+holds_streams v image [] more counts many holds = refl
+holds_streams v image (x ∷ xs) more [] many holds = absurd (omega arith)
+holds_streams v image (x ∷ xs) more (count ∷ counts) many holds = (read_back image x.run.start x.bytes holds.0, refl, own_digest v x.bytes, holds_streams v image xs more counts (omega arith) holds.1)
 
 page_sectors : (pages : List ℕ) (n : ℕ) → AreWritten pages → 1 ≤ n → AllByRecursion (λ (m : ℕ). 1 ≤ m) (map sector_count pages ++ n ∷ [])
 page_sectors [] n written one = (one, tt)
@@ -146,35 +156,35 @@ module _ (old new : Space) (k : Commit) (c : PlainCatalogue) (change : PlainChan
   many = length-map p.pieces (λ (x : PlainPiece). x.run) ∙ sym (length-map p.pieces (λ (x : PlainPiece). x.bytes)) ∙ ap (λ (xs : List (List ℕ)). length xs) p.streams
 
   -- the catalogue is the one whose places these runs are
-  pub placed_is : settled (unpaged c change (runs_of p.pieces)) (runs_of p.pages) ≡ placed c change (runs_of (p.pieces ++ p.pages))
+  pub placed_is : settled (unpaged k.version c change (runs_of p.pieces)) (runs_of p.pages) ≡ placed k.version c change (runs_of (p.pieces ++ p.pages))
   placed_is =
-      let segments : placed_segments (runs_of p.pieces) change.streams change.counts ≡ placed_segments (runs_of p.pieces ++ runs_of p.pages) change.streams change.counts =
-      placed_front (runs_of p.pieces) (runs_of p.pages) change.streams change.counts many in
+      let segments : placed_segments k.version (runs_of p.pieces) change.streams change.counts ≡ placed_segments k.version (runs_of p.pieces ++ runs_of p.pages) change.streams change.counts =
+      placed_front k.version (runs_of p.pieces) (runs_of p.pages) change.streams change.counts many in
       let rest : runs_of p.pages ≡ drop (length change.streams) (runs_of p.pieces ++ runs_of p.pages) =
       sym (drop_at (runs_of p.pieces) (runs_of p.pages) (length change.streams) many) in
-      (λ i. settled (edited c change.edit (segments i)) (rest i)) ∙ ap (placed c change) (sym both_runs)
+      (λ i. settled (edited c change.edit (segments i)) (rest i)) ∙ ap (placed k.version c change) (sym both_runs)
 
   -- given back, each run is used for what it was
   pub failed_usages : (last : Space) → GivesAll new last plan.runs.items → SameUsages old.entries last.entries
-  failed_usages last gives = all_given_back old new last (asked_sizes c change) taken p.took (subst (λ (rs : List Run). GivesAll new last rs) p.runs gives)
+  failed_usages last gives = all_given_back old new last (asked_sizes k.version c change) taken p.took (subst (λ (rs : List Run). GivesAll new last rs) p.runs gives)
 
-  extent : is_extent old.size 4 (record { run = p.run; bytes = text_size (outline c change) }) ≡ true
+  extent : is_extent old.size 4 (record { run = p.run; bytes = text_size (outline k.version c change) }) ≡ true
   extent =
-      placed_extent old new (map sectors_of change.streams ++ map sector_count (page_sizes (outline c change))) (runs_of (p.pieces ++ p.pages)) p.run (text_size (outline c change)) (text_least (outline c change)) p.took
+      placed_extent old new (map sectors_of change.streams ++ map sector_count (page_sizes (outline k.version c change))) (runs_of (p.pieces ++ p.pages)) p.run (text_size (outline k.version c change)) (text_least (outline k.version c change)) p.took
 
   pub placed_then : is_on_device old.size plan.commit.catalogue.run ≡ true
   placed_then =
-      let e : Extent = record { run = p.run; bytes = text_size (outline c change) } in
+      let e : Extent = record { run = p.run; bytes = text_size (outline k.version c change) } in
       let parts = and_parts (nat_le 4 e.bytes) ((e.run.count == sector_count e.bytes) && is_on_device old.size e.run) extent in
       subst (λ (x : Commit). is_on_device old.size x.catalogue.run ≡ true) (sym p.commit) (and_parts (e.run.count == sector_count e.bytes) (is_on_device old.size e.run) parts.1).1
 
   module _ (on : is_on_device old.size k.catalogue.run ≡ true) (fit : runs_fault old.size k.catalogue.run (entries.runs_of c) ≡ None) (pinned : List Run) (uses : Uses old.entries (k.catalogue.run ∷ entries.runs_of c) pinned) (sound : IsChange c change) where
     -- what goes back beside the text's run
     abbrev given : List Run
-    given = given_up c change.edit (unplaced change.streams change.counts)
+    given = given_up c change.edit (unplaced k.version change.streams change.counts)
 
     abbrev dropped : List Run
-    dropped = dropped_pages (outline c change)
+    dropped = dropped_pages (outline k.version c change)
 
     abbrev gone : List Run
     gone = given ++ dropped
@@ -182,10 +192,10 @@ module _ (old new : Space) (k : Commit) (c : PlainCatalogue) (change : PlainChan
     pub fit_then : IsCatalogue c → runs_fault old.size plan.commit.catalogue.run (entries.runs_of (catalogue_of plan.catalogue.list)) ≡ None
     fit_then stands =
         (λ i. runs_fault old.size (p.commit i).catalogue.run (entries.runs_of (p.catalogue i)))
-        ∙ fit_again old new (asked_sizes c change) taken k.catalogue.run (entries.runs_of c) p.run (entries.runs_of (settled (unpaged c change (runs_of p.pieces)) (runs_of p.pages))) pinned on fit uses p.took
-        (some_sizes change.streams (page_sizes (outline c change)) (sector_count (text_size (outline c change))) sound.some (sizes_written (outline c change)) (some_sectors (outline c change)))
+        ∙ fit_again old new (asked_sizes k.version c change) taken k.catalogue.run (entries.runs_of c) p.run (entries.runs_of (settled (unpaged k.version c change (runs_of p.pieces)) (runs_of p.pages))) pinned on fit uses p.took
+        (some_sizes change.streams (page_sizes (outline k.version c change)) (sector_count (text_size (outline k.version c change))) sound.some (sizes_written (outline k.version c change)) (some_sectors (outline k.version c change)))
         (λ run.
-        let t = made_times c change sound (runs_of p.pieces) many (runs_of p.pages) p.placed run stands in
+        let t = made_times k.version c change sound (runs_of p.pieces) many (runs_of p.pages) p.placed run stands in
         let one = times_both (k.catalogue.run ∷ entries.runs_of c) taken run in
         let two = times_both (runs_of (p.pieces ++ p.pages)) (p.run ∷ []) run in
         let both : times_among (runs_of (p.pieces ++ p.pages)) run ≡ times_among (runs_of p.pieces ++ runs_of p.pages) run = ap (λ (rs : List Run). times_among rs run) both_runs in
@@ -195,9 +205,9 @@ module _ (old new : Space) (k : Commit) (c : PlainCatalogue) (change : PlainChan
     pub uses_then : (last : Space) → IsCatalogue c → GivesAll new last back → Uses last.entries (plan.commit.catalogue.run ∷ entries.runs_of (catalogue_of plan.catalogue.list)) pinned
     uses_then last stands gives =
         subst (λ (x : PlainCatalogue). Uses last.entries (plan.commit.catalogue.run ∷ entries.runs_of x) pinned) (sym p.catalogue)
-        (subst (λ (x : Commit). Uses last.entries (x.catalogue.run ∷ entries.runs_of (settled (unpaged c change (runs_of p.pieces)) (runs_of p.pages))) pinned) (sym p.commit)
-        (given_uses new last (gone ++ k.catalogue.run ∷ []) ((k.catalogue.run ∷ entries.runs_of c) ++ taken) (p.run ∷ entries.runs_of (settled (unpaged c change (runs_of p.pieces)) (runs_of p.pages))) pinned
-        (subst (λ (rs : List Run). GivesAll new last rs) (p.gives ∙ sym (append_assoc given dropped (k.catalogue.run ∷ []))) gives) (taken_uses old new (asked_sizes c change) taken (k.catalogue.run ∷ entries.runs_of c) pinned p.took uses) others))
+        (subst (λ (x : Commit). Uses last.entries (x.catalogue.run ∷ entries.runs_of (settled (unpaged k.version c change (runs_of p.pieces)) (runs_of p.pages))) pinned) (sym p.commit)
+        (given_uses new last (gone ++ k.catalogue.run ∷ []) ((k.catalogue.run ∷ entries.runs_of c) ++ taken) (p.run ∷ entries.runs_of (settled (unpaged k.version c change (runs_of p.pieces)) (runs_of p.pages))) pinned
+        (subst (λ (rs : List Run). GivesAll new last rs) (p.gives ∙ sym (append_assoc given dropped (k.catalogue.run ∷ []))) gives) (taken_uses old new (asked_sizes k.version c change) taken (k.catalogue.run ∷ entries.runs_of c) pinned p.took uses) others))
       where
         apart : are_apart (k.catalogue.run ∷ entries.runs_of c) ≡ true
         apart = (fault_none old.size k.catalogue.run (entries.runs_of c) fit).1
@@ -234,16 +244,16 @@ module _ (old new : Space) (k : Commit) (c : PlainCatalogue) (change : PlainChan
         not_taken run is = (or_parts (same_run k.catalogue.run run) (is_among (entries.runs_of c) run) (unused run (among_both (runs_of (p.pieces ++ p.pages)) (p.run ∷ []) run ∙ ap (λ (t : Bool). t || is_among (p.run ∷ []) run) is))).1
 
         -- what stands then: what did and what was taken, but for what goes
-        which : (run : Run) → is_among (entries.runs_of (settled (unpaged c change (runs_of p.pieces)) (runs_of p.pages))) run ≡ ((is_among (entries.runs_of c) run && not (is_among gone run)) || is_among (runs_of (p.pieces ++ p.pages)) run)
+        which : (run : Run) → is_among (entries.runs_of (settled (unpaged k.version c change (runs_of p.pieces)) (runs_of p.pages))) run ≡ ((is_among (entries.runs_of c) run && not (is_among gone run)) || is_among (runs_of (p.pieces ++ p.pages)) run)
         which run =
-            made_among c change sound (runs_of p.pieces) many (runs_of p.pages) p.placed p.messages run stands (named_once run) (λ is. not_taken run (ap (λ (rs : List Run). is_among rs run) both_runs ∙ is))
+            made_among k.version c change sound (runs_of p.pieces) many (runs_of p.pages) p.placed p.messages run stands (named_once run) (λ is. not_taken run (ap (λ (rs : List Run). is_among rs run) both_runs ∙ is))
             ∙ ap (λ (rs : List Run). (is_among (entries.runs_of c) run && not (is_among gone run)) || is_among rs run) (sym both_runs)
 
-        others : (run : Run) → is_among (p.run ∷ entries.runs_of (settled (unpaged c change (runs_of p.pieces)) (runs_of p.pages))) run ≡ (is_among ((k.catalogue.run ∷ entries.runs_of c) ++ taken) run && not (is_among (gone ++ k.catalogue.run ∷ []) run))
+        others : (run : Run) → is_among (p.run ∷ entries.runs_of (settled (unpaged k.version c change (runs_of p.pieces)) (runs_of p.pages))) run ≡ (is_among ((k.catalogue.run ∷ entries.runs_of c) ++ taken) run && not (is_among (gone ++ k.catalogue.run ∷ []) run))
         others run =
             ap (λ (t : Bool). same_run p.run run || t) (which run)
             ∙ left_over (same_run k.catalogue.run run) (is_among (entries.runs_of c) run) (is_among gone run) (is_among (runs_of (p.pieces ++ p.pages)) run) (same_run p.run run)
-            (not_named run) (gone_named c change sound (runs_of p.pieces) many (runs_of p.pages) p.placed p.messages run stands) (λ is. unused run (among_both (runs_of (p.pieces ++ p.pages)) (p.run ∷ []) run ∙ is))
+            (not_named run) (gone_named k.version c change sound (runs_of p.pieces) many (runs_of p.pages) p.placed p.messages run stands) (λ is. unused run (among_both (runs_of (p.pieces ++ p.pages)) (p.run ∷ []) run ∙ is))
             ∙ sym (λ i. (among_both (k.catalogue.run ∷ entries.runs_of c) taken run ∙ ap (λ (t : Bool). is_among (k.catalogue.run ∷ entries.runs_of c) run || t) (among_both (runs_of (p.pieces ++ p.pages)) (p.run ∷ []) run)) i
             && not (among_both gone (k.catalogue.run ∷ []) run i))
 
@@ -252,7 +262,7 @@ module _ (old new : Space) (k : Commit) (c : PlainCatalogue) (change : PlainChan
 
     -- no piece lies over what stands
     spared : (n : ℕ) → InSome (k.catalogue.run ∷ entries.runs_of c) n → OutOf (runs_of (plain_pieces plan.pieces.items)) n
-    spared n within = subst (λ (rs : List Run). OutOf rs n) (sym runs_are) (taken_free old new (asked_sizes c change) taken (k.catalogue.run ∷ entries.runs_of c) p.took (uses_used old.entries (k.catalogue.run ∷ entries.runs_of c) pinned uses) n within)
+    spared n within = subst (λ (rs : List Run). OutOf rs n) (sym runs_are) (taken_free old new (asked_sizes k.version c change) taken (k.catalogue.run ∷ entries.runs_of c) p.took (uses_used old.entries (k.catalogue.run ∷ entries.runs_of c) pinned uses) n within)
 
     pub can_replace : (d : Disk) → IsCatalogue c → k.device_sectors ≡ old.size → Stands stored_reading old.size d k c → CanReplace stored_reading old.size d replacement
     can_replace d listed own stands = record {
@@ -266,9 +276,9 @@ module _ (old new : Space) (k : Commit) (c : PlainCatalogue) (change : PlainChan
         written = subst (λ (ps : List PlainPiece). IsPieceOf ps plan.commit.catalogue.run p.text) (sym p.whole)
             (subst (λ (x : Commit). IsPieceOf ((p.pieces ++ p.pages) ++ record { run = p.run; bytes = p.text } ∷ []) x.catalogue.run p.text) (sym p.commit) (last_piece (p.pieces ++ p.pages) (record { run = p.run; bytes = p.text })));
         read = λ image holds same.
-            let kind : plan.commit.kind ≡ kind_of (unpaged c change (runs_of p.pieces)) =
-            ap (λ (x : Commit). x.kind) p.commit ∙ sym (kind_alike (unpaged c change (runs_of p.pieces)) (outline c change) (unpaged_shapes c change sound (runs_of p.pieces) many)) in
-            ap (λ (x : CatalogueKind). by_kind x old.size image p.text) kind
+            let kind : plan.commit.kind ≡ kind_of (unpaged k.version c change (runs_of p.pieces)) =
+            ap (λ (x : Commit). x.kind) p.commit ∙ sym (kind_alike (unpaged k.version c change (runs_of p.pieces)) (outline k.version c change) (unpaged_shapes k.version c change sound (runs_of p.pieces) many)) in
+            (λ i. by_kind (kind i) (form_of (p.commit i).version) old.size image p.text)
             ∙ p.reads (synced_image d) image stands.found holds same (λ n within. spared n (inr within)) ∙ ap Ok (sym p.catalogue);
         fit = fit_then listed;
       };
@@ -276,13 +286,13 @@ module _ (old new : Space) (k : Commit) (c : PlainCatalogue) (change : PlainChan
 
   -- an image that holds the pieces has the streams in the new segments
   pub streams_held : (image : Image) → IsChange c change → HoldsEach image (plain_pieces plan.pieces.items)
-      → HoldsStreams image (placed_segments (runs_of (p.pieces ++ p.pages)) change.streams change.counts) change.streams change.counts
+      → HoldsStreams image (placed_segments k.version (runs_of (p.pieces ++ p.pages)) change.streams change.counts) change.streams change.counts
   streams_held image sound holds =
       let whole : (p.pieces ++ p.pages) ++ record { run = p.run; bytes = p.text } ∷ [] ≡ p.pieces ++ (p.pages ++ record { run = p.run; bytes = p.text } ∷ []) = append_assoc p.pieces p.pages (record { run = p.run; bytes = p.text } ∷ []) in
-      subst (λ (rs : List Run). HoldsStreams image (placed_segments rs change.streams change.counts) change.streams change.counts) (sym both_runs)
-      (subst (λ (gs : List Segment). HoldsStreams image gs change.streams change.counts) (placed_front (runs_of p.pieces) (runs_of p.pages) change.streams change.counts many)
-      (subst (λ (streams : List (List ℕ)). HoldsStreams image (placed_segments (runs_of p.pieces) streams change.counts) streams change.counts) p.streams
-      (holds_streams image p.pieces (p.pages ++ record { run = p.run; bytes = p.text } ∷ []) change.counts
+      subst (λ (rs : List Run). HoldsStreams image (placed_segments k.version rs change.streams change.counts) change.streams change.counts) (sym both_runs)
+      (subst (λ (gs : List Segment). HoldsStreams image gs change.streams change.counts) (placed_front k.version (runs_of p.pieces) (runs_of p.pages) change.streams change.counts many)
+      (subst (λ (streams : List (List ℕ)). HoldsStreams image (placed_segments k.version (runs_of p.pieces) streams change.counts) streams change.counts) p.streams
+      (holds_streams k.version image p.pieces (p.pages ++ record { run = p.run; bytes = p.text } ∷ []) change.counts
       (let l = length-map p.pieces (λ (x : PlainPiece). x.run) in let e = sound.each in omega (arith, l, many, e))
       (subst (λ (ps : List PlainPiece). HoldsEach image ps) (p.whole ∙ whole) holds))))
 
@@ -298,8 +308,8 @@ pub memory_alone : (n : ℕ) → takings.OutOfMemory ≢ takings.NoRoom n
 memory_alone n is = cc is
 
 -- why no run was taken
-pub taking_carried : (size : ℕ) (used : Run → Type 0) (k : Commit) (c : PlainCatalogue) (change : PlainChange) (e : TakeError) → HasNext k → segment_count (outline c change) ≤ MAX_SEGMENTS
-    → ((n : ℕ) → e ≡ takings.NoRoom n → Takes size used (asked_sizes c change) (Err n)) → IsCarried size used k c change (Err (taking_refusal e)) k c
+pub taking_carried : (size : ℕ) (used : Run → Type 0) (k : Commit) (c : PlainCatalogue) (change : PlainChange) (e : TakeError) → HasNext k → segment_count (outline k.version c change) ≤ MAX_SEGMENTS
+    → ((n : ℕ) → e ≡ takings.NoRoom n → Takes size used (asked_sizes k.version c change) (Err n)) → IsCarried size used k c change (Err (taking_refusal e)) k c
 taking_carried size used k c change (takings.NoRoom n) next few takes = (next, few, takes n refl)
 taking_carried size used k c change takings.OutOfMemory next few takes = tt
 
@@ -325,20 +335,21 @@ paired_contents (r ∷ rs) (text ∷ texts) same = ap (λ (xs : List (List ℕ))
 -- the laws that it stands on
 pub record PageLaws : Type 0 where
   pub messages : OneSchema
-  pub held : (size : ℕ) (image : Image) (k : Commit) (text : List ℕ) (c : PlainCatalogue) → stored_reading.at size image k text ≡ Ok c → HoldsPages size image c
+  pub held : (size : ℕ) (image : Image) (k : Commit) (text : List ℕ) (c : PlainCatalogue) → stored_reading.at size image k text ≡ Ok c → HoldsPages (form_of k.version) size image c
+  pub form : (size : ℕ) (image : Image) (k : Commit) (text : List ℕ) (c : PlainCatalogue) → stored_reading.at size image k text ≡ Ok c → has_form (form_of k.version) c ≡ true
   pub pages : (c : PlainCatalogue) → map (λ (text : List ℕ). length text) (page_texts c) ≡ page_sizes c
   pub text : (c : PlainCatalogue) (runs : List Run) → ArePageRuns c runs → length (settled_text c runs) ≡ text_size c
-  pub read : (size : ℕ) (before image : Image) (pieces : List PlainPiece) → HoldsEach image pieces → ((n : ℕ) → 2 ≤ n → OutOf (runs_of pieces) n → image n ≡ before n)
-      → (c : PlainCatalogue) (runs : List Run) → IsCatalogue c → ArePageRuns c runs → GoesTo size pieces c runs → HoldsPages size before c → AllByRecursion (IsFree pieces) c
-      → by_kind (kind_of c) size image (settled_text c runs) ≡ Ok (settled c runs)
+  pub read : (form : SegmentForm) (size : ℕ) (before image : Image) (pieces : List PlainPiece) → HoldsEach image pieces → ((n : ℕ) → 2 ≤ n → OutOf (runs_of pieces) n → image n ≡ before n)
+      → (c : PlainCatalogue) (runs : List Run) → IsCatalogue c → has_form form c ≡ true → ArePageRuns c runs → GoesTo size pieces c runs → HoldsPages form size before c → AllByRecursion (IsFree pieces) c
+      → by_kind (kind_of c) form size image (settled_text c runs) ≡ Ok (settled c runs)
 
 -- one message, one schema, by the texts of pages
-pub one_schema : ((e f : PlainEntry) (x y : List ℕ) → IsTable e → IsTable f → table_text e ++ x ≡ table_text f ++ y → (e.schema ≡ f.schema) × (e.segments ≡ f.segments)) → OneSchema
+pub one_schema : ((form : SegmentForm) (e f : PlainEntry) (x y : List ℕ) → IsTable e → IsTable f → has_digests form e.segments ≡ true → has_digests form f.segments ≡ true → table_text e ++ x ≡ table_text f ++ y → (e.schema ≡ f.schema) × (e.segments ≡ f.segments)) → OneSchema
 unfolding table_text
 one_schema apart a b within other same =
     let e : PlainEntry = entry_from [] None (a, []) in
     let f : PlainEntry = entry_from [] None (b, []) in
-    (apart e f [] [] (record { schema = passes_limits a within; segments = refl; few = omega arith }) (record { schema = passes_limits b other; segments = refl; few = omega arith })
+    (apart Bare e f [] [] (record { schema = passes_limits a within; segments = refl; few = omega arith }) (record { schema = passes_limits b other; segments = refl; few = omega arith }) refl refl
     (ap (λ (m : List ℕ). (sized m ++ counted segment_text []) ++ []) ((bytes_eq-Decides (schema_message a) (schema_message b)).0 same))).0
 
 -- no piece lies over a page that stays
@@ -351,28 +362,23 @@ text_sectors : (texts : List (List ℕ)) → map sector_count (map (λ (text : L
 text_sectors [] = refl
 text_sectors (text ∷ texts) = ap (λ (ns : List ℕ). sectors_of text ∷ ns) (text_sectors texts)
 
-pub asked : (c : PlainCatalogue) (change : PlainChange) (contents : List (List ℕ)) (pages : List ℕ) (bytes : ℕ) → contents ≡ change.streams → pages ≡ page_sizes (outline c change) → bytes ≡ text_size (outline c change)
-    → counts_of contents pages bytes ≡ asked_sizes c change
-asked c change contents pages bytes plain_is pages_are bytes_is = λ i. counts_of (plain_is i) (pages_are i) (bytes_is i)
+pub asked : (v : FormatVersion) (c : PlainCatalogue) (change : PlainChange) (contents : List (List ℕ)) (pages : List ℕ) (bytes : ℕ) → contents ≡ change.streams → pages ≡ page_sizes (outline v c change) → bytes ≡ text_size (outline v c change)
+    → counts_of contents pages bytes ≡ asked_sizes v c change
+asked v c change contents pages bytes plain_is pages_are bytes_is = λ i. counts_of (plain_is i) (pages_are i) (bytes_is i)
 
 -- the runs that were taken, as those of the pieces, of the pages and of the text
-pub took_for : (old new : Space) (c : PlainCatalogue) (change : PlainChange) (contents : List (List ℕ)) (pages : List ℕ) (bytes : ℕ) (runs all : List Run) → contents ≡ change.streams → pages ≡ page_sizes (outline c change)
-    → bytes ≡ text_size (outline c change) → TookAll old new (counts_of contents pages bytes) runs → runs ≡ all → TookAll old new (asked_sizes c change) all
-took_for old new c change contents pages bytes runs all plain_is pages_are bytes_is took runs_are =
-    subst (λ (ns : List ℕ). TookAll old new ns all) (asked c change contents pages bytes plain_is pages_are bytes_is) (subst (λ (rs : List Run). TookAll old new (counts_of contents pages bytes) rs) runs_are took)
+pub took_for : (v : FormatVersion) (old new : Space) (c : PlainCatalogue) (change : PlainChange) (contents : List (List ℕ)) (pages : List ℕ) (bytes : ℕ) (runs all : List Run) → contents ≡ change.streams → pages ≡ page_sizes (outline v c change)
+    → bytes ≡ text_size (outline v c change) → TookAll old new (counts_of contents pages bytes) runs → runs ≡ all → TookAll old new (asked_sizes v c change) all
+took_for v old new c change contents pages bytes runs all plain_is pages_are bytes_is took runs_are =
+    subst (λ (ns : List ℕ). TookAll old new ns all) (asked v c change contents pages bytes plain_is pages_are bytes_is) (subst (λ (rs : List Run). TookAll old new (counts_of contents pages bytes) rs) runs_are took)
 
 -- the same catalogue, by what the call is given
-module _ (c : PlainCatalogue) (change : PlainChange) (pieces ps : List PlainPiece) (counts : List ℕ) (ps_is : ps ≡ pieces) (counts_is : counts ≡ change.counts) (streams : contents_of pieces ≡ change.streams) where
-  pub given_segments : placed_segments (runs_of ps) (contents_of ps) counts ≡ placed_segments (runs_of pieces) change.streams change.counts
-  given_segments = λ i. placed_segments (runs_of (ps_is i)) ((ap contents_of ps_is ∙ streams) i) (counts_is i)
+module _ (v : FormatVersion) (c : PlainCatalogue) (change : PlainChange) (pieces ps : List PlainPiece) (segments : List Segment) (ps_is : ps ≡ pieces) (segments_are : segments ≡ unplaced v change.streams change.counts) where
+  pub given_segments : in_runs (runs_of ps) segments ≡ placed_segments v (runs_of pieces) change.streams change.counts
+  given_segments = (λ i. in_runs (runs_of (ps_is i)) (segments_are i)) ∙ in_runs_are v (runs_of pieces) change.streams change.counts
 
-  pub given_is : edited c change.edit (placed_segments (runs_of ps) (contents_of ps) counts) ≡ unpaged c change (runs_of pieces)
+  pub given_is : edited c change.edit (in_runs (runs_of ps) segments) ≡ unpaged v c change (runs_of pieces)
   given_is = ap (edited c change.edit) given_segments
-
-  pub given_change : IsChange c change → IsChange c (record { edit = change.edit; streams = contents_of ps; counts = counts })
-  given_change sound =
-      subst (λ (x : List ℕ). IsChange c (record { edit = change.edit; streams = contents_of ps; counts = x })) (sym counts_is)
-      (subst (λ (x : List (List ℕ)). IsChange c (record { edit = change.edit; streams = x; counts = change.counts })) (sym (ap contents_of ps_is ∙ streams)) sound)
 
 -- as many texts as pages, and the one of the catalogue
 pub texts_count : PageLaws → (made outline_is : PlainCatalogue) (texts : List (Vec Part)) (pages : List ℕ) (text : List ℕ) → shapes made ≡ shapes outline_is → plain_contents texts ≡ page_texts made ++ text ∷ [] → pages ≡ page_sizes outline_is
@@ -383,8 +389,8 @@ texts_count laws made outline_is texts pages text alike texts_are pages_are =
     let all : length (plain_contents texts) ≡ length (page_texts made ++ text ∷ []) = ap (λ (vs : List (List ℕ)). length vs) texts_are in
     omega (arith, sizes, same, all, length-map texts (λ (parts : Vec Part). bytes_of_parts parts.items), length-map (page_texts made) (λ (t : List ℕ). length t), length-append (page_texts made) (text ∷ []))
 
-module _ (laws : PageLaws) (old new : Space) (limits : is_size old.size ≡ true) (c : PlainCatalogue) (stands : IsCatalogue c) (change : PlainChange) (sound : IsChange c change) (few : segment_count (outline c change) ≤ MAX_SEGMENTS)
-    (pieces : List PlainPiece) (pages : List Run) (run : Run) (took : TookAll old new (asked_sizes c change) ((runs_of pieces ++ pages) ++ run ∷ [])) (streams : contents_of pieces ≡ change.streams) where
+module _ (laws : PageLaws) (k : Commit) (old new : Space) (limits : is_size old.size ≡ true) (c : PlainCatalogue) (stands : IsCatalogue c) (change : PlainChange) (sound : IsChange c change) (few : segment_count (outline k.version c change) ≤ MAX_SEGMENTS)
+    (pieces : List PlainPiece) (pages : List Run) (run : Run) (took : TookAll old new (asked_sizes k.version c change) ((runs_of pieces ++ pages) ++ run ∷ [])) (streams : contents_of pieces ≡ change.streams) where
   most : old.size ≤ 4194304
   most = leb-true _ _ (and_parts (nat_le 16 old.size) (nat_le old.size 4194304) limits).1
 
@@ -392,104 +398,104 @@ module _ (laws : PageLaws) (old new : Space) (limits : is_size old.size ≡ true
   small = omega (arith, most)
 
   enough : length (runs_of pieces) ≡ length change.streams
-  enough = as_many old new c change sound pieces pages run took streams
+  enough = as_many k.version old new c change sound pieces pages run took streams
 
-  pub made_sound : list_all is_segment (placed_segments (runs_of pieces) change.streams change.counts) ≡ true
-  made_sound = segments_sound c change sound (runs_of pieces) enough old.size small (taken_streams old new c change sound pieces pages run took streams)
+  pub made_sound : list_all is_segment (placed_segments k.version (runs_of pieces) change.streams change.counts) ≡ true
+  made_sound = segments_sound k.version c change sound (runs_of pieces) enough old.size small (taken_streams k.version old new c change sound pieces pages run took streams)
 
-  pub made_stands : IsCatalogue (unpaged c change (runs_of pieces))
-  made_stands = unpaged_stands c change sound (runs_of pieces) enough old.size stands few small (taken_streams old new c change sound pieces pages run took streams)
+  pub made_stands : IsCatalogue (unpaged k.version c change (runs_of pieces))
+  made_stands = unpaged_stands k.version c change sound (runs_of pieces) enough old.size stands few small (taken_streams k.version old new c change sound pieces pages run took streams)
 
-  pub made_runs : ArePageRuns (unpaged c change (runs_of pieces)) pages
-  made_runs = page_runs_are old new c change sound pieces pages run took streams most
+  pub made_runs : ArePageRuns (unpaged k.version c change (runs_of pieces)) pages
+  made_runs = page_runs_are k.version old new c change sound pieces pages run took streams most
 
-  pub made_kind : kind_of (unpaged c change (runs_of pieces)) ≡ kind_of (outline c change)
-  made_kind = kind_alike (unpaged c change (runs_of pieces)) (outline c change) (unpaged_shapes c change sound (runs_of pieces) enough)
+  pub made_kind : kind_of (unpaged k.version c change (runs_of pieces)) ≡ kind_of (outline k.version c change)
+  made_kind = kind_alike (unpaged k.version c change (runs_of pieces)) (outline k.version c change) (unpaged_shapes k.version c change sound (runs_of pieces) enough)
 
   -- the text that is written
   made_text : List ℕ
-  made_text = settled_text (unpaged c change (runs_of pieces)) pages
+  made_text = settled_text (unpaged k.version c change (runs_of pieces)) pages
 
-  text_is_long : length (settled_text (unpaged c change (runs_of pieces)) pages) ≡ text_size (outline c change)
-  text_is_long = laws.text (unpaged c change (runs_of pieces)) pages made_runs ∙ text_alike (unpaged c change (runs_of pieces)) (outline c change) (unpaged_shapes c change sound (runs_of pieces) enough)
+  text_is_long : length (settled_text (unpaged k.version c change (runs_of pieces)) pages) ≡ text_size (outline k.version c change)
+  text_is_long = laws.text (unpaged k.version c change (runs_of pieces)) pages made_runs ∙ text_alike (unpaged k.version c change (runs_of pieces)) (outline k.version c change) (unpaged_shapes k.version c change sound (runs_of pieces) enough)
 
   page_pieces : List PlainPiece
-  page_pieces = paired pages (page_texts (unpaged c change (runs_of pieces)))
+  page_pieces = paired pages (page_texts (unpaged k.version c change (runs_of pieces)))
 
-  as_many_texts : length pages ≡ length (page_texts (unpaged c change (runs_of pieces)))
+  as_many_texts : length pages ≡ length (page_texts (unpaged k.version c change (runs_of pieces)))
   as_many_texts =
-      let made = unpaged c change (runs_of pieces) in
+      let made = unpaged k.version c change (runs_of pieces) in
       let sizes : length (map (λ (text : List ℕ). length text) (page_texts made)) ≡ length (page_sizes made) = ap (λ (ns : List ℕ). length ns) (laws.pages made) in
-      let taken = taken_length old.size (map sector_count (page_sizes made)) pages (taken_own_pages old new c change sound pieces pages run took streams) in
+      let taken = taken_length old.size (map sector_count (page_sizes made)) pages (taken_own_pages k.version old new c change sound pieces pages run took streams) in
       omega (arith, sizes, taken, length-map (page_texts made) (λ (text : List ℕ). length text), length-map (page_sizes made) sector_count)
 
-  pages_in : runs_of (paired pages (page_texts (unpaged c change (runs_of pieces)))) ≡ pages
-  pages_in = paired_runs pages (page_texts (unpaged c change (runs_of pieces))) as_many_texts
+  pages_in : runs_of (paired pages (page_texts (unpaged k.version c change (runs_of pieces)))) ≡ pages
+  pages_in = paired_runs pages (page_texts (unpaged k.version c change (runs_of pieces))) as_many_texts
 
-  texts_in : contents_of (paired pages (page_texts (unpaged c change (runs_of pieces)))) ≡ page_texts (unpaged c change (runs_of pieces))
-  texts_in = paired_contents pages (page_texts (unpaged c change (runs_of pieces))) as_many_texts
+  texts_in : contents_of (paired pages (page_texts (unpaged k.version c change (runs_of pieces)))) ≡ page_texts (unpaged k.version c change (runs_of pieces))
+  texts_in = paired_contents pages (page_texts (unpaged k.version c change (runs_of pieces))) as_many_texts
 
-  module _ (k : Commit) (next : StoredCatalogue) (plan : Plan StoredCatalogue) (back : List Run) (own : k.device_sectors ≡ old.size) (epoch : HasNext k)
-      (next_is : catalogue_of next.list ≡ settled (unpaged c change (runs_of pieces)) pages)
+  module _ (next : StoredCatalogue) (plan : Plan StoredCatalogue) (back : List Run) (own : k.device_sectors ≡ old.size) (epoch : HasNext k)
+      (next_is : catalogue_of next.list ≡ settled (unpaged k.version c change (runs_of pieces)) pages)
       (commit_is : plan.commit ≡ commit_placed k c change run) (catalogue_is : plan.catalogue ≡ next)
       (placed_are : runs_of (plain_pieces plan.pieces.items) ≡ (runs_of pieces ++ pages) ++ run ∷ [])
-      (written_is : contents_of (plain_pieces plan.pieces.items) ≡ contents_of pieces ++ (page_texts (unpaged c change (runs_of pieces)) ++ settled_text (unpaged c change (runs_of pieces)) pages ∷ []))
+      (written_is : contents_of (plain_pieces plan.pieces.items) ≡ contents_of pieces ++ (page_texts (unpaged k.version c change (runs_of pieces)) ++ settled_text (unpaged k.version c change (runs_of pieces)) pages ∷ []))
       (taken_is : plan.runs.items ≡ (runs_of pieces ++ pages) ++ run ∷ [])
-      (back_is : back ≡ given_up c change.edit (unplaced change.streams change.counts) ++ (dropped_pages (outline c change) ++ k.catalogue.run ∷ [])) where
+      (back_is : back ≡ given_up c change.edit (unplaced k.version change.streams change.counts) ++ (dropped_pages (outline k.version c change) ++ k.catalogue.run ∷ [])) where
     front : List PlainPiece
-    front = pieces ++ paired pages (page_texts (unpaged c change (runs_of pieces)))
+    front = pieces ++ paired pages (page_texts (unpaged k.version c change (runs_of pieces)))
 
-    front_runs : runs_of (pieces ++ paired pages (page_texts (unpaged c change (runs_of pieces)))) ≡ runs_of pieces ++ pages
-    front_runs = map-append (λ (x : PlainPiece). x.run) pieces (paired pages (page_texts (unpaged c change (runs_of pieces)))) ∙ ap (λ (rs : List Run). runs_of pieces ++ rs) pages_in
+    front_runs : runs_of (pieces ++ paired pages (page_texts (unpaged k.version c change (runs_of pieces)))) ≡ runs_of pieces ++ pages
+    front_runs = map-append (λ (x : PlainPiece). x.run) pieces (paired pages (page_texts (unpaged k.version c change (runs_of pieces)))) ∙ ap (λ (rs : List Run). runs_of pieces ++ rs) pages_in
 
-    front_contents : contents_of (pieces ++ paired pages (page_texts (unpaged c change (runs_of pieces)))) ≡ contents_of pieces ++ page_texts (unpaged c change (runs_of pieces))
-    front_contents = map-append (λ (x : PlainPiece). x.bytes) pieces (paired pages (page_texts (unpaged c change (runs_of pieces)))) ∙ ap (λ (vs : List (List ℕ)). contents_of pieces ++ vs) texts_in
+    front_contents : contents_of (pieces ++ paired pages (page_texts (unpaged k.version c change (runs_of pieces)))) ≡ contents_of pieces ++ page_texts (unpaged k.version c change (runs_of pieces))
+    front_contents = map-append (λ (x : PlainPiece). x.bytes) pieces (paired pages (page_texts (unpaged k.version c change (runs_of pieces)))) ∙ ap (λ (vs : List (List ℕ)). contents_of pieces ++ vs) texts_in
 
-    whole_is : plain_pieces plan.pieces.items ≡ (pieces ++ paired pages (page_texts (unpaged c change (runs_of pieces)))) ++ record { run = run; bytes = settled_text (unpaged c change (runs_of pieces)) pages } ∷ []
+    whole_is : plain_pieces plan.pieces.items ≡ (pieces ++ paired pages (page_texts (unpaged k.version c change (runs_of pieces)))) ++ record { run = run; bytes = settled_text (unpaged k.version c change (runs_of pieces)) pages } ∷ []
     whole_is =
-        text_last (pieces ++ paired pages (page_texts (unpaged c change (runs_of pieces)))) (plain_pieces plan.pieces.items) ((runs_of pieces ++ pages) ++ run ∷ []) run (settled_text (unpaged c change (runs_of pieces)) pages) placed_are
+        text_last (pieces ++ paired pages (page_texts (unpaged k.version c change (runs_of pieces)))) (plain_pieces plan.pieces.items) ((runs_of pieces ++ pages) ++ run ∷ []) run (settled_text (unpaged k.version c change (runs_of pieces)) pages) placed_are
         (ap (λ (rs : List Run). rs ++ run ∷ []) (sym front_runs))
-        (written_is ∙ sym (append_assoc (contents_of pieces) (page_texts (unpaged c change (runs_of pieces))) (settled_text (unpaged c change (runs_of pieces)) pages ∷ []))
-        ∙ ap (λ (vs : List (List ℕ)). vs ++ settled_text (unpaged c change (runs_of pieces)) pages ∷ []) (sym front_contents))
+        (written_is ∙ sym (append_assoc (contents_of pieces) (page_texts (unpaged k.version c change (runs_of pieces))) (settled_text (unpaged k.version c change (runs_of pieces)) pages ∷ []))
+        ∙ ap (λ (vs : List (List ℕ)). vs ++ settled_text (unpaged k.version c change (runs_of pieces)) pages ∷ []) (sym front_contents))
 
     -- each page is one of the pieces
-    goes : GoesTo old.size (plain_pieces plan.pieces.items) (unpaged c change (runs_of pieces)) pages
+    goes : GoesTo old.size (plain_pieces plan.pieces.items) (unpaged k.version c change (runs_of pieces)) pages
     goes = record {
       pages = λ long.
-          let made = unpaged c change (runs_of pieces) in
+          let made = unpaged k.version c change (runs_of pieces) in
           let ps = paired pages (page_texts made) in
           let last : List PlainPiece = record { run = run; bytes = settled_text made pages } ∷ [] in
           let texts : contents_of ps ≡ map table_text (pageless made) = texts_in ∙ ap (λ (t : Bool). if t then [] else map table_text (pageless made)) long in
           let sizes : page_sizes made ≡ map table_size (pageless made) = ap (λ (t : Bool). if t then [] else map table_size (pageless made)) long in
           let taken = subst (λ (rs : List Run). AreTaken old.size (map sector_count (map table_size (pageless made))) rs) (sym pages_in)
-          (subst (λ (ns : List ℕ). AreTaken old.size (map sector_count ns) pages) sizes (taken_own_pages old new c change sound pieces pages run took streams)) in
+          (subst (λ (ns : List ℕ). AreTaken old.size (map sector_count ns) pages) sizes (taken_own_pages k.version old new c change sound pieces pages run took streams)) in
           subst (λ (rs : List Run). ArePages old.size (plain_pieces plan.pieces.items) (pageless made) rs) pages_in
           (pages_are old.size most (plain_pieces plan.pieces.items) (pageless made) ps texts taken
           (λ r bytes is. subst (λ (xs : List PlainPiece). IsPieceOf xs r bytes) (sym whole_is) (piece_left (pieces ++ ps) last r bytes (piece_right pieces ps r bytes is))));
     }
 
-    reads_again : ReadsAgain old.size k c (unpaged c change (runs_of pieces)) pages (settled_text (unpaged c change (runs_of pieces)) pages) (plain_pieces plan.pieces.items)
+    reads_again : ReadsAgain old.size k (version_after change.edit k.version) c (unpaged k.version c change (runs_of pieces)) pages (settled_text (unpaged k.version c change (runs_of pieces)) pages) (plain_pieces plan.pieces.items)
     reads_again before image stood holds same spared =
         let found = rules_found stored_reading old.size before k c stood in
-        let segments = placed_segments (runs_of pieces) change.streams change.counts in
-        laws.read old.size before image (plain_pieces plan.pieces.items) holds same (unpaged c change (runs_of pieces)) pages made_stands made_runs goes
-        (edited_holds old.size before laws.messages c change.edit change.streams segments stands sound.edit (laws.held old.size before k found.text c found.spelled))
-        (each_spared (unpaged c change (runs_of pieces)) (plain_pieces plan.pieces.items) (entries.runs_of c) spared (edited_pages laws.messages c change.edit change.streams segments stands sound.edit))
+        let segments = placed_segments k.version (runs_of pieces) change.streams change.counts in
+        laws.read (form_of (version_after change.edit k.version)) old.size before image (plain_pieces plan.pieces.items) holds same (unpaged k.version c change (runs_of pieces)) pages made_stands (edited_form k.version c change.edit change.streams segments sound.edit (laws.form old.size before k found.text c found.spelled) (placed_form k.version (runs_of pieces) change.streams change.counts)) made_runs goes
+        (edited_holds old.size before k.version laws.messages c change.edit change.streams segments stands sound.edit (laws.held old.size before k found.text c found.spelled))
+        (each_spared (unpaged k.version c change (runs_of pieces)) (plain_pieces plan.pieces.items) (entries.runs_of c) spared (edited_pages laws.messages c change.edit change.streams segments stands sound.edit))
 
-    counted_are : asked_sizes c change ≡ map sectors_of (contents_of (plain_pieces plan.pieces.items))
+    counted_are : asked_sizes k.version c change ≡ map sectors_of (contents_of (plain_pieces plan.pieces.items))
     counted_are =
-        let made = unpaged c change (runs_of pieces) in
-        let sizes : page_sizes (outline c change) ≡ map (λ (text : List ℕ). length text) (page_texts made) =
-        sym (sizes_alike made (outline c change) (unpaged_shapes c change sound (runs_of pieces) enough)) ∙ sym (laws.pages made) in
-        counts_are change.streams (page_sizes (outline c change)) (page_texts made) (text_size (outline c change)) (settled_text made pages) (ap (map sector_count) sizes ∙ text_sectors (page_texts made)) (ap sector_count (sym text_is_long))
+        let made = unpaged k.version c change (runs_of pieces) in
+        let sizes : page_sizes (outline k.version c change) ≡ map (λ (text : List ℕ). length text) (page_texts made) =
+        sym (sizes_alike made (outline k.version c change) (unpaged_shapes k.version c change sound (runs_of pieces) enough)) ∙ sym (laws.pages made) in
+        counts_are change.streams (page_sizes (outline k.version c change)) (page_texts made) (text_size (outline k.version c change)) (settled_text made pages) (ap (map sector_count) sizes ∙ text_sectors (page_texts made)) (ap sector_count (sym text_is_long))
         ∙ ap (map sectors_of) ((λ i. (sym streams i ++ page_texts made) ++ settled_text made pages ∷ []) ∙ append_assoc (contents_of pieces) (page_texts made) (settled_text made pages ∷ []) ∙ sym written_is)
 
     pub prepared : IsPrepared old new k c change plan back
     prepared =
-        let made = unpaged c change (runs_of pieces) in
-        let took_front : TookAll old new (asked_sizes c change) (runs_of (pieces ++ paired pages (page_texts made)) ++ run ∷ []) = subst (λ (rs : List Run). TookAll old new (asked_sizes c change) (rs ++ run ∷ [])) (sym front_runs) took in
-        let took_plan : TookAll old new (asked_sizes c change) (runs_of (plain_pieces plan.pieces.items)) = subst (λ (rs : List Run). TookAll old new (asked_sizes c change) rs) (sym placed_are) took in
-        let published = plan_of old new (asked_sizes c change) (pieces ++ paired pages (page_texts made)) run (settled_text made pages) (plain_pieces plan.pieces.items) k k.version (kind_of (outline c change)) limits own (omega (arith, epoch))
+        let made = unpaged k.version c change (runs_of pieces) in
+        let took_front : TookAll old new (asked_sizes k.version c change) (runs_of (pieces ++ paired pages (page_texts made)) ++ run ∷ []) = subst (λ (rs : List Run). TookAll old new (asked_sizes k.version c change) (rs ++ run ∷ [])) (sym front_runs) took in
+        let took_plan : TookAll old new (asked_sizes k.version c change) (runs_of (plain_pieces plan.pieces.items)) = subst (λ (rs : List Run). TookAll old new (asked_sizes k.version c change) rs) (sym placed_are) took in
+        let published = plan_of old new (asked_sizes k.version c change) (pieces ++ paired pages (page_texts made)) run (settled_text made pages) (plain_pieces plan.pieces.items) k (version_after change.edit k.version) (kind_of (outline k.version c change)) limits own (omega (arith, epoch))
         took_plan counted_are whole_is in
         record {
           next = epoch;
@@ -508,6 +514,6 @@ module _ (laws : PageLaws) (old new : Space) (limits : is_size old.size ≡ true
           size = text_is_long;
           commit = commit_is;
           gives = back_is;
-          reads = subst (λ (rs : List Run). ReadsAgain old.size k c made rs (settled_text made pages) (plain_pieces plan.pieces.items)) (sym pages_in) reads_again;
-          publishes = subst (λ (x : Commit). IsPlan old.size k x (plain_pieces plan.pieces.items)) (sym (commit_is ∙ ap (next_commit k k.version (kind_of (outline c change)) run) (sym text_is_long))) published;
+          reads = subst (λ (rs : List Run). ReadsAgain old.size k (version_after change.edit k.version) c made rs (settled_text made pages) (plain_pieces plan.pieces.items)) (sym pages_in) reads_again;
+          publishes = subst (λ (x : Commit). IsPlan old.size k x (plain_pieces plan.pieces.items)) (sym (commit_is ∙ ap (next_commit k (version_after change.edit k.version) (kind_of (outline k.version c change)) run) (sym text_is_long))) published;
         }

@@ -23,14 +23,15 @@ use Rattle.catalogue.specs.Edits.{entry_of}
 use Rattle.catalogue.specs.laws.Order.{by_found}
 use Rattle.commit.specs.Standing.{is_on_device, all_on_device}
 use Rattle.commit.specs.laws.Apart.{all_at}
-use Rattle.store.specs.Held.{segment_rows, joined_rows, rows_held, table_where, table_of_rows, table_held}
+use Rattle.store.specs.Held.{is_undamaged, bytes_of, segment_rows, joined_rows, rows_held, table_where, table_of_rows, table_held}
 use Rattle.tables.specs.declared.refusal.Refusal.{Refusal as Told}
 use Rattle.tables.specs.declared.refusal.Refusal.TheVariants as refusals
 use Rattle.store.specs.Calls.{PlainReply, done, is_failure, is_device_reply, counted}
-use Rattle.store.specs.Reading.{ArePast, IsUnread, Unreads, OnlyReadsDevice, ended}
+use Rattle.store.specs.Reading.{HasRead, HaveRead, ArePast, IsUnread, IsDamaged, Unreads, OnlyReadsDevice, ended}
 use Rattle.store.specs.inner.LawsBelow.{TableLaws}
 use Rattle.store.specs.inner.Reading.{UnreadsSegment}
 use Rattle.store.specs.laws.Changed.{rows_behind}
+use Rattle.store.specs.laws.Digests.{damaged_lacks, have_more, has_then}
 use Rattle.store.specs.laws.Named.{held_has}
 
 -- ---- segments
@@ -98,24 +99,34 @@ pub take_next : (segments : List Segment) (place : ℕ) (segment : Segment) → 
 take_next segments place segment inside is =
     (take_more segments place segment inside ∙ ap (λ (x : Segment). take place segments ++ x ∷ []) (sym is))
 
--- a table of which a segment can't be read is not held
-pub unread_not_held : TableLaws → (image : Image) (e : PlainEntry) (place : ℕ) (table : PlainTable) → IsWithinLimits e.schema → IsUnread image e place → table_held image e ≡ Some table → ⊥
-unread_not_held laws image e place table within unread is = by_rows (segment_rows e.schema unread.segment image) refl unread.past
+-- a table of which the rows of a segment don't go behind those before it is not held
+past_not_held : TableLaws → (image : Image) (e : PlainEntry) (place : ℕ) (table : PlainTable) (segment : Segment) (rows : List (List Cell)) → IsWithinLimits e.schema → slice_get e.segments place ≡ Some segment
+    → rows_held e.schema (take place e.segments) image ≡ Some rows → ArePast e.schema rows (segment_rows e.schema segment image) → table_held image e ≡ Some table → ⊥
+past_not_held laws image e place table segment rows within at before is_past is = by_rows (segment_rows e.schema segment image) refl is_past
   where
-    by_rows : (o : Option (List (List Cell))) → segment_rows e.schema unread.segment image ≡ o → ArePast e.schema unread.rows o → ⊥
+    by_rows : (o : Option (List (List Cell))) → segment_rows e.schema segment image ≡ o → ArePast e.schema rows o → ⊥
     by_rows o found past =
         let own = held_is_table laws image e table within is in
-        let first : List Segment = take place e.segments ++ unread.segment ∷ [] in
+        let first : List Segment = take place e.segments ++ segment ∷ [] in
         let rest : List Segment = drop (place + 1) e.segments in
         let split : joined_rows (rows_held e.schema first image) (rows_held e.schema rest image) ≡ Some own.0 =
-        sym (rows_behind e.schema first rest image) ∙ ap (λ (xs : List Segment). rows_held e.schema xs image) (sym (split_at e.segments place unread.segment unread.at)) ∙ own.1 in
+        sym (rows_behind e.schema first rest image) ∙ ap (λ (xs : List Segment). rows_held e.schema xs image) (sym (split_at e.segments place segment at)) ∙ own.1 in
         let parts = parts_of (rows_held e.schema first image) (rows_held e.schema rest image) own.0 split in
-        let front : joined_rows (Some unread.rows) o ≡ Some parts.0 =
-        sym (rows_of_more e.schema (take place e.segments) first unread.segment image unread.rows (joined_rows (Some unread.rows) o) refl unread.before (ap (joined_rows (Some unread.rows)) (sym found))) ∙ parts.2 in
-        let more = parts_of (Some unread.rows) o parts.0 front in
-        let rows : unread.rows ≡ more.0 = cc more.2 in
-        no_past laws e.schema unread.rows own.0 parts.1 more.1 own.2 (parts.4 ∙ ap (λ (xs : List (List Cell)). xs ++ parts.1) (more.4 ∙ ap (λ (xs : List (List Cell)). xs ++ more.1) (sym rows)))
-        (subst (ArePast e.schema unread.rows) more.3 past)
+        let front : joined_rows (Some rows) o ≡ Some parts.0 =
+        sym (rows_of_more e.schema (take place e.segments) first segment image rows (joined_rows (Some rows) o) refl before (ap (joined_rows (Some rows)) (sym found))) ∙ parts.2 in
+        let more = parts_of (Some rows) o parts.0 front in
+        let same : rows ≡ more.0 = cc more.2 in
+        no_past laws e.schema rows own.0 parts.1 more.1 own.2 (parts.4 ∙ ap (λ (xs : List (List Cell)). xs ++ parts.1) (more.4 ∙ ap (λ (xs : List (List Cell)). xs ++ more.1) (sym same)))
+        (subst (ArePast e.schema rows) more.3 past)
+
+-- one of which a segment can't be read
+pub unread_not_held : TableLaws → (image : Image) (e : PlainEntry) (place : ℕ) (table : PlainTable) → IsWithinLimits e.schema → IsUnread image e place → table_held image e ≡ Some table → ⊥
+unread_not_held laws image e place table within unread is = past_not_held laws image e place table unread.segment unread.rows within unread.at unread.before unread.past is
+
+-- or has other bytes than those that were written
+pub damaged_not_held : TableLaws → (image : Image) (e : PlainEntry) (place : ℕ) (table : PlainTable) → IsWithinLimits e.schema → IsDamaged image e place → table_held image e ≡ Some table → ⊥
+damaged_not_held laws image e place table within d is =
+    past_not_held laws image e place table d.segment d.rows within d.at d.before (subst (ArePast e.schema d.rows) (sym (damaged_lacks e.schema d.segment image d.damaged)) tt) is
 
 -- ---- the runs of an entry
 
@@ -149,6 +160,14 @@ rows_step schema other segments place segment image other_image rows found same 
     rows_of_more schema (take place segments) (take (place + 1) segments) segment image rows found (take_next segments place segment inside is) held
     (joined ∙ (λ i. joined_rows (Some rows) (segment_rows (same i) segment (at i))))
 
+-- and what was read of them
+pub have_step : (tells : Bool) (schema other : PlainSchema) (segments : List Segment) (place : ℕ) (segment : Segment) (image other_image : Image) (rows own all : List (List Cell)) → other ≡ schema → (tells ≡ true → other_image ≡ image) → place < length segments
+    → segment ≡ get_or segments place segment → HaveRead tells image schema (take place segments) rows → HasRead tells other_image other segment own → all ≡ rows ++ own → HaveRead tells image schema (take (place + 1) segments) all
+have_step tells schema other segments place segment image other_image rows own all same at inside is so_far read more =
+    subst (HaveRead tells image schema (take (place + 1) segments)) (sym more)
+    (subst (λ (gs : List Segment). HaveRead tells image schema gs (rows ++ own)) (sym (take_next segments place segment inside is))
+    (have_more tells image schema (take place segments) segment rows own so_far (has_then tells image other_image at schema segment own (subst (λ (s : PlainSchema). HasRead tells other_image s segment own) same read))))
+
 -- and how many they are
 abbrev pub rows_of : Segment → ℕ
 rows_of s = s.rows
@@ -173,7 +192,8 @@ unreads_step tells image other_image e other rows segment place (refusals.Segmen
       rows = rows;
       before = held told;
       light = subst (λ (s : PlainSchema). table_weight s rows ≤ MAX_TABLE_WEIGHT) same light;
-      past = subst (λ (i : Image). ArePast e.schema rows (segment_rows e.schema segment i)) (at told) (subst (λ (s : PlainSchema). ArePast s rows (segment_rows s segment other_image)) same (u.1 told));
+      undamaged = ap (λ (i : Image). is_undamaged segment.digest (bytes_of segment i)) (sym (at told)) ∙ (u.1 told).0;
+      past = subst (λ (i : Image). ArePast e.schema rows (segment_rows e.schema segment i)) (at told) (subst (λ (s : PlainSchema). ArePast s rows (segment_rows s segment other_image)) same (u.1 told).1);
     }
 unreads_step tells image other_image e other rows segment place refusals.NoTable same at inside is light held u = absurd u
 unreads_step tells image other_image e other rows segment place refusals.NameTaken same at inside is light held u = absurd u
@@ -187,7 +207,17 @@ unreads_step tells image other_image e other rows segment place refusals.Halted 
 unreads_step tells image other_image e other rows segment place refusals.NoExport same at inside is light held u = absurd u
 unreads_step tells image other_image e other rows segment place (refusals.Query refusal) same at inside is light held u = absurd u
 unreads_step tells image other_image e other rows segment place refusals.Read same at inside is light held u = absurd u
-unreads_step tells image other_image e other rows segment place (refusals.SegmentDamaged k) same at inside is light held u = absurd u
+unreads_step tells image other_image e other rows segment place (refusals.SegmentDamaged k) same at inside is light held u = (subst (λ (n : ℕ). n < length e.segments) (sym u.0) inside, λ told. subst (IsDamaged image e) (sym u.0) (damaged told))
+  where
+    damaged : tells ≡ true → IsDamaged image e place
+    damaged told = record {
+      segment = segment;
+      at = slice_get-get_or e.segments place segment inside ∙ ap Some (sym is);
+      rows = rows;
+      before = held told;
+      light = subst (λ (s : PlainSchema). table_weight s rows ≤ MAX_TABLE_WEIGHT) same light;
+      damaged = ap (λ (i : Image). is_undamaged segment.digest (bytes_of segment i)) (sym (at told)) ∙ u.1 told;
+    }
 unreads_step tells image other_image e other rows segment place refusals.Write same at inside is light held u = absurd u
 
 -- ---- calls of the device one after another

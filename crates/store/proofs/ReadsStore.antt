@@ -31,11 +31,11 @@ use Rattle.store.specs.Held.{tables_held, table_held}
 use Rattle.pages.specs.Stored.{stored_reading}
 use Rattle.store.specs.Fits.{book_of, setting_of, StoreFits, DeviceFits, ExportsFit, IsSound, listed_in}
 use Rattle.store.specs.Applying.{GoesOn}
-use Rattle.store.specs.Reading.{IsUnread, Unreads, RefusesRead, ReadsTable, OnlyReadsStore}
+use Rattle.store.specs.Reading.{IsUnread, IsDamaged, Unreads, RefusesRead, ReadsTable, OnlyReadsStore}
 use Rattle.store.specs.laws.Named.{entry_has, entry_lacks}
 use Rattle.store.proofs.Asked.{not_less, is_running, not_running, refused_elsewhere}
 use Rattle.store.specs.inner.LawsBelow.{TableLaws}
-use Rattle.store.proofs.ReadTables.{unread_not_held}
+use Rattle.store.proofs.ReadTables.{unread_not_held, damaged_not_held}
 
 -- ---- images
 
@@ -215,6 +215,13 @@ module _ {D : Type 0} {g : Ghosts D} (size : D → ℕ) (story : D → Story) (f
           let within = (entry_is e (found_passes is_entry (listed_in old) name e catalogue.entries found)).schema in
           unread_not_held laws (shown_image (now (story old.device))) e place has.0 within unread (ap (λ (image : Image). table_held image e) (shown (on h)) ∙ has.1)
 
+      -- nor damaged
+      no_damage : old.halted ≡ false → (e : PlainEntry) (place : ℕ) → entry_of (listed_in old) name ≡ Some e → IsDamaged (shown_image (now (story old.device))) e place → ⊥
+      no_damage h e place found damaged =
+          let has = entry_has (synced_image (now (story old.device))) (listed_in old) (after base m.settled) (fits.sound (on h)).tables name e found in
+          let within = (entry_is e (found_passes is_entry (listed_in old) name e catalogue.entries found)).schema in
+          damaged_not_held laws (shown_image (now (story old.device))) e place has.0 within damaged (ap (λ (image : Image). table_held image e) (shown (on h)) ∙ has.1)
+
       by_refusal : old.halted ≡ false → (e : PlainEntry) → entry_of (listed_in old) name ≡ Some e → (q : Refusal) → Unreads tells (shown_image (now (story old.device))) e q → OnlyReadsStore size story failed tells (refused q) old new
           → GoesOn size story failed base m call (refused q) old new
       by_refusal h e found refusals.Device u reads = halts_reading call (step refusals.Device (halt call false m) (on h, refl, refl)) reads
@@ -232,7 +239,7 @@ module _ {D : Type 0} {g : Ghosts D} (size : D → ℕ) (story : D → Story) (f
       by_refusal h e found refusals.NoExport u reads = absurd u
       by_refusal h e found (refusals.Query refusal) u reads = absurd u
       by_refusal h e found refusals.Read u reads = absurd u
-      by_refusal h e found (refusals.SegmentDamaged place) u reads = absurd u
+      by_refusal h e found (refusals.SegmentDamaged place) u reads = absurd (no_damage h e place found (u.1 told))
       by_refusal h e found refusals.Write u reads = absurd u
 
       by_state : (h : Bool) (o : Option PlainEntry) → old.halted ≡ h → entry_of (listed_in old) name ≡ o → RefusesRead h tells (shown_image (now (story old.device))) o r → GoesOn size story failed base m call (refused r) old new

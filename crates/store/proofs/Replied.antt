@@ -11,7 +11,7 @@ use Rattle.store.specs.declared.store.Store.{Store}
 use Rattle.store.specs.declared.call.Call.{Call}
 use Rattle.store.specs.declared.call.Place.{Place}
 use Rattle.store.specs.declared.call.Place.TheVariants as places
-use Rattle.store.specs.Calls.{PlainCall, needs_store, apply_call, format_call, open_call, close_call, tables_call, schema_call, read_call, export_call, stream_call, open_export_call, export_next_call, close_export_call, compact_call, PlainReply, done, refused, is_device_reply, counted}
+use Rattle.store.specs.Calls.{PlainCall, needs_store, apply_call, format_call, open_call, close_call, tables_call, schema_call, read_call, export_call, stream_call, open_export_call, export_next_call, close_export_call, compact_call, upgrade_call, PlainReply, done, refused, is_device_reply, counted}
 use Rattle.store.specs.Listing.{RefusesTables, RefusesSchema}
 use Rattle.store.specs.Reading.{OnlyReadsStore, ended}
 use Rattle.store.specs.Places.{IsStreamOf, device_in}
@@ -56,6 +56,7 @@ module _ {D : Type 0} {g : Ghosts D} (size : D → ℕ) (story : D → Story) (f
   refuses_shut device (export_next_call id) needs = record { answers = (refl, refl); same = refl; count = refl }
   refuses_shut device (close_export_call id) needs = record { answers = (refl, refl); same = refl; count = refl }
   refuses_shut device compact_call needs = record { answers = (refl, refl); same = refl; count = refl }
+  refuses_shut device upgrade_call needs = record { answers = (refl, refl); same = refl; count = refl }
 
   -- one call more
   pub answers_more : (calls : List PlainCall) (replies : List PlainReply) (call : PlainCall) (reply : PlainReply) (first old new : Place D g)

@@ -48,7 +48,7 @@ module _ {D : Type 0} {g : Ghosts D} (size : D → ℕ) (story : D → Story) (b
         (λ (t : IsTaking (size old.device) (IsUsedIn old.opened.map.entries) old.opened.commit (listed_in old) (now (story old.device)) change d).
         let behind = kept_behind (size old.device) (book_of old).exports n exportable (subst (λ (rs : List Run). InSome rs n) (sym pinned) within) in
         t.outside n
-        (pins_spared (size old.device) old.opened.map.entries (used_runs stored_reading old.opened.commit (listed_in old)) (pinned_by m) (asked_sizes (listed_in old) change) t.runs (pins size story base m old sound) t.takes n within)
+        (pins_spared (size old.device) old.opened.map.entries (used_runs stored_reading old.opened.commit (listed_in old)) (pinned_by m) (asked_sizes old.opened.commit.version (listed_in old) change) t.runs (pins size story base m old sound) t.takes n within)
         (λ at. omega (arith, behind, at)))
         is.touches
 

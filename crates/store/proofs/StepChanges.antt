@@ -19,7 +19,7 @@ use Rattle.table_cut.specs.Cut.{pieces, pieces_from}
 use Rattle.table_cut.specs.Piece.{pieces_of, within_piece}
 use Rattle.catalogue.specs.declared.entry.Segment.{Segment}
 use Rattle.catalogue.specs.declared.limits.TheConstants.{MAX_SEGMENTS, MAX_SEGMENT_ROWS}
-use Rattle.catalogue.specs.Entries.{PlainEntry, PlainCatalogue, is_segment, is_entry, is_between, runs_in_segments, runs_of, segment_count, IsCatalogue}
+use Rattle.catalogue.specs.Entries.{PlainEntry, PlainCatalogue, is_filled, is_digest, is_segment, is_entry, is_between, runs_in_segments, runs_of, segment_count, IsCatalogue}
 use Rattle.catalogue.specs.Edits.{entry_of, with_segments, from_place, with_others, with_exchanged}
 use Rattle.catalogue.specs.laws.Kept.{entry_is}
 use Rattle.catalogue.specs.laws.Sums.{refilled_sum, segments_in}
@@ -32,8 +32,9 @@ use Rattle.store.specs.declared.compacting.Compaction.TheVariants as compactions
 use Rattle.pages.specs.Paging.{page_sizes, text_size, settled}
 use Rattle.pages.specs.laws.Sizes.{settled_sum}
 use Rattle.store.specs.Held.{rows_held, tables_held}
-use Rattle.store.specs.Changes.{PlainChange, CanChange, edited, exchange, placed_segments, stream_rows, HoldsStreams}
+use Rattle.store.specs.Changes.{PlainChange, CanChange, digest_for, edited, exchange, placed_segments, stream_rows, HoldsStreams}
 use Rattle.commit.specs.declared.sector.Commit.{Commit}
+use Rattle.commit.specs.declared.sector.FormatVersion.{FormatVersion}
 use Rattle.store.specs.Carrying.{IsCarried, unplaced, asked_sizes, outline}
 use Rattle.store.specs.Deciding.{pieces_put}
 use Rattle.store.specs.Exchanging.{starts_sum, Shrinks}
@@ -56,12 +57,12 @@ use Rattle.store.proofs.StepParts.{at_name, entry_sectors, segment_sectors, fron
 pub parts_of_segment : (g : Segment) → is_segment g ≡ true → (1 ≤ g.place.bytes) × (g.place.bytes < 2 ^ 64) × (is_between 1 MAX_SEGMENT_ROWS g.rows ≡ true)
 parts_of_segment g sound =
     let e = g.place in
-    let few = is_between 1 MAX_SEGMENT_ROWS g.rows in
-    let own = and_parts (nat_lt e.run.start (2 ^ 64) && nat_lt e.bytes (2 ^ 64)) (nat_le 1 e.bytes && ((e.run.count == sector_count e.bytes) && few)) sound in
-    let some = and_parts (nat_le 1 e.bytes) ((e.run.count == sector_count e.bytes) && few) own.1 in
+    let filled = and_parts (is_filled 1 e) (is_between 1 MAX_SEGMENT_ROWS g.rows && is_digest g.digest) sound in
+    let own = and_parts (nat_lt e.run.start (2 ^ 64) && nat_lt e.bytes (2 ^ 64)) (nat_le 1 e.bytes && (e.run.count == sector_count e.bytes)) filled.0 in
+    let some = and_parts (nat_le 1 e.bytes) (e.run.count == sector_count e.bytes) own.1 in
     let short = and_parts (nat_lt e.run.start (2 ^ 64)) (nat_lt e.bytes (2 ^ 64)) own.0 in
     let less : e.bytes < 2 ^ 64 = grind (arith, short) in
-    (leb-true 1 e.bytes some.0, less, (and_parts (e.run.count == sector_count e.bytes) few some.1).1)
+    (leb-true 1 e.bytes some.0, less, (and_parts (is_between 1 MAX_SEGMENT_ROWS g.rows) (is_digest g.digest) filled.1).0)
 
 within_at : (segments : List Segment) (i : ℕ) (g : Segment) → slice_get segments i ≡ Some g → i + 1 ≤ length segments
 within_at [] i g at = absurd (cc at)
@@ -86,7 +87,7 @@ module _ (c : PlainCatalogue) (k : IsCatalogue c) (tells : Bool) (image : Image)
       let found = at_name c m.number m.entry k.order m.last.found in
       let sound = segment_passes m.entry.segments m.place g (entry_is m.entry (found_passes is_entry c m.entry.name m.entry k.entries found)).segments m.last.at in
       let parts = parts_of_segment g sound in
-      let count = m.count in
+      let count = m.copy.count in
       subst (CanChange c) (sym m.is) (λ short. record {
         edit = (m.entry, found, within_at m.entry.segments m.place g m.last.at);
         each = refl;
@@ -162,10 +163,10 @@ module _ (laws : LawsBelow) (c : PlainCatalogue) (k : IsCatalogue c) (tells : Bo
           (entry_sectors c m.number e (g.place.run.start + j) m.last.found (segment_sectors e.segments m.place g (g.place.run.start + j) m.last.at (omega arith) (omega (arith, count, lt))))
 
       held : bytes_at image g.place.run.start g.place.bytes ≡ Some m.bytes
-      held = same_bytes image shown g.place.run.start g.place.bytes own ∙ m.held told
+      held = same_bytes image shown g.place.run.start g.place.bytes own ∙ m.copy.held told
 
       keeps : HoldsStreams image others (m.bytes ∷ []) (g.rows ∷ []) → tables_held image (with_exchanged c e.name m.place 1 others) ≡ tables_held image c
-      keeps holds = exchanged_held image c e.name m.place 1 others (moved_same image c e.name e found m.place others g m.bytes (one_from e.segments m.place g m.last.at) held holds)
+      keeps holds = exchanged_held image c e.name m.place 1 others (moved_same image c e.name e found m.place others g m.bytes (one_from e.segments m.place g m.last.at) held m.copy.undamaged holds)
 
   pub step_keeps : (size : ℕ) (used : Run → Type 0) (done : Compaction) (change : PlainChange) → IsStep tells shown size used c done (Some change) → (others : List Segment) → Keeps change others
   step_keeps size used compactions.Merged change step = merge_keeps change step
@@ -242,17 +243,17 @@ one_stream t some one =
     let most = leb-true (length (pieces_of t)) 1 one in
     omega (arith, most, pieces_some_rows (within_piece t.schema) t.rows some, length-map (pieces_of t) (piece_stream t.schema))
 
-module _ (c : PlainCatalogue) (k : IsCatalogue c) (tells : Bool) (image : Image) (size : ℕ) (used : Run → Type 0) where
+module _ (v : FormatVersion) (c : PlainCatalogue) (k : IsCatalogue c) (tells : Bool) (image : Image) (size : ℕ) (used : Run → Type 0) where
   -- as many runs are taken as there are streams, those for pages, and one for the text
-  as_many : (change : PlainChange) (places : List Run) (text : Run) → Takes size used (asked_sizes c change) (Ok (places ++ text ∷ [])) → length change.streams ≤ length places
+  as_many : (change : PlainChange) (places : List Run) (text : Run) → Takes size used (asked_sizes v c change) (Ok (places ++ text ∷ [])) → length change.streams ≤ length places
   as_many change places text takes =
-      let took = took_length size used (asked_sizes c change) (places ++ text ∷ []) (takes_took size used (asked_sizes c change) (places ++ text ∷ []) takes) in
+      let took = took_length size used (asked_sizes v c change) (places ++ text ∷ []) (takes_took size used (asked_sizes v c change) (places ++ text ∷ []) takes) in
       omega (
         arith,
         took,
         length-append places (text ∷ []),
-        length-append (map sectors_in change.streams ++ map sector_count (page_sizes (outline c change))) (sector_count (text_size (outline c change)) ∷ []),
-        length-append (map sectors_in change.streams) (map sector_count (page_sizes (outline c change))),
+        length-append (map sectors_in change.streams ++ map sector_count (page_sizes (outline v c change))) (sector_count (text_size (outline v c change)) ∷ []),
+        length-append (map sectors_in change.streams) (map sector_count (page_sizes (outline v c change))),
         length-map change.streams sectors_in,
       )
 
@@ -268,19 +269,19 @@ module _ (c : PlainCatalogue) (k : IsCatalogue c) (tells : Bool) (image : Image)
       let count = m.merge.read.count in
       one_stream m.merge.table (omega (arith, some, count)) m.merge.one
 
-  merge_shrinks : (change : PlainChange) → IsMerge tells image c change → (places : List Run) (text : Run) → Takes size used (asked_sizes c change) (Ok (places ++ text ∷ []))
-      → Shrinks c (edited c change.edit (placed_segments places change.streams change.counts))
+  merge_shrinks : (change : PlainChange) → IsMerge tells image c change → (places : List Run) (text : Run) → Takes size used (asked_sizes v c change) (Ok (places ++ text ∷ []))
+      → Shrinks c (edited c change.edit (placed_segments v places change.streams change.counts))
   merge_shrinks change m places text =
-      subst (λ (x : PlainChange). Takes size used (asked_sizes c x) (Ok (places ++ text ∷ [])) → Shrinks c (edited c x.edit (placed_segments places x.streams x.counts))) (sym m.merge.is)
-      (λ takes. merged_shrinks c m.entry.name m.entry (merge_found change m) m.merge.place 2 (placed_segments places (piece_streams m.merge.table) (piece_counts m.merge.table))
+      subst (λ (x : PlainChange). Takes size used (asked_sizes v c x) (Ok (places ++ text ∷ [])) → Shrinks c (edited c x.edit (placed_segments v places x.streams x.counts))) (sym m.merge.is)
+      (λ takes. merged_shrinks c m.entry.name m.entry (merge_found change m) m.merge.place 2 (placed_segments v places (piece_streams m.merge.table) (piece_counts m.merge.table))
       (length_from m.entry.segments m.merge.place 2 m.merge.within)
-      (placed_few places (piece_streams m.merge.table) (piece_counts m.merge.table) (as_many (pieces_put (exchange m.entry.name m.merge.place 2) m.merge.table) places text takes) (pieces_each m.merge.table)
+      (placed_few v places (piece_streams m.merge.table) (piece_counts m.merge.table) (as_many (pieces_put (exchange m.entry.name m.merge.place 2) m.merge.table) places text takes) (pieces_each m.merge.table)
       ∙ merge_one change m))
 
-  move_shrinks : (change : PlainChange) → IsMove tells image size used c change → (places : List Run) (text : Run) → Takes size used (asked_sizes c change) (Ok (places ++ text ∷ []))
-      → Shrinks c (edited c change.edit (placed_segments places change.streams change.counts))
+  move_shrinks : (change : PlainChange) → IsMove tells image size used c change → (places : List Run) (text : Run) → Takes size used (asked_sizes v c change) (Ok (places ++ text ∷ []))
+      → Shrinks c (edited c change.edit (placed_segments v places change.streams change.counts))
   move_shrinks change m places text =
-      subst (λ (x : PlainChange). Takes size used (asked_sizes c x) (Ok (places ++ text ∷ [])) → Shrinks c (edited c x.edit (placed_segments places x.streams x.counts))) (sym m.is) (by_places places)
+      subst (λ (x : PlainChange). Takes size used (asked_sizes v c x) (Ok (places ++ text ∷ [])) → Shrinks c (edited c x.edit (placed_segments v places x.streams x.counts))) (sym m.is) (by_places places)
     where
       e : PlainEntry
       e = m.entry
@@ -295,13 +296,13 @@ module _ (c : PlainCatalogue) (k : IsCatalogue c) (tells : Bool) (image : Image)
       copied = record { edit = exchange e.name m.place 1; streams = m.bytes ∷ []; counts = g.rows ∷ [] }
 
       fits : g.place.run.count ≡ sector_count (length m.bytes)
-      fits = sectors_of g (segment_passes e.segments m.place g (entry_is e (found_passes is_entry c e.name e k.entries found)).segments m.last.at) ∙ ap sector_count (sym m.count)
+      fits = sectors_of g (segment_passes e.segments m.place g (entry_is e (found_passes is_entry c e.name e k.entries found)).segments m.last.at) ∙ ap sector_count (sym m.copy.count)
 
-      by_places : (rs : List Run) → Takes size used (asked_sizes c copied) (Ok (rs ++ text ∷ [])) → Shrinks c (edited c copied.edit (placed_segments rs copied.streams copied.counts))
+      by_places : (rs : List Run) → Takes size used (asked_sizes v c copied) (Ok (rs ++ text ∷ [])) → Shrinks c (edited c copied.edit (placed_segments v rs copied.streams copied.counts))
       by_places [] takes = absurd (let none = as_many copied [] text takes in omega (arith, none))
       by_places (p ∷ rs) takes =
-          let took = takes_took size used (asked_sizes c copied) ((p ∷ rs) ++ text ∷ []) takes in
-          let other : Segment = record { place = record { run = p; bytes = length m.bytes }; rows = g.rows } in
+          let took = takes_took size used (asked_sizes v c copied) ((p ∷ rs) ++ text ∷ []) takes in
+          let other : Segment = record { place = record { run = p; bytes = length m.bytes }; rows = g.rows; digest = digest_for v m.bytes } in
           let alike : Some p ≡ Some m.run = one_lowest size used (sector_count (length m.bytes)) (Some p) (Some m.run) took.0 (subst (λ (n : ℕ). IsLowest size used n (Some m.run)) fits m.lowest) in
           let same : p ≡ m.run = cc alike in
           let start : p.start ≡ m.run.start = ap (λ (r : Run). r.start) same in
@@ -309,7 +310,7 @@ module _ (c : PlainCatalogue) (k : IsCatalogue c) (tells : Bool) (image : Image)
           let one : length (from_place e.segments m.place 1) ≡ 1 = ap (λ (ss : List Segment). length ss) gone in
           let was : starts_at (from_place e.segments m.place 1) ≡ starts_at (g ∷ []) = ap starts_at gone in
           let below = m.below in
-          subst (λ (gs : List Segment). Shrinks c (edited c copied.edit (other ∷ gs))) (sym (placed_none rs []))
+          subst (λ (gs : List Segment). Shrinks c (edited c copied.edit (other ∷ gs))) (sym (placed_none v rs []))
           (inr (
             omega (arith, one, exchanged_count c e.name e found m.place 1 (other ∷ [])),
             omega (
@@ -324,7 +325,7 @@ module _ (c : PlainCatalogue) (k : IsCatalogue c) (tells : Bool) (image : Image)
           ))
 
   pub step_shrinks : (done : Compaction) (change : PlainChange) → IsStep tells image size used c done (Some change) → (places : List Run) (text : Run)
-      → Takes size used (asked_sizes c change) (Ok (places ++ text ∷ [])) → Shrinks c (edited c change.edit (placed_segments places change.streams change.counts))
+      → Takes size used (asked_sizes v c change) (Ok (places ++ text ∷ [])) → Shrinks c (edited c change.edit (placed_segments v places change.streams change.counts))
   step_shrinks compactions.Merged change step = merge_shrinks change step
   step_shrinks compactions.Moved change step = move_shrinks change step.1
   step_shrinks compactions.Nothing change step = absurd step
@@ -337,18 +338,18 @@ module _ (c : PlainCatalogue) (k : IsCatalogue c) (tells : Bool) (image : Image)
       let count = exchanged_count c e.name e found place count others in
       omega (arith, most, count, fewer)
 
-  move_few : (change : PlainChange) → IsMove tells image size used c change → segment_count (outline c change) ≤ MAX_SEGMENTS
+  move_few : (change : PlainChange) → IsMove tells image size used c change → segment_count (outline v c change) ≤ MAX_SEGMENTS
   move_few change m =
       let one = ap (λ (ss : List Segment). length ss) (one_from m.entry.segments m.place m.segment m.last.at) in
-      subst (λ (x : PlainChange). segment_count (outline c x) ≤ MAX_SEGMENTS) (sym m.is)
-      (few_of m.entry m.place 1 (unplaced (m.bytes ∷ []) (m.segment.rows ∷ [])) (at_name c m.number m.entry k.order m.last.found) (omega (arith, one)))
+      subst (λ (x : PlainChange). segment_count (outline v c x) ≤ MAX_SEGMENTS) (sym m.is)
+      (few_of m.entry m.place 1 (unplaced v (m.bytes ∷ []) (m.segment.rows ∷ [])) (at_name c m.number m.entry k.order m.last.found) (omega (arith, one)))
 
-  pub step_few : (done : Compaction) (change : PlainChange) → IsStep tells image size used c done (Some change) → segment_count (outline c change) ≤ MAX_SEGMENTS
+  pub step_few : (done : Compaction) (change : PlainChange) → IsStep tells image size used c done (Some change) → segment_count (outline v c change) ≤ MAX_SEGMENTS
   step_few compactions.Merged change m =
-      subst (λ (x : PlainChange). segment_count (outline c x) ≤ MAX_SEGMENTS) (sym m.merge.is)
+      subst (λ (x : PlainChange). segment_count (outline v c x) ≤ MAX_SEGMENTS) (sym m.merge.is)
       (let two = length_from m.entry.segments m.merge.place 2 m.merge.within in
-      let one = unplaced_number (piece_streams m.merge.table) (piece_counts m.merge.table) (pieces_each m.merge.table) ∙ merge_one change m in
-      few_of m.entry m.merge.place 2 (unplaced (piece_streams m.merge.table) (piece_counts m.merge.table)) (merge_found change m) (omega (arith, two, one)))
+      let one = unplaced_number v (piece_streams m.merge.table) (piece_counts m.merge.table) (pieces_each m.merge.table) ∙ merge_one change m in
+      few_of m.entry m.merge.place 2 (unplaced v (piece_streams m.merge.table) (piece_counts m.merge.table)) (merge_found change m) (omega (arith, two, one)))
   step_few compactions.Moved change step = move_few change step.1
   step_few compactions.Nothing change step = absurd step
 
@@ -368,4 +369,4 @@ pub carried_shrinks : (c : PlainCatalogue) → IsCatalogue c → (tells : Bool) 
     → (k k' : Commit) (c' : PlainCatalogue) → IsCarried size used k c change (Ok tt) k' c' → Shrinks c c'
 carried_shrinks c kept tells image size used done change step k k' c' (next, few, (places, text, takes, is, commit)) =
     subst (Shrinks c) (sym is)
-    (settled_shrinks c (edited c change.edit (placed_segments places change.streams change.counts)) (drop (length change.streams) places) (step_shrinks c kept tells image size used done change step places text takes))
+    (settled_shrinks c (edited c change.edit (placed_segments k.version places change.streams change.counts)) (drop (length change.streams) places) (step_shrinks k.version c kept tells image size used done change step places text takes))

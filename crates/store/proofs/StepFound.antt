@@ -6,7 +6,6 @@ use Rattle.std.proofs.lemmas.List.{length-map}
 use Rattle.std.proofs.lemmas.Option.{slice_get_within, slice_get-map, slice_get_read}
 use Rattle.std.specs.List.{list_all}
 use Rattle.sector_dev.specs.Disk.{Image}
-use Rattle.segments.specs.Sectors.{bytes_at}
 use Rattle.segments.specs.declared.run.Run.{Run}
 use Rattle.cells.specs.Cell.{Cell, PlainTable}
 use Rattle.table_cut.specs.Cut.{pieces}
@@ -20,11 +19,12 @@ use Rattle.commit.specs.Standing.{is_on_device, all_on_device}
 use Rattle.tables.specs.declared.refusal.Refusal.{Refusal}
 use Rattle.tables.specs.declared.refusal.Refusal.TheVariants as refusals
 use Rattle.store.specs.declared.moving.Last.{Last}
-use Rattle.store.specs.Held.{table_held}
+use Rattle.store.specs.Held.{is_undamaged, bytes_of, table_held}
 use Rattle.store.specs.Changes.{PlainChange}
-use Rattle.store.specs.Reading.{IsRead, IsUnread}
-use Rattle.store.specs.Compacting.{pair_of, StaysTwo, FirstStay, AllStay, IsMergeIn, IsLast, IsMove, UnreadsPair, UnreadsLast, UnreadsInPairs, UnreadsMoving}
+use Rattle.store.specs.Reading.{LacksBytes, IsRead, IsUnread, IsDamaged}
+use Rattle.store.specs.Compacting.{pair_of, StaysTwo, FirstStay, AllStay, IsMergeIn, IsLast, IsMove, UnreadsPair, UnreadsInPairs, UnreadsMoving}
 use Rattle.store.specs.inner.Compacting.{UnreadsIn, later_of, IsLastIn, StandsIn, IsLastOf}
+use Rattle.store.specs.laws.Digests.{copy_then, have_then}
 use Rattle.store.proofs.ReadTables.{runs_on_device}
 use Rattle.store.proofs.StepParts.{at_name, segment_passes, segment_placed}
 use Rattle.store.proofs.StepChanges.{parts_of_segment, pieces_some_rows}
@@ -33,7 +33,7 @@ use Rattle.store.proofs.StepChanges.{parts_of_segment, pieces_some_rows}
 
 module _ (tells : Bool) (a b : Image) (same : tells ≡ true → b ≡ a) where
   pub read_then : (e : PlainEntry) (t : PlainTable) → IsRead tells b e t → IsRead tells a e t
-  read_then e t r = record { kept = r.kept; schema = r.schema; count = r.count; held = λ told. subst (λ (i : Image). table_held i e ≡ Some t) (same told) (r.held told) }
+  read_then e t r = record { kept = r.kept; schema = r.schema; count = r.count; read = have_then tells a b same e.schema e.segments t.rows r.read; held = λ told. subst (λ (i : Image). table_held i e ≡ Some t) (same told) (r.held told) }
 
   pub stays_then : (e : PlainEntry) (place : ℕ) → StaysTwo tells b e place → StaysTwo tells a e place
   stays_then e place (inl many) = inl many
@@ -57,15 +57,17 @@ module _ (tells : Bool) (a b : Image) (same : tells ≡ true → b ≡ a) where
   pair_then e place refusals.Device u = tt
   pair_then e place refusals.OutOfMemory u = tt
   pair_then e place (refusals.SegmentUnread number) (at, is, (inside, unread)) = (at, is, (inside, λ told. subst (λ (i : Image). IsUnread i (pair_of e place) at) (same told) (unread told)))
+  pair_then e place (refusals.SegmentDamaged number) (at, is, (inside, damaged)) = (at, is, (inside, λ told. subst (λ (i : Image). IsDamaged i (pair_of e place) at) (same told) (damaged told)))
   pair_then e place _ u = absurd u
 
   pub in_then : (e : PlainEntry) (r : Refusal) → UnreadsIn tells b e r → UnreadsIn tells a e r
   in_then e r (place, within, before, (few, unread)) = (place, within, first_then e place before, (few, pair_then e place r unread))
 
-  pub last_then : (segment : Segment) (place : ℕ) (r : Refusal) → UnreadsLast tells b segment place r → UnreadsLast tells a segment place r
+  pub last_then : (segment : Segment) (place : ℕ) (r : Refusal) → LacksBytes tells b segment place r → LacksBytes tells a segment place r
   last_then segment place refusals.Device u = tt
   last_then segment place refusals.OutOfMemory u = tt
-  last_then segment place (refusals.SegmentUnread number) u = (u.0, λ told. subst (λ (i : Image). bytes_at i segment.place.run.start segment.place.bytes ≡ None) (same told) (u.1 told))
+  last_then segment place (refusals.SegmentUnread number) u = (u.0, λ told. subst (λ (i : Image). bytes_of segment i ≡ None) (same told) (u.1 told))
+  last_then segment place (refusals.SegmentDamaged number) u = (u.0, λ told. subst (λ (i : Image). is_undamaged segment.digest (bytes_of segment i) ≡ false) (same told) (u.1 told))
   last_then segment place _ u = absurd u
 
   pub moving_then : (c : PlainCatalogue) (r : Refusal) → UnreadsMoving tells b c r → UnreadsMoving tells a c r
@@ -82,14 +84,13 @@ module _ (tells : Bool) (a b : Image) (same : tells ≡ true → b ≡ a) where
     lowest = m.lowest;
     below = m.below;
     bytes = m.bytes;
-    count = m.count;
-    held = λ told. subst (λ (i : Image). bytes_at i m.segment.place.run.start m.segment.place.bytes ≡ Some m.bytes) (same told) (m.held told);
+    copy = copy_then tells a b same m.segment m.bytes m.copy;
     is = m.is;
   }
 
 -- ---- the first so many, and one more
 
-below_or_at : (j i : ℕ) → j < i + 1 → (j < i) ⊎ (j ≡ i)
+pub below_or_at : (j i : ℕ) → j < i + 1 → (j < i) ⊎ (j ≡ i)
 below_or_at zero zero lt = inr refl
 below_or_at zero (suc i) lt = inl (omega arith)
 below_or_at (suc j) zero lt = absurd (omega (arith, lt))

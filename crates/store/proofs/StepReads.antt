@@ -1,8 +1,7 @@
 -- Why a step is not decided: where the tables of a catalogue are held, each pair and each segment can be read.
-use Rattle.std.specs.Prelude.{◌≡◌, ◌++◌, ℕ, Bool, true, List, [], ◌∷◌, take, drop, slice_get, Option, Some, None, refl}
+use Rattle.std.specs.Prelude.{◌≡◌, ◌++◌, ℕ, Bool, true, false, List, [], ◌∷◌, take, drop, slice_get, Option, Some, None, refl}
 use Rattle.std.proofs.Common.{inl, inr, sym, ap, ◌∙◌, subst, take-append-drop}
 use Rattle.sector_dev.specs.Disk.{Image}
-use Rattle.segments.specs.Sectors.{bytes_at}
 use Rattle.arrow_schema.specs.Column.{PlainSchema}
 use Rattle.arrow_schema.specs.Limits.{IsWithinLimits}
 use Rattle.cells.specs.Cell.{Cell, PlainTable}
@@ -15,14 +14,16 @@ use Rattle.catalogue.specs.laws.Changed.{found_passes}
 use Rattle.tables.specs.declared.refusal.Refusal.{Refusal}
 use Rattle.tables.specs.declared.refusal.Refusal.TheVariants as refusals
 use Rattle.tables.specs.Tables.{Tables}
-use Rattle.store.specs.Held.{rows_in_bytes, segment_rows, joined_rows, rows_held, table_held, tables_held}
+use Rattle.store.specs.Held.{is_undamaged, bytes_of, rows_in_segment, segment_rows, joined_rows, rows_held, table_held, tables_held}
 use Rattle.store.specs.Changes.{rows_under}
-use Rattle.store.specs.Compacting.{pair_of, UnreadsPair, UnreadsLast, UnreadsInPairs, UnreadsMoving, UnreadsStep}
+use Rattle.store.specs.Reading.{LacksBytes}
+use Rattle.store.specs.Compacting.{pair_of, UnreadsPair, UnreadsInPairs, UnreadsMoving, UnreadsStep}
 use Rattle.store.specs.inner.LawsBelow.{TableLaws}
 use Rattle.store.specs.inner.Reading.{FailsReading}
 use Rattle.store.specs.laws.Changed.{rows_behind}
+use Rattle.store.specs.laws.Digests.{rows_damaged, rows_unread}
 use Rattle.store.specs.laws.Named.{entry_has}
-use Rattle.store.proofs.ReadTables.{read_is_held, held_is_table, parts_of, unread_not_held}
+use Rattle.store.proofs.ReadTables.{read_is_held, held_is_table, parts_of, unread_not_held, damaged_not_held}
 use Rattle.store.proofs.StepParts.{at_name, one_from}
 
 -- the rows of segments in three parts
@@ -59,15 +60,22 @@ module _ (laws : TableLaws) (image : Image) (c : PlainCatalogue) (k : IsCatalogu
       let pair = (laws.cut e.schema parts.1 parts.2 back).0 in
       (rows_under e.schema parts.1, read_is_held laws image (pair_of e place) (rows_under e.schema parts.1) pair refl parts.3)
 
-  -- each segment has its bytes
-  bytes_there : (i : ℕ) (e : PlainEntry) (place : ℕ) (g : Segment) → slice_get c i ≡ Some e → slice_get e.segments place ≡ Some g → bytes_at image g.place.run.start g.place.bytes ≡ None → ⊥
+  -- each segment has its rows
+  rows_there : (i : ℕ) (e : PlainEntry) (place : ℕ) (g : Segment) → slice_get c i ≡ Some e → slice_get e.segments place ≡ Some g → rows_in_segment e.schema g (bytes_of g image) ≡ None → ⊥
   unfolding rows_held segment_rows
-  bytes_there i e place g at there none =
+  rows_there i e place g at there none =
       let own = entry_table i e at in
       let parts = three_parts e.schema e.segments place 1 image own.0 own.1 in
       let one : rows_held e.schema (g ∷ []) image ≡ Some parts.1 = ap (λ (ss : List Segment). rows_held e.schema ss image) (sym (one_from e.segments place g there)) ∙ parts.3 in
-      let lacks : None ≡ Some parts.1 = sym (ap (λ (o : Option (List ℕ)). joined_rows (rows_in_bytes e.schema g.rows o) (Some [])) none) ∙ one in
+      let lacks : None ≡ Some parts.1 = sym (ap (λ (o : Option (List (List Cell))). joined_rows o (Some [])) none) ∙ one in
       absurd (cc lacks)
+
+  -- so its bytes can be read, and are those that were written
+  bytes_there : (i : ℕ) (e : PlainEntry) (place : ℕ) (g : Segment) → slice_get c i ≡ Some e → slice_get e.segments place ≡ Some g → bytes_of g image ≡ None → ⊥
+  bytes_there i e place g at there none = rows_there i e place g at there (ap (rows_in_segment e.schema g) none ∙ rows_unread e.schema g)
+
+  undamaged_there : (i : ℕ) (e : PlainEntry) (place : ℕ) (g : Segment) → slice_get c i ≡ Some e → slice_get e.segments place ≡ Some g → is_undamaged g.digest (bytes_of g image) ≡ false → ⊥
+  undamaged_there i e place g at there damaged = rows_there i e place g at there (rows_damaged e.schema g (bytes_of g image) damaged)
 
   pair_fails : (tells : Bool) → tells ≡ true → (r : Refusal) → UnreadsInPairs tells image c r → FailsReading r
   pair_fails tells told r unreads = by_refusal r unreads.unread
@@ -80,15 +88,21 @@ module _ (laws : TableLaws) (image : Image) (c : PlainCatalogue) (k : IsCatalogu
           let found = at_name c unreads.number unreads.entry k.order unreads.at in
           let within = (entry_is unreads.entry (found_passes is_entry c unreads.entry.name unreads.entry k.entries found)).schema in
           absurd (unread_not_held laws image (pair_of unreads.entry unreads.place) at own.0 within (unread told) own.1)
+      by_refusal (refusals.SegmentDamaged number) (at, is, (inside, damaged)) =
+          let own = pair_table unreads.number unreads.entry unreads.place unreads.at in
+          let found = at_name c unreads.number unreads.entry k.order unreads.at in
+          let within = (entry_is unreads.entry (found_passes is_entry c unreads.entry.name unreads.entry k.entries found)).schema in
+          absurd (damaged_not_held laws image (pair_of unreads.entry unreads.place) at own.0 within (damaged told) own.1)
       by_refusal _ u = absurd u
 
   last_fails : (tells : Bool) → tells ≡ true → (r : Refusal) → UnreadsMoving tells image c r → FailsReading r
   last_fails tells told r unreads = by_refusal r unreads.unread
     where
-      by_refusal : (q : Refusal) → UnreadsLast tells image unreads.segment unreads.place q → FailsReading q
+      by_refusal : (q : Refusal) → LacksBytes tells image unreads.segment unreads.place q → FailsReading q
       by_refusal refusals.Device u = tt
       by_refusal refusals.OutOfMemory u = tt
       by_refusal (refusals.SegmentUnread number) u = absurd (bytes_there unreads.number unreads.entry unreads.place unreads.segment unreads.last.found unreads.last.at (u.1 told))
+      by_refusal (refusals.SegmentDamaged number) u = absurd (undamaged_there unreads.number unreads.entry unreads.place unreads.segment unreads.last.found unreads.last.at (u.1 told))
       by_refusal _ u = absurd u
 
   -- so a step is not decided only for want of memory, or because the device failed

@@ -17,9 +17,11 @@ use Rattle.segments.specs.Pieces.{part_bytes, bytes_of_parts, plain_pieces}
 use Rattle.segments.specs.Sectors.{sector_count}
 use Rattle.segments.specs.Writing.{runs_of}
 use Rattle.catalogue.specs.declared.entry.Segment.{Segment}
-use Rattle.commit.specs.Placing.{contents_of, plain_contents}
-use Rattle.store.specs.Changes.{placed_segments}
+use Rattle.commit.specs.declared.sector.FormatVersion.{FormatVersion}
+use Rattle.commit.specs.Placing.{plain_contents}
+use Rattle.store.specs.Changes.{digest_for}
 use Rattle.store.specs.Carrying.{unplaced}
+use Rattle.store.specs.inner.Prepared.{in_runs}
 
 -- one part more is borrowed
 pub part_more : (old new : List Part) (borrowed : Bor (List ℕ)) (parts : List Buffer) (i : ℕ) (part : Buffer) (all : List ℕ) → i < length parts → part ≡ get_or parts i part → borrowed.now ≡ buffer_bytes part
@@ -50,32 +52,29 @@ counted {E = E} (Some m) e r n bytes told is count = let same : n ≡ m = cc (to
 sectors_for : (bytes : ℕ) → div_ceil bytes 512 ≡ sector_count bytes
 sectors_for bytes = omega arith
 
-abbrev at_run : Run → ℕ → ℕ → Segment
-at_run run bytes count = record { place = record { run = run; bytes = bytes }; rows = count }
+abbrev at_run : Run → ℕ → ℕ → Option (List ℕ) → Segment
+at_run run bytes count digest = record { place = record { run = run; bytes = bytes }; rows = count; digest = digest }
 
 -- one segment more has its place
-pub placed_more : (old new : List Segment) (pieces : List Piece) (counts : List ℕ) (i : ℕ) (piece : Piece) (bytes : ℕ) (all : List Segment) → i < length pieces → piece ≡ get_or pieces i piece → i < length counts → bytes ≡ length (bytes_of_parts piece.parts.items)
-    → new ≡ old ++ record { place = record { run = piece.run; bytes = bytes }; rows = get_or counts i 0 } ∷ []
-    → old ++ placed_segments (runs_of (plain_pieces (drop i pieces))) (contents_of (plain_pieces (drop i pieces))) (drop i counts) ≡ all
-    → new ++ placed_segments (runs_of (plain_pieces (drop (i + 1) pieces))) (contents_of (plain_pieces (drop (i + 1) pieces))) (drop (i + 1) counts) ≡ all
-placed_more old new pieces counts i piece bytes all within is also same pushed was =
-    let rest : List Segment = placed_segments (runs_of (plain_pieces (drop (i + 1) pieces))) (contents_of (plain_pieces (drop (i + 1) pieces))) (drop (i + 1) counts) in
-    let count = get_or counts i 0 in
-    ap (λ (xs : List Segment). xs ++ rest) (pushed ∙ ap (λ (n : ℕ). old ++ at_run piece.run n count ∷ []) same)
-    ∙ append_assoc old (at_run piece.run (length (bytes_of_parts piece.parts.items)) count ∷ []) rest
-    ∙ (rw (drop-item pieces i piece within is, drop_more counts i 0 also) at was)
+pub placed_more : (old new : List Segment) (pieces : List Piece) (segments : List Segment) (i : ℕ) (piece : Piece) (s : Segment) (all : List Segment) → i < length pieces → piece ≡ get_or pieces i piece → i < length segments → s ≡ get_or segments i s
+    → new ≡ old ++ at_run piece.run s.place.bytes s.rows s.digest ∷ [] → old ++ in_runs (runs_of (plain_pieces (drop i pieces))) (drop i segments) ≡ all
+    → new ++ in_runs (runs_of (plain_pieces (drop (i + 1) pieces))) (drop (i + 1) segments) ≡ all
+placed_more old new pieces segments i piece s all within is also here pushed was =
+    let rest : List Segment = in_runs (runs_of (plain_pieces (drop (i + 1) pieces))) (drop (i + 1) segments) in
+    ap (λ (xs : List Segment). xs ++ rest) pushed ∙ append_assoc old (at_run piece.run s.place.bytes s.rows s.digest ∷ []) rest
+    ∙ (rw (drop-item pieces i piece within is, drop-item segments i s also here) at was)
 
 -- one segment more has none yet
-pub unplaced_more : (old new : List Segment) (streams : List (Vec Part)) (counts : List ℕ) (i : ℕ) (stream : Vec Part) (bytes sectors : ℕ) (all : List Segment) → i < length streams → stream ≡ get_or streams i stream → i < length counts → bytes ≡ length (bytes_of_parts stream.items)
-    → sectors ≡ div_ceil bytes 512 → new ≡ old ++ record { place = record { run = record { start = 0; count = sectors }; bytes = bytes }; rows = get_or counts i 0 } ∷ []
-    → old ++ unplaced (plain_contents (drop i streams)) (drop i counts) ≡ all → new ++ unplaced (plain_contents (drop (i + 1) streams)) (drop (i + 1) counts) ≡ all
-unplaced_more old new streams counts i stream bytes sectors all within is also same rounded pushed was =
-    let rest : List Segment = unplaced (plain_contents (drop (i + 1) streams)) (drop (i + 1) counts) in
+pub unplaced_more : (v : FormatVersion) (old new : List Segment) (streams : List (Vec Part)) (counts : List ℕ) (i : ℕ) (stream : Vec Part) (bytes sectors : ℕ) (digest : Option (List ℕ)) (all : List Segment) → i < length streams → stream ≡ get_or streams i stream → i < length counts
+    → bytes ≡ length (bytes_of_parts stream.items) → sectors ≡ div_ceil bytes 512 → digest ≡ digest_for v (bytes_of_parts stream.items) → new ≡ old ++ at_run (record { start = 0; count = sectors }) bytes (get_or counts i 0) digest ∷ []
+    → old ++ unplaced v (plain_contents (drop i streams)) (drop i counts) ≡ all → new ++ unplaced v (plain_contents (drop (i + 1) streams)) (drop (i + 1) counts) ≡ all
+unplaced_more v old new streams counts i stream bytes sectors digest all within is also same rounded own pushed was =
+    let rest : List Segment = unplaced v (plain_contents (drop (i + 1) streams)) (drop (i + 1) counts) in
     let count = get_or counts i 0 in
     let made : List ℕ = bytes_of_parts stream.items in
     ap (λ (xs : List Segment). xs ++ rest)
     (pushed
-    ∙ ap (λ (n : ℕ). old ++ at_run (record { start = 0; count = n }) bytes count ∷ []) (rounded ∙ sectors_for bytes)
-    ∙ ap (λ (n : ℕ). old ++ at_run (record { start = 0; count = sector_count n }) n count ∷ []) same)
-    ∙ append_assoc old (at_run (record { start = 0; count = sector_count (length made) }) (length made) count ∷ []) rest
+    ∙ ap (λ (n : ℕ). old ++ at_run (record { start = 0; count = n }) bytes count digest ∷ []) (rounded ∙ sectors_for bytes)
+    ∙ (λ j. old ++ at_run (record { start = 0; count = sector_count (same j) }) (same j) count (own j) ∷ []))
+    ∙ append_assoc old (at_run (record { start = 0; count = sector_count (length made) }) (length made) count (digest_for v made) ∷ []) rest
     ∙ (rw (drop-item streams i stream within is, drop_more counts i 0 also) at was)

@@ -38,7 +38,7 @@ use Rattle.store.specs.laws.Frame.{held_is, same_tables}
 use Rattle.store.specs.laws.Listed.{held_lists}
 use Rattle.store.specs.laws.Named.{entry_has}
 use Rattle.store.proofs.Appended.{given_is, streamed_is, rows_decided, stream_decided}
-use Rattle.store.proofs.ReadTables.{unread_not_held}
+use Rattle.store.proofs.ReadTables.{unread_not_held, damaged_not_held}
 use Rattle.store.proofs.ReadsStore.{shown_is_synced}
 use Rattle.store.proofs.Saved.{saved_decided}
 use Rattle.store.proofs.Tested.{create_same, rename_by, rename_passed, rename_made, drop_by, drop_made, full_same, import_by, empty_rows}
@@ -154,7 +154,9 @@ module _ (laws : LawsBelow) (image : Image) (c : PlainCatalogue) (t : Tables) (c
   why_unread refusals.NoExport u = absurd u
   why_unread (refusals.Query refusal) u = absurd u
   why_unread refusals.Read u = absurd u
-  why_unread (refusals.SegmentDamaged segment) u = absurd u
+  why_unread (refusals.SegmentDamaged place) u =
+      let has = entry_has image c t held name e there in
+      absurd (damaged_not_held laws.tables image e place has.0 (entry_is e (found_passes is_entry c name e catalogue.entries there)).schema (u.1 refl) has.1)
   why_unread refusals.Write u = absurd u
 
 not_read : LawsBelow → (image : Image) (c : PlainCatalogue) (t : Tables) (command : PlainCommand) (d : Result PlainChange Refusal) → IsCatalogue c → tables_held image c ≡ Some t
@@ -195,10 +197,10 @@ module _ (laws : LawsBelow) (size : ℕ) (entries : List UsageEntry) (k : Commit
   done_verdict done =
       let shown : tables_held (shown_image before) c ≡ Some t = ap (λ (i : Image). tables_held i c) (shown_is_synced before stands.quiet.shown) ∙ held in
       let says = decided laws (shown_image before) c t command (Ok done.change) (are_listed (shown_image before) c t catalogue shown) brings done.decides in
-      let segments = placed_segments done.places done.change.streams done.change.counts in
+      let segments = placed_segments k.version done.places done.change.streams done.change.counts in
       let edited_is = edited_held image c done.change t says.0 segments catalogue still_held says.2 done.holds in
-      let made = placed_held image c done.change done.places ∙ edited_is in
-      (says.0, says.1, held_is size image (commit_placed k c done.change done.text) (placed c done.change done.places) done.stands ∙ ap held_tables made)
+      let made = placed_held image k.version c done.change done.places ∙ edited_is in
+      (says.0, says.1, held_is size image (commit_placed k c done.change done.text) (placed k.version c done.change done.places) done.stands ∙ ap held_tables made)
 
   pub left_verdict : (which : (standing stored_reading size image ≡ rules k c) ⊎ HasDone size (IsUsedIn entries) k c before command image)
       → (held_by size image ≡ holds t) ⊎ HoldsVerdict size image t command

@@ -10,6 +10,7 @@ use Rattle.catalogue.specs.Edits.{entry_of, tables_of}
 use Rattle.commit.specs.Standing.{is_size}
 use Rattle.commit.specs.Opening.{IsOpening, standing_shown}
 use Rattle.commit.specs.Ruling.{ruling}
+use Rattle.commit.specs.declared.sector.FormatVersion.TheVariants.{One, Two}
 use Rattle.commit.specs.Formatting.{IsFormatting}
 use Rattle.commit.specs.declared.cause.Cause.TheVariants.{DeviceSize}
 use Rattle.tables.specs.declared.refusal.Refusal.{Refusal}
@@ -22,12 +23,12 @@ use Rattle.store.specs.declared.call.Place.{Place}
 use Rattle.store.specs.declared.call.Place.TheVariants as places
 use Rattle.commit.specs.declared.opening_refusal.OpeningRefusal.{OpeningRefusal}
 use Rattle.commit.specs.declared.opening_refusal.OpeningRefusal.TheVariants as openings
-use Rattle.store.specs.Calls.{PlainCall, apply_call, format_call, open_call, close_call, tables_call, schema_call, read_call, export_call, stream_call, open_export_call, export_next_call, close_export_call, compact_call}
+use Rattle.store.specs.Calls.{PlainCall, apply_call, format_call, open_call, close_call, tables_call, schema_call, read_call, export_call, stream_call, open_export_call, export_next_call, close_export_call, compact_call, upgrade_call}
 use Rattle.store.specs.Calls.{PlainReply, done, counts, schema_is, table_is, bytes_are, export_is, piece_is, nothing, refused, shut_by, counted}
 use Rattle.store.specs.Opening.{TellsOpening, TellsFormatting, IsOfFormatting}
 use Rattle.pages.specs.Stored.{stored_reading}
 use Rattle.store.specs.Machine.{Machine}
-use Rattle.store.specs.Fits.{StoreFits, book_of, device_of, listed_in, is_halted, IsOnDisk, FindsStore, FormatsStore, IsNewStore}
+use Rattle.store.specs.Fits.{StoreFits, book_of, device_of, commit_of, listed_in, is_halted, IsOnDisk, FindsStore, FormatsStore, IsNewStore}
 use Rattle.store.specs.Deciding.{reads_device}
 use Rattle.store.specs.Applying.{GoesOn, IsApplied, IsKept, IsApplyingAtEachMoment, IsDoneOnDisk}
 use Rattle.store.specs.Listing.{RefusesTables, RefusesSchema}
@@ -36,6 +37,9 @@ use Rattle.store.specs.declared.compacting.Compaction.{Compaction}
 use Rattle.store.specs.declared.compacting.Compaction.TheVariants as compactions
 use Rattle.store.specs.Exchanging.{Shrinks}
 use Rattle.store.specs.Compacting.{step_reply, HasStepped, RefusesStep}
+use Rattle.store.specs.declared.upgrading.Upgraded.{Upgraded}
+use Rattle.store.specs.declared.upgrading.Upgraded.TheVariants as upgradeds
+use Rattle.store.specs.Upgrading.{upgrade_ended, HasUpgraded, RefusesUpgrade}
 use Rattle.export_book.specs.Book.{open_at}
 use Rattle.store.specs.Exporting.{RefusesExport, OpensAt, GivesPiece, after_giving, RefusesPiece, ReadsForExport, RefusesClosing, ClosesAt}
 use Rattle.store.specs.Places.{IsCallOf, AreCallsOf, device_in, PlaceFits, PlaceGoes, PlaceRuns}
@@ -70,7 +74,7 @@ pub record LeavesUnformatted {D : Type 0} (size : D → ℕ) (story : D → Stor
   pub reason : IsOfFormatting (size device) refusal
   pub untouched : tells ≡ true → ruling (shown_image (now (story device))) ≢ None → OnlyReads (story device) (story back)
   pub quiet : refusal ≢ openings.Device → tells ≡ true → now (story back) ≡ now (story device)
-  pub moments : tells ≡ true → Grows (IsFormatting (size device) (now (story device))) (story device) (story back)
+  pub moments : tells ≡ true → Grows (IsFormatting (size device) One (now (story device))) (story device) (story back)
   pub limits : RefusesSize size story device refusal back
 
 abbrev pub AnswersOpening : {D : Type 0} {g : Ghosts D} → (size : D → ℕ) → (story : D → Story) → (tells : Bool) → D → PlainReply → Place D g → Type 0
@@ -81,7 +85,7 @@ AnswersOpening size story tells device _ new = ⊥
 
 abbrev pub AnswersFormatting : {D : Type 0} {g : Ghosts D} → (size : D → ℕ) → (story : D → Story) → (tells : Bool) → D → PlainReply → Place D g → Type 0
 AnswersFormatting size story tells device done new =
-    (is_size (size device) ≡ true) × IsOpenWith (λ store. IsNewStore (size device) store × (tells ≡ true → FormatsStore size story device store)) new
+    (is_size (size device) ≡ true) × IsOpenWith (λ store. IsNewStore (size device) One store × (tells ≡ true → FormatsStore size story One device store)) new
 AnswersFormatting size story tells device (shut_by refusal) new = IsShutWith (λ back. LeavesUnformatted size story tells device refusal back) new
 AnswersFormatting size story tells device _ new = ⊥
 
@@ -186,6 +190,21 @@ pub record Compacts {D : Type 0} {g : Ghosts D} (size : D → ℕ) (story : D �
 abbrev pub AnswersCompact : {D : Type 0} {g : Ghosts D} → (size : D → ℕ) → (story : D → Story) → (failed : D → ℕ) → (tells : Bool) → Store D g → PlainReply → Store D g → Type 0
 AnswersCompact size story failed tells old reply new = (result : Result Compaction Refusal) × (reply ≡ step_reply result) × Compacts size story failed tells old result new
 
+-- an upgrade
+pub record Upgrades {D : Type 0} {g : Ghosts D} (size : D → ℕ) (story : D → Story) (tells : Bool) (old : Store D g) (result : Result Upgraded Refusal) (new : Store D g) : Type 0 where
+  pub upgraded : IfOk result (λ upgraded. HasUpgraded size story tells old upgraded new)
+  pub told : IfErr result (λ e. RefusesUpgrade size story tells (is_halted old) old e new)
+  pub already : is_halted old ≡ false → (commit_of old).version ≡ Two → result ≡ Ok upgradeds.Already
+  pub kept : IfErr result (λ e. IsKept old new)
+  pub reads : IfErr result (λ e. e ≢ refusals.Device → tells ≡ true → OnlyReads (story (device_of old)) (story (device_of new)))
+  pub halted : (result ≡ Err refusals.Halted) ↔ (is_halted old ≡ true)
+  pub still : is_halted old ≡ true → new ≡ old
+  pub halts : is_halted old ≡ false → (is_halted new ≡ true) ↔ (result ≡ Err refusals.Device)
+  pub book : book_of new ≡ book_of old
+
+abbrev pub AnswersUpgrade : {D : Type 0} {g : Ghosts D} → (size : D → ℕ) → (story : D → Story) → (tells : Bool) → Store D g → PlainReply → Store D g → Type 0
+AnswersUpgrade size story tells old reply new = (result : Result Upgraded Refusal) × (reply ≡ upgrade_ended result) × Upgrades size story tells old result new
+
 abbrev pub AnswersOpen : {D : Type 0} {g : Ghosts D} → (size : D → ℕ) → (story : D → Story) → (failed : D → ℕ) → (tells : Bool) → Store D g → PlainCall → PlainReply → Place D g → Type 0
 AnswersOpen size story failed tells old (apply_call c) reply new = IsOpenWith (λ store. AnswersCommand size story tells old c reply store) new
 AnswersOpen size story failed tells old format_call reply new = AnswersFormatting size story tells (device_of old) reply new
@@ -204,6 +223,7 @@ AnswersOpen size story failed tells old (open_export_call name) reply new = IsOp
 AnswersOpen size story failed tells old (export_next_call id) reply new = IsOpenWith (λ store. AnswersNext size story failed tells old id reply store) new
 AnswersOpen size story failed tells old (close_export_call id) reply new = IsOpenWith (λ store. AnswersCloseExport size story failed tells old id reply store) new
 AnswersOpen size story failed tells old compact_call reply new = IsOpenWith (λ store. AnswersCompact size story failed tells old reply store) new
+AnswersOpen size story failed tells old upgrade_call reply new = IsOpenWith (λ store. AnswersUpgrade size story tells old reply store) new
 
 -- ---- calls of a place
 

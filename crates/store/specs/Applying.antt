@@ -46,9 +46,9 @@ IsKept old new = (commit_of new ≡ commit_of old) × (listed_in new ≡ listed_
 pub record HasCarried (size : ℕ) (used : Run → Type 0) (k : Commit) (c : PlainCatalogue) (change : PlainChange) (image : Image) : Type 0 where
   pub places : List Run
   pub text : Run
-  pub takes : Takes size used (asked_sizes c change) (Ok (places ++ text ∷ []))
-  pub stands : standing stored_reading size image ≡ rules (commit_placed k c change text) (placed c change places)
-  pub holds : HoldsStreams image (placed_segments places change.streams change.counts) change.streams change.counts
+  pub takes : Takes size used (asked_sizes k.version c change) (Ok (places ++ text ∷ []))
+  pub stands : standing stored_reading size image ≡ rules (commit_placed k c change text) (placed k.version c change places)
+  pub holds : HoldsStreams image (placed_segments k.version places change.streams change.counts) change.streams change.counts
 
 -- what a stop in it leaves: the commit and the catalogue that stood, or the change carried out; and what lay in the runs of that catalogue lies
 -- there still
@@ -59,7 +59,7 @@ pub record IsOldOrCarried (size : ℕ) (used : Run → Type 0) (k : Commit) (c :
 -- runs were taken for it, and outside them no sector was touched but the one of the next commit
 pub record IsTaking (size : ℕ) (used : Run → Type 0) (k : Commit) (c : PlainCatalogue) (before : Disk) (change : PlainChange) (d : Disk) : Type 0 where
   pub runs : List Run
-  pub takes : Takes size used (asked_sizes c change) (Ok runs)
+  pub takes : Takes size used (asked_sizes k.version c change) (Ok runs)
   pub outside : (n : ℕ) → OutOf runs n → n ≢ (k.epoch + 1) % 2 → d.at n ≡ before.at n
 
 -- at a moment of it: the disk is as it was, or a write has begun
@@ -88,9 +88,9 @@ pub record HasDone (size : ℕ) (used : Run → Type 0) (k : Commit) (c : PlainC
   pub decides : IsDecided true (shown_image before) c command (Ok change)
   pub places : List Run
   pub text : Run
-  pub takes : Takes size used (asked_sizes c change) (Ok (places ++ text ∷ []))
-  pub stands : standing stored_reading size image ≡ rules (commit_placed k c change text) (placed c change places)
-  pub holds : HoldsStreams image (placed_segments places change.streams change.counts) change.streams change.counts
+  pub takes : Takes size used (asked_sizes k.version c change) (Ok (places ++ text ∷ []))
+  pub stands : standing stored_reading size image ≡ rules (commit_placed k c change text) (placed k.version c change places)
+  pub holds : HoldsStreams image (placed_segments k.version places change.streams change.counts) change.streams change.counts
 
 -- what a stop in a command leaves: the commit and the catalogue that stood, or a command that was carried out; and what lay in the runs of
 -- that catalogue lies there still
@@ -103,7 +103,7 @@ pub record IsWriting (size : ℕ) (used : Run → Type 0) (k : Commit) (c : Plai
   pub change : PlainChange
   pub decides : IsDecided true (shown_image before) c command (Ok change)
   pub runs : List Run
-  pub takes : Takes size used (asked_sizes c change) (Ok runs)
+  pub takes : Takes size used (asked_sizes k.version c change) (Ok runs)
   pub outside : (n : ℕ) → OutOf runs n → n ≢ (k.epoch + 1) % 2 → d.at n ≡ before.at n
 
 -- at a moment of a command: the disk is as it was, or the command writes; and each image that a stop may leave is old or has the command done

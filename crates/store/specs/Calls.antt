@@ -24,6 +24,8 @@ pub data PlainCall : Type 0 where
   close_export_call : (id : ℕ) → PlainCall
   -- one step of a compaction
   compact_call : PlainCall
+  -- the segments of all tables get digests
+  upgrade_call : PlainCall
 
 pub data PlainReply : Type 0 where
   -- a command, a formatting, an opening or a closing that was done, of a store or of an export
@@ -42,6 +44,8 @@ pub data PlainReply : Type 0 where
   merged : PlainReply
   moved : PlainReply
   nothing : PlainReply
+  -- the store has digests
+  already : PlainReply
   refused : Refusal → PlainReply
   -- a formatting or an opening that was refused: the place is shut
   shut_by : OpeningRefusal → PlainReply
@@ -78,6 +82,7 @@ may_change (apply_call c) = true
 may_change (stream_call c) = true
 may_change format_call = true
 may_change open_call = true
+may_change upgrade_call = true
 may_change _ = false
 
 -- a call that needs an open store

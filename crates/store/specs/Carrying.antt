@@ -7,6 +7,7 @@ use Rattle.catalogue.specs.declared.limits.TheConstants.{MAX_SEGMENTS}
 use Rattle.catalogue.specs.declared.entry.Segment.{Segment}
 use Rattle.catalogue.specs.Entries.{PlainCatalogue, segment_count}
 use Rattle.commit.specs.declared.sector.Commit.{Commit}
+use Rattle.commit.specs.declared.sector.FormatVersion.{FormatVersion}
 use Rattle.commit.specs.Publishing.{next_commit}
 use Rattle.commit.specs.Placing.{Takes, is_among, counts_of}
 use Rattle.commit.specs.Standing.{rules, standing, used_runs}
@@ -16,32 +17,38 @@ use Rattle.tables.specs.declared.refusal.Limit.TheVariants as limits
 use Rattle.tables.specs.Commands.{PlainCommand}
 use Rattle.pages.specs.Stored.{stored_reading}
 use Rattle.pages.specs.Paging.{kind_of, page_sizes, text_size, settled}
-use Rattle.store.specs.Changes.{PlainChange, edited, placed_segments}
+use Rattle.store.specs.Changes.{PlainChange, version_after, digest_for, edited, placed_segments}
 use Rattle.store.specs.Deciding.{IsDecided}
 
 -- new segments of which no place is known yet
-abbrev pub unplaced : (streams : List (List ℕ)) → (counts : List ℕ) → List Segment
-unplaced [] counts = []
-unplaced (stream ∷ streams) [] = []
-unplaced (stream ∷ streams) (count ∷ counts) =
-    record { place = record { run = record { start = 0; count = sector_count (length stream) }; bytes = length stream }; rows = count } ∷ unplaced streams counts
+abbrev pub unplaced : FormatVersion → (streams : List (List ℕ)) → (counts : List ℕ) → List Segment
+unplaced version [] counts = []
+unplaced version (stream ∷ streams) [] = []
+unplaced version (stream ∷ streams) (count ∷ counts) =
+    record {
+      place = record { run = record { start = 0; count = sector_count (length stream) }; bytes = length stream };
+      rows = count;
+      digest = digest_for version stream;
+    }
+    ∷ unplaced version streams counts
 
--- the catalogue that a change makes, but for the places of its new segments
-abbrev pub outline : PlainCatalogue → PlainChange → PlainCatalogue
-outline c change = edited c change.edit (unplaced change.streams change.counts)
+-- the catalogue that a change makes of one of this version, but for the places of its new segments
+abbrev pub outline : FormatVersion → PlainCatalogue → PlainChange → PlainCatalogue
+outline version c change = edited c change.edit (unplaced version change.streams change.counts)
 
 -- the sectors that are asked for: those of each stream in order, then those of each page that is written, by name, and then those of the
 -- catalogue's text
-abbrev pub asked_sizes : PlainCatalogue → PlainChange → List ℕ
-asked_sizes c change = counts_of change.streams (page_sizes (outline c change)) (text_size (outline c change))
+abbrev pub asked_sizes : FormatVersion → PlainCatalogue → PlainChange → List ℕ
+asked_sizes version c change = counts_of change.streams (page_sizes (outline version c change)) (text_size (outline version c change))
 
 -- the catalogue that it makes, where its new segments lie in the first of these runs, and its new pages in the others
-abbrev pub placed : PlainCatalogue → PlainChange → List Run → PlainCatalogue
-placed c change places = settled (edited c change.edit (placed_segments places change.streams change.counts)) (drop (length change.streams) places)
+abbrev pub placed : FormatVersion → PlainCatalogue → PlainChange → List Run → PlainCatalogue
+placed version c change places =
+    settled (edited c change.edit (placed_segments version places change.streams change.counts)) (drop (length change.streams) places)
 
 -- the commit that it makes, where its text lies in this run
 abbrev pub commit_placed : Commit → PlainCatalogue → PlainChange → Run → Commit
-commit_placed k c change text = next_commit k k.version (kind_of (outline c change)) text (text_size (outline c change))
+commit_placed k c change text = next_commit k (version_after change.edit k.version) (kind_of (outline k.version c change)) text (text_size (outline k.version c change))
 
 -- an epoch behind this one has 64 bits
 abbrev pub HasNext : Commit → Type 0
@@ -51,15 +58,15 @@ HasNext k = k.epoch < 2 ^ 64 - 1
 -- order, and the device is written to only behind these tests
 abbrev pub IsCarried : (size : ℕ) → (used : Run → Type 0) → Commit → PlainCatalogue → PlainChange → Result (Unit {0}) Refusal → Commit → PlainCatalogue → Type 0
 IsCarried size used k c change (Ok unit) k' c' =
-    HasNext k × (segment_count (outline c change) ≤ MAX_SEGMENTS)
-    × ((places : List Run) × (text : Run) × Takes size used (asked_sizes c change) (Ok (places ++ text ∷ []))
-    × (c' ≡ placed c change places) × (k' ≡ commit_placed k c change text))
+    HasNext k × (segment_count (outline k.version c change) ≤ MAX_SEGMENTS)
+    × ((places : List Run) × (text : Run) × Takes size used (asked_sizes k.version c change) (Ok (places ++ text ∷ []))
+    × (c' ≡ placed k.version c change places) × (k' ≡ commit_placed k c change text))
 IsCarried size used k c change (Err (refusals.TooMany limits.Epochs)) k' c' = k.epoch ≡ 2 ^ 64 - 1
-IsCarried size used k c change (Err (refusals.TooMany limits.Segments)) k' c' = HasNext k × (MAX_SEGMENTS < segment_count (outline c change))
+IsCarried size used k c change (Err (refusals.TooMany limits.Segments)) k' c' = HasNext k × (MAX_SEGMENTS < segment_count (outline k.version c change))
 IsCarried size used k c change (Err (refusals.NoRoom count)) k' c' =
-    HasNext k × (segment_count (outline c change) ≤ MAX_SEGMENTS) × Takes size used (asked_sizes c change) (Err count)
+    HasNext k × (segment_count (outline k.version c change) ≤ MAX_SEGMENTS) × Takes size used (asked_sizes k.version c change) (Err count)
 IsCarried size used k c change (Err refusals.Device) k' c' =
-    HasNext k × (segment_count (outline c change) ≤ MAX_SEGMENTS) × ((runs : List Run) × Takes size used (asked_sizes c change) (Ok runs))
+    HasNext k × (segment_count (outline k.version c change) ≤ MAX_SEGMENTS) × ((runs : List Run) × Takes size used (asked_sizes k.version c change) (Ok runs))
 IsCarried size used k c change (Err refusals.OutOfMemory) k' c' = Unit {0}
 IsCarried size used k c change (Err _) k' c' = ⊥
 

@@ -3,7 +3,6 @@ use Rattle.std.specs.Prelude.{◌≡◌, ◌⊎◌, ◌≤◌, ◌<◌, ◌+◌,
 use Rattle.sector_dev.specs.Disk.{Image, Story, now, shown_image}
 use Rattle.sector_dev.specs.declared.device.SectorDevice.{Ghosts}
 use Rattle.segments.specs.Runs.{IsLowest}
-use Rattle.segments.specs.Sectors.{bytes_at}
 use Rattle.segments.specs.Usages.{IsUsedIn}
 use Rattle.segments.specs.declared.run.Run.{Run}
 use Rattle.cells.specs.Cell.{PlainTable}
@@ -20,7 +19,7 @@ use Rattle.store.specs.Calls.{PlainReply, merged, moved, nothing, refused}
 use Rattle.store.specs.Changes.{PlainChange, exchange}
 use Rattle.catalogue.specs.Edits.{from_place}
 use Rattle.store.specs.Deciding.{pieces_put}
-use Rattle.store.specs.Reading.{IsRead, Unreads}
+use Rattle.store.specs.Reading.{IsCopy, LacksBytes, IsRead, Unreads}
 use Rattle.store.specs.Fits.{device_of, listed_in}
 use Rattle.store.specs.Applying.{EndsAs}
 
@@ -73,7 +72,7 @@ pub record IsLast (c : PlainCatalogue) (number place : ℕ) (entry : PlainEntry)
   pub at : slice_get entry.segments place ≡ Some segment
   pub most : (other : ℕ) (e : PlainEntry) (p : ℕ) (g : Segment) → slice_get c other ≡ Some e → slice_get e.segments p ≡ Some g → g.place.run.start ≤ segment.place.run.start
 
--- a change moves it, byte for byte, into the lowest free run that fits it, which starts in front of it
+-- a change moves it, byte for byte as it was read, into the lowest free run that fits it, which starts in front of it
 pub record IsMove (tells : Bool) (image : Image) (size : ℕ) (used : Run → Type 0) (c : PlainCatalogue) (change : PlainChange) : Type 0 where
   pub number : ℕ
   pub place : ℕ
@@ -84,8 +83,7 @@ pub record IsMove (tells : Bool) (image : Image) (size : ℕ) (used : Run → Ty
   pub lowest : IsLowest size used segment.place.run.count (Some run)
   pub below : run.start < segment.place.run.start
   pub bytes : List ℕ
-  pub count : length bytes ≡ segment.place.bytes
-  pub held : tells ≡ true → bytes_at image segment.place.run.start segment.place.bytes ≡ Some bytes
+  pub copy : IsCopy tells image segment bytes
   pub is : change ≡ record { edit = exchange entry.name place 1; streams = bytes ∷ []; counts = segment.rows ∷ [] }
 
 -- no free run that fits it starts in front of it
@@ -126,14 +124,8 @@ abbrev pub UnreadsPair : (tells : Bool) → Image → PlainEntry → ℕ → Ref
 UnreadsPair tells image e place refusals.Device = Unit {0}
 UnreadsPair tells image e place refusals.OutOfMemory = Unit {0}
 UnreadsPair tells image e place (refusals.SegmentUnread number) = (at : ℕ) × (number ≡ place + at) × Unreads tells image (pair_of e place) (refusals.SegmentUnread at)
+UnreadsPair tells image e place (refusals.SegmentDamaged number) = (at : ℕ) × (number ≡ place + at) × Unreads tells image (pair_of e place) (refusals.SegmentDamaged at)
 UnreadsPair tells image e place _ = ⊥
-
--- why the last segment is not read
-abbrev pub UnreadsLast : (tells : Bool) → Image → Segment → ℕ → Refusal → Type 0
-UnreadsLast tells image segment place refusals.Device = Unit {0}
-UnreadsLast tells image segment place refusals.OutOfMemory = Unit {0}
-UnreadsLast tells image segment place (refusals.SegmentUnread number) = (number ≡ place) × (tells ≡ true → bytes_at image segment.place.run.start segment.place.bytes ≡ None)
-UnreadsLast tells image segment place _ = ⊥
 
 -- it is the first pair of which nothing is known: all before it stay two segments, and by the number of its rows it may be one piece
 pub record UnreadsInPairs (tells : Bool) (image : Image) (c : PlainCatalogue) (r : Refusal) : Type 0 where
@@ -153,7 +145,7 @@ pub record UnreadsMoving (tells : Bool) (image : Image) (c : PlainCatalogue) (r 
   pub entry : PlainEntry
   pub segment : Segment
   pub last : IsLast c number place entry segment
-  pub unread : UnreadsLast tells image segment place r
+  pub unread : LacksBytes tells image segment place r
 
 -- why nothing is decided: the last segment is looked at where all pairs stay two segments
 abbrev pub UnreadsStep : (tells : Bool) → Image → PlainCatalogue → Refusal → Type 0

@@ -15,9 +15,8 @@ use Rattle.tables.specs.declared.refusal.Refusal.{Refusal}
 use Rattle.tables.specs.declared.refusal.Refusal.TheVariants as refusals
 use Rattle.store.specs.declared.store.Store.{Store}
 use Rattle.store.specs.Calls.{PlainReply, is_device_reply}
-use Rattle.store.specs.Held.{segment_rows}
 use Rattle.store.specs.Fits.{commit_of, listed_in, book_of, is_halted}
-use Rattle.store.specs.Reading.{OnlyReadsDevice}
+use Rattle.store.specs.Reading.{HasRead, LacksRows, OnlyReadsDevice}
 
 -- ---- opening
 
@@ -48,10 +47,10 @@ OpensAt false (Some e) old id new = OpensExport old e id new
 
 -- ---- giving
 
--- the messages of the rows that a segment has
+-- the messages of the rows that were read of a segment
 abbrev pub HasRows : (tells : Bool) → Image → PlainSchema → Segment → Option (List ℕ) → Type 0
 HasRows tells image schema g piece =
-    (rows : List (List Cell)) × (tells ≡ true → segment_rows schema g image ≡ Some rows) × (piece ≡ Some (rows_messages schema rows))
+    (rows : List (List Cell)) × HasRead tells image schema g rows × (piece ≡ Some (rows_messages schema rows))
 
 -- a piece of a segment; behind the segments the end of stream, and then none
 abbrev pub OfSegment : (tells : Bool) → Image → PlainExport → Option Segment → (place : ℕ) → Option (List ℕ) → Type 0
@@ -73,13 +72,6 @@ GivesPiece false tells image (Some e) piece = PieceIs tells image e e.given piec
 abbrev pub after_giving : Option (List ℕ) → ℕ → PlainBook → PlainBook
 after_giving None id b = b
 after_giving (Some piece) id b = with_given id b
-
--- why the rows of the segment at a place are not given: only its own number is told, where it can't be read
-abbrev pub LacksRows : (tells : Bool) → Image → PlainSchema → Segment → (place : ℕ) → Refusal → Type 0
-LacksRows tells image schema g place refusals.Device = Unit {0}
-LacksRows tells image schema g place refusals.OutOfMemory = Unit {0}
-LacksRows tells image schema g place (refusals.SegmentUnread other) = (other ≡ place) × (tells ≡ true → segment_rows schema g image ≡ None)
-LacksRows tells image schema g place _ = ⊥
 
 -- why a piece is not given: the device is read for a segment alone
 abbrev pub RefusesSegment : (tells : Bool) → Image → PlainExport → Option Segment → (place : ℕ) → Refusal → Type 0

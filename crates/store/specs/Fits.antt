@@ -9,6 +9,7 @@ use Rattle.commit.specs.Placing.{Uses}
 use Rattle.commit.specs.Ruling.{ruling}
 use Rattle.commit.specs.Formatting.{first_commit, IsFormatting, IsFormatted, IsMadeEmpty}
 use Rattle.commit.specs.declared.sector.Commit.{Commit}
+use Rattle.commit.specs.declared.sector.FormatVersion.{FormatVersion}
 use Rattle.catalogue.specs.Entries.{PlainCatalogue}
 use Rattle.catalogue.specs.View.{catalogue_of}
 use Rattle.export_book.specs.View as books
@@ -107,17 +108,17 @@ pub record FindsStore {D : Type 0} {g : Ghosts D} (size : D → ℕ) (story : D 
 
 -- a formatting of any device that was done: reads showed no store there; the empty store is synced, and no stop during it left anything
 -- but what was there, no store or the empty one
-pub record FormatsStore {D : Type 0} {g : Ghosts D} (size : D → ℕ) (story : D → Story) (device : D) (store : Store D g) : Type 0 where
+pub record FormatsStore {D : Type 0} {g : Ghosts D} (size : D → ℕ) (story : D → Story) (version : FormatVersion) (device : D) (store : Store D g) : Type 0 where
   pub none_before : ruling (shown_image (now (story device))) ≡ None
-  pub moments : Grows (IsFormatting (size device) (now (story device))) (story device) (story (device_of store))
-  pub formatted : IsFormatted (size device) (now (story device)) (now (story (device_of store)))
+  pub moments : Grows (IsFormatting (size device) version (now (story device))) (story device) (story (device_of store))
+  pub formatted : IsFormatted (size device) version (now (story device)) (now (story (device_of store)))
   pub stands : IsOnDisk size story store
-  pub made : IsMadeEmpty (size device) (shown_image (now (story device))) (shown_image (now (story (device_of store))))
+  pub made : IsMadeEmpty (size device) version (shown_image (now (story device))) (shown_image (now (story (device_of store))))
 
--- the store that a formatting of a device of this size makes: without tables, and not halted
-pub record IsNewStore {D : Type 0} {g : Ghosts D} (size : ℕ) (store : Store D g) : Type 0 where
+-- the store that a formatting of a device of this size makes in this version: without tables, and not halted
+pub record IsNewStore {D : Type 0} {g : Ghosts D} (size : ℕ) (version : FormatVersion) (store : Store D g) : Type 0 where
   pub empty : listed_in store ≡ []
-  pub commit : commit_of store ≡ first_commit size
+  pub commit : commit_of store ≡ first_commit size version
   pub uses : Uses store.opened.map.entries (used_runs stored_reading (commit_of store) (listed_in store)) []
   pub none_open : book_of store ≡ no_exports
   pub on : store.halted ≡ false

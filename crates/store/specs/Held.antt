@@ -1,6 +1,8 @@
 -- What an image holds to one who opens it: its tables, where each segment can be read.
-use Rattle.std.specs.Prelude.{◌==◌, ℕ, nat_eq, List, [], ◌∷◌, ◌++◌, length, Option, Some, None, option_map, Result, Ok, Err, if◌then◌else◌}
+use Rattle.std.specs.Prelude.{◌==◌, ℕ, Bool, true, nat_eq, List, [], ◌∷◌, ◌++◌, length, Option, Some, None, option_map, Result, Ok, Err, if◌then◌else◌}
 use Rattle.std.specs.List.{starts_with}
+use Rattle.std.specs.Str.{bytes_eq}
+use Rattle.sha2.specs.Sha256.{sha256}
 use Rattle.sector_dev.specs.Disk.{Image}
 use Rattle.segments.specs.Sectors.{bytes_at}
 use Rattle.arrow_schema.specs.Column.{PlainSchema}
@@ -31,8 +33,22 @@ abbrev pub rows_in_bytes : PlainSchema → ℕ → Option (List ℕ) → Option 
 rows_in_bytes schema count None = None
 rows_in_bytes schema count (Some bytes) = if starts_with nat_eq bytes (schema_message schema) then rows_where count (meaning supported_codes bytes) else None
 
+-- the bytes that were read of a segment have the SHA-256 of its entry, if there are both
+abbrev pub is_undamaged : (digest bytes : Option (List ℕ)) → Bool
+is_undamaged None bytes = true
+is_undamaged (Some digest) None = true
+is_undamaged (Some digest) (Some bytes) = bytes_eq (sha256 bytes) digest
+
+-- the bytes that lie in a segment, where each of its sectors can be read
+abbrev pub bytes_of : Segment → Image → Option (List ℕ)
+bytes_of segment image = bytes_at image segment.place.run.start segment.place.bytes
+
+-- the rows that some bytes of a segment hold: none where they have another digest
+abbrev pub rows_in_segment : PlainSchema → Segment → (bytes : Option (List ℕ)) → Option (List (List Cell))
+rows_in_segment schema segment bytes = if is_undamaged segment.digest bytes then rows_in_bytes schema segment.rows bytes else None
+
 unfoldable pub segment_rows : PlainSchema → Segment → Image → Option (List (List Cell))
-segment_rows schema segment image = rows_in_bytes schema segment.rows (bytes_at image segment.place.run.start segment.place.bytes)
+segment_rows schema segment image = rows_in_segment schema segment (bytes_of segment image)
 
 -- ---- a table
 

@@ -19,9 +19,11 @@ pub mod Deciding
 pub mod Carrying
 pub mod Applying
 pub mod Compacting
+pub mod Upgrading
 pub mod Verdicts
 pub mod Listing
 pub mod Reading
+pub mod Digests
 pub mod Input
 pub mod Exporting
 pub mod Places

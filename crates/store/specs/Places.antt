@@ -14,7 +14,7 @@ use Rattle.store.specs.declared.call.Reply.{Reply}
 use Rattle.store.specs.declared.call.Reply.TheVariants as replies
 use Rattle.store.specs.declared.call.Place.{Place}
 use Rattle.store.specs.declared.call.Place.TheVariants as places
-use Rattle.store.specs.Calls.{PlainCall, apply_call, format_call, open_call, close_call, tables_call, schema_call, read_call, export_call, stream_call, open_export_call, export_next_call, close_export_call, compact_call, PlainReply, done, counts, schema_is, table_is, bytes_are, export_is, piece_is, merged, moved, nothing, refused, shut_by, is_device_reply}
+use Rattle.store.specs.Calls.{PlainCall, apply_call, format_call, open_call, close_call, tables_call, schema_call, read_call, export_call, stream_call, open_export_call, export_next_call, close_export_call, compact_call, upgrade_call, PlainReply, done, counts, schema_is, table_is, bytes_are, export_is, piece_is, merged, moved, nothing, already, refused, shut_by, is_device_reply}
 use Rattle.store.specs.Machine.{Machine, shut, halted}
 use Rattle.store.specs.Runs.{Goes, Run}
 use Rattle.store.specs.Since.{story_at, IsLeftFrom}
@@ -44,6 +44,7 @@ IsCallOf remaining (calls.OpenExport name) plain = plain ≡ open_export_call (s
 IsCallOf remaining (calls.ExportNext id) plain = plain ≡ export_next_call id
 IsCallOf remaining (calls.CloseExport id) plain = plain ≡ close_export_call id
 IsCallOf remaining calls.Compact plain = plain ≡ compact_call
+IsCallOf remaining calls.Upgrade plain = plain ≡ upgrade_call
 
 -- one by one
 abbrev pub AreCallsOf : {R : Type 0} → (remaining : R → Option (List ℕ)) → List (Call R) → List PlainCall → Type 0
@@ -68,6 +69,7 @@ reply_in (replies.Piece piece) = piece_is (option_map (λ v. v.items) piece)
 reply_in replies.Merged = merged
 reply_in replies.Moved = moved
 reply_in replies.Nothing = nothing
+reply_in replies.Already = already
 reply_in (replies.Refused refusal) = refused refusal
 reply_in (replies.NotOpened refusal) = shut_by refusal
 

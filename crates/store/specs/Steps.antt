@@ -12,7 +12,7 @@ use Rattle.tables.specs.Tables.{table_at, row_counts}
 use Rattle.tables.specs.Commands.{PlainCommand}
 use Rattle.tables.specs.Verdict.{verdict}
 use Rattle.commit.specs.declared.opening_refusal.OpeningRefusal.TheVariants as openings
-use Rattle.store.specs.Calls.{PlainCall, apply_call, format_call, open_call, close_call, tables_call, schema_call, read_call, export_call, stream_call, open_export_call, export_next_call, close_export_call, compact_call, PlainReply, done, counts, schema_is, table_is, bytes_are, export_is, piece_is, merged, moved, nothing, refused, shut_by}
+use Rattle.store.specs.Calls.{PlainCall, apply_call, format_call, open_call, close_call, tables_call, schema_call, read_call, export_call, stream_call, open_export_call, export_next_call, close_export_call, compact_call, upgrade_call, PlainReply, done, counts, schema_is, table_is, bytes_are, export_is, piece_is, merged, moved, nothing, already, refused, shut_by}
 use Rattle.store.specs.Machine.{Setting, shut, running, Export, Machine, with_doubt, tables_now, settle, opened, shut_down, halt, export_at, with_export, after_piece, without_export}
 
 -- nothing was written, and the machine stays as it is
@@ -141,6 +141,17 @@ StepCompact m (refused refusals.Halted) wrote new = (m.phase ≢ running) × Sta
 StepCompact m (refused refusals.Device) wrote new = (m.phase ≡ running) × (new ≡ halt compact_call wrote m)
 StepCompact m _ wrote new = ⊥
 
+-- so does an upgrade
+abbrev pub StepUpgrade : Machine → PlainReply → Bool → Machine → Type 0
+StepUpgrade m done wrote new = (m.phase ≡ running) × (m.started ≡ true) × (wrote ≡ true) × (new ≡ m)
+StepUpgrade m already wrote new = (m.phase ≡ running) × Stays m wrote new
+StepUpgrade m (refused (refusals.TooMany limits.Epochs)) wrote new = (m.phase ≡ running) × Stays m wrote new
+StepUpgrade m (refused (refusals.NoRoom count)) wrote new = (m.phase ≡ running) × Stays m wrote new
+StepUpgrade m (refused refusals.OutOfMemory) wrote new = (m.phase ≡ running) × Stays m wrote new
+StepUpgrade m (refused refusals.Halted) wrote new = (m.phase ≢ running) × Stays m wrote new
+StepUpgrade m (refused refusals.Device) wrote new = (m.phase ≡ running) × (new ≡ halt upgrade_call wrote m)
+StepUpgrade m _ wrote new = ⊥
+
 unfoldable pub Step : Setting → Machine → PlainCall → PlainReply → Bool → Machine → Type 0
 Step s m (apply_call c) reply wrote new = StepApply s m c reply wrote new
 Step s m format_call reply wrote new = StepFormat s m reply wrote new
@@ -155,3 +166,4 @@ Step s m (open_export_call name) reply wrote new = StepOpenExport s m name reply
 Step s m (export_next_call id) reply wrote new = StepExportNext m id reply wrote new
 Step s m (close_export_call id) reply wrote new = StepCloseExport m id reply wrote new
 Step s m compact_call reply wrote new = StepCompact m reply wrote new
+Step s m upgrade_call reply wrote new = StepUpgrade m reply wrote new

@@ -5,12 +5,14 @@ pub mod Never
 pub mod Unhalted
 pub mod Settled
 pub mod Kept
+pub mod Digests
 pub mod Frame
 pub mod Named
 pub mod Listed
 pub mod Changed
 pub mod Edited
 pub mod EditedEach
+pub mod EditedForm
 pub mod Segments
 pub mod Pieces
 pub mod Snapshots
@@ -21,3 +23,4 @@ pub mod ExchangedRuns
 pub mod Spared
 pub mod Exported
 pub mod Same
+pub mod Upgraded

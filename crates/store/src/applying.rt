@@ -59,8 +59,8 @@ impl<D: SectorDevice> Store<D> {
     ///
     /// # Errors
     /// Those of the command, in the order of its tests, where an append reads the table for the last one, and a query that is saved reads its table behind
-    /// all of them: `SegmentUnread` as [`Store::read`], and `Device`; then `TooMany(Epochs)`, `TooMany(Segments)`, `NoRoom` and `Device`. After
-    /// `Device` the store is halted, and whether the command is done is known once the device was opened again; `Halted` before all else
+    /// all of them: `SegmentUnread` and `SegmentDamaged` as [`Store::read`], and `Device`; then `TooMany(Epochs)`, `TooMany(Segments)`, `NoRoom` and
+    /// `Device`. After `Device` the store is halted, and whether the command is done is known once the device was opened again; `Halted` before all else
     /// where it is halted; `OutOfMemory`. After any but `Device` nothing has changed.
     pub fn apply(&mut self, alloc: Global, command: Command) -> Result<(), Refusal>
         // On a store that stands for a machine: it does what the command does to the tables of the settled commands, or is refused as they say.

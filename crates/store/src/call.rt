@@ -29,6 +29,8 @@ pub enum Call<R = Empty> {
     CloseExport(u64),
     /// One step of a compaction.
     Compact,
+    /// Digests for all segments.
+    Upgrade,
 }
 
 /// What is answered.
@@ -52,6 +54,8 @@ pub enum Reply {
     Moved,
     /// A step of a compaction had nothing to do.
     Nothing,
+    /// The store has digests.
+    Already,
     Refused(Refusal),
     /// The device was not opened or formatted.
     NotOpened(OpeningRefusal),

@@ -8,19 +8,19 @@ ghost use Rattle.canonical_write.specs.View.{joined_parts, streams_in};
 ghost use Rattle.catalogue.specs.declared.limits.TheConstants.{MAX_SEGMENTS};
 ghost use Rattle.catalogue.specs.Entries.{is_segment, IsCatalogue, segment_count};
 ghost use Rattle.catalogue.specs.View.{catalogue_of};
-ghost use Rattle.commit.specs.Placing.{Takes, HasRoom, contents_of, plain_contents};
+ghost use Rattle.commit.specs.Placing.{Takes, HasRoom, plain_contents};
 ghost use Rattle.commit.specs.Standing.{is_size};
 ghost use Rattle.pages.specs.Paging.{kind_of, page_sizes, text_size, ArePageRuns, settled, dropped_pages, page_texts, settled_text};
-ghost use Rattle.store.specs.Changes.{change_of, edit_of, CanChange, IsChange, IsEdit, edited, given_up, placed_segments};
+ghost use Rattle.store.specs.Changes.{change_of, edit_of, CanChange, IsChange, IsEdit, edited, given_up};
 ghost use Rattle.store.specs.Carrying.{HasNext, asked_sizes, IsCarried, unplaced, outline};
-ghost use Rattle.store.specs.inner.Prepared.{taking_refusal, IsPrepared};
+ghost use Rattle.store.specs.inner.Prepared.{in_runs, taking_refusal, IsPrepared};
 
 use crate::Store;
 use crate::change::{Change, Edit};
-use crate::editing::{edited, given_up, segments_after, segments_of, unplaced};
+use crate::editing::{edited, given_up, in_runs, segments_after, unplaced, version_after};
 use array_build::Buffer;
 use canonical_write::EncodedPieces;
-use catalogue::{MAX_SEGMENTS, one_page_each};
+use catalogue::{MAX_SEGMENTS, Segment, one_page_each};
 use commit::{CatalogueKind, Commit, Opened, Places, Plan, place, plan_next, publish};
 use pages::{
     Layout, StoredCatalogue, kept_catalogues_are_read, layout_of, pages_hold_what_was_read,
@@ -89,61 +89,49 @@ fn ask(
     commit: Commit,
     stored: &StoredCatalogue,
     change: &Change,
-    streams: &[Vec<Part<'_>>],
-    rows: &[u64],
+    segments: &[Segment],
 ) -> Result<Asked, AllocError>
     requires sound { IsChange (catalogue_of stored.now.list) (change_of change.now) }
-    requires streams { plain_contents streams.now ≡ (change_of change.now).streams }
-    requires rows { rows.now ≡ (change_of change.now).counts }
-    requires stands { IsCatalogue (outline (catalogue_of stored.now.list) (change_of change.now)) }
-    ensures kind { IfOk result (λ asked. asked.layout.kind ≡ kind_of (outline (catalogue_of stored.now.list) (change_of change.now))) }
-    ensures pages { IfOk result (λ asked. asked.layout.pages.items ≡ page_sizes (outline (catalogue_of stored.now.list) (change_of change.now))) }
-    ensures text { IfOk result (λ asked. asked.layout.text_bytes ≡ text_size (outline (catalogue_of stored.now.list) (change_of change.now))) }
+    requires segments { segments.now ≡ unplaced commit.version (change_of change.now).streams (change_of change.now).counts }
+    requires stands { IsCatalogue (outline commit.version (catalogue_of stored.now.list) (change_of change.now)) }
+    ensures kind { IfOk result (λ asked. asked.layout.kind ≡ kind_of (outline commit.version (catalogue_of stored.now.list) (change_of change.now))) }
+    ensures pages { IfOk result (λ asked. asked.layout.pages.items ≡ page_sizes (outline commit.version (catalogue_of stored.now.list) (change_of change.now))) }
+    ensures text { IfOk result (λ asked. asked.layout.text_bytes ≡ text_size (outline commit.version (catalogue_of stored.now.list) (change_of change.now))) }
     ensures back { IfOk result (λ asked. asked.back.items
-        ≡ given_up (catalogue_of stored.now.list) (change_of change.now).edit (unplaced (change_of change.now).streams (change_of change.now).counts)
-        ++ (dropped_pages (outline (catalogue_of stored.now.list) (change_of change.now)) ++ commit.catalogue.run ∷ [])) }
+        ≡ given_up (catalogue_of stored.now.list) (change_of change.now).edit (unplaced commit.version (change_of change.now).streams (change_of change.now).counts)
+        ++ (dropped_pages (outline commit.version (catalogue_of stored.now.list) (change_of change.now)) ++ commit.catalogue.run ∷ [])) }
 {
-    let segments = unplaced(alloc, streams, rows)?;
-    let list = edited(alloc, &stored.list, &change.edit, &segments)?;
+    let list = edited(alloc, &stored.list, &change.edit, segments)?;
     let layout = layout_of(alloc, &list)?;
-    let mut back = given_up(alloc, &stored.list, &change.edit, &segments)?;
+    let mut back = given_up(alloc, &stored.list, &change.edit, segments)?;
     back.extend_from_slice(&layout.dropped)?;
     back.push(commit.catalogue.run)?;
     Ok(Asked { layout, back })
 }
 
-// The new catalogue, its new segments in these pieces and its new pages in these runs, and the texts that are written for it.
+// The new catalogue, its new segments in the runs of these pieces and its new pages in these runs, and the texts that are written for it.
 fn next_catalogue<'a>(
     alloc: Global,
     stored: &StoredCatalogue,
     edit: &Edit,
+    segments: &[Segment],
     pieces: &[Piece<'_>],
-    rows: &[u64],
     kind: CatalogueKind,
     pages: &[Run],
 ) -> Result<(StoredCatalogue, Vec<Vec<Part<'a>>>), AllocError>
-    requires rows { length pieces.now ≡ length rows.now }
-    requires sound { list_all is_segment
-        (placed_segments (runs_of (plain_pieces pieces.now)) (contents_of (plain_pieces pieces.now)) rows.now) ≡ true }
-    requires stands { IsCatalogue (edited (catalogue_of stored.now.list) (edit_of edit.now)
-        (placed_segments (runs_of (plain_pieces pieces.now)) (contents_of (plain_pieces pieces.now)) rows.now)) }
-    requires change { IsChange (catalogue_of stored.now.list)
-        (record { edit = edit_of edit.now; streams = contents_of (plain_pieces pieces.now); counts = rows.now }) }
-    requires kind { kind ≡ kind_of (edited (catalogue_of stored.now.list) (edit_of edit.now)
-        (placed_segments (runs_of (plain_pieces pieces.now)) (contents_of (plain_pieces pieces.now)) rows.now)) }
-    requires pages { ArePageRuns (edited (catalogue_of stored.now.list) (edit_of edit.now)
-        (placed_segments (runs_of (plain_pieces pieces.now)) (contents_of (plain_pieces pieces.now)) rows.now)) pages.now }
-    ensures catalogue { IfOk result (λ next. catalogue_of next.0.list
-        ≡ settled (edited (catalogue_of stored.now.list) (edit_of edit.now)
-        (placed_segments (runs_of (plain_pieces pieces.now)) (contents_of (plain_pieces pieces.now)) rows.now)) pages.now) }
+    requires count { length segments.now ≡ length pieces.now }
+    requires sound { list_all is_segment (in_runs (runs_of (plain_pieces pieces.now)) segments.now) ≡ true }
+    requires edit { (streams : List (List ℕ)) × IsEdit (catalogue_of stored.now.list) (edit_of edit.now) streams }
+    requires stands { IsCatalogue (edited (catalogue_of stored.now.list) (edit_of edit.now) (in_runs (runs_of (plain_pieces pieces.now)) segments.now)) }
+    requires kind { kind ≡ kind_of (edited (catalogue_of stored.now.list) (edit_of edit.now) (in_runs (runs_of (plain_pieces pieces.now)) segments.now)) }
+    requires pages { ArePageRuns (edited (catalogue_of stored.now.list) (edit_of edit.now) (in_runs (runs_of (plain_pieces pieces.now)) segments.now)) pages.now }
+    ensures catalogue { IfOk result (λ next. catalogue_of next.0.list ≡ settled (edited (catalogue_of stored.now.list) (edit_of edit.now) (in_runs (runs_of (plain_pieces pieces.now)) segments.now)) pages.now) }
     ensures texts { IfOk result (λ next. plain_contents next.1.items
-        ≡ page_texts (edited (catalogue_of stored.now.list) (edit_of edit.now)
-        (placed_segments (runs_of (plain_pieces pieces.now)) (contents_of (plain_pieces pieces.now)) rows.now))
-        ++ settled_text (edited (catalogue_of stored.now.list) (edit_of edit.now)
-        (placed_segments (runs_of (plain_pieces pieces.now)) (contents_of (plain_pieces pieces.now)) rows.now)) pages.now ∷ []) }
+        ≡ page_texts (edited (catalogue_of stored.now.list) (edit_of edit.now) (in_runs (runs_of (plain_pieces pieces.now)) segments.now))
+        ++ settled_text (edited (catalogue_of stored.now.list) (edit_of edit.now) (in_runs (runs_of (plain_pieces pieces.now)) segments.now)) pages.now ∷ []) }
 {
-    let segments = segments_of(alloc, pieces, rows)?;
-    let list = edited(alloc, &stored.list, edit, &segments)?;
+    let placed = in_runs(alloc, segments, pieces)?;
+    let list = edited(alloc, &stored.list, edit, &placed)?;
     let (list, texts) = pages::settle(alloc, list, kind, pages)?;
     Ok((StoredCatalogue { list }, texts))
 }
@@ -173,10 +161,10 @@ fn plan_change<'a>(
     requires sound { IsChange (catalogue_of stored.now.list) (change_of change.now) }
     requires streams { streams_in pieces.now ≡ (change_of change.now).streams }
     requires counts { pieces.now.rows.items ≡ (change_of change.now).counts }
-    requires few { segment_count (outline (catalogue_of stored.now.list) (change_of change.now)) ≤ MAX_SEGMENTS }
+    requires few { segment_count (outline commit.version (catalogue_of stored.now.list) (change_of change.now)) ≤ MAX_SEGMENTS }
     ensures ok { IfOk result (λ p. IsPrepared map.old map.new commit (catalogue_of stored.now.list) (change_of change.now) p.plan p.back.items) }
     ensures no_room { IfErr result (λ e. (n : ℕ) → e ≡ TakeError.NoRoom n
-        → Takes map.old.size (IsUsedIn map.old.entries) (asked_sizes (catalogue_of stored.now.list) (change_of change.now)) (Err n)) }
+        → Takes map.old.size (IsUsedIn map.old.entries) (asked_sizes commit.version (catalogue_of stored.now.list) (change_of change.now)) (Err n)) }
     ensures size { map.new.size ≡ map.old.size }
     ensures err { OnErr result (SameUsages map.old.entries map.new.entries) }
 {
@@ -184,7 +172,8 @@ fn plan_change<'a>(
     pages_hold_what_was_read();
     one_page_each();
     let streams = borrowed_streams(alloc, pieces)?;
-    let asked = ask(alloc, commit, stored, change, &streams, &pieces.rows)?;
+    let segments = unplaced(alloc, commit.version, &streams, &pieces.rows)?;
+    let asked = ask(alloc, commit, stored, change, &segments)?;
     let places = place(
         alloc,
         map,
@@ -196,15 +185,15 @@ fn plan_change<'a>(
         alloc,
         stored,
         &change.edit,
+        &segments,
         &places.pieces,
-        &pieces.rows,
         asked.layout.kind,
         page_runs(&places),
     ) {
         Ok((next, texts)) => Ok(Prepared {
             plan: plan_next(
                 commit,
-                commit.version,
+                version_after(&change.edit, commit.version),
                 asked.layout.kind,
                 next,
                 places,

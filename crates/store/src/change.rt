@@ -38,6 +38,10 @@ pub enum Edit {
         place: usize,
         count: usize,
     },
+    /// Each segment of each table gets one of these digests, in order; the catalogue is one of version 2 then.
+    Digest {
+        digests: Vec<[u8; 32]>,
+    },
 }
 
 /// The rows of new segments: those of a table, under another schema in place of its own where there is one.

@@ -106,9 +106,10 @@ impl<D: SectorDevice> Store<D> {
     /// is nothing to do. The tables stay as they are, at each moment. After some steps there is nothing more to do ([`crate::compactions_end`]).
     ///
     /// # Errors
-    /// `Halted` after a failure of the device; `SegmentUnread`, as [`Store::read`], of a pair that is read, or of the segment that is to move where one of
-    /// its sectors can't be read; `Device`, after which the store is halted; `TooMany(Epochs)`; `NoRoom` where the new segment or the catalogue finds no
-    /// free run, and then nothing is moved in its stead; `OutOfMemory`. After any but `Device` nothing has changed.
+    /// `Halted` after a failure of the device; `SegmentUnread` and `SegmentDamaged`, as [`Store::read`], of a pair that is read, or of the segment that is
+    /// to move where one of its sectors can't be read, or its bytes have another digest; `Device`, after which the store is halted; `TooMany(Epochs)`;
+    /// `NoRoom` where the new segment or the catalogue finds no free run, and then nothing is moved in its stead; `OutOfMemory`. After any but `Device`
+    /// nothing has changed.
     pub fn compact_step(&mut self, alloc: Global) -> Result<Compaction, Refusal>
         // On a store that stands for a machine: the tables stay those of the settled commands, at each moment.
         ensures goes { IfOk result (λ done. D.tells ≡ true → (base : Tables) (m : Machine) → StoreFits D.size D.story base m self.old

@@ -1,20 +1,21 @@
 // Edits of a catalogue, and the segments that are new in it.
-ghost use Rattle.std.specs.Prelude.{◌≡◌, ◌<◌, ◌≤◌, ◌+◌, ◌^◌, ◌++◌, ℕ, true, List, Some, map, length, string_bytes, IfOk, OnOk};
+ghost use Rattle.std.specs.Prelude.{◌≡◌, ◌<◌, ◌≤◌, ◌+◌, ◌^◌, ◌++◌, ℕ, true, List, Some, map, flat_map, option_map, length, string_bytes, IfOk, OnOk};
 ghost use Rattle.std.specs.List.{list_all};
 ghost use Rattle.std.specs.Str.{bytes_eq};
 ghost use Rattle.arrow_schema.specs.Limits.{IsWithinLimits};
 ghost use Rattle.arrow_schema.specs.View.{schema_of};
 ghost use Rattle.ipc_write.specs.Written.{schema_message};
-ghost use Rattle.segments.specs.Pieces.{plain_pieces};
+ghost use Rattle.sha2.specs.Sha256.{sha256};
+ghost use Rattle.segments.specs.Pieces.{bytes_of_parts, plain_pieces};
 ghost use Rattle.segments.specs.Writing.{runs_of};
-ghost use Rattle.commit.specs.Placing.{contents_of, plain_contents};
+ghost use Rattle.commit.specs.Placing.{plain_contents};
 ghost use Rattle.catalogue.specs.declared.entry.Segment.{Segment};
-ghost use Rattle.catalogue.specs.Edits.{entry_of, from_place};
+ghost use Rattle.catalogue.specs.Edits.{page_behind, entry_of, from_place};
 ghost use Rattle.catalogue.specs.Entries.{plain_entry, is_segment, is_entry, segment_count, IsCatalogue};
 ghost use Rattle.catalogue.specs.View.{catalogue_of};
-ghost use Rattle.store.specs.Changes.{edit_of, new_entry, page_behind, page_over, page_instead, edited, page_lost, given_by, name_edited, given_up, placed_segments, IsEdit};
+ghost use Rattle.store.specs.Changes.{edit_of, new_entry, page_over, page_instead, edited, page_lost, given_by, lost_page, name_edited, given_up, version_after, digest_for, IsEdit};
 ghost use Rattle.store.specs.Carrying.{unplaced};
-ghost use Rattle.store.specs.inner.Prepared.{CanGive};
+ghost use Rattle.store.specs.inner.Prepared.{in_runs, CanGive};
 ghost use Rattle.store.specs.laws.Edited.{segments_at};
 ghost use Rattle.store.specs.laws.ExchangedRuns.{run_of};
 
@@ -22,9 +23,11 @@ use crate::change::Edit;
 use arrow_schema::Schema;
 use catalogue::{Catalogue, MAX_SEGMENT_ROWS, Segment, TableEntry};
 use cells::MAX_PIECE_ROWS;
+use commit::FormatVersion;
 use ipc_write::write_schema;
 use sector_dev::SECTOR_BYTES;
 use segments::{Extent, Part, Piece, Run, byte_count};
+use sha2::{Digest, Sha256};
 use std::alloc::{AllocError, Global};
 
 // A segment holds the rows of one piece.
@@ -129,6 +132,7 @@ pub(crate) fn edited(
         Edit::Exchange { name, place, count } => {
             changed.exchange_segments(name, *place, *count, segments)?;
         }
+        Edit::Digest { digests } => changed.set_digests(digests),
     }
     Ok(changed)
 }
@@ -160,20 +164,21 @@ fn put_lost(runs: &mut Vec<Run>, old: Option<Extent>, new: Option<Extent>) -> Re
     }
 }
 
-// The name of the table that an edit changes.
-fn name_edited(edit: &Edit) -> &str
-    ensures { result.now ≡ name_edited (edit_of edit.now) }
+// The name of the table that an edit changes; none where it changes all.
+fn name_edited(edit: &Edit) -> Option<&str>
+    ensures { option_map (λ name. name.now) result ≡ name_edited (edit_of edit.now) }
 {
     match edit {
-        Edit::Put { name, schema: _ } => name,
-        Edit::Extend { name } => name,
-        Edit::Move { from, to: _ } => from,
-        Edit::Remove { name } => name,
+        Edit::Put { name, schema: _ } => Some(name),
+        Edit::Extend { name } => Some(name),
+        Edit::Move { from, to: _ } => Some(from),
+        Edit::Remove { name } => Some(name),
         Edit::Exchange {
             name,
             place: _,
             count: _,
-        } => name,
+        } => Some(name),
+        Edit::Digest { digests: _ } => None,
     }
 }
 
@@ -211,6 +216,28 @@ fn given_by(
             put_lost(&mut runs, entry.page, None)?;
             put_runs(&mut runs, segments_from(entry, *place, *count))?;
         }
+        Edit::Digest { digests: _ } => {
+            put_lost(
+                &mut runs,
+                entry.page,
+                page_behind(&entry.segments, entry.page),
+            )?;
+        }
+    }
+    Ok(runs)
+}
+
+// The runs of the pages that go where all segments get digests.
+fn lost_pages(alloc: Global, entries: &[TableEntry]) -> Result<Vec<Run>, AllocError>
+    ensures { IfOk result (λ runs. runs.items ≡ flat_map lost_page (map plain_entry entries.now)) }
+{
+    let mut runs = Vec::new(alloc);
+    for entry in entries {
+        put_lost(
+            &mut runs,
+            entry.page,
+            page_behind(&entry.segments, entry.page),
+        )?;
     }
     Ok(runs)
 }
@@ -225,9 +252,12 @@ pub(crate) fn given_up(
     requires edit { (streams : List (List ℕ)) × IsEdit (catalogue_of catalogue.now) (edit_of edit.now) streams }
     ensures { IfOk result (λ runs. runs.items ≡ given_up (catalogue_of catalogue.now) (edit_of edit.now) segments.now) }
 {
-    match catalogue.get(name_edited(edit)) {
-        Some(entry) => given_by(alloc, edit, segments, entry),
-        None => Ok(Vec::new(alloc)),
+    match name_edited(edit) {
+        Some(name) => match catalogue.get(name) {
+            Some(entry) => given_by(alloc, edit, segments, entry),
+            None => Ok(Vec::new(alloc)),
+        },
+        None => lost_pages(alloc, catalogue.entries()),
     }
 }
 
@@ -260,39 +290,50 @@ pub(crate) fn segments_after(catalogue: &Catalogue, edit: &Edit, new: u64) -> u6
             place: _place,
             count: exchanged,
         } => count - *exchanged as u64 + new,
+        Edit::Digest { digests: _ } => count,
     }
 }
 
-// The segments of streams that go into these runs, with so many rows each.
-pub(crate) fn segments_of(
-    alloc: Global,
-    pieces: &[Piece<'_>],
-    rows: &[u64],
-) -> Result<Vec<Segment>, AllocError>
-    requires { length pieces.now ≡ length rows.now }
-    ensures { IfOk result (λ segments. segments.items
-        ≡ placed_segments (runs_of (plain_pieces pieces.now)) (contents_of (plain_pieces pieces.now)) rows.now) }
+// The version behind an edit.
+pub(crate) fn version_after(edit: &Edit, version: FormatVersion) -> FormatVersion
+    ensures { result ≡ version_after (edit_of edit.now) version }
 {
-    let mut segments = Vec::with_capacity(alloc, pieces.len())?;
-    for (place, piece) in pieces.iter().enumerate() {
-        let bytes = byte_count(&piece.parts).ok_or(AllocError)?;
-        let run = piece.run;
-        segments.push_reserved(Segment {
-            place: Extent { run, bytes },
-            rows: rows[place],
-        });
+    match edit {
+        Edit::Digest { digests: _ } => FormatVersion::Two,
+        _ => version,
     }
-    Ok(segments)
 }
 
-// The same of streams that have no places yet.
+// The SHA-256 of parts one after another.
+fn digest_of_parts(parts: &[Part<'_>]) -> [u8; 32]
+    ensures { result ≡ sha256 (bytes_of_parts parts.now) }
+{
+    let mut hasher = Sha256::new();
+    for part in parts {
+        hasher.update(part.bytes());
+    }
+    hasher.finalize()
+}
+
+// The digest of a segment of these parts, where the version has one.
+fn digest_for(version: FormatVersion, parts: &[Part<'_>]) -> Option<[u8; 32]>
+    ensures { result ≡ digest_for version (bytes_of_parts parts.now) }
+{
+    match version {
+        FormatVersion::One => None,
+        FormatVersion::Two => Some(digest_of_parts(parts)),
+    }
+}
+
+// The segments of streams, with so many rows each, that have no places yet.
 pub(crate) fn unplaced(
     alloc: Global,
+    version: FormatVersion,
     streams: &[Vec<Part<'_>>],
     rows: &[u64],
 ) -> Result<Vec<Segment>, AllocError>
     requires { length streams.now ≡ length rows.now }
-    ensures { IfOk result (λ segments. segments.items ≡ unplaced (plain_contents streams.now) rows.now) }
+    ensures { IfOk result (λ segments. segments.items ≡ unplaced version (plain_contents streams.now) rows.now) }
 {
     let mut segments = Vec::with_capacity(alloc, streams.len())?;
     for (place, parts) in streams.iter().enumerate() {
@@ -304,7 +345,31 @@ pub(crate) fn unplaced(
         segments.push_reserved(Segment {
             place: Extent { run, bytes },
             rows: rows[place],
+            digest: digest_for(version, parts),
         });
     }
     Ok(segments)
+}
+
+// The same segments in the runs of these pieces.
+pub(crate) fn in_runs(
+    alloc: Global,
+    segments: &[Segment],
+    pieces: &[Piece<'_>],
+) -> Result<Vec<Segment>, AllocError>
+    requires { length segments.now ≡ length pieces.now }
+    ensures { IfOk result (λ placed. placed.items ≡ in_runs (runs_of (plain_pieces pieces.now)) segments.now) }
+{
+    let mut placed = Vec::with_capacity(alloc, pieces.len())?;
+    for (place, piece) in pieces.iter().enumerate() {
+        let segment = segments[place];
+        let run = piece.run;
+        let bytes = segment.place.bytes;
+        placed.push_reserved(Segment {
+            place: Extent { run, bytes },
+            rows: segment.rows,
+            digest: segment.digest,
+        });
+    }
+    Ok(placed)
 }

@@ -12,8 +12,8 @@ ghost use Rattle.catalogue.specs.Entries.{is_segment, plain_entry, runs_in_segme
 ghost use Rattle.commit.specs.Standing.{is_size, is_on_device};
 ghost use Rattle.export_book.specs.Plain.{plain_export};
 ghost use Rattle.store.specs.Exported.{IsExportable};
-ghost use Rattle.store.specs.Exporting.{HasRows, LacksRows, PieceIs, RefusesNumber};
-ghost use Rattle.store.specs.Reading.{OnlyReadsDevice, ended};
+ghost use Rattle.store.specs.Exporting.{HasRows, PieceIs, RefusesNumber};
+ghost use Rattle.store.specs.Reading.{LacksRows, OnlyReadsDevice, ended};
 ghost use Rattle.store.specs.inner.Exporting.{IsSnapshot};
 
 use crate::Store;
@@ -87,9 +87,8 @@ fn read_piece<D: SectorDevice>(
     ensures told { IfErr result (λ e. (s : PlainSchema) → front.now ≡ schema_message s
         → LacksRows D.tells (shown_image (now (D.story device.old))) s segment place e) }
 {
-    match read_segment(alloc, device, front, segment) {
-        Ok(Some(weighed)) => rows_piece(alloc, &weighed.table),
-        Ok(None) => Err(Refusal::SegmentUnread(place)),
+    match read_segment(alloc, device, front, segment, place) {
+        Ok(weighed) => rows_piece(alloc, &weighed.table),
         Err(refusal) => Err(refusal),
     }
 }
@@ -290,9 +289,10 @@ impl<D: SectorDevice> Store<D> {
     /// are a stream of the table. One segment at a time is read and held in memory.
     ///
     /// # Errors
-    /// `Halted` after a failure of the device; `NoExport` where no export has the id; of the piece of a segment `Device`, after which the store is halted, and
-    /// `SegmentUnread` with its place, counted from 0, where it can't be read or is no stream of the schema and the number of rows; `OutOfMemory`. After any
-    /// the same piece is the next one.
+    /// `Halted` after a failure of the device; `NoExport` where no export has the id; of the piece of a segment `Device`, after which the store is halted,
+    /// `SegmentUnread` with its place, counted from 0, where it can't be read or is no stream of the schema and the number of rows, and `SegmentDamaged`
+    /// with it where its bytes have another digest than the catalogue had of them when the export was opened; `OutOfMemory`. After any the same piece is
+    /// the next one.
     pub fn export_next(&mut self, alloc: Global, id: u64) -> Result<Option<Vec<u8>>, Refusal>
         // Of a store that stands for a machine: the piece behind those that were given.
         ensures goes { IfOk result (λ piece. D.tells ≡ true → (base : Tables) (m : Machine) → StoreFits D.size D.story base m self.old

@@ -1,12 +1,13 @@
 // A device becomes a store without tables.
 ghost use Rattle.std.specs.Prelude.{◌≡◌, [], Some};
 ghost use Rattle.commit.specs.Formatting.{empty_text};
+ghost use Rattle.catalogue.specs.declared.entry.SegmentForm.{SegmentForm};
 ghost use Rattle.catalogue.specs.Reading.{catalogue_at};
 ghost use Rattle.store.specs.Opening.{formatting_of};
 
 use crate::{OpeningRefusal, Store};
 use catalogue::{Catalogue, one_text_each};
-use commit::{FormatError, Opened};
+use commit::{FormatError, FormatVersion, Opened};
 use export_book::ExportBook;
 use pages::StoredCatalogue;
 use sector_dev::SectorDevice;
@@ -24,9 +25,9 @@ fn formatting_refusal(error: FormatError) -> OpeningRefusal
     }
 }
 
-// The text that a formatting writes is that of no tables.
+// The text that a formatting writes is that of no tables, in either form.
 fn empty_text_has_no_tables()
-    ensures { catalogue_at empty_text ≡ Some [] }
+    ensures { (form : SegmentForm) → catalogue_at form empty_text ≡ Some [] }
 {
     one_text_each();
 }
@@ -37,6 +38,7 @@ impl<D: SectorDevice> Store<D> {
     ghost use Rattle.sector_dev.specs.Time.{Grows, OnlyReads};
     ghost use Rattle.commit.specs.Ruling.{ruling};
     ghost use Rattle.commit.specs.Standing.{is_size};
+    ghost use Rattle.commit.specs.declared.sector.FormatVersion.TheVariants.{One};
     ghost use Rattle.commit.specs.Formatting.{IsFormatting};
     ghost use Rattle.commit.specs.declared.cause.Cause.TheVariants.{DeviceSize};
     ghost use Rattle.tables.specs.Tables.{Tables};
@@ -45,11 +47,10 @@ impl<D: SectorDevice> Store<D> {
     ghost use Rattle.store.specs.Fits.{DeviceFits, FormatsStore, IsNewStore, Opens, Shuts, device_of};
     ghost use Rattle.store.specs.Opening.{TellsFormatting, IsOfFormatting};
 
-    /// Makes an empty store of a device on which none is, and opens it. Where it is refused the device is given back.
+    /// Makes an empty store of version 1 ([`Store::format_version`]).
     ///
     /// # Errors
-    /// `AlreadyAStore` where a commit rules, and then nothing is written; `Damaged(DeviceSize)` of a device of a size that no
-    /// store has; `Device` where the device failed; `OutOfMemory`. After any but `Device` nothing has changed.
+    /// As there.
     pub fn format(alloc: Global, device: D) -> Result<Store<D>, (OpeningRefusal, D)>
         // On a device whose images the machine allows, none of them had a store, and the store has no tables.
         ensures opened { IfOk result (λ store. D.tells ≡ true → (base : Tables) (m : Machine) → DeviceFits D.size D.story base m device
@@ -57,15 +58,53 @@ impl<D: SectorDevice> Store<D> {
         ensures refused { IfErr result (λ e. D.tells ≡ true → (base : Tables) (m : Machine) → DeviceFits D.size D.story base m device
             → Shuts D.size D.story D.failed base m format_call device e.0 e.1) }
         // On any device: what is told is so, and no moment has anything but what was there, no store or the empty one.
-        ensures formatted { IfOk result (λ store. D.tells ≡ true → FormatsStore D.size D.story device store) }
+        ensures formatted { IfOk result (λ store. D.tells ≡ true → FormatsStore D.size D.story One device store) }
         ensures told { IfErr result (λ e. D.tells ≡ true → TellsFormatting e.0 (D.size device) (ruling (shown_image (now (D.story device))))) }
         ensures untouched { IfErr result (λ e. D.tells ≡ true → ruling (shown_image (now (D.story device))) ≢ None
             → OnlyReads (D.story device) (D.story e.1)) }
         ensures quiet { IfErr result (λ e. e.0 ≢ OpeningRefusal.Device → D.tells ≡ true → now (D.story e.1) ≡ now (D.story device)) }
         ensures moments { IfErr result (λ e. D.tells ≡ true
-            → Grows (IsFormatting (D.size device) (now (D.story device))) (D.story device) (D.story e.1)) }
+            → Grows (IsFormatting (D.size device) One (now (D.story device))) (D.story device) (D.story e.1)) }
         // Also of a device that doesn't tell its story.
-        ensures empty { IfOk result (λ store. IsNewStore (D.size device) store) }
+        ensures empty { IfOk result (λ store. IsNewStore (D.size device) One store) }
+        ensures in_limits { OnOk result (is_size (D.size device) ≡ true) }
+        ensures reason { IfErr result (λ e. IsOfFormatting (D.size device) e.0) }
+        ensures limits { IfErr result (λ e. is_size (D.size device) ≡ false
+            → (e.0 ≡ OpeningRefusal.Damaged DeviceSize) × (D.story e.1 ≡ D.story device)) }
+        ensures size { IfOk result (λ store. D.size (device_of store) ≡ D.size device) }
+        ensures size_back { IfErr result (λ e. D.size e.1 ≡ D.size device) }
+        ensures count { IfOk result (λ store. D.failed (device_of store) ≡ D.failed device) }
+        ensures count_back { IfErr result (λ e. D.failed e.1 ≡ counted (shut_by e.0) (D.failed device)) }
+    {
+        Store::format_version(alloc, device, FormatVersion::One)
+    }
+
+    /// Makes an empty store of a device on which none is, in a version of the format, and opens it. Each change keeps the version. Where it is refused the
+    /// device is given back.
+    ///
+    /// # Errors
+    /// `AlreadyAStore` where a commit rules, and then nothing is written; `Damaged(DeviceSize)` of a device of a size that no
+    /// store has; `Device` where the device failed; `OutOfMemory`. After any but `Device` nothing has changed.
+    pub fn format_version(
+        alloc: Global,
+        device: D,
+        version: FormatVersion,
+    ) -> Result<Store<D>, (OpeningRefusal, D)>
+        // On a device whose images the machine allows, none of them had a store, and the store has no tables.
+        ensures opened { IfOk result (λ store. D.tells ≡ true → (base : Tables) (m : Machine) → DeviceFits D.size D.story base m device
+            → Opens D.size D.story D.failed base m format_call device store) }
+        ensures refused { IfErr result (λ e. D.tells ≡ true → (base : Tables) (m : Machine) → DeviceFits D.size D.story base m device
+            → Shuts D.size D.story D.failed base m format_call device e.0 e.1) }
+        // On any device: what is told is so, and no moment has anything but what was there, no store or the empty one.
+        ensures formatted { IfOk result (λ store. D.tells ≡ true → FormatsStore D.size D.story version device store) }
+        ensures told { IfErr result (λ e. D.tells ≡ true → TellsFormatting e.0 (D.size device) (ruling (shown_image (now (D.story device))))) }
+        ensures untouched { IfErr result (λ e. D.tells ≡ true → ruling (shown_image (now (D.story device))) ≢ None
+            → OnlyReads (D.story device) (D.story e.1)) }
+        ensures quiet { IfErr result (λ e. e.0 ≢ OpeningRefusal.Device → D.tells ≡ true → now (D.story e.1) ≡ now (D.story device)) }
+        ensures moments { IfErr result (λ e. D.tells ≡ true
+            → Grows (IsFormatting (D.size device) version (now (D.story device))) (D.story device) (D.story e.1)) }
+        // Also of a device that doesn't tell its story.
+        ensures empty { IfOk result (λ store. IsNewStore (D.size device) version store) }
         ensures in_limits { OnOk result (is_size (D.size device) ≡ true) }
         ensures reason { IfErr result (λ e. IsOfFormatting (D.size device) e.0) }
         ensures limits { IfErr result (λ e. is_size (D.size device) ≡ false
@@ -77,7 +116,7 @@ impl<D: SectorDevice> Store<D> {
     {
         let mut device = device;
         empty_text_has_no_tables();
-        match commit::format(alloc, &mut device) {
+        match commit::format(alloc, &mut device, version) {
             Ok((commit, map)) => {
                 let catalogue = StoredCatalogue {
                     list: Catalogue::empty(alloc),

@@ -1,11 +1,13 @@
 // Laws of runs. The functions do nothing: their contracts are the laws.
-ghost use Rattle.std.specs.Prelude.{◌≡◌, ◌≢◌, ◌⊎◌, ◌<◌, ◌-◌, ◌^◌, ◌≤◌, ◌+◌, ◌*◌, ◌||◌, ℕ, Bool, true, false, Some, None, List, [], ◌∷◌, ◌++◌, length, take, drop, Result};
+ghost use Rattle.std.specs.Prelude.{slice_get, Option, ◌≡◌, ◌≢◌, ◌⊎◌, ◌<◌, ◌-◌, ◌^◌, ◌≤◌, ◌+◌, ◌*◌, ◌||◌, ℕ, Bool, true, false, Some, None, List, [], ◌∷◌, ◌++◌, length, take, drop, Result};
 ghost use Rattle.std.specs.List.{list_any};
 ghost use Rattle.sector_dev.specs.Disk.{Disk, Story, Image, now, moment, synced_image, LeftSince};
 ghost use Rattle.sector_dev.specs.Time.{LeavesOnly};
 ghost use Rattle.segments.specs.declared.entries.UsageEntry.{UsageEntry};
 ghost use Rattle.segments.specs.Usages.{IsUsedIn};
-ghost use Rattle.catalogue.specs.Entries.{PlainCatalogue, IsCatalogue, segment_count};
+ghost use Rattle.arrow_schema.specs.Column.{PlainSchema};
+ghost use Rattle.cells.specs.Cell.{Cell, PlainTable};
+ghost use Rattle.catalogue.specs.Entries.{PlainEntry, PlainCatalogue, IsCatalogue, segment_count};
 ghost use Rattle.catalogue.specs.declared.entry.Segment.{Segment};
 ghost use Rattle.catalogue.specs.Edits.{with_exchanged};
 ghost use Rattle.store.specs.Exchanging.{HoldsSame, AreOnDevice, ShrinkInTurn};
@@ -17,7 +19,10 @@ ghost use Rattle.tables.specs.Commands.{PlainCommand, BringsTables};
 ghost use Rattle.store.specs.Calls.{PlainCall, open_export_call, PlainReply, export_is, is_device_reply};
 ghost use Rattle.store.specs.Snapshots.{given, has_ended, stays_open, GivesTable};
 ghost use Rattle.store.specs.Machine.{Setting, Machine, halted, Allows, holds};
-ghost use Rattle.store.specs.Held.{tables_held, held_by};
+ghost use Rattle.store.specs.Held.{bytes_of, segment_rows, table_held, tables_held, held_by};
+ghost use Rattle.store.specs.Digests.{HaveDigest, MeanRows};
+ghost use Rattle.store.specs.Reading.{IsUnread, IsDamaged, IsRead};
+ghost use Rattle.store.specs.Exporting.{HasRows};
 ghost use Rattle.pages.specs.Stored.{stored_reading};
 ghost use Rattle.store.specs.Changes.{PlainChange};
 ghost use Rattle.store.specs.Deciding.{IsDecided, IsAnswered};
@@ -122,6 +127,21 @@ pub fn a_stop_keeps_what_was_acknowledged()
         (m' : Machine) (new : Story) (failed' : ℕ) (run : Run s calls replies m old failed m' new failed') (i : ℕ) (image : Image)
         → LeavesOnly (Allows s m) (now old) → LeftSince new (moment (story_at s calls replies m old failed m' new failed' run i)) image
         → Keeps s m (any_change (take i calls) (take i replies)) (acknowledged (take i calls) (take i replies)) (begun calls replies) image }
+{}
+
+/// Rows of a segment come only of bytes that have the digest of its entry, where it has one: those that an image has (`held`, of a table `table`), and
+/// those that were read of any device, for a table (`read`) or a piece of an export (`piece`). And of one table there is at most one of a segment that
+/// can't be read and one with other bytes (`apart`).
+pub fn rows_have_their_digest()
+    ensures held { (schema : PlainSchema) (g : Segment) (image : Image) (rows : List (List Cell)) (d : List ℕ) → g.digest ≡ Some d
+        → segment_rows schema g image ≡ Some rows → HaveDigest (bytes_of g image) d }
+    ensures table { (image : Image) (e : PlainEntry) (table : PlainTable) (place : ℕ) (g : Segment) (d : List ℕ) → table_held image e ≡ Some table
+        → slice_get e.segments place ≡ Some g → g.digest ≡ Some d → HaveDigest (bytes_of g image) d }
+    ensures read { (tells : Bool) (image : Image) (e : PlainEntry) (table : PlainTable) (place : ℕ) (g : Segment) (d : List ℕ)
+        → IsRead tells image e table → slice_get e.segments place ≡ Some g → g.digest ≡ Some d → (rows : List (List Cell)) × MeanRows e.schema g d rows }
+    ensures piece { (tells : Bool) (image : Image) (schema : PlainSchema) (g : Segment) (piece : Option (List ℕ)) (d : List ℕ)
+        → HasRows tells image schema g piece → g.digest ≡ Some d → (rows : List (List Cell)) × MeanRows schema g d rows }
+    ensures apart { (image : Image) (e : PlainEntry) (i j : ℕ) → IsUnread image e i → IsDamaged image e j → ⊥ }
 {}
 
 // What the laws of tables say, as one fact.

@@ -38,18 +38,20 @@ mod reading;
 mod running;
 mod saving;
 mod store;
+mod upgrading;
 
 pub use beginning::{crashed_devices_are_left, devices_fit, left_devices_fit, new_devices_fit};
 pub use call::{Call, Place, Reply};
-pub use commit::{Cause, OpeningRefusal};
+pub use commit::{Cause, FormatVersion, OpeningRefusal};
 pub use compacting::Compaction;
 pub use input::read_at_most;
 pub use laws::{
     a_stop_keeps_what_was_acknowledged, acknowledged_commands_are_settled, compactions_end,
-    decisions_are_verdicts, each_stop_is_allowed, runs_go_on, runs_tell_no_damage,
-    snapshots_give_their_table, undisturbed_runs_settle_what_was_acknowledged,
+    decisions_are_verdicts, each_stop_is_allowed, rows_have_their_digest, runs_go_on,
+    runs_tell_no_damage, snapshots_give_their_table, undisturbed_runs_settle_what_was_acknowledged,
     undisturbed_runs_tell_no_failure, undisturbed_runs_tell_no_halt, what_is_done_is_the_verdict,
 };
 pub use pages::StoredCatalogue;
 pub use running::{answer, run};
 pub use store::Store;
+pub use upgrading::Upgraded;

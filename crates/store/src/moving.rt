@@ -4,17 +4,18 @@ ghost use Rattle.sector_dev.specs.Disk.{now, shown_image};
 ghost use Rattle.segments.specs.Runs.{IsLowest};
 ghost use Rattle.segments.specs.Usages.{IsUsedIn};
 ghost use Rattle.segments.specs.declared.run.Run.{Run};
-ghost use Rattle.catalogue.specs.Entries.{PlainCatalogue, plain_entry, is_segment, runs_of, IsCatalogue};
-ghost use Rattle.commit.specs.Standing.{is_size, is_on_device, all_on_device};
+ghost use Rattle.catalogue.specs.Entries.{PlainCatalogue, plain_entry, runs_of, IsCatalogue};
+ghost use Rattle.commit.specs.Standing.{is_size, all_on_device};
 ghost use Rattle.store.specs.Changes.{change_of, exchange};
 ghost use Rattle.store.specs.Reading.{OnlyReadsDevice, ended};
-ghost use Rattle.store.specs.Compacting.{UnreadsLast, UnreadsMoving};
-ghost use Rattle.store.specs.inner.Compacting.{later_of, IsLastIn, IsLastOf, IsCopy, FindsMove};
+ghost use Rattle.store.specs.Compacting.{UnreadsMoving};
+ghost use Rattle.store.specs.inner.Compacting.{later_of, IsLastIn, IsLastOf, FindsMove};
 
 use crate::change::{Change, Edit, NewSegments};
+use crate::reading::read_bytes;
 use catalogue::{Segment, TableEntry};
 use sector_dev::SectorDevice;
-use segments::{FreeMap, ReadError, read_run};
+use segments::FreeMap;
 use std::alloc::{AllocError, Global};
 use tables::Refusal;
 
@@ -79,33 +80,6 @@ fn last_segment(entries: &[TableEntry]) -> Option<Last>
     last
 }
 
-// The bytes of a segment, as they lie on the device.
-fn read_bytes<D: SectorDevice>(
-    alloc: Global,
-    device: &mut D,
-    segment: Segment,
-    place: usize,
-) -> Result<Vec<u8>, Refusal>
-    requires size { is_size (D.size device.old) ≡ true }
-    requires placed { is_on_device (D.size device.old) segment.place.run ≡ true }
-    requires sound { is_segment segment ≡ true }
-    ensures reads { OnlyReadsDevice D.size D.story D.failed D.tells (ended result) device.old device.new }
-    ensures copy { IfOk result (λ bytes. IsCopy D.tells (shown_image (now (D.story device.old))) segment bytes.items) }
-    ensures unread { IfErr result (UnreadsLast D.tells (shown_image (now (D.story device.old))) segment place) }
-{
-    match read_run(
-        alloc,
-        device,
-        segment.place.run.start,
-        segment.place.bytes as usize,
-    ) {
-        Ok(bytes) => Ok(bytes),
-        Err(ReadError::Unreadable) => Err(Refusal::SegmentUnread(place)),
-        Err(ReadError::Failed) => Err(Refusal::Device),
-        Err(ReadError::OutOfMemory) => Err(Refusal::OutOfMemory),
-    }
-}
-
 // The table of a segment.
 fn entry_at(entries: &[TableEntry], table: usize) -> &TableEntry
     requires { table < length entries.now }
@@ -156,7 +130,8 @@ fn fits_below(free: &FreeMap, segment: Segment) -> bool
 /// The segment that starts last moves to the lowest free run that fits it, where this one starts in front of it. It only reads.
 ///
 /// # Errors
-/// `SegmentUnread` where a sector can't be read, `Device`, `OutOfMemory`.
+/// `SegmentUnread` where a sector can't be read, `SegmentDamaged` where its bytes have another digest than the catalogue has of them, `Device`,
+/// `OutOfMemory`.
 pub(crate) fn decide_move<D: SectorDevice>(
     alloc: Global,
     device: &mut D,

@@ -74,6 +74,7 @@ fn read_pair<D: SectorDevice>(
         Ok(pair) => match read_entry(alloc, device, &pair) {
             Ok(table) => Ok(table),
             Err(Refusal::SegmentUnread(at)) => Err(Refusal::SegmentUnread(place + at)),
+            Err(Refusal::SegmentDamaged(at)) => Err(Refusal::SegmentDamaged(place + at)),
             Err(refusal) => Err(refusal),
         },
         Err(_) => Err(Refusal::OutOfMemory),
@@ -163,7 +164,7 @@ fn first_pair_of<D: SectorDevice>(
 /// The first pair of all tables, in their order, whose rows are one piece becomes one segment. It only reads.
 ///
 /// # Errors
-/// `SegmentUnread`, `Device`, `OutOfMemory`.
+/// `SegmentUnread`, `SegmentDamaged`, `Device`, `OutOfMemory`.
 pub(crate) fn first_pair<D: SectorDevice>(
     alloc: Global,
     device: &mut D,

@@ -1,22 +1,23 @@
 // A table is read from the segments of its entry.
-ghost use Rattle.std.specs.Prelude.{◌≡◌, ◌≤◌, ◌+◌, ℕ, true, List, [], Option, Some, None, length, option_map, sum_by, IfOk, IfErr, IfSome};
+ghost use Rattle.std.specs.Prelude.{◌≡◌, ◌≢◌, ◌≤◌, ◌+◌, ◌++◌, ℕ, true, false, List, [], Option, Some, None, length, option_map, sum_by, IfOk, IfErr, IfSome};
 ghost use Rattle.std.specs.List.{list_all};
 ghost use Rattle.sector_dev.specs.Disk.{now, shown_image};
 ghost use Rattle.arrow_schema.specs.Column.{PlainSchema};
 ghost use Rattle.arrow_schema.specs.Limits.{IsWithinLimits};
 ghost use Rattle.arrow_schema.specs.View.{schema_of};
+ghost use Rattle.cells.specs.Cell.{Cell};
 ghost use Rattle.values.specs.TableView.{table_of, is_in_parts};
 ghost use Rattle.cells.specs.Weight.{table_weight};
 ghost use Rattle.ipc_write.specs.Written.{schema_message};
 ghost use Rattle.segments.specs.declared.extent.Extent.{Extent};
 ghost use Rattle.catalogue.specs.Entries.{is_segment, is_entry, plain_entry};
 ghost use Rattle.commit.specs.Standing.{is_size, is_on_device, all_on_device};
-ghost use Rattle.store.specs.Held.{rows_in_bytes, segment_rows, joined_rows, rows_held};
-ghost use Rattle.store.specs.Reading.{IsRead, Unreads, OnlyReadsDevice, ended};
+ghost use Rattle.store.specs.Held.{is_undamaged, rows_in_bytes, segment_rows, joined_rows, rows_held};
+ghost use Rattle.store.specs.Reading.{IsCopy, LacksBytes, HasRead, LacksRows, HaveRead, IsRead, Unreads, OnlyReadsDevice, ended};
 ghost use Rattle.values.specs.Table.{IsTable};
 ghost use Rattle.store.specs.Calls.{is_failure};
 ghost use Rattle.store.specs.inner.Gathered.{gathered_table};
-ghost use Rattle.store.specs.inner.Reading.{UnreadsSegment, FailsReading, runs_in};
+ghost use Rattle.store.specs.inner.Reading.{UnreadsSegment, runs_in};
 
 use crate::Store;
 use crate::gathered::Gathered;
@@ -29,9 +30,53 @@ use ipc_stream::decode_weighed;
 use ipc_write::{schema_message_is_read_again, write_schema};
 use sector_dev::SectorDevice;
 use segments::{ReadError, read_run};
+use sha2::{Digest, Sha256};
 use std::alloc::{AllocError, Global};
 use tables::Refusal;
 use values::{Table, TableError, Weighed};
+
+// Whether bytes of a segment have the digest of its entry, if it has one.
+fn is_undamaged(segment: Segment, bytes: &[u8]) -> bool
+    ensures { result ≡ is_undamaged segment.digest (Some bytes.now) }
+{
+    match segment.digest {
+        Some(digest) => Sha256::digest(bytes).as_slice() == digest.as_slice(),
+        None => true,
+    }
+}
+
+// The bytes of the segment at a place, as they were written.
+pub(crate) fn read_bytes<D: SectorDevice>(
+    alloc: Global,
+    device: &mut D,
+    segment: Segment,
+    place: usize,
+) -> Result<Vec<u8>, Refusal>
+    requires size { is_size (D.size device.old) ≡ true }
+    requires placed { is_on_device (D.size device.old) segment.place.run ≡ true }
+    requires sound { is_segment segment ≡ true }
+    ensures reads { OnlyReadsDevice D.size D.story D.failed D.tells (ended result) device.old device.new }
+    ensures copy { IfOk result (λ bytes. IsCopy D.tells (shown_image (now (D.story device.old))) segment bytes.items) }
+    ensures told { IfErr result (LacksBytes D.tells (shown_image (now (D.story device.old))) segment place) }
+{
+    match read_run(
+        alloc,
+        device,
+        segment.place.run.start,
+        segment.place.bytes as usize,
+    ) {
+        Ok(bytes) => {
+            if is_undamaged(segment, &bytes) {
+                Ok(bytes)
+            } else {
+                Err(Refusal::SegmentDamaged(place))
+            }
+        }
+        Err(ReadError::Unreadable) => Err(Refusal::SegmentUnread(place)),
+        Err(ReadError::Failed) => Err(Refusal::Device),
+        Err(ReadError::OutOfMemory) => Err(Refusal::OutOfMemory),
+    }
+}
 
 // The table of so many rows that some bytes hold, if they begin with the message of its schema.
 fn table_in_bytes(
@@ -66,36 +111,47 @@ fn table_in_bytes(
     }
 }
 
-// The table that a segment holds.
+// The table that the segment at a place holds, if it begins with the message of its schema.
 pub(crate) fn read_segment<D: SectorDevice>(
     alloc: Global,
     device: &mut D,
     front: &[u8],
     segment: Segment,
-) -> Result<Option<Weighed>, Refusal>
+    place: usize,
+) -> Result<Weighed, Refusal>
     requires size { is_size (D.size device.old) ≡ true }
     requires placed { is_on_device (D.size device.old) segment.place.run ≡ true }
     requires sound { is_segment segment ≡ true }
     ensures reads { OnlyReadsDevice D.size D.story D.failed D.tells (ended result) device.old device.new }
-    ensures rows { IfOk result (λ found. D.tells ≡ true → (s : PlainSchema) → front.now ≡ schema_message s
-        → option_map (λ w. (table_of w.table).rows) found ≡ segment_rows s segment (shown_image (now (D.story device.old)))) }
-    ensures schema { IfOk result (λ found. IfSome found (λ w. (s : PlainSchema) → IsWithinLimits s → front.now ≡ schema_message s
-        → (table_of w.table).schema ≡ s)) }
-    ensures weight { IfOk result (λ found. IfSome found (λ w. w.weight ≡ table_weight (table_of w.table).schema (table_of w.table).rows)) }
-    ensures count { IfOk result (λ found. IfSome found (λ w. length (table_of w.table).rows ≡ segment.rows)) }
-    ensures in_parts { IfOk result (λ found. IfSome found (λ w. is_in_parts w.table ≡ true)) }
-    ensures fails { IfErr result FailsReading }
+    ensures rows { IfOk result (λ w. (s : PlainSchema) → front.now ≡ schema_message s
+        → HasRead D.tells (shown_image (now (D.story device.old))) s segment (table_of w.table).rows) }
+    ensures schema { IfOk result (λ w. (s : PlainSchema) → IsWithinLimits s → front.now ≡ schema_message s → (table_of w.table).schema ≡ s) }
+    ensures weight { IfOk result (λ w. w.weight ≡ table_weight (table_of w.table).schema (table_of w.table).rows) }
+    ensures count { IfOk result (λ w. length (table_of w.table).rows ≡ segment.rows) }
+    ensures in_parts { IfOk result (λ w. is_in_parts w.table ≡ true) }
+    ensures told { IfErr result (λ e. (s : PlainSchema) → front.now ≡ schema_message s
+        → LacksRows D.tells (shown_image (now (D.story device.old))) s segment place e) }
 {
-    match read_run(
-        alloc,
-        device,
-        segment.place.run.start,
-        segment.place.bytes as usize,
-    ) {
-        Ok(bytes) => table_in_bytes(alloc, front, segment.rows, bytes),
-        Err(ReadError::Unreadable) => Ok(None),
-        Err(ReadError::Failed) => Err(Refusal::Device),
-        Err(ReadError::OutOfMemory) => Err(Refusal::OutOfMemory),
+    match read_bytes(alloc, device, segment, place) {
+        Ok(bytes) => match table_in_bytes(alloc, front, segment.rows, bytes) {
+            Ok(Some(weighed)) => Ok(weighed),
+            Ok(None) => Err(Refusal::SegmentUnread(place)),
+            Err(refusal) => Err(refusal),
+        },
+        Err(refusal) => Err(refusal),
+    }
+}
+
+// Why the rows of the segment at a place don't go behind others: they are too heavy, or there is no memory.
+fn joining_refusal(error: TableError, place: usize) -> Refusal
+    ensures memory { error ≡ TableError.OutOfMemory → result ≡ Refusal.OutOfMemory }
+    ensures segment { error ≢ TableError.OutOfMemory → result ≡ Refusal.SegmentUnread place }
+    ensures no_device { is_failure result ≡ false }
+{
+    match error {
+        TableError::OutOfMemory => Refusal::OutOfMemory,
+        TableError::Weight => Refusal::SegmentUnread(place),
+        TableError::Unfit(_) => Refusal::SegmentUnread(place),
     }
 }
 
@@ -118,17 +174,17 @@ fn append_segment<D: SectorDevice>(
     ensures light { IfOk result (λ g. table_weight (gathered_table g).schema (gathered_table g).rows ≤ MAX_TABLE_WEIGHT) }
     ensures rows { IfOk result (λ g. D.tells ≡ true → Some (gathered_table g).rows ≡ joined_rows (Some (gathered_table gathered).rows)
         (segment_rows (gathered_table gathered).schema segment (shown_image (now (D.story device.old))))) }
+    ensures read { IfOk result (λ g. (own : List (List Cell)) × HasRead D.tells (shown_image (now (D.story device.old)))
+        (gathered_table gathered).schema segment own × ((gathered_table g).rows ≡ (gathered_table gathered).rows ++ own)) }
     ensures count { IfOk result (λ g. length (gathered_table g).rows ≡ length (gathered_table gathered).rows + segment.rows) }
     ensures unread { IfErr result (UnreadsSegment D.tells (shown_image (now (D.story device.old)))
         (gathered_table gathered).schema (gathered_table gathered).rows segment place) }
 {
-    match read_segment(alloc, device, front, segment) {
-        Ok(Some(weighed)) => match gathered.append(weighed) {
+    match read_segment(alloc, device, front, segment, place) {
+        Ok(weighed) => match gathered.append(weighed) {
             Ok(more) => Ok(more),
-            Err(TableError::OutOfMemory) => Err(Refusal::OutOfMemory),
-            Err(_) => Err(Refusal::SegmentUnread(place)),
+            Err(error) => Err(joining_refusal(error, place)),
         },
-        Ok(None) => Err(Refusal::SegmentUnread(place)),
         Err(refusal) => Err(refusal),
     }
 }
@@ -152,6 +208,8 @@ fn read_segments<D: SectorDevice>(
     ensures count { IfOk result (λ g. length (gathered_table g).rows ≡ sum_by (λ s. s.rows) segments.now) }
     ensures rows { IfOk result (λ g. D.tells ≡ true
         → rows_held (gathered_table empty).schema segments.now (shown_image (now (D.story device.old))) ≡ Some (gathered_table g).rows) }
+    ensures read { IfOk result (λ g. HaveRead D.tells (shown_image (now (D.story device.old))) (gathered_table empty).schema segments.now
+        (gathered_table g).rows) }
     ensures unread { IfErr result (λ e. (name : List ℕ) (page : Option Extent) → Unreads D.tells (shown_image (now (D.story device.old)))
         (record { name = name; schema = (gathered_table empty).schema; segments = segments.now; page = page }) e) }
 {
@@ -277,8 +335,8 @@ impl<D: SectorDevice> Store<D> {
     ///
     /// # Errors
     /// `Halted` after a failure of the device; `NoTable` where no table has the name; `SegmentUnread` with the first segment, counted from 0,
-    /// that can't be read, is no stream of the table's schema and number of rows, or whose rows pass the weight of a table; `Device`,
-    /// after which the store is halted; `OutOfMemory`.
+    /// that can't be read, is no stream of the table's schema and number of rows, or whose rows pass the weight of a table; `SegmentDamaged` with it
+    /// where its bytes have another digest than the catalogue has of them; `Device`, after which the store is halted; `OutOfMemory`.
     pub fn read(&mut self, alloc: Global, name: &str) -> Result<Table, Refusal>
         // Of a store that stands for a machine it is that of the settled commands.
         ensures goes { IfOk result (λ t. D.tells ≡ true → (base : Tables) (m : Machine) → StoreFits D.size D.story base m self.old

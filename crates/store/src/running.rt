@@ -3,14 +3,15 @@ ghost use Rattle.std.specs.Prelude.{◌≡◌, true, List, length, IfOk, IfErr};
 ghost use Rattle.tables.specs.Tables.{Tables};
 ghost use Rattle.tables.specs.View.{command_of};
 ghost use Rattle.tables.specs.Commands.{import_stream, append_stream};
-ghost use Rattle.store.specs.Calls.{PlainCall, apply_call, format_call, open_call, tables_call, schema_call, read_call, export_call, open_export_call, export_next_call, close_export_call, compact_call, counted};
+ghost use Rattle.store.specs.Calls.{PlainCall, apply_call, format_call, open_call, tables_call, schema_call, read_call, export_call, open_export_call, export_next_call, close_export_call, compact_call, upgrade_call, counted};
 ghost use Rattle.store.specs.Machine.{Machine};
 ghost use Rattle.store.specs.Compacting.{reply_of};
+ghost use Rattle.store.specs.Upgrading.{upgrade_reply};
 ghost use Rattle.store.specs.Answering.{AnswersOpening, AnswersFormatting, Answers, AnswersEach, AnswersAs, AnswersCall, AnswersCalls};
 ghost use Rattle.store.specs.Fits.{DeviceFits, StoreFits, device_of};
 ghost use Rattle.store.specs.Places.{IsStreamOf, AreCallsOf, asks_store, reply_in, replies_of, device_in, PlaceFits, PlaceGoes, PlaceLives};
 
-use crate::{Call, Compaction, Place, Reply, Store};
+use crate::{Call, Compaction, Place, Reply, Store, Upgraded};
 use sector_dev::SectorDevice;
 use std::alloc::Global;
 use std::io::Read;
@@ -231,6 +232,28 @@ fn compact_in<D: SectorDevice>(alloc: Global, store: Store<D>) -> (Place<D>, Rep
     }
 }
 
+fn upgrade_reply(upgraded: Upgraded) -> Reply
+    ensures { reply_in result ≡ upgrade_reply upgraded }
+{
+    match upgraded {
+        Upgraded::Done => Reply::Done,
+        Upgraded::Already => Reply::Already,
+    }
+}
+
+// An upgrade.
+fn upgrade_in<D: SectorDevice>(alloc: Global, store: Store<D>) -> (Place<D>, Reply)
+    ensures goes { D.tells ≡ true → (base : Tables) (m : Machine) → StoreFits D.size D.story base m store
+        → PlaceGoes D.size D.story D.failed base m upgrade_call (reply_in result.1) (device_of store) result.0 }
+    ensures answers { Answers D.size D.story D.failed D.tells (Place.Open store) upgrade_call (reply_in result.1) result.0 }
+{
+    let mut store = store;
+    match store.upgrade(alloc) {
+        Ok(upgraded) => (Place::Open(store), upgrade_reply(upgraded)),
+        Err(refusal) => (Place::Open(store), Reply::Refused(refusal)),
+    }
+}
+
 // A call of an open store.
 fn answer_open<D: SectorDevice, R: Read + Drop>(
     alloc: Global,
@@ -254,6 +277,7 @@ fn answer_open<D: SectorDevice, R: Read + Drop>(
         Call::ExportNext(id) => export_next_in(alloc, store, id),
         Call::CloseExport(id) => close_export_in(store, id),
         Call::Compact => compact_in(alloc, store),
+        Call::Upgrade => upgrade_in(alloc, store),
     }
 }
 

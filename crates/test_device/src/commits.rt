@@ -8,7 +8,7 @@ ghost use Rattle.test_device.specs.Few.{IsOn};
 
 use crate::calls::are_same;
 use crate::few::Few;
-use commit::{OpenError, Opened, Plan, format, place, plan_next, publish, recover};
+use commit::{FormatVersion, OpenError, Opened, Plan, format, place, plan_next, publish, recover};
 use sector_dev::{Choice, ModelDevice, SectorDevice};
 use segments::{Part, Run, read_run};
 use std::alloc::{AllocError, Global};
@@ -18,7 +18,7 @@ pub(crate) fn formatted(alloc: Global, device: &mut ModelDevice) -> Option<Opene
     ensures size { size_of device.new ≡ size_of device.old }
     ensures on { IfSome result (λ store. IsOn (size_of device.new) store) }
 {
-    match format(alloc, device) {
+    match format(alloc, device, FormatVersion::One) {
         Ok((commit, map)) => Some(Opened {
             commit,
             catalogue: Few::Nothing,

@@ -27,6 +27,8 @@ mod model_device;
 mod other_devices;
 #[cfg(test)]
 mod runs;
+#[cfg(test)]
+mod versions;
 
 pub use few::Few;
 pub use life::Life;

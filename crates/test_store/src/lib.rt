@@ -9,6 +9,8 @@ mod commands;
 #[cfg(test)]
 mod compactions;
 #[cfg(test)]
+mod digests;
+#[cfg(test)]
 mod disturbed;
 #[cfg(test)]
 mod exports;
@@ -40,5 +42,7 @@ mod snapshot;
 mod steps;
 #[cfg(test)]
 mod stops;
+#[cfg(test)]
+mod versions;
 #[cfg(test)]
 mod without_memory;

@@ -4,7 +4,7 @@ use crate::pieces::PieceReader;
 use crate::steps::{Call, Step, Steps, call_of, says};
 use sector_dev::ModelDevice;
 use std::alloc::Global;
-use store::{Compaction, OpeningRefusal, Place, Reply, Store, run};
+use store::{Compaction, OpeningRefusal, Place, Reply, Store, Upgraded, run};
 use tables::{Command, Refusal};
 
 /// Where steps are taken; empty only between two of them.
@@ -125,6 +125,14 @@ fn export_closed(store: &mut Store<ModelDevice>, id: u64) -> Reply {
     }
 }
 
+fn upgraded(alloc: Global, store: &mut Store<ModelDevice>) -> Reply {
+    match store.upgrade(alloc) {
+        Ok(Upgraded::Done) => Reply::Done,
+        Ok(Upgraded::Already) => Reply::Already,
+        Err(refusal) => Reply::Refused(refusal),
+    }
+}
+
 fn compacted(alloc: Global, store: &mut Store<ModelDevice>) -> Reply {
     match store.compact_step(alloc) {
         Ok(Compaction::Merged) => Reply::Merged,
@@ -148,6 +156,7 @@ fn reply_of(alloc: Global, store: &mut Store<ModelDevice>, call: Call) -> Reply 
         Call::ExportNext(id) => piece_given(alloc, store, id),
         Call::CloseExport(id) => export_closed(store, id),
         Call::Compact => compacted(alloc, store),
+        Call::Upgrade => upgraded(alloc, store),
         Call::Format | Call::Open | Call::Close => Reply::Done,
     }
 }

@@ -39,6 +39,7 @@ pub enum Step {
     ExportNext(u64),
     CloseExport(u64),
     Compact,
+    Upgrade,
 }
 
 /// The columns, the conditions and the limit of a query.
@@ -161,6 +162,7 @@ pub fn call_of(alloc: Global, step: Step) -> Result<Call, NotMade> {
         Step::ExportNext(id) => Call::ExportNext(id),
         Step::CloseExport(id) => Call::CloseExport(id),
         Step::Compact => Call::Compact,
+        Step::Upgrade => Call::Upgrade,
         Step::ImportFrom(name, input, pieces) => Call::ImportFrom {
             name: String::from_str(alloc, name)?,
             reader: reader(alloc, input, pieces)?,
@@ -272,6 +274,7 @@ fn add_reply(alloc: Global, text: &mut String, reply: &Reply) -> Result<(), NotM
         Reply::Merged => Ok(text.push_str("merged")?),
         Reply::Moved => Ok(text.push_str("moved")?),
         Reply::Nothing => Ok(text.push_str("nothing")?),
+        Reply::Already => Ok(text.push_str("already")?),
         Reply::Refused(refusal) => Ok(write!(text, "{refusal}")?),
         Reply::NotOpened(refusal) => Ok(write!(text, "{refusal}")?),
     }

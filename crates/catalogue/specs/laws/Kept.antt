@@ -1,17 +1,20 @@
 -- The tests of a catalogue say what they test.
-use Rattle.std.proofs.Common.{◌≡◌, ◌&&◌, true, false, length}
-use Rattle.std.specs.Prelude.{nat_le}
+use Rattle.std.proofs.Common.{◌≡◌, ◌≤◌, ◌<◌, ◌^◌, ◌==◌, ◌&&◌, ℕ, true, false, length}
+use Rattle.std.specs.Prelude.{nat_le, nat_lt}
 use Rattle.std.specs.List.{list_all}
 use Rattle.std.specs.Str.{is_utf8}
-use Rattle.std.proofs.lemmas.Bool.{and_parts, and_from, leb-true, le-leb, false_from_ne_true}
+use Rattle.std.proofs.lemmas.Bool.{and_parts, and_from, leb-true, le-leb, ltb-true, lt-ltb, eqb-true, eq-eqb, false_from_ne_true}
 use Rattle.std.proofs.lemmas.List.Sums.{AllPass-from_list_all, list_all-from_AllPass}
 use Rattle.arrow_schema.specs.declared.limits.TheConstants.{MAX_FIELDS, MAX_DEPTH, MAX_PAIRS, MAX_TEXT_BYTES}
 use Rattle.arrow_schema.specs.Column.{columns_of, PlainSchema}
 use Rattle.arrow_schema.specs.Preorder.{every_column, depth_all}
 use Rattle.arrow_schema.specs.Limits.{count_of_pairs, count_of_bytes, has_number_in_range, has_flat_dictionary, has_bit_widths, has_utf8_texts, texts_of_pairs, IsWithinLimits}
-use Rattle.catalogue.specs.declared.limits.TheConstants.{MAX_TABLES, MAX_SEGMENTS}
+use Rattle.segments.specs.Sectors.{sector_count}
+use Rattle.segments.specs.declared.extent.Extent.{Extent}
+use Rattle.catalogue.specs.declared.limits.TheConstants.{MAX_SEGMENT_ROWS, MAX_TABLES, MAX_SEGMENTS}
+use Rattle.catalogue.specs.declared.entry.Segment.{Segment}
 use Rattle.catalogue.specs.Schemas.{is_small, has_sound_columns, is_within_limits}
-use Rattle.catalogue.specs.Entries.{PlainEntry, PlainCatalogue, is_name, is_segment, is_page, is_entry, names_of, ascends, segment_count, IsCatalogue, is_catalogue}
+use Rattle.catalogue.specs.Entries.{PlainEntry, PlainCatalogue, is_between, is_name, is_filled, is_digest, is_segment, is_page, is_entry, names_of, ascends, segment_count, IsCatalogue, is_catalogue}
 
 pub passes_limits : (s : PlainSchema) → IsWithinLimits s → is_within_limits s ≡ true
 unfolding is_within_limits
@@ -49,6 +52,43 @@ is_within s h =
 
 pub fails_limits : (s : PlainSchema) → (IsWithinLimits s → ⊥) → is_within_limits s ≡ false
 fails_limits s past = false_from_ne_true (is_within_limits s) (λ h. past (is_within s h))
+
+-- a run of just the sectors that its bytes need
+pub record IsFilled (least : ℕ) (e : Extent) : Type 0 where
+  pub start : e.run.start < 2 ^ 64
+  pub bytes : e.bytes < 2 ^ 64
+  pub some : least ≤ e.bytes
+  pub sectors : e.run.count ≡ sector_count e.bytes
+
+pub filled_is : (least : ℕ) (e : Extent) → is_filled least e ≡ true → IsFilled least e
+filled_is least e h =
+    let parts = and_parts (nat_lt e.run.start (2 ^ 64) && nat_lt e.bytes (2 ^ 64)) (nat_le least e.bytes && (e.run.count == sector_count e.bytes)) h in
+    let numbers = and_parts (nat_lt e.run.start (2 ^ 64)) (nat_lt e.bytes (2 ^ 64)) parts.0 in
+    let own = and_parts (nat_le least e.bytes) (e.run.count == sector_count e.bytes) parts.1 in
+    record { start = ltb-true _ _ numbers.0; bytes = ltb-true _ _ numbers.1; some = leb-true _ _ own.0; sectors = eqb-true _ _ own.1 }
+
+pub filled_stands : (least : ℕ) (e : Extent) → IsFilled least e → is_filled least e ≡ true
+filled_stands least e is =
+    and_from (nat_lt e.run.start (2 ^ 64) && nat_lt e.bytes (2 ^ 64)) (nat_le least e.bytes && (e.run.count == sector_count e.bytes))
+    (and_from (nat_lt e.run.start (2 ^ 64)) (nat_lt e.bytes (2 ^ 64)) (lt-ltb _ _ is.start) (lt-ltb _ _ is.bytes))
+    (and_from (nat_le least e.bytes) (e.run.count == sector_count e.bytes) (le-leb _ _ is.some) (eq-eqb _ _ is.sectors))
+
+-- a segment of these parts may stand, and what is known of one that stands
+pub record IsSegment (s : Segment) : Type 0 where
+  pub place : IsFilled 1 s.place
+  pub rows : is_between 1 MAX_SEGMENT_ROWS s.rows ≡ true
+  pub digest : is_digest s.digest ≡ true
+
+pub segment_is : (s : Segment) → is_segment s ≡ true → IsSegment s
+segment_is s h =
+    let parts = and_parts (is_filled 1 s.place) (is_between 1 MAX_SEGMENT_ROWS s.rows && is_digest s.digest) h in
+    let own = and_parts (is_between 1 MAX_SEGMENT_ROWS s.rows) (is_digest s.digest) parts.1 in
+    record { place = filled_is 1 s.place parts.0; rows = own.0; digest = own.1 }
+
+pub segment_stands : (s : Segment) → IsSegment s → is_segment s ≡ true
+segment_stands s is =
+    and_from (is_filled 1 s.place) (is_between 1 MAX_SEGMENT_ROWS s.rows && is_digest s.digest) (filled_stands 1 s.place is.place)
+    (and_from (is_between 1 MAX_SEGMENT_ROWS s.rows) (is_digest s.digest) is.rows is.digest)
 
 -- an entry of these parts may stand
 pub entry_stands : (e : PlainEntry) → is_name e.name ≡ true → IsWithinLimits e.schema → list_all is_segment e.segments ≡ true → is_page e.page ≡ true → is_entry e ≡ true

@@ -1,5 +1,5 @@
 -- What doesn't depend on the places of segments.
-use Rattle.std.proofs.Common.{◌≡◌, ℕ, Bool, true, false, cond, List, [], ◌∷◌, length, map, Option, None, refl, sym, ap, ◌∙◌, arith}
+use Rattle.std.proofs.Common.{◌≡◌, ℕ, Bool, true, false, cond, List, [], ◌∷◌, map, Option, None, refl, sym, ap, ◌∙◌, arith}
 use Rattle.std.specs.List.{sum_by}
 use Rattle.std.specs.Str.{bytes_eq}
 use Rattle.std.specs.Ordering.{match_ordering}
@@ -8,16 +8,17 @@ use Rattle.arrow_schema.specs.Column.{PlainSchema}
 use Rattle.segments.specs.declared.extent.Extent.{Extent}
 use Rattle.catalogue.specs.declared.entry.Segment.{Segment}
 use Rattle.catalogue.specs.Entries.{PlainEntry, PlainCatalogue}
+use Rattle.catalogue.specs.Text.{segment_size}
 use Rattle.catalogue.specs.Edits.{with_entry, with_segments}
 use Rattle.catalogue.specs.laws.Order.{order, by_order}
 use Rattle.catalogue.specs.laws.Sums.{refilled}
 
--- all of an entry but where its segments lie: its name and schema, how many segments it has, and its page
+-- what the sizes of an entry's texts depend on: its name and schema, how many bytes each of its segments has there, and its page
 abbrev pub Shape : Type 0
-Shape = (List ℕ × PlainSchema) × (ℕ × Option Extent)
+Shape = (List ℕ × PlainSchema) × (List ℕ × Option Extent)
 
 abbrev pub shape : PlainEntry → Shape
-shape e = ((e.name, e.schema), (length e.segments, e.page))
+shape e = ((e.name, e.schema), (map segment_size e.segments, e.page))
 
 abbrev pub shapes : PlainCatalogue → List Shape
 shapes c = map shape c
@@ -52,8 +53,8 @@ put_shapes (x ∷ xs) e f same =
     ap (λ o. shapes (match_ordering o (x ∷ with_entry xs e) (e ∷ xs) (e ∷ (x ∷ xs)))) is ∙ ap (λ (s : Shape). s ∷ shape x ∷ shapes xs) same
     ∙ sym (ap (λ o. shapes (match_ordering o (x ∷ with_entry xs f) (f ∷ xs) (f ∷ (x ∷ xs)))) (other ∙ is)))
 
--- as many segments in place of others
-pub refilled_shapes : (c : PlainCatalogue) (name : List ℕ) (a b : List Segment) → length a ≡ length b → shapes (with_segments c name a) ≡ shapes (with_segments c name b)
+-- segments of these sizes in place of others
+pub refilled_shapes : (c : PlainCatalogue) (name : List ℕ) (a b : List Segment) → map segment_size a ≡ map segment_size b → shapes (with_segments c name a) ≡ shapes (with_segments c name b)
 refilled_shapes [] name a b same = refl
 refilled_shapes (x ∷ xs) name a b same = by_test (refilled_shapes xs name a b same) (bytes_eq x.name name)
   where

@@ -4,6 +4,7 @@ use Rattle.sector_dev.specs.Disk.{Disk, Story, Image, now, synced_image, shown_i
 use Rattle.sector_dev.specs.History.{zeros}
 use Rattle.sector_dev.specs.Time.{Grows, LeavesOnly}
 use Rattle.segments.specs.Sectors.{bytes_at}
+use Rattle.commit.specs.declared.sector.FormatVersion.{FormatVersion}
 use Rattle.commit.specs.Sector.{commit_text}
 use Rattle.commit.specs.Ruling.{IsQuiet}
 use Rattle.commit.specs.Formatting.{HoldsNoCommit, IsNoneOrEmpty, IsFormatting, IsFormatted, empty_text, first_commit}
@@ -15,18 +16,18 @@ pub record IsPrepared (d : Disk) : Type 0 where
   pub text : bytes_at (synced_image d) 2 4 ≡ Some empty_text
 
 -- the first commit is written over such a disk: at each moment, and at the end
-abbrev pub Begins : ℕ → Story → Story → Type 0
-Begins size before after = IsPrepared (now before) → Grows (LeavesOnly (IsNoneOrEmpty size)) before after
+abbrev pub Begins : ℕ → FormatVersion → Story → Story → Type 0
+Begins size version before after = IsPrepared (now before) → Grows (LeavesOnly (IsNoneOrEmpty size version)) before after
 
-abbrev pub EndsBegun : ℕ → Story → Story → Type 0
-EndsBegun size before after = IsPrepared (now before) → IsFormatted size (now before) (now after)
+abbrev pub EndsBegun : ℕ → FormatVersion → Story → Story → Type 0
+EndsBegun size version before after = IsPrepared (now before) → IsFormatted size version (now before) (now after)
 
 -- a disk on which reads give no commit is formatted: at each moment, and at the end
-abbrev pub Clears : ℕ → Story → Story → Type 0
-Clears size before after = HoldsNoCommit (shown_image (now before)) → Grows (IsFormatting size (now before)) before after
+abbrev pub Clears : ℕ → FormatVersion → Story → Story → Type 0
+Clears size version before after = HoldsNoCommit (shown_image (now before)) → Grows (IsFormatting size version (now before)) before after
 
-abbrev pub EndsCleared : ℕ → Story → Story → Type 0
-EndsCleared size before after = HoldsNoCommit (shown_image (now before)) → IsFormatted size (now before) (now after)
+abbrev pub EndsCleared : ℕ → FormatVersion → Story → Story → Type 0
+EndsCleared size version before after = HoldsNoCommit (shown_image (now before)) → IsFormatted size version (now before) (now after)
 
 -- what reads give after zeros were written into sectors 0 and 2
 pub record HasZeros (before after : Image) : Type 0 where
@@ -35,6 +36,6 @@ pub record HasZeros (before after : Image) : Type 0 where
   pub others : (n : ℕ) → n ≢ 0 → n ≢ 2 → after n ≡ before n
 
 -- and after the first commit was written
-pub record HasFirst (size : ℕ) (before after : Image) : Type 0 where
-  pub first : after 1 ≡ Some (commit_text (first_commit size))
+pub record HasFirst (size : ℕ) (version : FormatVersion) (before after : Image) : Type 0 where
+  pub first : after 1 ≡ Some (commit_text (first_commit size version))
   pub others : (n : ℕ) → n ≢ 1 → after n ≡ before n

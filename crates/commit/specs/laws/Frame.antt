@@ -14,6 +14,7 @@ use Rattle.commit.specs.declared.sector.Commit.{Commit}
 use Rattle.commit.specs.declared.cause.Cause.{Cause}
 use Rattle.commit.specs.declared.cause.Cause.TheVariants.{DeviceSize, CatalogueRange, CatalogueUnreadable, RunRange, RunOverlap}
 use Rattle.commit.specs.Ruling.{newer, ruling, Rests}
+use Rattle.commit.specs.declared.sector.FormatVersion.{FormatVersion}
 use Rattle.commit.specs.Formatting.{HoldsNoCommit, IsEmptyStore, first_commit, empty_text}
 use Rattle.commit.specs.Publishing.{IsOldOrNew, IsPublishing, IsPublished, IsRuledBy}
 use Rattle.commit.specs.Replacing.{Change, IsPieceOf, IsMade, CanReplace, StandsAs, StandsAsEither}
@@ -260,10 +261,10 @@ module _ {C : Type 0} (reading : Reading C) (size : ℕ) where
   none_stands image limits none = stands_nowhere image limits (λ i. newer (none.0 i) (none.1 i))
 
   -- and the empty store stands, where its text spells a catalogue without runs
-  pub empty_stands : (image : Image) (c : C) → is_size size ≡ true → IsEmptyStore size image → reading.at size image (first_commit size) empty_text ≡ Ok c → reading.runs c ≡ [] → standing reading size image ≡ rules (first_commit size) c
+  pub empty_stands : (version : FormatVersion) (image : Image) (c : C) → is_size size ≡ true → IsEmptyStore size version image → reading.at size image (first_commit size version) empty_text ≡ Ok c → reading.runs c ≡ [] → standing reading size image ≡ rules (first_commit size version) c
   unfolding runs_fault
-  empty_stands image c limits store spelled none =
-      let extent : is_extent size 4 (first_commit size).catalogue ≡ true = grind (arith, nat_tests) in
-      stands_as image (first_commit size) c limits store.rules
-      (ap (spelled_by reading size image (first_commit size)) (text_found size image (first_commit size) empty_text refl extent store.text) ∙ spelled)
-      (ap (runs_fault size (first_commit size).catalogue.run) none)
+  empty_stands version image c limits store spelled none =
+      let extent : is_extent size 4 (first_commit size version).catalogue ≡ true = grind (arith, nat_tests) in
+      stands_as image (first_commit size version) c limits store.rules
+      (ap (spelled_by reading size image (first_commit size version)) (text_found size image (first_commit size version) empty_text refl extent store.text) ∙ spelled)
+      (ap (runs_fault size (first_commit size version).catalogue.run) none)

@@ -8,9 +8,9 @@ use Rattle.byteorder.specs.Numbers.{little_number-reads_back}
 use Rattle.commit.specs.declared.sector.CatalogueKind.{CatalogueKind}
 use Rattle.commit.specs.declared.sector.CatalogueKind.TheVariants.{Whole, Pages}
 use Rattle.commit.specs.declared.sector.FormatVersion.{FormatVersion}
-use Rattle.commit.specs.declared.sector.FormatVersion.TheVariants.{One}
+use Rattle.commit.specs.declared.sector.FormatVersion.TheVariants.{One, Two}
 use Rattle.commit.specs.declared.sector.Commit.{Commit}
-use Rattle.commit.specs.Sector.{version_number, kind_number, commit_text, u64_at, u32_at, kind_in, fields_of, is_placed, commit_at, IsCommit}
+use Rattle.commit.specs.Sector.{version_number, kind_number, commit_text, u64_at, u32_at, version_in, kind_in, fields_of, is_placed, commit_at, IsCommit}
 
 own_kind : (k : CatalogueKind) → (if kind_number k == 1 then Pages else Whole) ≡ k
 own_kind Whole = refl
@@ -20,15 +20,21 @@ kind_small : (k : CatalogueKind) → kind_number k < 2 ^ 32
 kind_small Whole = omega arith
 kind_small Pages = omega arith
 
-one_version : (v : FormatVersion) → One ≡ v
-one_version One = refl
+own_version : (v : FormatVersion) → (if version_number v == 2 then Two else One) ≡ v
+own_version One = refl
+own_version Two = refl
+
+version_small : (v : FormatVersion) → version_number v < 2 ^ 32
+version_small One = omega arith
+version_small Two = omega arith
 
 -- the fields of a text are those that it was written from
 fields_again : (c : Commit) → IsCommit c → fields_of (commit_text c) ≡ c
 unfolding commit_text
 fields_again c is =
     let zeros : List ℕ = replicate 456 0 in
-    let rest4 : List ℕ = little_bytes 4 (version_number c.version) ++ (little_bytes 4 (kind_number c.kind) ++ zeros) in
+    let rest5 : List ℕ = little_bytes 4 (kind_number c.kind) ++ zeros in
+    let rest4 : List ℕ = little_bytes 4 (version_number c.version) ++ rest5 in
     let rest3 : List ℕ = little_bytes 8 c.device_sectors ++ rest4 in
     let rest2 : List ℕ = little_bytes 8 c.catalogue.bytes ++ rest3 in
     let rest1 : List ℕ = little_bytes 8 c.catalogue.run.count ++ rest2 in
@@ -38,13 +44,15 @@ fields_again c is =
     let n : u64_at 24 (commit_text c) ≡ c.catalogue.run.count = little_number-reads_back 8 c.catalogue.run.count rest2 is.count_fits in
     let b : u64_at 32 (commit_text c) ≡ c.catalogue.bytes = little_number-reads_back 8 c.catalogue.bytes rest3 is.bytes_fit in
     let d : u64_at 40 (commit_text c) ≡ c.device_sectors = little_number-reads_back 8 c.device_sectors rest4 is.sectors_fit in
+    let v : u32_at 48 (commit_text c) ≡ version_number c.version = little_number-reads_back 4 (version_number c.version) rest5 (version_small c.version) in
+    let version : version_in (commit_text c) ≡ c.version = ap (λ (x : ℕ). if x == 2 then Two else One) v ∙ own_version c.version in
     let k : u32_at 52 (commit_text c) ≡ kind_number c.kind = little_number-reads_back 4 (kind_number c.kind) zeros (kind_small c.kind) in
     let kind : kind_in (commit_text c) ≡ c.kind = ap (λ (x : ℕ). if x == 1 then Pages else Whole) k ∙ own_kind c.kind in
     λ i. record {
       epoch = e i;
       catalogue = record { run = record { start = s i; count = n i }; bytes = b i };
       device_sectors = d i;
-      version = one_version c.version i;
+      version = version i;
       kind = kind i;
     }
 

@@ -1,28 +1,40 @@
 -- Where the segments of tables lie makes no difference to how a catalogue is kept.
-use Rattle.std.specs.Prelude.{◌≡◌, ◌+◌, ◌*◌, ℕ, Bool, nat_le, [], ◌∷◌, ◌++◌, length, map, flat_map, Option, Some, None, if◌then◌else◌, refl}
-use Rattle.std.proofs.Common.{sym, ap, ◌∙◌}
-use Rattle.std.proofs.lemmas.List.{map-append}
+use Rattle.std.specs.Prelude.{◌≡◌, ◌+◌, ℕ, Bool, nat_le, List, [], ◌∷◌, ◌++◌, length, map, flat_map, sum_by, Option, Some, None, if◌then◌else◌, refl}
+use Rattle.std.proofs.Common.{sym, ap, ◌∙◌, arith}
+use Rattle.std.proofs.lemmas.List.{map-append, length-map}
+use Rattle.std.proofs.lemmas.List.Sums.{sum_by-cons}
 use Rattle.ipc_write.specs.Written.{schema_message}
 use Rattle.segments.specs.declared.extent.Extent.{Extent}
 use Rattle.catalogue.specs.Entries.{PlainEntry, PlainCatalogue, page_runs, segment_count}
-use Rattle.catalogue.specs.Text.{table_size, entry_size, list_size}
+use Rattle.catalogue.specs.declared.entry.Segment.{Segment}
+use Rattle.catalogue.specs.Text.{segment_size, table_size, entry_size, list_size}
 use Rattle.catalogue.specs.laws.Shapes.{Shape, shape, shapes, IsByShape, sum_alike}
 use Rattle.catalogue.specs.laws.Sums.{segments_in}
 use Rattle.commit.specs.declared.sector.CatalogueKind.TheVariants.{Whole, Pages}
 use Rattle.pages.specs.Paging.{is_whole, kind_of, if_pageless, pageless, page_sizes, root_bytes, text_size, dropped_pages}
 
+abbrev own_size : ℕ → ℕ
+own_size n = n
+
+segments_alike : (segments : List Segment) → sum_by segment_size segments ≡ sum_by own_size (map segment_size segments)
+segments_alike [] = refl
+segments_alike (s ∷ ss) = omega (arith, segments_alike ss, sum_by-cons segment_size s ss, sum_by-cons own_size (segment_size s) (map segment_size ss))
+
 abbrev shape_size : Shape → ℕ
-shape_size s = 8 + length (schema_message s.0.1) + 32 * s.1.0
+shape_size s = 8 + length (schema_message s.0.1) + sum_by own_size s.1.0
+
+table_shaped : (e : PlainEntry) → table_size e ≡ shape_size (shape e)
+table_shaped e = ap (λ (n : ℕ). 8 + length (schema_message e.schema) + n) (segments_alike e.segments)
 
 table_alike : (a b : PlainEntry) → shape a ≡ shape b → table_size a ≡ table_size b
-table_alike a b same = ap shape_size same
+table_alike a b same = omega (arith, table_shaped a, table_shaped b, ap shape_size same)
 
 entry_alike : IsByShape entry_size
-entry_alike a b same = ap (λ (s : Shape). 4 + length s.0.0 + shape_size s) same
+entry_alike a b same = omega (arith, table_alike a b same, ap (λ (s : Shape). length s.0.0) same)
 
 module _ (c d : PlainCatalogue) (same : shapes c ≡ shapes d) where
   pub count_alike : segment_count c ≡ segment_count d
-  count_alike = sum_alike segments_in (λ a b is. ap (λ (s : Shape). s.1.0) is) c d same
+  count_alike = sum_alike segments_in (λ a b is. sym (length-map a.segments segment_size) ∙ ap (λ (s : Shape). length s.1.0) is ∙ length-map b.segments segment_size) c d same
 
   pub size_alike : list_size c ≡ list_size d
   size_alike = ap (λ (n : ℕ). 4 + n) (sum_alike entry_size entry_alike c d same)
@@ -47,7 +59,7 @@ one_size e = by_page e.page
     by_page (Some p) = refl
 
 one_alike : (a b : PlainEntry) → shape a ≡ shape b → map table_size (if_pageless a) ≡ map table_size (if_pageless b)
-one_alike a b same = one_size a ∙ (λ i. elim (same i).1.1 [ None ↦ shape_size (same i) ∷ [] | Some p ↦ [] ]) ∙ sym (one_size b)
+one_alike a b same = one_size a ∙ (λ i. elim (same i).1.1 [ None ↦ table_alike a b same i ∷ [] | Some p ↦ [] ]) ∙ sym (one_size b)
 
 pageless_alike : (c d : PlainCatalogue) → shapes c ≡ shapes d → map table_size (pageless c) ≡ map table_size (pageless d)
 pageless_alike [] [] same = refl

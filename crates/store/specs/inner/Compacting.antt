@@ -1,7 +1,6 @@
 -- What the parts of a step of a compaction answer.
 use Rattle.std.specs.Prelude.{◌≡◌, ◌⊎◌, ◌≤◌, ◌<◌, ◌+◌, ℕ, Bool, true, if◌then◌else◌, nat_lt, List, [], length, slice_get, Option, Some, None}
 use Rattle.sector_dev.specs.Disk.{Image}
-use Rattle.segments.specs.Sectors.{bytes_at}
 use Rattle.segments.specs.declared.run.Run.{Run}
 use Rattle.cells.specs.declared.limits.TheConstants.{MAX_PIECE_ROWS}
 use Rattle.values.specs.TableView.{table_of}
@@ -66,11 +65,6 @@ IsLastOf c count (Some last) =
     StandsIn c last
     × ((number : ℕ) (e : PlainEntry) (p : ℕ) (g : Segment) → number < count → slice_get c number ≡ Some e → slice_get e.segments p ≡ Some g
     → g.place.run.start ≤ last.segment.place.run.start)
-
--- the bytes of a segment
-pub record IsCopy (tells : Bool) (image : Image) (segment : Segment) (bytes : List ℕ) : Type 0 where
-  pub count : length bytes ≡ segment.place.bytes
-  pub held : tells ≡ true → bytes_at image segment.place.run.start segment.place.bytes ≡ Some bytes
 
 -- what becomes of it
 abbrev pub FindsMove : (tells : Bool) → Image → (size : ℕ) → (used : Run → Type 0) → PlainCatalogue → Option Change → Type 0

@@ -15,6 +15,7 @@ use Rattle.cells.specs.Cell.{Cell, PlainTable}
 use Rattle.values.specs.Table.{table_from}
 use Rattle.segments.specs.declared.run.Run.{Run}
 use Rattle.segments.specs.declared.extent.Extent.{Extent}
+use Rattle.commit.specs.declared.sector.FormatVersion.{FormatVersion}
 use Rattle.catalogue.specs.declared.entry.Segment.{Segment}
 use Rattle.catalogue.specs.Entries.{PlainEntry, PlainCatalogue, names_of, comes_before, ascends, bare, IsCatalogue}
 use Rattle.catalogue.specs.Edits.{entry_of, with_entry, without, named, renamed, with_segments, with_more}
@@ -23,11 +24,12 @@ use Rattle.catalogue.specs.laws.Order.{order, by_order}
 use Rattle.tables.specs.Tables.{Tables, no_tables, table_at, with_table, without_table, table_count}
 use Rattle.tables.specs.Verdict.{joined}
 use Rattle.tables.specs.laws.Maps.{put_apart, put_over, put_and_taken, put_not_taken, none_taken}
-use Rattle.store.specs.Held.{rows_in_bytes, segment_rows, joined_rows, rows_held, table_where, table_of_rows, table_held, with_held, tables_held}
-use Rattle.store.specs.Changes.{PlainEdit, put, extend, move, remove, exchange, PlainChange, new_entry, page_instead, edited, placed_segments, HasEntry, stream_rows, rows_under, Makes, MakesOf, HoldsStreams}
+use Rattle.store.specs.Held.{rows_in_bytes, rows_in_segment, segment_rows, joined_rows, rows_held, table_where, table_of_rows, table_held, with_held, tables_held}
+use Rattle.store.specs.Changes.{PlainEdit, put, extend, move, remove, exchange, digest, PlainChange, new_entry, page_instead, edited, placed_segments, HasEntry, stream_rows, rows_under, Makes, MakesOf, HoldsStreams}
 use Rattle.pages.specs.Paging.{is_whole, in_first, tail_of, with_pages, settled}
 use Rattle.pages.specs.laws.Paged.{by_page, kept_first, made_first}
 use Rattle.store.specs.Carrying.{placed}
+use Rattle.store.specs.laws.Digests.{rows_undamaged}
 use Rattle.store.specs.laws.Named.{entry_has, entry_lacks, held_has}
 use Rattle.store.specs.laws.Listed.{count_held}
 
@@ -57,8 +59,9 @@ streams_held image schema [] streams counts holds = ap (λ (xs : List (List ℕ)
 streams_held image schema (g ∷ gs) [] counts holds = absurd holds
 streams_held image schema (g ∷ gs) (stream ∷ streams) [] holds = absurd holds
 streams_held image schema (g ∷ gs) (stream ∷ streams) (count ∷ counts) holds =
-    let others = streams_held image schema gs streams counts holds.2 in
-    λ i. joined_rows (rows_in_bytes schema (holds.1 i) (holds.0 i)) (others i)
+    let first = ap (rows_in_segment schema g) holds.0 ∙ rows_undamaged schema g (Some stream) holds.2 ∙ ap (λ (n : ℕ). rows_in_bytes schema n (Some stream)) holds.1 in
+    let others = streams_held image schema gs streams counts holds.3 in
+    λ i. joined_rows (first i) (others i)
 
 joined_after : (a b c : Option (List (List Cell))) → joined_rows (joined_rows a b) c ≡ joined_rows a (joined_rows b c)
 joined_after None b c = refl
@@ -246,6 +249,7 @@ module _ (image : Image) where
       by_edit (move from to) made = held_moved c t new from to catalogue.order is (has_entry from made.0 (entry_of c from) refl made.1) made
       by_edit (remove name) made = held_without c t name catalogue.order is ∙ ap Some (sym made)
       by_edit (exchange name place count) made = absurd made
+      by_edit (digest ds) made = absurd made
 
 -- ---- pages make no difference to what the tables are
 
@@ -274,5 +278,6 @@ settled_held image c runs = by_whole (is_whole c)
     by_whole true = bare_held image c
     by_whole false = pages_held image c runs
 
-pub placed_held : (image : Image) (c : PlainCatalogue) (change : PlainChange) (places : List Run) → tables_held image (placed c change places) ≡ tables_held image (edited c change.edit (placed_segments places change.streams change.counts))
-placed_held image c change places = settled_held image (edited c change.edit (placed_segments places change.streams change.counts)) (drop (length change.streams) places)
+pub placed_held : (image : Image) (v : FormatVersion) (c : PlainCatalogue) (change : PlainChange) (places : List Run)
+    → tables_held image (placed v c change places) ≡ tables_held image (edited c change.edit (placed_segments v places change.streams change.counts))
+placed_held image v c change places = settled_held image (edited c change.edit (placed_segments v places change.streams change.counts)) (drop (length change.streams) places)

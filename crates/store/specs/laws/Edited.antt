@@ -1,8 +1,8 @@
 -- Laws of an edited catalogue: it stands, where its runs come from, and what doesn't depend on the places of its new segments.
-use Rattle.std.specs.Prelude.{◌≡◌, ◌≤◌, ◌+◌, ◌++◌, ◌&&◌, ◌||◌, ℕ, zero, suc, Bool, true, false, not, List, [], ◌∷◌, length, map, sum_by, Option, Some, None}
+use Rattle.std.specs.Prelude.{◌≡◌, ◌≤◌, ◌+◌, ◌++◌, ◌&&◌, ◌||◌, ℕ, zero, suc, Bool, true, false, not, List, [], ◌∷◌, length, map, flat_map, sum_by, Option, Some, None}
 use Rattle.std.specs.List.{list_all}
 use Rattle.std.proofs.Common.{◌⊎◌, inl, inr, ⊎_elim, if◌then◌else◌, refl, sym, ap, ◌∙◌, subst, arith, take, drop, length-take-le, length-drop}
-use Rattle.std.proofs.lemmas.List.{length-append, map-append}
+use Rattle.std.proofs.lemmas.List.{length-append, length-map, map-append}
 use Rattle.std.proofs.lemmas.List.Sums.{sum_by-cons}
 use Rattle.std.specs.Str.{bytes_eq}
 use Rattle.segments.specs.declared.run.Run.{Run}
@@ -11,34 +11,55 @@ use Rattle.arrow_schema.specs.Column.{PlainSchema}
 use Rattle.catalogue.specs.declared.limits.TheConstants.{MAX_SEGMENTS}
 use Rattle.catalogue.specs.declared.entry.Segment.{Segment}
 use Rattle.catalogue.specs.Entries.{PlainEntry, PlainCatalogue, is_segment, is_page, is_entry, page_runs, runs_in, runs_of, segment_count, IsCatalogue}
-use Rattle.catalogue.specs.Edits.{entry_of, with_entry, without, named, renamed, with_segments, with_more, from_place, with_others, with_exchanged}
+use Rattle.catalogue.specs.Edits.{page_behind, with_digests, entry_digested, digested, entry_of, with_entry, without, named, renamed, with_segments, with_more, from_place, with_others, with_exchanged}
 use Rattle.ipc_write.specs.Written.{schema_message}
+use Rattle.catalogue.specs.Text.{segment_size}
 use Rattle.catalogue.specs.laws.Shapes.{shapes, put_shapes, refilled_shapes}
 use Rattle.pages.specs.laws.Alike.{count_alike}
 use Rattle.catalogue.specs.laws.Kept.{entry_is, entry_stands, passes_catalogue, catalogue_is}
 use Rattle.catalogue.specs.laws.Sums.{put_new, put_over, put_alike, taken_out, refilled_sum, one, number, segments_in}
+use Rattle.catalogue.specs.laws.Digests.{digests_runs, digested_stands}
 use Rattle.catalogue.specs.laws.Changed.{put_stands, removed_stands, none_without, renamed_is, renamed_stands, more_is, more_none, more_stands, parted, found_passes, exchanged_none, exchanged_is, exchanged_stands}
 use Rattle.commit.specs.Placing.{is_among, times_among}
 use Rattle.commit.specs.laws.Fit.{times_both, times_some, some_times}
-use Rattle.store.specs.Changes.{PlainEdit, PlainChange, put, extend, move, remove, exchange, new_entry, page_behind, page_over, page_instead, edited, page_lost, given_by, name_edited, given_from, given_up, IsEdit, IsChange}
+use Rattle.store.specs.Changes.{PlainEdit, PlainChange, put, extend, move, remove, exchange, digest, new_entry, page_over, page_instead, edited, page_lost, given_by, lost_page, name_edited, given_from, given_of, given_up, IsEdit, IsChange}
 use Rattle.store.specs.laws.ExchangedRuns.{run_of, exchanged_times, exchanged_count}
 
 -- ---- what doesn't depend on the places of the new segments
 
-more_shapes : (c : PlainCatalogue) (name : List ℕ) (a b : List Segment) → length a ≡ length b → shapes (with_more c name a) ≡ shapes (with_more c name b)
+-- the sizes of the texts of segments
+abbrev pub sizes_in : List Segment → List ℕ
+sizes_in segments = map segment_size segments
+
+-- as many segments
+pub number_alike : (a b : List Segment) → sizes_in a ≡ sizes_in b → length a ≡ length b
+number_alike a b same = sym (length-map a segment_size) ∙ ap (λ (ns : List ℕ). length ns) same ∙ length-map b segment_size
+
+-- also between others
+between_alike : (front a b rest : List Segment) → sizes_in a ≡ sizes_in b → sizes_in (front ++ (a ++ rest)) ≡ sizes_in (front ++ (b ++ rest))
+between_alike front a b rest same =
+    map-append segment_size front (a ++ rest)
+    ∙ ap (λ (ns : List ℕ). sizes_in front ++ ns) (map-append segment_size a rest ∙ ap (λ (ns : List ℕ). ns ++ sizes_in rest) same ∙ sym (map-append segment_size b rest))
+    ∙ sym (map-append segment_size front (b ++ rest))
+
+behind_others : (front a b : List Segment) → sizes_in a ≡ sizes_in b → sizes_in (front ++ a) ≡ sizes_in (front ++ b)
+behind_others front a b same =
+    map-append segment_size front a ∙ ap (λ (ns : List ℕ). sizes_in front ++ ns) same ∙ sym (map-append segment_size front b)
+
+more_shapes : (c : PlainCatalogue) (name : List ℕ) (a b : List Segment) → sizes_in a ≡ sizes_in b → shapes (with_more c name a) ≡ shapes (with_more c name b)
 more_shapes c name [] [] same = refl
-more_shapes c name [] (y ∷ ys) same = absurd (omega (arith, same))
-more_shapes c name (x ∷ xs) [] same = absurd (omega (arith, same))
+more_shapes c name [] (y ∷ ys) same = absurd (cc same)
+more_shapes c name (x ∷ xs) [] same = absurd (cc same)
 more_shapes c name (x ∷ xs) (y ∷ ys) same = by_entry (entry_of c name) refl
   where
     by_entry : (o : Option PlainEntry) → entry_of c name ≡ o → shapes (with_more c name (x ∷ xs)) ≡ shapes (with_more c name (y ∷ ys))
     by_entry None h = ap shapes (more_none c name (x ∷ xs) h ∙ sym (more_none c name (y ∷ ys) h))
     by_entry (Some e) h =
         ap shapes (more_is c name e x xs h)
-        ∙ refilled_shapes c name (e.segments ++ x ∷ xs) (e.segments ++ y ∷ ys) (omega (arith, same, length-append e.segments (x ∷ xs), length-append e.segments (y ∷ ys)))
+        ∙ refilled_shapes c name (e.segments ++ x ∷ xs) (e.segments ++ y ∷ ys) (behind_others e.segments (x ∷ xs) (y ∷ ys) same)
         ∙ ap shapes (sym (more_is c name e y ys h))
 
-exchanged_shapes : (c : PlainCatalogue) (name : List ℕ) (place count : ℕ) (a b : List Segment) → length a ≡ length b → shapes (with_exchanged c name place count a) ≡ shapes (with_exchanged c name place count b)
+exchanged_shapes : (c : PlainCatalogue) (name : List ℕ) (place count : ℕ) (a b : List Segment) → sizes_in a ≡ sizes_in b → shapes (with_exchanged c name place count a) ≡ shapes (with_exchanged c name place count b)
 exchanged_shapes c name place count a b same = by_entry (entry_of c name) refl
   where
     by_entry : (o : Option PlainEntry) → entry_of c name ≡ o → shapes (with_exchanged c name place count a) ≡ shapes (with_exchanged c name place count b)
@@ -48,7 +69,7 @@ exchanged_shapes c name place count a b same = by_entry (entry_of c name) refl
         let other = with_others e.segments place count b in
         let rest = drop count (drop place e.segments) in
         ap shapes (exchanged_is c name e h place count a)
-        ∙ refilled_shapes c name one other (omega (arith, same, length-append (take place e.segments) (a ++ rest), length-append (take place e.segments) (b ++ rest), length-append a rest, length-append b rest))
+        ∙ refilled_shapes c name one other (between_alike (take place e.segments) a b rest same)
         ∙ ap shapes (sym (exchanged_is c name e h place count b))
 
 -- whether there are segments
@@ -68,16 +89,17 @@ behind_alike page [] (y ∷ ys) same = absurd (omega (arith, same))
 behind_alike page (x ∷ xs) [] same = absurd (omega (arith, same))
 behind_alike page (x ∷ xs) (y ∷ ys) same = refl
 
-pub edited_shapes : (c : PlainCatalogue) (edit : PlainEdit) (a b : List Segment) → length a ≡ length b → shapes (edited c edit a) ≡ shapes (edited c edit b)
+pub edited_shapes : (c : PlainCatalogue) (edit : PlainEdit) (a b : List Segment) → sizes_in a ≡ sizes_in b → shapes (edited c edit a) ≡ shapes (edited c edit b)
 edited_shapes c (put name schema) a b same =
-    let page = instead_alike (entry_of c name) schema a b same in
+    let page = instead_alike (entry_of c name) schema a b (number_alike a b same) in
     put_shapes c (new_entry name schema a (page_instead (entry_of c name) schema a)) (new_entry name schema b (page_instead (entry_of c name) schema b)) (λ i. ((name, schema), (same i, page i)))
 edited_shapes c (extend name) a b same = more_shapes c name a b same
 edited_shapes c (move from to) a b same = refl
 edited_shapes c (remove name) a b same = refl
 edited_shapes c (exchange name place count) a b same = exchanged_shapes c name place count a b same
+edited_shapes c (digest ds) a b same = refl
 
-pub edited_count : (c : PlainCatalogue) (edit : PlainEdit) (a b : List Segment) → length a ≡ length b → segment_count (edited c edit a) ≡ segment_count (edited c edit b)
+pub edited_count : (c : PlainCatalogue) (edit : PlainEdit) (a b : List Segment) → sizes_in a ≡ sizes_in b → segment_count (edited c edit a) ≡ segment_count (edited c edit b)
 edited_count c edit a b same = count_alike (edited c edit a) (edited c edit b) (edited_shapes c edit a b same)
 
 -- what is given up doesn't, either
@@ -87,13 +109,18 @@ given_alike (extend name) e a b same = ap (page_lost e.page) (behind_alike e.pag
 given_alike (move from to) e a b same = refl
 given_alike (remove name) e a b same = refl
 given_alike (exchange name place count) e a b same = refl
+given_alike (digest ds) e a b same = refl
 
 pub given_up_alike : (c : PlainCatalogue) (edit : PlainEdit) (a b : List Segment) → length a ≡ length b → given_up c edit a ≡ given_up c edit b
-given_up_alike c edit a b same = by_entry (entry_of c (name_edited edit))
+given_up_alike c edit a b same = by_name (name_edited edit)
   where
     by_entry : (o : Option PlainEntry) → given_from edit a o ≡ given_from edit b o
     by_entry None = refl
     by_entry (Some e) = given_alike edit e a b same
+
+    by_name : (o : Option (List ℕ)) → given_of c edit a o ≡ given_of c edit b o
+    by_name None = refl
+    by_name (Some name) = by_entry (entry_of c name)
 
 -- ---- where its runs come from
 
@@ -154,13 +181,37 @@ module _ (run : Run) where
       ∙ ap (λ (rs : List Run). times_among rs run) (map-append run_of front (gone ++ rest)) ∙ times_both (map run_of front) (map run_of (gone ++ rest)) run
       ∙ ap (λ (n : ℕ). times_among (map run_of front) run + n) (ap (λ (rs : List Run). times_among rs run) (map-append run_of gone rest) ∙ times_both (map run_of gone) (map run_of rest) run) in
       omega (arith, in_times e, parts, times_both (page_runs e.page) (map run_of gone) run)
+  given_times (digest ds) segments e = let page = page_behind e.segments e.page in omega (arith, in_times e, lost_times e.page page (behind_or e.segments e.page))
+
+  -- a table that gets digests has the runs that it had, but for a page that is given up
+  digest_times : (e : PlainEntry) (ds : List (List ℕ)) → times_in (entry_digested e ds) + times_among (lost_page e) run ≡ times_in e
+  unfolding times_in
+  digest_times e ds =
+      let page = page_behind e.segments e.page in
+      let stays : times_among (map run_of (with_digests e.segments ds)) run ≡ times_among (map run_of e.segments) run = ap (λ (rs : List Run). times_among rs run) (digests_runs e.segments ds) in
+      omega (arith, stays, in_times e, times_both (page_runs page) (map run_of (with_digests e.segments ds)) run, lost_times e.page page (behind_or e.segments e.page))
+
+  digested_times : (c : PlainCatalogue) (ds : List (List ℕ)) → times_among (runs_of (digested c ds)) run + times_among (flat_map lost_page c) run ≡ times_among (runs_of c) run
+  unfolding digested times_in
+  digested_times [] ds = refl
+  digested_times (e ∷ es) ds =
+      let front = take (length e.segments) ds in
+      let rest = drop (length e.segments) ds in
+      omega (
+        arith,
+        digest_times e front,
+        digested_times es rest,
+        times_both (runs_in (entry_digested e front)) (runs_of (digested es rest)) run,
+        times_both (lost_page e) (flat_map lost_page es) run,
+        times_both (runs_in e) (runs_of es) run,
+      )
 
 -- of the entry that is found
-given_found : (c : PlainCatalogue) (edit : PlainEdit) (segments : List Segment) (e : PlainEntry) → entry_of c (name_edited edit) ≡ Some e → given_up c edit segments ≡ given_by edit segments e
-given_found c edit segments e h = ap (given_from edit segments) h
+given_found : (c : PlainCatalogue) (edit : PlainEdit) (segments : List Segment) (name : List ℕ) (e : PlainEntry) → name_edited edit ≡ Some name → entry_of c name ≡ Some e → given_up c edit segments ≡ given_by edit segments e
+given_found c edit segments name e named h = ap (given_of c edit segments) named ∙ ap (given_from edit segments) h
 
-none_given : (c : PlainCatalogue) (edit : PlainEdit) (segments : List Segment) → entry_of c (name_edited edit) ≡ None → given_up c edit segments ≡ []
-none_given c edit segments h = ap (given_from edit segments) h
+none_given : (c : PlainCatalogue) (edit : PlainEdit) (segments : List Segment) (name : List ℕ) → name_edited edit ≡ Some name → entry_of c name ≡ None → given_up c edit segments ≡ []
+none_given c edit segments name named h = ap (given_of c edit segments) named ∙ ap (given_from edit segments) h
 
 -- each run is listed as often as before, and as it is among the new segments, but for those that are given up
 pub edited_times_are : (c : PlainCatalogue) (edit : PlainEdit) (streams : List (List ℕ)) (segments : List Segment) (run : Run) → IsCatalogue c → IsEdit c edit streams → length segments ≡ length streams
@@ -174,14 +225,14 @@ edited_times_are c (put name schema) streams segments run k can same = by_entry 
         let new : PlainEntry = new_entry name schema segments None in
         let is : edited c (put name schema) segments ≡ with_entry c new = ap (λ (o : Option PlainEntry). with_entry c (new_entry name schema segments (page_instead o schema segments))) h in
         let made : times_among (runs_of (edited c (put name schema) segments)) run ≡ times_among (runs_of (with_entry c new)) run = ap (λ (d : PlainCatalogue). times_among (runs_of d) run) is in
-        let none : times_among (given_up c (put name schema) segments) run ≡ 0 = ap (λ (rs : List Run). times_among rs run) (none_given c (put name schema) segments h) in
+        let none : times_among (given_up c (put name schema) segments) run ≡ 0 = ap (λ (rs : List Run). times_among rs run) (none_given c (put name schema) segments name refl h) in
         omega (arith, none, made, times_of run c, times_of run (with_entry c new), put_new (times_in run) c new h)
     by_entry (Some old) h =
         let page = page_over old schema segments in
         let new : PlainEntry = new_entry name schema segments page in
         let is : edited c (put name schema) segments ≡ with_entry c new = ap (λ (o : Option PlainEntry). with_entry c (new_entry name schema segments (page_instead o schema segments))) h in
         let made : times_among (runs_of (edited c (put name schema) segments)) run ≡ times_among (runs_of (with_entry c new)) run = ap (λ (d : PlainCatalogue). times_among (runs_of d) run) is in
-        let gone : times_among (given_up c (put name schema) segments) run ≡ times_among (given_by (put name schema) segments old) run = ap (λ (rs : List Run). times_among rs run) (given_found c (put name schema) segments old h) in
+        let gone : times_among (given_up c (put name schema) segments) run ≡ times_among (given_by (put name schema) segments old) run = ap (λ (rs : List Run). times_among rs run) (given_found c (put name schema) segments name old refl h) in
         omega (
           arith,
           made,
@@ -196,7 +247,7 @@ edited_times_are c (put name schema) streams segments run k can same = by_entry 
         )
 edited_times_are c (extend name) streams [] run k can same =
     let e : PlainEntry = can.0 in
-    let gone : times_among (given_up c (extend name) []) run ≡ times_among (page_lost e.page e.page) run = ap (λ (rs : List Run). times_among rs run) (given_found c (extend name) [] e can.1) in
+    let gone : times_among (given_up c (extend name) []) run ≡ times_among (page_lost e.page e.page) run = ap (λ (rs : List Run). times_among rs run) (given_found c (extend name) [] name e refl can.1) in
     omega (arith, gone, lost_times run e.page e.page (inr refl))
 edited_times_are c (extend name) streams (s ∷ ss) run k can same =
     let segments : List Segment = s ∷ ss in
@@ -204,7 +255,7 @@ edited_times_are c (extend name) streams (s ∷ ss) run k can same =
     let h : entry_of c name ≡ Some e = can.1 in
     let d : PlainCatalogue = with_segments c name (e.segments ++ segments) in
     let more : times_among (runs_of (with_more c name segments)) run ≡ times_among (runs_of d) run = ap (λ (x : PlainCatalogue). times_among (runs_of x) run) (more_is c name e s ss h) in
-    let gone : times_among (given_up c (extend name) segments) run ≡ times_among (page_runs e.page) run = ap (λ (rs : List Run). times_among rs run) (given_found c (extend name) segments e h) in
+    let gone : times_among (given_up c (extend name) segments) run ≡ times_among (page_runs e.page) run = ap (λ (rs : List Run). times_among rs run) (given_found c (extend name) segments name e refl h) in
     let both : times_among (map run_of (e.segments ++ segments)) run ≡ times_among (map run_of e.segments) run + times_among (map run_of segments) run =
     ap (λ (rs : List Run). times_among rs run) (map-append run_of e.segments segments) ∙ times_both (map run_of e.segments) (map run_of segments) run in
     omega (arith, more, gone, both, in_times run e, times_of run c, times_of run d, refilled_sum (times_in run) c name e (e.segments ++ segments) h)
@@ -213,31 +264,40 @@ edited_times_are c (move from to) streams segments run k can same =
     let h : entry_of c from ≡ Some e = can.2.1 in
     let d : PlainCatalogue = with_entry (without c from) (named to e) in
     let none : times_among (map run_of segments) run ≡ 0 = ap (λ (ss : List Segment). times_among (map run_of ss) run) (no_segments streams segments can.3 same) in
-    let gone : times_among (given_up c (move from to) segments) run ≡ 0 = ap (λ (rs : List Run). times_among rs run) (given_found c (move from to) segments e h) in
+    let gone : times_among (given_up c (move from to) segments) run ≡ 0 = ap (λ (rs : List Run). times_among rs run) (given_found c (move from to) segments from e refl h) in
     let moved : times_among (runs_of (edited c (move from to) segments)) run ≡ times_among (runs_of d) run = ap (λ (x : PlainCatalogue). times_among (runs_of x) run) (renamed_is c from to e h) in
     omega (arith, none, gone, moved, times_of run c, times_of run d, taken_out (times_in run) c from e h, put_new (times_in run) (without c from) (named to e) (none_without c from to can.1))
 edited_times_are c (remove name) streams segments run k can same =
     let e : PlainEntry = can.0.0 in
     let h : entry_of c name ≡ Some e = can.0.1 in
     let none : times_among (map run_of segments) run ≡ 0 = ap (λ (ss : List Segment). times_among (map run_of ss) run) (no_segments streams segments can.1 same) in
-    let gone : times_among (given_up c (remove name) segments) run ≡ times_among (runs_in e) run = ap (λ (rs : List Run). times_among rs run) (given_found c (remove name) segments e h) in
+    let gone : times_among (given_up c (remove name) segments) run ≡ times_among (runs_in e) run = ap (λ (rs : List Run). times_among rs run) (given_found c (remove name) segments name e refl h) in
     omega (arith, none, gone, times_of run c, times_of run (without c name), taken_out (times_in run) c name e h)
 edited_times_are c (exchange name place count) streams segments run k can same =
     let e : PlainEntry = can.0 in
     let h : entry_of c name ≡ Some e = can.1 in
     let gone : times_among (given_up c (exchange name place count) segments) run ≡ times_among (page_runs e.page ++ map run_of (from_place e.segments place count)) run =
-    ap (λ (rs : List Run). times_among rs run) (given_found c (exchange name place count) segments e h) in
+    ap (λ (rs : List Run). times_among rs run) (given_found c (exchange name place count) segments name e refl h) in
     omega (arith, gone, exchanged_times c name e h place count run segments)
+edited_times_are c (digest ds) streams segments run k can same =
+    let none : times_among (map run_of segments) run ≡ 0 = ap (λ (ss : List Segment). times_among (map run_of ss) run) (no_segments streams segments can.2 same) in
+    omega (arith, none, digested_times run c ds)
 
 -- those that are given up were listed
 pub given_up_times : (c : PlainCatalogue) (edit : PlainEdit) (segments : List Segment) (run : Run) → times_among (given_up c edit segments) run ≤ times_among (runs_of c) run
-given_up_times c edit segments run = by_entry (entry_of c (name_edited edit)) refl
+given_up_times c edit segments run = by_name (name_edited edit) refl
   where
-    by_entry : (o : Option PlainEntry) → entry_of c (name_edited edit) ≡ o → times_among (given_up c edit segments) run ≤ times_among (runs_of c) run
-    by_entry None h = let none : times_among (given_up c edit segments) run ≡ 0 = ap (λ (rs : List Run). times_among rs run) (none_given c edit segments h) in omega (arith, none)
-    by_entry (Some e) h =
-        let gone : times_among (given_up c edit segments) run ≡ times_among (given_by edit segments e) run = ap (λ (rs : List Run). times_among rs run) (given_found c edit segments e h) in
-        omega (arith, gone, given_times run edit segments e, times_of run c, taken_out (times_in run) c (name_edited edit) e h)
+    by_entry : (name : List ℕ) → name_edited edit ≡ Some name → (o : Option PlainEntry) → entry_of c name ≡ o → times_among (given_up c edit segments) run ≤ times_among (runs_of c) run
+    by_entry name named None h = let none : times_among (given_up c edit segments) run ≡ 0 = ap (λ (rs : List Run). times_among rs run) (none_given c edit segments name named h) in omega (arith, none)
+    by_entry name named (Some e) h =
+        let gone : times_among (given_up c edit segments) run ≡ times_among (given_by edit segments e) run = ap (λ (rs : List Run). times_among rs run) (given_found c edit segments name e named h) in
+        omega (arith, gone, given_times run edit segments e, times_of run c, taken_out (times_in run) c name e h)
+
+    by_name : (o : Option (List ℕ)) → name_edited edit ≡ o → times_among (given_up c edit segments) run ≤ times_among (runs_of c) run
+    by_name None named =
+        let gone : times_among (given_up c edit segments) run ≡ times_among (flat_map lost_page c) run = ap (λ (o : Option (List ℕ)). times_among (given_of c edit segments o) run) named in
+        omega (arith, gone, digested_times run c [])
+    by_name (Some name) named = by_entry name named (entry_of c name) refl
 
 -- whether a run is listed, by how often it is
 pub none_listed : (xs : List Run) (run : Run) → is_among xs run ≡ false → times_among xs run ≡ 0
@@ -346,6 +406,7 @@ edit_stands c (move from to) streams segments k can each most =
     subst IsCatalogue (sym (renamed_is c from to can.2.0 can.2.1)) (catalogue_is (with_entry (without c from) (named to can.2.0)) (renamed_stands c from to can.2.0 (passes_catalogue c k) can.0 can.2.1))
 edit_stands c (remove name) streams segments k can each most = catalogue_is (without c name) (removed_stands c name (passes_catalogue c k))
 edit_stands c (exchange name place count) streams segments k can each most = exchanged_stands c name can.0 can.1 place count segments k each most
+edit_stands c (digest ds) streams segments k can each most = catalogue_is (digested c ds) (digested_stands c ds (passes_catalogue c k) can.1)
 
 pub edited_stands : (c : PlainCatalogue) (change : PlainChange) (segments : List Segment) → IsCatalogue c → IsChange c change → list_all is_segment segments ≡ true
     → segment_count (edited c change.edit segments) ≤ MAX_SEGMENTS → IsCatalogue (edited c change.edit segments)

@@ -1,5 +1,5 @@
 -- What holds of each entry holds of each that an edit leaves, where it holds of all without a page, and of one with the same schema, segments and page.
-use Rattle.std.specs.Prelude.{◌≡◌, ◌||◌, ◌++◌, ◌≤◌, ◌<◌, ◌+◌, ℕ, Bool, true, false, List, [], ◌∷◌, length, map, flat_map, Option, Some, None, Ok, if◌then◌else◌}
+use Rattle.std.specs.Prelude.{◌≡◌, ◌||◌, ◌++◌, ◌≤◌, ◌<◌, ◌+◌, ℕ, Bool, true, false, List, [], ◌∷◌, length, map, flat_map, take, drop, Option, Some, None, Ok, if◌then◌else◌}
 use Rattle.std.specs.List.{AllByRecursion}
 use Rattle.std.specs.Str.{bytes_eq}
 use Rattle.std.proofs.Common.{inl, inr, refl, sym, ap, ◌∙◌, subst}
@@ -13,16 +13,19 @@ use Rattle.arrow_schema.specs.Column.{PlainSchema}
 use Rattle.arrow_schema.specs.Limits.{IsWithinLimits}
 use Rattle.ipc_write.specs.Written.{schema_message}
 use Rattle.catalogue.specs.declared.entry.Segment.{Segment}
+use Rattle.catalogue.specs.declared.entry.SegmentForm.{SegmentForm}
+use Rattle.commit.specs.declared.sector.FormatVersion.{FormatVersion}
 use Rattle.catalogue.specs.Entries.{PlainEntry, PlainCatalogue, is_entry, page_runs, runs_in, runs_of, IsCatalogue}
-use Rattle.catalogue.specs.Edits.{entry_of, with_entry, without, named, with_segments, with_more, with_others}
+use Rattle.catalogue.specs.Edits.{page_behind, with_digests, entry_digested, digested, entry_of, with_entry, without, named, with_segments, with_more, with_others}
 use Rattle.catalogue.specs.laws.Kept.{entry_is}
 use Rattle.catalogue.specs.laws.Order.{by_seat, by_found}
 use Rattle.catalogue.specs.laws.Sums.{refilled}
 use Rattle.catalogue.specs.laws.Changed.{renamed_is, more_is, found_passes, exchanged_is}
 use Rattle.commit.specs.Placing.{is_among}
 use Rattle.commit.specs.Standing.{InSome}
-use Rattle.pages.specs.Stored.{page_in, HoldsPage, HoldsPages}
-use Rattle.store.specs.Changes.{PlainEdit, put, extend, move, remove, exchange, new_entry, page_behind, page_over, page_instead, edited, IsEdit}
+use Rattle.pages.specs.Stored.{form_of, page_in, HoldsPage, HoldsPages}
+use Rattle.pages.specs.laws.Digested.{digested_holds}
+use Rattle.store.specs.Changes.{PlainEdit, put, extend, move, remove, exchange, digest, new_entry, page_over, page_instead, edited, version_after, IsEdit}
 
 -- schemas of one message are one schema
 abbrev pub OneSchema : Type 0
@@ -71,6 +74,19 @@ module _ (Q : PlainEntry → Type 0) (pageless : OfPageless Q) (alike : OfSame Q
   more_each c name e [] h all = all
   more_each c name e (s ∷ ss) h all = subst (λ (d : PlainCatalogue). AllByRecursion Q d) (sym (more_is c name e s ss h)) (refilled_each c name (e.segments ++ s ∷ ss) all)
 
+  -- of a table that gets digests: it has no page, or no segments
+  digest_each : (e : PlainEntry) (ds : List (List ℕ)) → Q e → Q (entry_digested e ds)
+  digest_each e ds here = by_segments e.segments refl
+    where
+      by_segments : (ss : List Segment) → e.segments ≡ ss → Q (record { name = e.name; schema = e.schema; segments = with_digests ss ds; page = page_behind ss e.page })
+      by_segments [] none = alike (record { name = e.name; schema = e.schema; segments = []; page = e.page }) e refl (sym none) refl here
+      by_segments (s ∷ ss) some = pageless (record { name = e.name; schema = e.schema; segments = with_digests (s ∷ ss) ds; page = None }) refl
+
+  digested_each : (c : PlainCatalogue) (ds : List (List ℕ)) → AllByRecursion Q c → AllByRecursion Q (digested c ds)
+  unfolding digested
+  digested_each [] ds all = tt
+  digested_each (e ∷ es) ds all = (digest_each e (take (length e.segments) ds) all.0, digested_each es (drop (length e.segments) ds) all.1)
+
   pub edited_each : OneSchema → (c : PlainCatalogue) (edit : PlainEdit) (streams : List (List ℕ)) (segments : List Segment) → IsCatalogue c → IsEdit c edit streams → AllByRecursion Q c → AllByRecursion Q (edited c edit segments)
   edited_each one c (put name schema) streams segments k can all =
       with_each c (new_entry name schema segments (page_instead (entry_of c name) schema segments)) all (by_entry (entry_of c name) refl)
@@ -87,6 +103,7 @@ module _ (Q : PlainEntry → Type 0) (pageless : OfPageless Q) (alike : OfSame Q
   edited_each one c (exchange name place count) streams segments k can all =
       let e : PlainEntry = can.0 in
       subst (λ (d : PlainCatalogue). AllByRecursion Q d) (sym (exchanged_is c name e can.1 place count segments)) (refilled_each c name (with_others e.segments place count segments) all)
+  edited_each one c (digest ds) streams segments k can all = digested_each c ds all
 
 -- ---- pages still say what the tables are
 
@@ -94,12 +111,22 @@ no_page : {G : Type 0} (o : Option Extent) (p : Extent) → o ≡ None → o ≡
 no_page o p none some = absurd (cc (none, some))
 
 module _ (size : ℕ) (image : Image) where
-  pub edited_holds : OneSchema → (c : PlainCatalogue) (edit : PlainEdit) (streams : List (List ℕ)) (segments : List Segment) → IsCatalogue c → IsEdit c edit streams → HoldsPages size image c → HoldsPages size image (edited c edit segments)
-  edited_holds one c edit streams segments k can holds =
-      edited_each (HoldsPage size image) (λ e none p here. no_page e.page p none here)
+  same_form : (form : SegmentForm) → OneSchema → (c : PlainCatalogue) (edit : PlainEdit) (streams : List (List ℕ)) (segments : List Segment) → IsCatalogue c → IsEdit c edit streams → HoldsPages form size image c → HoldsPages form size image (edited c edit segments)
+  same_form form one c edit streams segments k can holds =
+      edited_each (HoldsPage form size image) (λ e none p here. no_page e.page p none here)
       (λ e f schema segments page h p here.
-      (λ i. page_in size image (length (segments i)) p) ∙ h p (sym page ∙ here) ∙ (λ i. Ok (sym schema i, sym segments i)))
+      (λ i. page_in form size image (length (segments i)) p) ∙ h p (sym page ∙ here) ∙ (λ i. Ok (sym schema i, sym segments i)))
       one c edit streams segments k can holds
+
+  -- also in the form of the version behind the edit
+  pub edited_holds : (v : FormatVersion) → OneSchema → (c : PlainCatalogue) (edit : PlainEdit) (streams : List (List ℕ)) (segments : List Segment) → IsCatalogue c → IsEdit c edit streams → HoldsPages (form_of v) size image c
+      → HoldsPages (form_of (version_after edit v)) size image (edited c edit segments)
+  edited_holds v one c (put name schema) streams segments k can holds = same_form (form_of v) one c (put name schema) streams segments k can holds
+  edited_holds v one c (extend name) streams segments k can holds = same_form (form_of v) one c (extend name) streams segments k can holds
+  edited_holds v one c (move from to) streams segments k can holds = same_form (form_of v) one c (move from to) streams segments k can holds
+  edited_holds v one c (remove name) streams segments k can holds = same_form (form_of v) one c (remove name) streams segments k can holds
+  edited_holds v one c (exchange name place count) streams segments k can holds = same_form (form_of v) one c (exchange name place count) streams segments k can holds
+  edited_holds v one c (digest ds) streams segments k can holds = digested_holds size image (form_of v) c ds holds
 
 -- ---- and are among the runs that were named
 

@@ -55,7 +55,7 @@ placed_behind size (r ∷ rs) n on (inl here) =
 placed_behind size (r ∷ rs) n on (inr later) = placed_behind size rs n (and_parts (is_on_device size r) (all_on_device size rs) on).1 later
 
 -- a sector is in some run of the first list or of the second
-in_either : (rs ss : List Run) (n : ℕ) → InSome (rs ++ ss) n → InSome rs n ⊎ InSome ss n
+pub in_either : (rs ss : List Run) (n : ℕ) → InSome (rs ++ ss) n → InSome rs n ⊎ InSome ss n
 in_either [] ss n some = inr some
 in_either (r ∷ rs) ss n (inl here) = inl (inl here)
 in_either (r ∷ rs) ss n (inr later) = ⊎_elim (λ (one : InSome rs n). inl (inr one)) (λ (other : InSome ss n). inr other) (in_either rs ss n later)

@@ -10,11 +10,11 @@ use Rattle.segments.specs.declared.run.Run.{Run}
 use Rattle.arrow_schema.specs.Column.{PlainSchema}
 use Rattle.catalogue.specs.declared.entry.Segment.{Segment}
 use Rattle.catalogue.specs.declared.limits.TheConstants.{MAX_SEGMENT_ROWS}
-use Rattle.catalogue.specs.Entries.{PlainEntry, PlainCatalogue, is_between, is_segment, is_entry, page_runs, runs_in_segments, runs_in, runs_of}
+use Rattle.catalogue.specs.Entries.{PlainEntry, PlainCatalogue, is_between, is_filled, is_digest, is_segment, is_entry, page_runs, runs_in_segments, runs_in, runs_of}
 use Rattle.catalogue.specs.laws.Kept.{entry_is}
 use Rattle.commit.specs.declared.sector.Commit.{Commit}
 use Rattle.commit.specs.Standing.{rules, standing, InSome}
-use Rattle.store.specs.Held.{rows_in_bytes, segment_rows, joined_rows, rows_held, table_of_rows, table_held, with_held, tables_held, held_of, held_by}
+use Rattle.store.specs.Held.{rows_in_segment, segment_rows, joined_rows, rows_held, table_of_rows, table_held, with_held, tables_held, held_of, held_by}
 use Rattle.pages.specs.Stored.{stored_reading}
 
 pub in_left : (rs ss : List Run) (n : ℕ) → InSome rs n → InSome (rs ++ ss) n
@@ -30,10 +30,9 @@ in_right (r ∷ rs) ss n some = inr (in_right rs ss n some)
 pub sectors_of : (segment : Segment) → is_segment segment ≡ true → segment.place.run.count ≡ sector_count segment.place.bytes
 sectors_of segment sound =
     let e = segment.place in
-    let rows = is_between 1 MAX_SEGMENT_ROWS segment.rows in
-    let parts = and_parts (nat_lt e.run.start (2 ^ 64) && nat_lt e.bytes (2 ^ 64)) (nat_le 1 e.bytes && ((e.run.count == sector_count e.bytes) && rows)) sound in
-    let more = and_parts (nat_le 1 e.bytes) ((e.run.count == sector_count e.bytes) && rows) parts.1 in
-    eqb-true e.run.count (sector_count e.bytes) (and_parts (e.run.count == sector_count e.bytes) rows more.1).0
+    let filled = and_parts (is_filled 1 e) (is_between 1 MAX_SEGMENT_ROWS segment.rows && is_digest segment.digest) sound in
+    let some = and_parts (nat_lt e.run.start (2 ^ 64) && nat_lt e.bytes (2 ^ 64)) (nat_le 1 e.bytes && (e.run.count == sector_count e.bytes)) filled.0 in
+    eqb-true e.run.count (sector_count e.bytes) (and_parts (nat_le 1 e.bytes) (e.run.count == sector_count e.bytes) some.1).1
 
 module _ (a b : Image) where
   pub same_segment : (schema : PlainSchema) (segment : Segment) → is_segment segment ≡ true
@@ -41,7 +40,7 @@ module _ (a b : Image) where
   unfolding segment_rows
   same_segment schema segment sound same =
       let count = sectors_of segment sound in
-      ap (rows_in_bytes schema segment.rows) (same_bytes b a segment.place.run.start segment.place.bytes (λ j lt. same (segment.place.run.start + j) (omega arith) (omega (arith, count, lt))))
+      ap (rows_in_segment schema segment) (same_bytes b a segment.place.run.start segment.place.bytes (λ j lt. same (segment.place.run.start + j) (omega arith) (omega (arith, count, lt))))
 
   pub same_rows : (schema : PlainSchema) (segments : List Segment) → list_all is_segment segments ≡ true
       → ((n : ℕ) → InSome (map (λ (s : Segment). s.place.run) segments) n → b n ≡ a n) → rows_held schema segments b ≡ rows_held schema segments a

@@ -11,7 +11,6 @@ use Rattle.std.specs.Cmp.Lexicographic.{slice_cmp}
 use Rattle.std.specs.Ordering.{nat_cmp}
 use Rattle.std.specs.FinMap as maps
 use Rattle.sector_dev.specs.Disk.{Image}
-use Rattle.segments.specs.Sectors.{bytes_at}
 use Rattle.arrow_schema.specs.Column.{PlainSchema}
 use Rattle.cells.specs.Cell.{Cell, PlainTable}
 use Rattle.ipc_message.specs.declared.fault.Fault.{Fault}
@@ -23,8 +22,9 @@ use Rattle.catalogue.specs.Entries.{PlainEntry, PlainCatalogue, names_of, comes_
 use Rattle.catalogue.specs.Edits.{entry_of, tables_of}
 use Rattle.catalogue.specs.laws.Order.{less_is}
 use Rattle.tables.specs.Tables.{Tables, no_tables, table_at, with_table, table_count, row_counts}
-use Rattle.store.specs.Held.{rows_where, rows_in_bytes, segment_rows, joined_rows, rows_held, table_held, with_held, tables_held}
+use Rattle.store.specs.Held.{bytes_of, rows_where, rows_in_bytes, segment_rows, joined_rows, rows_held, table_held, with_held, tables_held}
 use Rattle.store.specs.Verdicts.{TellsTable, Lists}
+use Rattle.store.specs.laws.Digests.{rows_come}
 use Rattle.store.specs.laws.Named.{entry_has, entry_lacks, held_has}
 
 -- ---- how many rows there are
@@ -57,7 +57,7 @@ segments_counted schema (g ∷ gs) image rows is = by_parts (segment_rows schema
     by_parts (Some xs) None f o h later = absurd (cc h)
     by_parts (Some xs) (Some ys) f o h later =
         let whole : xs ++ ys ≡ rows = cc h in
-        let one = segment_counted schema g.rows (bytes_at image g.place.run.start g.place.bytes) xs f in
+        let one = segment_counted schema g.rows (bytes_of g image) xs (rows_come schema g (bytes_of g image) xs f).1 in
         let more = later ys o in
         ap length (sym whole) ∙ omega (arith, length-append xs ys, sum_by-cons (λ (s : Segment). s.rows) g gs, one, more)
 

@@ -7,7 +7,7 @@ use Rattle.sector_dev.specs.Disk.{Story}
 use Rattle.segments.specs.laws.Usages.{or_false}
 use Rattle.commit.specs.declared.cause.Cause.{Cause}
 use Rattle.commit.specs.declared.opening_refusal.OpeningRefusal.TheVariants as openings
-use Rattle.store.specs.Calls.{PlainCall, apply_call, format_call, open_call, close_call, tables_call, schema_call, read_call, export_call, stream_call, open_export_call, export_next_call, close_export_call, compact_call, PlainReply, shut_by, is_change}
+use Rattle.store.specs.Calls.{PlainCall, apply_call, format_call, open_call, close_call, tables_call, schema_call, read_call, export_call, stream_call, open_export_call, export_next_call, close_export_call, compact_call, upgrade_call, PlainReply, shut_by, is_change}
 use Rattle.store.specs.Machine.{Setting, Machine}
 use Rattle.store.specs.Steps.{Step}
 use Rattle.store.specs.Runs.{Run}
@@ -31,6 +31,7 @@ no_damage s m (open_export_call name) cause wrote next step = step
 no_damage s m (export_next_call id) cause wrote next step = step
 no_damage s m (close_export_call id) cause wrote next step = step
 no_damage s m compact_call cause wrote next step = step
+no_damage s m upgrade_call cause wrote next step = step
 
 sound_reply : (s : Setting) (m : Machine) (call : PlainCall) (reply : PlainReply) (wrote : Bool) (next : Machine) → Step s m call reply wrote next → tells_damage reply ≡ false
 sound_reply s m call (shut_by (openings.Damaged cause)) wrote next step = absurd (no_damage s m call cause wrote next step)
@@ -63,6 +64,7 @@ early s m (open_export_call name) wrote next step = absurd step
 early s m (export_next_call id) wrote next step = absurd step
 early s m (close_export_call id) wrote next step = absurd step
 early s m compact_call wrote next step = absurd step
+early s m upgrade_call wrote next step = absurd step
 
 started_reply : (s : Setting) (m : Machine) (call : PlainCall) (reply : PlainReply) (wrote : Bool) (next : Machine) → m.started ≡ true → Step s m call reply wrote next → tells_no_store reply ≡ false
 started_reply s m call (shut_by openings.NotAStore) wrote next started step = let both : true ≡ false = sym started ∙ early s m call wrote next step in absurd (cc both)

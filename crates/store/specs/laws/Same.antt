@@ -1,17 +1,17 @@
 -- A merge and a move leave the rows as they are.
-use Rattle.std.specs.Prelude.{◌≡◌, ℕ, List, [], ◌∷◌, Option, Some}
+use Rattle.std.specs.Prelude.{◌≡◌, ℕ, true, List, [], ◌∷◌, Option, Some}
 use Rattle.std.proofs.Common.{sym, ap, ◌∙◌}
 use Rattle.sector_dev.specs.Disk.{Image}
-use Rattle.segments.specs.Sectors.{bytes_at}
 use Rattle.cells.specs.Cell.{Cell}
 use Rattle.canonical_write.specs.Pieces.{piece_streams, piece_counts}
 use Rattle.catalogue.specs.declared.entry.Segment.{Segment}
 use Rattle.catalogue.specs.Entries.{PlainEntry, PlainCatalogue}
 use Rattle.catalogue.specs.Edits.{entry_of, from_place}
-use Rattle.store.specs.Held.{segment_rows, rows_in_bytes, joined_rows, rows_held}
+use Rattle.store.specs.Held.{is_undamaged, bytes_of, rows_in_segment, segment_rows, joined_rows, rows_held}
 use Rattle.store.specs.Changes.{stream_rows, rows_under, HoldsStreams}
 use Rattle.store.specs.Exchanging.{HoldsSame}
 use Rattle.store.specs.laws.Changed.{streams_held}
+use Rattle.store.specs.laws.Digests.{rows_undamaged}
 
 module _ (image : Image) (c : PlainCatalogue) (name : List ℕ) (e : PlainEntry) (found : entry_of c name ≡ Some e) (place : ℕ) (others : List Segment) where
   -- the new segments hold the pieces of the rows that the old ones hold
@@ -24,14 +24,14 @@ module _ (image : Image) (c : PlainCatalogue) (name : List ℕ) (e : PlainEntry)
     same = streams_held image e.schema others (piece_streams (rows_under e.schema rows)) (piece_counts (rows_under e.schema rows)) holds ∙ means ∙ sym held;
   }
 
-  -- the new segment holds the bytes of the old one
-  pub moved_same : (g : Segment) (bytes : List ℕ) → from_place e.segments place 1 ≡ g ∷ [] → bytes_at image g.place.run.start g.place.bytes ≡ Some bytes
-      → HoldsStreams image others (bytes ∷ []) (g.rows ∷ []) → HoldsSame image c name place 1 others
+  -- the new segment holds the bytes of the old one, which are undamaged
+  pub moved_same : (g : Segment) (bytes : List ℕ) → from_place e.segments place 1 ≡ g ∷ [] → bytes_of g image ≡ Some bytes
+      → is_undamaged g.digest (Some bytes) ≡ true → HoldsStreams image others (bytes ∷ []) (g.rows ∷ []) → HoldsSame image c name place 1 others
   unfolding rows_held segment_rows stream_rows
-  moved_same g bytes is held holds = record {
+  moved_same g bytes is held undamaged holds = record {
     entry = e;
     found = found;
     same = streams_held image e.schema others (bytes ∷ []) (g.rows ∷ []) holds
-        ∙ ap (λ (o : Option (List ℕ)). joined_rows (rows_in_bytes e.schema g.rows o) (Some [])) (sym held)
+        ∙ ap (λ (o : Option (List (List Cell))). joined_rows o (Some [])) (sym (ap (rows_in_segment e.schema g) held ∙ rows_undamaged e.schema g (Some bytes) undamaged))
         ∙ ap (λ (ss : List Segment). rows_held e.schema ss image) (sym is);
   }

@@ -11,7 +11,7 @@ use Rattle.tables.specs.declared.refusal.Refusal.TheVariants as refusals
 use Rattle.tables.specs.Refusals.{Origin, by_tables, by_room, by_memory, by_device, by_halt, elsewhere, origin_of_limit, origin_of}
 use Rattle.tables.specs.Commands.{PlainCommand}
 use Rattle.commit.specs.declared.opening_refusal.OpeningRefusal.TheVariants as openings
-use Rattle.store.specs.Calls.{PlainCall, apply_call, format_call, open_call, close_call, tables_call, schema_call, read_call, export_call, stream_call, open_export_call, export_next_call, close_export_call, compact_call, PlainReply, done, counts, schema_is, table_is, bytes_are, export_is, piece_is, merged, moved as is_moved, nothing, refused, shut_by, is_failure, is_device_reply, is_change}
+use Rattle.store.specs.Calls.{PlainCall, apply_call, format_call, open_call, close_call, tables_call, schema_call, read_call, export_call, stream_call, open_export_call, export_next_call, close_export_call, compact_call, upgrade_call, PlainReply, done, counts, schema_is, table_is, bytes_are, export_is, piece_is, merged, moved as is_moved, nothing, already, refused, shut_by, is_failure, is_device_reply, is_change}
 use Rattle.store.specs.Machine.{Setting, Machine, shut, running, halted, with_doubt, settle, opened, shut_down, halt}
 use Rattle.store.specs.Steps.{RefusesFrom, Step}
 use Rattle.store.specs.Runs.{Run}
@@ -283,6 +283,18 @@ one_step s m compact_call (refused refusals.Device) wrote new step = by_wrote wr
     by_wrote true is = is_halted m new compact_call (refused refusals.Device) refl refl refl is
     by_wrote false is = is_halted m new compact_call (refused refusals.Device) refl refl refl is
 one_step s m compact_call _ wrote new step = absurd step
+one_step s m upgrade_call done wrote new step = changed m new upgrade_call done refl step.0 step.1 step.3
+one_step s m upgrade_call already wrote new step = is_same m new upgrade_call already refl refl step.1.1
+one_step s m upgrade_call (refused (refusals.TooMany limits.Epochs)) wrote new step = is_same m new upgrade_call (refused (refusals.TooMany limits.Epochs)) refl refl step.1.1
+one_step s m upgrade_call (refused (refusals.NoRoom count)) wrote new step = is_same m new upgrade_call (refused (refusals.NoRoom count)) refl refl step.1.1
+one_step s m upgrade_call (refused refusals.OutOfMemory) wrote new step = is_same m new upgrade_call (refused refusals.OutOfMemory) refl refl step.1.1
+one_step s m upgrade_call (refused refusals.Halted) wrote new step = is_same m new upgrade_call (refused refusals.Halted) refl refl step.1.1
+one_step s m upgrade_call (refused refusals.Device) wrote new step = by_wrote wrote step.1
+  where
+    by_wrote : (w : Bool) → new ≡ halt upgrade_call w m → Moves m upgrade_call (refused refusals.Device) new
+    by_wrote true is = is_halted m new upgrade_call (refused refusals.Device) refl refl refl is
+    by_wrote false is = is_halted m new upgrade_call (refused refusals.Device) refl refl refl is
+one_step s m upgrade_call _ wrote new step = absurd step
 
 -- ---- a run
 

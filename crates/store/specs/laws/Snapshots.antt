@@ -14,7 +14,7 @@ use Rattle.tables.specs.declared.refusal.Refusal.TheVariants as refusals
 use Rattle.tables.specs.declared.refusal.Limit.TheVariants as limits
 use Rattle.tables.specs.Refusals.{Origin, by_tables, by_room, by_memory, by_device, by_halt, elsewhere, origin_of}
 use Rattle.tables.specs.Commands.{PlainCommand}
-use Rattle.store.specs.Calls.{PlainCall, apply_call, format_call, open_call, close_call, tables_call, schema_call, read_call, export_call, stream_call, open_export_call, export_next_call, close_export_call, compact_call, PlainReply, done, counts, schema_is, table_is, bytes_are, export_is, piece_is, merged, moved, nothing, refused, is_failure}
+use Rattle.store.specs.Calls.{PlainCall, apply_call, format_call, open_call, close_call, tables_call, schema_call, read_call, export_call, stream_call, open_export_call, export_next_call, close_export_call, compact_call, upgrade_call, PlainReply, done, counts, schema_is, table_is, bytes_are, export_is, piece_is, merged, moved, nothing, already, refused, is_failure}
 use Rattle.store.specs.Machine.{Setting, Machine, Export, settle, tables_now, has_written, is_of, export_at, gave, after_piece}
 use Rattle.store.specs.Steps.{RefusesFrom, Step, IsExportOf, StepOpenExport}
 use Rattle.store.specs.Runs.{Run}
@@ -253,6 +253,14 @@ module _ (id : ℕ) (e : Export) (s : Setting) (m : Machine) (wrote : Bool) (nex
   one_call compact_call (refused refusals.Halted) step stay = unmoved id e m next is compact_call (refused refusals.Halted) refl refl step.1.1
   one_call compact_call (refused refusals.Device) step stay = absurd (cc stay)
   one_call compact_call _ step stay = absurd step
+  one_call upgrade_call done step stay = unmoved id e m next is upgrade_call done refl refl step.3
+  one_call upgrade_call already step stay = unmoved id e m next is upgrade_call already refl refl step.1.1
+  one_call upgrade_call (refused (refusals.TooMany limits.Epochs)) step stay = unmoved id e m next is upgrade_call (refused (refusals.TooMany limits.Epochs)) refl refl step.1.1
+  one_call upgrade_call (refused (refusals.NoRoom count)) step stay = unmoved id e m next is upgrade_call (refused (refusals.NoRoom count)) refl refl step.1.1
+  one_call upgrade_call (refused refusals.OutOfMemory) step stay = unmoved id e m next is upgrade_call (refused refusals.OutOfMemory) refl refl step.1.1
+  one_call upgrade_call (refused refusals.Halted) step stay = unmoved id e m next is upgrade_call (refused refusals.Halted) refl refl step.1.1
+  one_call upgrade_call (refused refusals.Device) step stay = absurd (cc stay)
+  one_call upgrade_call _ step stay = absurd step
 
 -- ---- a run
 

@@ -10,7 +10,7 @@ use Rattle.tables.specs.declared.refusal.Limit.TheVariants as limits
 use Rattle.tables.specs.Refusals.{Origin, by_tables, by_room, by_memory, by_device, by_halt, elsewhere, origin_of}
 use Rattle.tables.specs.Commands.{PlainCommand}
 use Rattle.commit.specs.declared.opening_refusal.OpeningRefusal.TheVariants as openings
-use Rattle.store.specs.Calls.{PlainCall, apply_call, format_call, open_call, close_call, tables_call, schema_call, read_call, export_call, stream_call, open_export_call, export_next_call, close_export_call, compact_call, PlainReply, done, counts, schema_is, table_is, bytes_are, export_is, piece_is, merged, moved, nothing, refused, shut_by, is_failure, is_device_reply}
+use Rattle.store.specs.Calls.{PlainCall, apply_call, format_call, open_call, close_call, tables_call, schema_call, read_call, export_call, stream_call, open_export_call, export_next_call, close_export_call, compact_call, upgrade_call, PlainReply, done, counts, schema_is, table_is, bytes_are, export_is, piece_is, merged, moved, nothing, already, refused, shut_by, is_failure, is_device_reply}
 use Rattle.store.specs.Machine.{Setting, Machine, Phase, running, shut, with_doubt, opened}
 use Rattle.store.specs.Steps.{RefusesFrom, Step}
 use Rattle.store.specs.Runs.{Run}
@@ -133,6 +133,14 @@ turns s m compact_call (refused refusals.OutOfMemory) wrote new is_open step at 
 turns s m compact_call (refused refusals.Halted) wrote new is_open step at quiet = halts m new is_open at compact_call refl step.0 step.1.1
 turns s m compact_call (refused refusals.Device) wrote new is_open step at quiet = failing quiet
 turns s m compact_call _ wrote new is_open step at quiet = absurd step
+turns s m upgrade_call done wrote new is_open step at quiet = same m new is_open at upgrade_call done refl step.3 refl
+turns s m upgrade_call already wrote new is_open step at quiet = same m new is_open at upgrade_call already refl step.1.1 refl
+turns s m upgrade_call (refused (refusals.TooMany limits.Epochs)) wrote new is_open step at quiet = same m new is_open at upgrade_call (refused (refusals.TooMany limits.Epochs)) refl step.1.1 refl
+turns s m upgrade_call (refused (refusals.NoRoom count)) wrote new is_open step at quiet = same m new is_open at upgrade_call (refused (refusals.NoRoom count)) refl step.1.1 refl
+turns s m upgrade_call (refused refusals.OutOfMemory) wrote new is_open step at quiet = same m new is_open at upgrade_call (refused refusals.OutOfMemory) refl step.1.1 refl
+turns s m upgrade_call (refused refusals.Halted) wrote new is_open step at quiet = halts m new is_open at upgrade_call refl step.0 step.1.1
+turns s m upgrade_call (refused refusals.Device) wrote new is_open step at quiet = failing quiet
+turns s m upgrade_call _ wrote new is_open step at quiet = absurd step
 
 pub tells_no_halt : (s : Setting) (calls : List PlainCall) (replies : List PlainReply) (m : Machine) (old : Story) (failed : ℕ) (m' : Machine) (new : Story) (failed' : ℕ)
     → Run s calls replies m old failed m' new failed' → (is_open : Bool) → m.phase ≡ phase_where is_open → list_any is_device_reply replies ≡ false → tells_halt_while_open is_open calls replies ≡ false

@@ -5,4 +5,4 @@ use Rattle.catalogue.proofs.Parts.{with_front}
 use Rattle.catalogue.proofs.decoding.entries_at.Given as goal
 
 abbrev pub invariant-loop : goal.invariant-loop
-invariant-loop l = with_front (map plain_entry l.entries.items) (many_at entry_at (l.count - l.counter) l.rest) ≡ many_at entry_at l.count l.bytes
+invariant-loop l = with_front (map plain_entry l.entries.items) (many_at (entry_at l.form) (l.count - l.counter) l.rest) ≡ many_at (entry_at l.form) l.count l.bytes

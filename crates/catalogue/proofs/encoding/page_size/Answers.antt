@@ -1,6 +1,18 @@
+use Rattle.std.proofs.Common.{◌≡◌, List, length, ap, arith}
+use Rattle.catalogue.specs.declared.entry.Segment.{Segment}
 use Rattle.catalogue.specs.Entries.{plain_entry}
 use Rattle.catalogue.specs.laws.Kept.{entry_is}
 use Rattle.catalogue.proofs.encoding.page_size.Goals as goal
 
 pub message_of-requires : goal.message_of-requires
 message_of-requires c = (entry_is (plain_entry c.args.entry.now) c.requires.sound).schema
+
+pub overflow_add-result-2 : goal.overflow_add-result-2
+overflow_add-result-2 c =
+    let same : length c.deref.result.now ≡ length c.args.entry.now.segments.items = ap (λ (ss : List Segment). length ss) c.deref.ensures.value in
+    omega (arith, same, c.segments_size.ensures.most, c.requires.segments, c.len.ensures, c.in_ok-message.message.ok.0, c.in_ok-message.ensures.short)
+
+pub returns-clause-short : goal.returns-clause-short
+returns-clause-short c =
+    let same : length c.deref.result.now ≡ length c.args.entry.now.segments.items = ap (λ (ss : List Segment). length ss) c.deref.ensures.value in
+    omega (arith, same, c.segments_size.ensures.most, c.requires.segments, c.len.ensures, c.in_ok-message.message.ok.0, c.in_ok-message.ensures.short)

@@ -4,10 +4,13 @@ use Rattle.catalogue.proofs.Sizes.{table_has_size}
 use Rattle.catalogue.proofs.laws.one_page_each.Goals as goal
 
 pub returns-clause-kept : goal.returns-clause-kept
-returns-clause-kept c = λ most bytes e h. let p = page_spelled most bytes e h in (p.kept, p.segments, p.few)
+returns-clause-kept c = λ form most bytes e h. let p = page_spelled form most bytes e h in (p.kept, p.segments, p.few)
+
+pub returns-clause-formed : goal.returns-clause-formed
+returns-clause-formed c = λ form most bytes e h. (page_spelled form most bytes e h).formed
 
 pub returns-clause-found : goal.returns-clause-found
-returns-clause-found c = λ most bytes e small h. (page_spelled most bytes e h).spelled small
+returns-clause-found c = λ form most bytes e small h. (page_spelled form most bytes e h).spelled small
 
 pub returns-clause-again : goal.returns-clause-again
 returns-clause-again c = page_again c.schemas_are_read_again.ensures

@@ -11,38 +11,38 @@ use Rattle.commit.proofs.formatting.begin.Goals as goal
 pub returns-in_err-write-clause-moments : goal.returns-in_err-write-clause-moments
 returns-in_err-write-clause-moments g c = λ told p.
     let D = g.D.SectorDevice in
-    let text = first_found (D.size c.args.device.now) _ (omega arith) (omega arith) (c.commit_sector-sector.ensures ∙ ap commit_text (c.first_commit-first.ensures ∙ ap first_commit c.sectors.ensures)) in
-    begin_failed (D.size c.args.device.now) _ p _ text _ _ refl (c.in_err-write.ensures.err told)
+    let text = first_found (D.size c.args.device.now) c.args.version _ (omega arith) (omega arith) (c.commit_sector-sector.ensures ∙ ap commit_text (c.first_commit-first.ensures ∙ ap (λ (n : ℕ). first_commit n c.args.version) c.sectors.ensures)) in
+    begin_failed (D.size c.args.device.now) c.args.version _ p _ text _ _ refl (c.in_err-write.ensures.err told)
 
 pub returns-in_err-sync-clause-moments : goal.returns-in_err-sync-clause-moments
 returns-in_err-sync-clause-moments g c = λ told p.
     let D = g.D.SectorDevice in
-    let text = first_found (D.size c.args.device.now) _ (omega arith) (omega arith) (c.commit_sector-sector.ensures ∙ ap commit_text (c.first_commit-first.ensures ∙ ap first_commit c.sectors.ensures)) in
-    let put = begin_put (D.size c.args.device.now) _ p _ text _ _ _ refl (c.in_ok-write.ensures.ok told) in
-    goes_on put (passed _ _ _ (now_has (at_rest (D.size c.args.device.now) _ p _ text) put) (c.in_err-sync.ensures.err told))
+    let text = first_found (D.size c.args.device.now) c.args.version _ (omega arith) (omega arith) (c.commit_sector-sector.ensures ∙ ap commit_text (c.first_commit-first.ensures ∙ ap (λ (n : ℕ). first_commit n c.args.version) c.sectors.ensures)) in
+    let put = begin_put (D.size c.args.device.now) c.args.version _ p _ text _ _ _ refl (c.in_ok-write.ensures.ok told) in
+    goes_on put (passed _ _ _ (now_has (at_rest (D.size c.args.device.now) c.args.version _ p _ text) put) (c.in_err-sync.ensures.err told))
 
 pub returns-clause-moments : goal.returns-clause-moments
 returns-clause-moments g c = λ told p.
     let D = g.D.SectorDevice in
     let size = D.size c.args.device.now in
-    let text = first_found (D.size c.args.device.now) _ (omega arith) (omega arith) (c.commit_sector-sector.ensures ∙ ap commit_text (c.first_commit-first.ensures ∙ ap first_commit c.sectors.ensures)) in
-    let put = begin_put size _ p _ text _ _ _ refl (c.in_ok-write.ensures.ok told) in
-    let both = begin_done size _ p _ text (now (D.story c.write.new.self)) (ap now (c.in_ok-write.ensures.ok told)) in
-    goes_on put (two (LeavesOnly (IsNoneOrEmpty size)) _ _ _ _ (c.in_ok-sync.ensures.ok told) both.0 (now_has (at_rest size _ p _ text) put))
+    let text = first_found (D.size c.args.device.now) c.args.version _ (omega arith) (omega arith) (c.commit_sector-sector.ensures ∙ ap commit_text (c.first_commit-first.ensures ∙ ap (λ (n : ℕ). first_commit n c.args.version) c.sectors.ensures)) in
+    let put = begin_put size c.args.version _ p _ text _ _ _ refl (c.in_ok-write.ensures.ok told) in
+    let both = begin_done size c.args.version _ p _ text (now (D.story c.write.new.self)) (ap now (c.in_ok-write.ensures.ok told)) in
+    goes_on put (two (LeavesOnly (IsNoneOrEmpty size c.args.version)) _ _ _ _ (c.in_ok-sync.ensures.ok told) both.0 (now_has (at_rest size c.args.version _ p _ text) put))
 
 pub returns-clause-formatted : goal.returns-clause-formatted
 returns-clause-formatted g c = λ told p.
     let D = g.D.SectorDevice in
     let size = D.size c.args.device.now in
-    let text = first_found (D.size c.args.device.now) _ (omega arith) (omega arith) (c.commit_sector-sector.ensures ∙ ap commit_text (c.first_commit-first.ensures ∙ ap first_commit c.sectors.ensures)) in
-    let both = begin_done size _ p _ text (now (D.story c.write.new.self)) (ap now (c.in_ok-write.ensures.ok told)) in
-    subst (IsFormatted size (now (D.story c.args.device.now))) (sym (ap now (c.in_ok-sync.ensures.ok told))) both.1
+    let text = first_found (D.size c.args.device.now) c.args.version _ (omega arith) (omega arith) (c.commit_sector-sector.ensures ∙ ap commit_text (c.first_commit-first.ensures ∙ ap (λ (n : ℕ). first_commit n c.args.version) c.sectors.ensures)) in
+    let both = begin_done size c.args.version _ p _ text (now (D.story c.write.new.self)) (ap now (c.in_ok-write.ensures.ok told)) in
+    subst (IsFormatted size c.args.version (now (D.story c.args.device.now))) (sym (ap now (c.in_ok-sync.ensures.ok told))) both.1
 
 pub returns-clause-first : goal.returns-clause-first
 returns-clause-first g c = λ told.
     let D = g.D.SectorDevice in
-    let text = c.commit_sector-sector.ensures ∙ ap commit_text (c.first_commit-first.ensures ∙ ap first_commit c.sectors.ensures) in
-    has_first (D.size c.args.device.now) (D.story c.args.device.now) (D.story c.write.new.self) (D.story c.sync.new.self) _ text (c.in_ok-write.ensures.ok told) (c.in_ok-sync.ensures.ok told)
+    let text = c.commit_sector-sector.ensures ∙ ap commit_text (c.first_commit-first.ensures ∙ ap (λ (n : ℕ). first_commit n c.args.version) c.sectors.ensures) in
+    has_first (D.size c.args.device.now) c.args.version (D.story c.args.device.now) (D.story c.write.new.self) (D.story c.sync.new.self) _ text (c.in_ok-write.ensures.ok told) (c.in_ok-sync.ensures.ok told)
 
 -- ---- the device, whatever it tells
 

@@ -61,13 +61,13 @@ returns-in-Ok-clear_and_begin-clause-none_before g c = λ told. none_ruled _ _ _
 pub returns-in-Err-clause-moments : goal.returns-in-Err-clause-moments
 returns-in-Err-clause-moments g c = λ told.
     let D = g.D.SectorDevice in
-    read_first (D.size c.args.device.now) (D.size c.read_ruling.new.device) (D.story c.args.device.now) (D.story c.read_ruling.new.device) (D.story c.clear_and_begin.new.device)
+    read_first (D.size c.args.device.now) (D.size c.read_ruling.new.device) c.args.version (D.story c.args.device.now) (D.story c.read_ruling.new.device) (D.story c.clear_and_begin.new.device)
     c.read_ruling.ensures.size (c.read_ruling.ensures.moments told) (none_ruled _ _ _ (c.in-Ok.ensures.found told) c.is_some.ensures c.if-is_some.false) (c.clear_and_begin.ensures.moments told)
 
 pub returns-in-Ok-clear_and_begin-clause-moments : goal.returns-in-Ok-clear_and_begin-clause-moments
 returns-in-Ok-clear_and_begin-clause-moments g c = λ told.
     let D = g.D.SectorDevice in
-    read_first (D.size c.args.device.now) (D.size c.read_ruling.new.device) (D.story c.args.device.now) (D.story c.read_ruling.new.device) (D.story c.clear_and_begin.new.device)
+    read_first (D.size c.args.device.now) (D.size c.read_ruling.new.device) c.args.version (D.story c.args.device.now) (D.story c.read_ruling.new.device) (D.story c.clear_and_begin.new.device)
     c.read_ruling.ensures.size (c.read_ruling.ensures.moments told) (none_ruled _ _ _ (c.in-Ok.ensures.found told) c.is_some.ensures c.if-is_some.false) (c.clear_and_begin.ensures.moments told)
 
 pub returns-in-Ok-clear_and_begin-clause-formatted : goal.returns-in-Ok-clear_and_begin-clause-formatted
@@ -78,8 +78,8 @@ returns-in-Ok-clear_and_begin-clause-formatted g c = λ told.
     let s2 = D.story c.clear_and_begin.new.device in
     let reads = c.read_ruling.ensures.moments told in
     let none = still_none s0 s1 reads (none_ruled _ _ _ (c.in-Ok.ensures.found told) c.is_some.ensures c.if-is_some.false) in
-    subst (λ (d : Disk). IsFormatted (D.size c.args.device.now) d (now s2)) (now_read s0 s1 reads)
-    (subst (λ (n : ℕ). IsFormatted n (now s1) (now s2)) c.read_ruling.ensures.size (c.in-Ok-clear_and_begin.ensures.formatted told none))
+    subst (λ (d : Disk). IsFormatted (D.size c.args.device.now) c.args.version d (now s2)) (now_read s0 s1 reads)
+    (subst (λ (n : ℕ). IsFormatted n c.args.version (now s1) (now s2)) c.read_ruling.ensures.size (c.in-Ok-clear_and_begin.ensures.formatted told none))
 
 pub returns-in-Ok-clear_and_begin-clause-made : goal.returns-in-Ok-clear_and_begin-clause-made
 returns-in-Ok-clear_and_begin-clause-made g c = λ told.
@@ -87,8 +87,8 @@ returns-in-Ok-clear_and_begin-clause-made g c = λ told.
     let s0 = D.story c.args.device.now in
     let s1 = D.story c.read_ruling.new.device in
     let s2 = D.story c.clear_and_begin.new.device in
-    let made = subst (λ (n : ℕ). IsMadeEmpty n (shown_image (now s1)) (shown_image (now s2))) c.read_ruling.ensures.size (c.in-Ok-clear_and_begin.ensures.made told) in
-    subst (λ (d : Disk). IsMadeEmpty (D.size c.args.device.now) (shown_image d) (shown_image (now s2))) (now_read s0 s1 (c.read_ruling.ensures.moments told)) made
+    let made = subst (λ (n : ℕ). IsMadeEmpty n c.args.version (shown_image (now s1)) (shown_image (now s2))) c.read_ruling.ensures.size (c.in-Ok-clear_and_begin.ensures.made told) in
+    subst (λ (d : Disk). IsMadeEmpty (D.size c.args.device.now) c.args.version (shown_image d) (shown_image (now s2))) (now_read s0 s1 (c.read_ruling.ensures.moments told)) made
 
 pub returns-in_default-clause-limits : goal.returns-in_default-clause-limits
 returns-in_default-clause-limits g c = λ other. absurd (false≢true (sym other ∙ sized (g.D.SectorDevice.size c.args.device.now) c.sectors-sectors.result c.sectors-sectors.ensures (omega arith) (omega arith)))
@@ -129,7 +129,7 @@ pub returns-in-Ok-clear_and_begin-clause-count : goal.returns-in-Ok-clear_and_be
 returns-in-Ok-clear_and_begin-clause-count g c = c.in-Ok-clear_and_begin.ensures.count ∙ c.in-Ok.ensures.count
 
 pub returns-in-Ok-clear_and_begin-clause-commit : goal.returns-in-Ok-clear_and_begin-clause-commit
-returns-in-Ok-clear_and_begin-clause-commit g c = c.first_commit.ensures ∙ ap first_commit c.sectors-sectors.ensures
+returns-in-Ok-clear_and_begin-clause-commit g c = c.first_commit.ensures ∙ ap (λ (n : ℕ). first_commit n c.args.version) c.sectors-sectors.ensures
 
 pub returns-in-Ok-clear_and_begin-clause-map_size : goal.returns-in-Ok-clear_and_begin-clause-map_size
 returns-in-Ok-clear_and_begin-clause-map_size g c = c.in-Ok-first_map.ensures.size ∙ c.sectors-sectors.ensures

@@ -8,10 +8,10 @@ pub returns-in-Ok-decode_page-clause-schema : goal.returns-in-Ok-decode_page-cla
 returns-in-Ok-decode_page-clause-schema g c =
     let body = c.in-Ok-decode_page.body in
     let e : PlainEntry = entry_from [] None (schema_of body.0, body.1.items) in
-    (c.one_page_each.ensures.kept c.args.most _ e c.in-Ok-decode_page.ensures.exact).0
+    (c.one_page_each.ensures.kept c.args.form c.args.most _ e c.in-Ok-decode_page.ensures.exact).0
 
 pub returns-in-Ok-decode_page-clause-segments : goal.returns-in-Ok-decode_page-clause-segments
 returns-in-Ok-decode_page-clause-segments g c =
     let body = c.in-Ok-decode_page.body in
     let e : PlainEntry = entry_from [] None (schema_of body.0, body.1.items) in
-    (c.one_page_each.ensures.kept c.args.most _ e c.in-Ok-decode_page.ensures.exact).1
+    (c.one_page_each.ensures.kept c.args.form c.args.most _ e c.in-Ok-decode_page.ensures.exact).1

@@ -17,17 +17,17 @@ returns-in-Err-clause-damaged g c = λ told.
     let size = D.size c.args.device.now in
     let old = D.story c.args.device.now in
     let x = c.root-item.result in
-    told_of_all _ (pages_shown size old MAX_SEGMENTS (map plain_root c.args.roots.now)) c.in-Err.error
+    told_of_all _ (pages_shown c.args.form size old MAX_SEGMENTS (map plain_root c.args.roots.now)) c.in-Err.error
     (λ cause is. c.loop-root.invariant.found told
-    ∙ not_read size (shown_image (now old)) c.loop-root.left c.args.roots.now c.loop-root.root-index x c.loop-root.entries.items cause c.loop-root-test.true c.root-item.is
-    (sym (page_then size (D.size c.loop-root.device) old (D.story c.loop-root.device) c.loop-root.left x.page c.loop-root.invariant.same (c.loop-root.invariant.moments told)) ∙ is))
+    ∙ not_read c.args.form size (shown_image (now old)) c.loop-root.left c.args.roots.now c.loop-root.root-index x c.loop-root.entries.items cause c.loop-root-test.true c.root-item.is
+    (sym (page_then c.args.form size (D.size c.loop-root.device) old (D.story c.loop-root.device) c.loop-root.left x.page c.loop-root.invariant.same (c.loop-root.invariant.moments told)) ∙ is))
     (c.in-Err.ensures.damaged told)
 
 pub returns-clause-found : goal.returns-clause-found
 returns-clause-found g c = λ told.
     let D = g.D.SectorDevice in
     c.loop-root.invariant.found told
-    ∙ all_read (D.size c.args.device.now) (shown_image (now (D.story c.args.device.now))) c.loop-root.left c.args.roots.now c.loop-root.root-index c.loop-root.entries.items (omega (arith, c.loop-root-test.false))
+    ∙ all_read c.args.form (D.size c.args.device.now) (shown_image (now (D.story c.args.device.now))) c.loop-root.left c.args.roots.now c.loop-root.root-index c.loop-root.entries.items (omega (arith, c.loop-root-test.false))
 
 pub returns-in-Err-push-clause-moments : goal.returns-in-Err-push-clause-moments
 returns-in-Err-push-clause-moments g c = λ told. read_on _ _ _ (c.loop-root.invariant.moments told) (c.read_table.ensures.moments told)
@@ -45,10 +45,10 @@ loop-root-preserved g c =
       count = c.in-Ok.ensures.count ∙ c.loop-root.invariant.count;
       moments = λ told. read_on _ _ _ (c.loop-root.invariant.moments told) (c.read_table.ensures.moments told);
       found = λ told. c.loop-root.invariant.found told
-          ∙ next_read size (shown_image (now old)) c.loop-root.left c.args.roots.now i x c.loop-root.entries.items c.push.new.self.items c.in-Ok.entry c.loop-root-test.true c.root-item.is
-          (sym (page_then size (D.size c.loop-root.device) old (D.story c.loop-root.device) c.loop-root.left x.page c.loop-root.invariant.same (c.loop-root.invariant.moments told)) ∙ c.in-Ok.ensures.found told)
+          ∙ next_read c.args.form size (shown_image (now old)) c.loop-root.left c.args.roots.now i x c.loop-root.entries.items c.push.new.self.items c.in-Ok.entry c.loop-root-test.true c.root-item.is
+          (sym (page_then c.args.form size (D.size c.loop-root.device) old (D.story c.loop-root.device) c.loop-root.left x.page c.loop-root.invariant.same (c.loop-root.invariant.moments told)) ∙ c.in-Ok.ensures.found told)
           c.in-Ok.ensures.entry c.in-Ok-push.ensures.items
-          ∙ ap (λ (n : ℕ). behind (map plain_entry c.push.new.self.items) (pages_shown size old (c.loop-root.left - n) (map plain_root (drop (i + 1) c.args.roots.now)))) count;
+          ∙ ap (λ (n : ℕ). behind (map plain_entry c.push.new.self.items) (pages_shown c.args.form size old (c.loop-root.left - n) (map plain_root (drop (i + 1) c.args.roots.now)))) count;
       entries = one_sound c.loop-root.entries.items c.push.new.self.items c.in-Ok.entry c.in-Ok-push.ensures.items c.loop-root.invariant.entries
           (c.in-Ok.ensures.sound (named_at c.args.roots.now i x c.requires.root.named c.loop-root-test.true c.root-item.is));
       names = one_named c.args.roots.now i x c.loop-root.entries.items c.push.new.self.items c.in-Ok.entry c.loop-root-test.true c.root-item.is c.in-Ok-push.ensures.items c.in-Ok.ensures.entry c.loop-root.invariant.names;

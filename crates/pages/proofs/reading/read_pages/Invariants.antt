@@ -13,8 +13,8 @@ invariant-loop-root g l = let D = g.D.SectorDevice in record {
   same : D.size l.device ≡ D.size l.fn.device;
   count : D.failed l.device ≡ D.failed l.fn.device;
   moments : D.tells ≡ true → OnlyReads (D.story l.fn.device) (D.story l.device);
-  found : D.tells ≡ true → pages_shown (D.size l.fn.device) (D.story l.fn.device) MAX_SEGMENTS (map plain_root l.roots)
-      ≡ behind (map plain_entry l.entries.items) (pages_shown (D.size l.fn.device) (D.story l.fn.device) l.left (map plain_root (drop l.root-index l.roots)));
+  found : D.tells ≡ true → pages_shown l.form (D.size l.fn.device) (D.story l.fn.device) MAX_SEGMENTS (map plain_root l.roots)
+      ≡ behind (map plain_entry l.entries.items) (pages_shown l.form (D.size l.fn.device) (D.story l.fn.device) l.left (map plain_root (drop l.root-index l.roots)));
   entries : list_all is_entry (map plain_entry l.entries.items) ≡ true;
   names : names_of (map plain_entry l.entries.items) ≡ root_names (map plain_root (take l.root-index l.roots));
   few : segment_count (map plain_entry l.entries.items) + l.left ≡ MAX_SEGMENTS;

@@ -2,9 +2,7 @@ use Rattle.std.proofs.Common.{◌≡◌, ◌∙◌, true, List, sym, subst}
 use Rattle.std.specs.List.{list_all}
 use Rattle.catalogue.specs.declared.entry.Segment.{Segment}
 use Rattle.catalogue.specs.Entries.{is_segment}
-use Rattle.commit.specs.Placing.{plain_contents}
 use Rattle.store.specs.Changes.{PlainChange, change_of}
-use Rattle.store.specs.Carrying.{unplaced}
 use Rattle.store.specs.laws.Segments.{are_streams, unplaced_sound}
 use Rattle.store.proofs.carrying.ask.Goals as goal
 
@@ -14,9 +12,8 @@ edited-requires-clause-edit c = let change : PlainChange = change_of c.args.chan
 pub edited-requires-clause-sound : goal.edited-requires-clause-sound
 edited-requires-clause-sound c =
     let change : PlainChange = change_of c.args.change.now in
-    let same : unplaced (plain_contents c.args.streams.now) c.args.rows.now ≡ unplaced change.streams change.counts = λ i. unplaced (c.requires.streams i) (c.requires.rows i) in
-    subst (λ (xs : List Segment). list_all is_segment xs ≡ true) (sym (c.deref.ensures.value ∙ c.in_ok-segments.ensures ∙ same))
-    (unplaced_sound change.streams change.counts (are_streams change.streams c.requires.sound.some c.requires.sound.short) c.requires.sound.rows)
+    subst (λ (xs : List Segment). list_all is_segment xs ≡ true) (sym c.requires.segments)
+    (unplaced_sound c.args.commit.version change.streams change.counts (are_streams change.streams c.requires.sound.some c.requires.sound.short) c.requires.sound.rows)
 
 pub given_up-requires : goal.given_up-requires
 given_up-requires c = let change : PlainChange = change_of c.args.change.now in record { edit = (change.streams, c.requires.sound.edit) }

@@ -14,16 +14,16 @@ use Rattle.store.proofs.carrying.prepare.Goals as goal
 pub returns-then-segments_after-gt-MAX_SEGMENTS-clause-why : goal.returns-then-segments_after-gt-MAX_SEGMENTS-clause-why
 returns-then-segments_after-gt-MAX_SEGMENTS-clause-why c =
     let change : PlainChange = change_of c.args.change.now in
-    let many = unplaced_count c.args.pieces.now change c.len-count.result c.len-count.ensures c.requires.streams c.requires.sound.each in
-    let after = c.segments_after.ensures (unplaced change.streams change.counts) many in
+    let many = unplaced_count c.args.commit.version c.args.pieces.now change c.len-count.result c.len-count.ensures c.requires.streams c.requires.sound.each in
+    let after = c.segments_after.ensures (unplaced c.args.commit.version change.streams change.counts) many in
     let above = c.if-segments_after-gt-MAX_SEGMENTS.true in
     (omega arith, omega (arith, after, above))
 
 pub plan_change-requires-clause-few : goal.plan_change-requires-clause-few
 plan_change-requires-clause-few c =
     let change : PlainChange = change_of c.args.change.now in
-    let many = unplaced_count c.args.pieces.now change c.len-count.result c.len-count.ensures c.requires.streams c.requires.sound.each in
-    let after = c.segments_after.ensures (unplaced change.streams change.counts) many in
+    let many = unplaced_count c.args.commit.version c.args.pieces.now change c.len-count.result c.len-count.ensures c.requires.streams c.requires.sound.each in
+    let after = c.segments_after.ensures (unplaced c.args.commit.version change.streams change.counts) many in
     let within = c.if-segments_after-gt-MAX_SEGMENTS.false in
     omega (arith, after, within)
 
@@ -46,11 +46,11 @@ pub returns-in-Err-clause-why : goal.returns-in-Err-clause-why
 returns-in-Err-clause-why c =
     let listed = catalogue_of c.args.stored.now.list in
     let change : PlainChange = change_of c.args.change.now in
-    let many = unplaced_count c.args.pieces.now change c.len-count.result c.len-count.ensures c.requires.streams c.requires.sound.each in
-    let after = c.segments_after.ensures (unplaced change.streams change.counts) many in
+    let many = unplaced_count c.args.commit.version c.args.pieces.now change c.len-count.result c.len-count.ensures c.requires.streams c.requires.sound.each in
+    let after = c.segments_after.ensures (unplaced c.args.commit.version change.streams change.counts) many in
     let within = c.if-segments_after-gt-MAX_SEGMENTS.false in
     let next : HasNext c.args.commit = omega arith in
-    let few : segment_count (outline listed change) ≤ MAX_SEGMENTS = omega (arith, after, within) in
+    let few : segment_count (outline c.args.commit.version listed change) ≤ MAX_SEGMENTS = omega (arith, after, within) in
     subst (λ (r : Refusal). IsCarried c.args.map.now.size (IsUsedIn c.args.map.now.entries) c.args.commit listed change (Err r) c.args.commit listed) (sym c.taking_refusal.ensures)
     (taking_carried c.args.map.now.size (IsUsedIn c.args.map.now.entries) c.args.commit listed change c.in-Err.error next few c.in-Err.ensures.no_room)
 

@@ -1,14 +1,15 @@
-use Rattle.std.proofs.Common.{◌≤◌, ◌+◌, ◌∙◌, ℕ, List, length, string_bytes, sym, ap, subst}
+use Rattle.std.proofs.Common.{◌≡◌, ◌≤◌, ◌+◌, ◌∙◌, ℕ, true, List, Some, length, string_bytes, sym, ap, subst}
+use Rattle.std.specs.List.{list_all}
 use Rattle.catalogue.specs.Edits.{with_exchanged}
 use Rattle.catalogue.specs.View.{catalogue_of}
-use Rattle.catalogue.specs.Entries.{PlainCatalogue, IsCatalogue, is_entry, segment_count}
+use Rattle.catalogue.specs.Entries.{PlainCatalogue, IsCatalogue, is_digest, is_entry, segment_count}
 use Rattle.catalogue.specs.declared.limits.TheConstants.{MAX_SEGMENTS}
 use Rattle.store.specs.declared.change.Edit.{Edit}
 use Rattle.arrow_schema.specs.View.{schema_of}
 use Rattle.catalogue.specs.Edits.{entry_of}
 use Rattle.catalogue.specs.laws.Kept.{catalogue_is}
 use Rattle.store.specs.Changes.{edit_of, new_entry, page_instead, edited}
-use Rattle.store.proofs.EditedCounts.{put_is_entry, extend_is_few}
+use Rattle.store.proofs.EditedCounts.{CanEdit, put_is_entry, extend_is_few}
 use Rattle.store.proofs.editing.edited.Goals as goal
 
 pub put-requires-clause-entry : goal.put-requires-clause-entry
@@ -31,3 +32,15 @@ exchange_segments-requires c =
     let stands = subst (λ (x : Edit). IsCatalogue (edited listed (edit_of x) c.args.segments.now)) c.in-Exchange.is c.requires.stands in
     subst (λ (n : List ℕ). IsCatalogue (with_exchanged (catalogue_of c.in_ok-changed.changed) n place count c.args.segments.now)) (sym c.deref-in-Exchange.ensures)
     (subst (λ (d : PlainCatalogue). IsCatalogue (with_exchanged d (string_bytes name) place count c.args.segments.now)) (sym c.in_ok-changed.ensures) stands)
+
+pub set_digests-requires-clause-count : goal.set_digests-requires-clause-count
+set_digests-requires-clause-count c =
+    let listed = catalogue_of c.args.catalogue.now in
+    let can = subst (λ (x : Edit). CanEdit listed x) c.in-Digest.is c.requires.edit in
+    ap segment_count c.in_ok-changed.ensures ∙ sym can.1.0 ∙ ap (λ (ds : List (List ℕ)). length ds) (sym c.deref-in-Digest.ensures.value)
+
+pub set_digests-requires-clause-digests : goal.set_digests-requires-clause-digests
+set_digests-requires-clause-digests c =
+    let listed = catalogue_of c.args.catalogue.now in
+    let can = subst (λ (x : Edit). CanEdit listed x) c.in-Digest.is c.requires.edit in
+    subst (λ (ds : List (List ℕ)). list_all (λ (d : List ℕ). is_digest (Some d)) ds ≡ true) (sym c.deref-in-Digest.ensures.value) can.1.1

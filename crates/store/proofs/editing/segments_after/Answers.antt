@@ -1,7 +1,7 @@
 use Rattle.std.proofs.Common.{ap, ◌∙◌, arith}
 use Rattle.catalogue.specs.View.{catalogue_of}
 use Rattle.store.specs.laws.Edited.{segments_at, segments_within}
-use Rattle.store.proofs.EditedCounts.{after_put, after_extend, after_move, after_remove, exchange_fits, after_exchange}
+use Rattle.store.proofs.EditedCounts.{after_put, after_extend, after_move, after_remove, exchange_fits, after_exchange, after_digest}
 use Rattle.store.proofs.editing.segments_after.Goals as goal
 
 pub overflow_sub-result : goal.overflow_sub-result
@@ -41,3 +41,8 @@ pub returns-in-Exchange : goal.returns-in-Exchange
 returns-in-Exchange c segments len =
     let listed = catalogue_of c.args.catalogue.now in
     omega (arith, c.segment_count-count.ensures, after_exchange listed c.args.edit.now c.in-Exchange._name c.in-Exchange._place c.in-Exchange.exchanged c.args.new c.in-Exchange.is c.requires.edit segments len)
+
+pub returns-in-Digest : goal.returns-in-Digest
+returns-in-Digest c segments len =
+    let listed = catalogue_of c.args.catalogue.now in
+    c.segment_count-count.ensures ∙ after_digest listed c.args.edit.now c.in-Digest.digests c.in-Digest.is segments

@@ -30,7 +30,6 @@ returns-in-Ok-copy_of-clause-found g c =
     let last = c.in-Some.last in
     let is = last_is (map plain_entry c.args.entries.now) last c.in-Some.ensures in
     let below = c.fits_below.ensures.below c.if-not-fits_below.false in
-    let copy = c.in-Ok.ensures.copy in
     let named = one_entry (map plain_entry c.args.entries.now) last.table (plain_entry c.entry_at.result.now) is.0 c.entry_at.ensures is.1.found in
     record {
       number = last.table;
@@ -42,8 +41,7 @@ returns-in-Ok-copy_of-clause-found g c =
       lowest = below.1;
       below = below.2;
       bytes = c.in-Ok.bytes.items;
-      count = copy.count;
-      held = copy.held;
+      copy = c.in-Ok.ensures.copy;
       is = c.in-Ok-copy_of.ensures ∙ ap (λ (e : PlainEntry). record { edit = exchange e.name last.place 1; streams = c.in-Ok.bytes.items ∷ []; counts = last.segment.rows ∷ [] }) named;
     }
 
@@ -57,4 +55,4 @@ pub returns-in-Err-clause-unread : goal.returns-in-Err-clause-unread
 returns-in-Err-clause-unread g c =
     let last = c.in-Some.last in
     let is = last_is (map plain_entry c.args.entries.now) last c.in-Some.ensures in
-    record { number = last.table; place = last.place; entry = is.0; segment = last.segment; last = is.1; unread = c.in-Err.ensures.unread }
+    record { number = last.table; place = last.place; entry = is.0; segment = last.segment; last = is.1; unread = c.in-Err.ensures.told }

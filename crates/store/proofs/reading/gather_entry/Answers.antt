@@ -1,6 +1,7 @@
 use Rattle.std.specs.Prelude.{sum_by}
 use Rattle.std.proofs.Common.{◌≡◌, true, List, refl, sym, ap, ◌∙◌, subst}
 use Rattle.sector_dev.specs.Disk.{now, shown_image}
+use Rattle.arrow_schema.specs.Column.{PlainSchema}
 use Rattle.arrow_schema.specs.Limits.{IsWithinLimits}
 use Rattle.cells.specs.Cell.{PlainTable}
 use Rattle.catalogue.specs.Entries.{PlainEntry, plain_entry}
@@ -13,7 +14,7 @@ use Rattle.store.specs.Calls.{refused}
 use Rattle.store.specs.inner.Gathered.{gathered_table}
 use Rattle.store.specs.inner.Reading.{runs_in}
 use Rattle.store.specs.Held.{rows_held}
-use Rattle.store.specs.Reading.{Unreads}
+use Rattle.store.specs.Reading.{HaveRead, Unreads}
 use Rattle.store.proofs.ReadTables.{rows_of, read_is_held, reads_quiet}
 use Rattle.store.proofs.reading.gather_entry.Goals as goal
 
@@ -33,6 +34,9 @@ returns-in-Ok-read_segments-clause-table g c =
       kept = gathered.kept;
       schema = schema;
       count = c.in-Ok-read_segments.ensures.count ∙ ap (sum_by rows_of) segments;
+      read =
+          subst (λ (gs : List Segment). HaveRead D.tells image e.schema gs (gathered_table gathered).rows) segments
+          (subst (λ (s : PlainSchema). HaveRead D.tells image s c.deref-in-Ok.result.now (gathered_table gathered).rows) start c.in-Ok-read_segments.ensures.read);
       held = λ told. read_is_held c.table_laws.ensures image e (gathered_table gathered) gathered.kept schema ((λ i. rows_held (sym start i) (sym segments i) image) ∙ c.in-Ok-read_segments.ensures.rows told);
     }
 

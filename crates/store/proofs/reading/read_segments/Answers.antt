@@ -1,6 +1,6 @@
 use Rattle.std.specs.Prelude.{get_or, sum_by}
 use Rattle.std.specs.List.{list_all}
-use Rattle.std.proofs.Common.{◌≡◌, ◌<◌, Bool, true, false, ℕ, List, Some, length, refl, sym, ap, ◌∙◌, subst, arith, take_all}
+use Rattle.std.proofs.Common.{◌≡◌, ◌<◌, Bool, true, false, ℕ, List, Some, None, length, refl, sym, ap, ◌∙◌, subst, arith, take_all}
 use Rattle.std.proofs.lemmas.Bool.{true≢false}
 use Rattle.std.proofs.lemmas.List.{get_or_default}
 use Rattle.std.proofs.lemmas.List.Folds.{list_all_at}
@@ -11,9 +11,10 @@ use Rattle.catalogue.specs.Entries.{is_segment}
 use Rattle.ipc_write.specs.Written.{schema_message}
 use Rattle.commit.specs.Standing.{is_size, is_on_device}
 use Rattle.store.specs.Held.{rows_held}
+use Rattle.store.specs.Reading.{HaveRead}
 use Rattle.store.specs.inner.Gathered.{gathered_table}
 use Rattle.store.specs.Calls.{done, refused}
-use Rattle.store.proofs.ReadTables.{run_at, rows_step, rows_of, count_step, rows_of_none, unreads_step, reads_more, reads_none, image_then, light_none}
+use Rattle.store.proofs.ReadTables.{run_at, rows_step, rows_of, have_step, count_step, rows_of_none, unreads_step, reads_more, reads_none, image_then, light_none}
 use Rattle.store.proofs.reading.read_segments.Goals as goal
 
 pub loop-place-init : goal.loop-place-init
@@ -25,10 +26,11 @@ loop-place-init g c =
       light = light_none (gathered_table c.args.empty).schema (gathered_table c.args.empty).rows c.requires.none;
       count = ap length c.requires.none;
       rows = λ told. rows_of_none (gathered_table c.args.empty).schema (shown_image (now (D.story c.args.device.now))) ∙ ap Some (sym c.requires.none);
+      read = c.requires.none;
     }
 
 abbrev no_segment : Segment
-no_segment = record { place = record { run = record { start = 0; count = 0 }; bytes = 0 }; rows = 0 }
+no_segment = record { place = record { run = record { start = 0; count = 0 }; bytes = 0 }; rows = 0; digest = None }
 
 -- the segment at a place, whatever stands for one past the end
 at_place : (segments : List Segment) (place : ℕ) (segment : Segment) → segment ≡ get_or segments place no_segment → place < length segments → segment ≡ get_or segments place segment
@@ -69,6 +71,7 @@ loop-place-preserved g c =
     let so_far = gathered_table c.loop-place.gathered in
     let before = D.story c.args.device.now in
     let mid = D.story c.loop-place.device in
+    let own = c.in-Ok.ensures.read in
     record {
       reads = reads_more D.size D.story D.failed D.tells done c.args.device.now c.loop-place.device c.append_segment.new.device c.loop-place.invariant.reads c.in-Ok.ensures.reads;
       schema = c.in-Ok.ensures.schema ∙ c.loop-place.invariant.schema;
@@ -77,6 +80,9 @@ loop-place-preserved g c =
       rows = λ told.
           rows_step (gathered_table c.args.empty).schema so_far.schema segments place segment (shown_image (now before)) (shown_image (now mid)) so_far.rows (Some (gathered_table c.in-Ok.more).rows) c.loop-place.invariant.schema
           (image_then before mid (c.loop-place.invariant.reads.moments told)) c.loop-place-test.true (at_place segments place segment refl c.loop-place-test.true) (c.loop-place.invariant.rows told) (c.in-Ok.ensures.rows told);
+      read =
+          have_step D.tells (gathered_table c.args.empty).schema so_far.schema segments place segment (shown_image (now before)) (shown_image (now mid)) so_far.rows own.0 (gathered_table c.in-Ok.more).rows c.loop-place.invariant.schema
+          (λ told. image_then before mid (c.loop-place.invariant.reads.moments told)) c.loop-place-test.true (at_place segments place segment refl c.loop-place-test.true) c.loop-place.invariant.read own.1 own.2;
     }
 
 pub returns-clause-count : goal.returns-clause-count
@@ -113,3 +119,9 @@ returns-clause-rows g c = λ told.
     let D = g.D.SectorDevice in
     ap (λ (gs : List Segment). rows_held (gathered_table c.args.empty).schema gs (shown_image (now (D.story c.args.device.now)))) (sym (take_all c.loop-place.place c.args.segments.now (omega (arith, c.loop-place-test.false))))
     ∙ c.loop-place.invariant.rows told
+
+pub returns-clause-read : goal.returns-clause-read
+returns-clause-read g c =
+    let D = g.D.SectorDevice in
+    subst (λ (gs : List Segment). HaveRead D.tells (shown_image (now (D.story c.args.device.now))) (gathered_table c.args.empty).schema gs (gathered_table c.loop-place.gathered).rows)
+    (take_all c.loop-place.place c.args.segments.now (omega (arith, c.loop-place-test.false))) c.loop-place.invariant.read

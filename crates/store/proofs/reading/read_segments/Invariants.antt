@@ -6,7 +6,7 @@ use Rattle.cells.specs.declared.limits.TheConstants.{MAX_TABLE_WEIGHT}
 use Rattle.store.specs.inner.Gathered.{gathered_table}
 use Rattle.store.specs.Calls.{done}
 use Rattle.store.specs.Held.{rows_held}
-use Rattle.store.specs.Reading.{OnlyReadsDevice}
+use Rattle.store.specs.Reading.{HaveRead, OnlyReadsDevice}
 use Rattle.store.proofs.ReadTables.{rows_of}
 use Rattle.store.proofs.reading.read_segments.Given as goal
 
@@ -18,4 +18,5 @@ invariant-loop-place g l = let D = g.D.SectorDevice in record {
   light : table_weight (gathered_table l.gathered).schema (gathered_table l.gathered).rows ≤ MAX_TABLE_WEIGHT;
   count : length (gathered_table l.gathered).rows ≡ sum_by rows_of (take l.place l.segments);
   rows : D.tells ≡ true → rows_held (gathered_table l.fn.empty).schema (take l.place l.segments) (shown_image (now (D.story l.fn.device))) ≡ Some (gathered_table l.gathered).rows;
+  read : HaveRead D.tells (shown_image (now (D.story l.fn.device))) (gathered_table l.fn.empty).schema (take l.place l.segments) (gathered_table l.gathered).rows;
 }

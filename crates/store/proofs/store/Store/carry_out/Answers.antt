@@ -98,7 +98,7 @@ returns-in-Ok-clause-carried g c =
     let s = c.args.self.now in
     let change : PlainChange = change_of c.args.change.now in
     let prep = c.in_ok-prepared.ensures.ok in
-    let sizes = asked_sizes (listed_in s) change in
+    let sizes = asked_sizes s.opened.commit.version (listed_in s) change in
     let takes = took_takes s.opened.map.size (IsUsedIn s.opened.map.entries) sizes (runs_of (prep.pieces ++ prep.pages) ++ prep.run ∷ []) prep.took.took in (
       prep.next,
       prep.few,
@@ -116,7 +116,7 @@ pub returns-clause-carried : goal.returns-clause-carried
 returns-clause-carried g c =
     let s = c.args.self.now in
     let prep = c.in_ok-prepared.ensures.ok in
-    let sizes = asked_sizes (listed_in s) (change_of c.args.change.now) in
+    let sizes = asked_sizes s.opened.commit.version (listed_in s) (change_of c.args.change.now) in
     let runs = runs_of (prep.pieces ++ prep.pages) ++ prep.run ∷ [] in
     let takes = took_takes s.opened.map.size (IsUsedIn s.opened.map.entries) sizes runs prep.took.took in
     (prep.next, prep.few, (runs, subst (λ (n : ℕ). Takes n (IsUsedIn s.opened.map.entries) sizes (Ok runs)) s.same takes))

@@ -23,7 +23,7 @@ use Rattle.store.specs.Exported.{AreExportable}
 use Rattle.store.specs.Fits.{setting_of, fresh, ExportsFit}
 use Rattle.store.specs.Opening.{formatting_of, TellsFormatting, IsOfFormatting}
 use Rattle.store.proofs.Formatted.{formatting_counts, formatting_limits, formatted_limits, formatting_damaged, first_placed, formatting_tells, formatting_reason, no_runs, early_moments, early_none, format_refused, refused_allows, format_done, formatted_stands, new_tables}
-use Rattle.store.proofs.store.Store.format.Goals as goal
+use Rattle.store.proofs.store.Store.format_version.Goals as goal
 
 pub invariant_of-result : goal.invariant_of-result
 invariant_of-result g c =
@@ -35,7 +35,7 @@ invariant_of-result g c =
       same = c.in-Ok.ensures.map_size ∙ sym c.format.ensures.size;
       own = ap (λ (k : Commit). k.device_sectors) c.in-Ok.ensures.commit ∙ sym c.format.ensures.size;
       fit = no_runs (D.size c.format.new.device) c.in-Ok.commit.catalogue.run (catalogue_of c.empty.result) c.empty.ensures;
-      placed = (λ i. is_on_device (c.format.ensures.size i) (c.in-Ok.ensures.commit i).catalogue.run) ∙ first_placed size limits;
+      placed = (λ i. is_on_device (c.format.ensures.size i) (c.in-Ok.ensures.commit i).catalogue.run) ∙ first_placed size c.args.version limits;
       uses = subst (λ (b : PlainBook). Uses c.in-Ok.map.entries (c.in-Ok.commit.catalogue.run ∷ runs_of (catalogue_of c.empty.result)) (runs_kept b.exports)) (sym c.new.ensures)
           (subst (λ (x : PlainCatalogue). Uses c.in-Ok.map.entries (c.in-Ok.commit.catalogue.run ∷ runs_of x) []) (sym c.empty.ensures) c.in-Ok.ensures.uses);
       exported = subst (λ (b : PlainBook). AreExportable (D.size c.format.new.device) b.exports) (sym c.new.ensures) tt;
@@ -50,13 +50,13 @@ returns-in-Ok-clause-opened g c = λ told base m fits.
     let same = c.format.ensures.size in
     let shows = g.met.D.SectorDevice.shows c.args.device told in
     let spelled = c.empty_text_has_no_tables.ensures in
-    let moments = early_moments size fits.in_limits spelled base m s0 s1 shows fits.allows (c.format.ensures.untouched told) (c.format.ensures.moments told) in
-    let early = early_none size fits.in_limits spelled base m s0 shows fits.allows (c.in-Ok.ensures.none_before told) in
+    let moments = early_moments size c.args.version fits.in_limits spelled base m s0 s1 shows fits.allows (c.format.ensures.untouched told) (c.format.ensures.moments told) in
+    let early = early_none size c.args.version fits.in_limits spelled base m s0 shows fits.allows (c.in-Ok.ensures.none_before told) in
     let formatted = c.in-Ok.ensures.formatted told in
     let commit = c.in-Ok.commit in
     let listed = catalogue_of c.empty.result in
-    let goes = format_done size fits.in_limits spelled base m s0 s1 (D.failed c.args.device) (D.failed c.format.new.device) fits.fresh fits.allows moments early formatted c.in-Ok.ensures.count in
-    let stands = formatted_stands size fits.in_limits spelled base m (now s0) (now s1) formatted in
+    let goes = format_done size c.args.version fits.in_limits spelled base m s0 s1 (D.failed c.args.device) (D.failed c.format.new.device) fits.fresh fits.allows moments early formatted c.in-Ok.ensures.count in
+    let stands = formatted_stands size c.args.version fits.in_limits spelled base m (now s0) (now s1) formatted in
     record {
       next = opened [];
       same = same;
@@ -71,8 +71,8 @@ returns-in-Ok-clause-opened g c = λ told base m fits.
         };
         sound = λ on. record {
           stands = subst (λ (n : ℕ). Stands stored_reading n (now s1) commit listed) (sym same)
-              (subst (λ (k : Commit). Stands stored_reading size (now s1) k listed) (sym c.in-Ok.ensures.commit) (subst (λ (d : PlainCatalogue). Stands stored_reading size (now s1) (first_commit size) d) (sym c.empty.ensures) stands));
-          tables = ap (tables_held (synced_image (now s1))) c.empty.ensures ∙ new_tables size fits.in_limits spelled base m (fits.fresh early) (synced_image (now s1));
+              (subst (λ (k : Commit). Stands stored_reading size (now s1) k listed) (sym c.in-Ok.ensures.commit) (subst (λ (d : PlainCatalogue). Stands stored_reading size (now s1) (first_commit size c.args.version) d) (sym c.empty.ensures) stands));
+          tables = ap (tables_held (synced_image (now s1))) c.empty.ensures ∙ new_tables size c.args.version fits.in_limits spelled base m (fits.fresh early) (synced_image (now s1));
           uses = subst (λ (b : PlainBook). Uses c.in-Ok.map.entries (commit.catalogue.run ∷ runs_of (catalogue_of c.empty.result)) (runs_kept b.exports)) (sym c.new.ensures)
               (subst (λ (d : PlainCatalogue). Uses c.in-Ok.map.entries (commit.catalogue.run ∷ runs_of d) []) (sym c.empty.ensures) c.in-Ok.ensures.uses);
           none = refl;
@@ -92,13 +92,13 @@ returns-in-Ok-clause-formatted g c = λ told.
     let listed = catalogue_of c.empty.result in
     let formatted = c.in-Ok.ensures.formatted told in
     let within = formatted_limits c.format.result _ (is_size size) c.in-Ok.is c.format.ensures.limits in
-    let stands = formatted_stands size within c.empty_text_has_no_tables.ensures no_tables fresh (now s0) (now s1) formatted in
+    let stands = formatted_stands size c.args.version within c.empty_text_has_no_tables.ensures no_tables fresh (now s0) (now s1) formatted in
     record {
       none_before = c.in-Ok.ensures.none_before told;
       moments = c.format.ensures.moments told;
       formatted = formatted;
       stands = subst (λ (n : ℕ). Stands stored_reading n (now s1) commit listed) (sym c.format.ensures.size)
-          (subst (λ (k : Commit). Stands stored_reading size (now s1) k listed) (sym c.in-Ok.ensures.commit) (subst (λ (d : PlainCatalogue). Stands stored_reading size (now s1) (first_commit size) d) (sym c.empty.ensures) stands));
+          (subst (λ (k : Commit). Stands stored_reading size (now s1) k listed) (sym c.in-Ok.ensures.commit) (subst (λ (d : PlainCatalogue). Stands stored_reading size (now s1) (first_commit size c.args.version) d) (sym c.empty.ensures) stands));
       made = c.in-Ok.ensures.made told;
     }
 
@@ -126,17 +126,17 @@ returns-in-Err-clause-refused g c = λ told base m fits.
     let same = c.format.ensures.size in
     let shows = g.met.D.SectorDevice.shows c.args.device told in
     let spelled = c.empty_text_has_no_tables.ensures in
-    let moments = early_moments size fits.in_limits spelled base m s0 s1 shows fits.allows (c.format.ensures.untouched told) (c.format.ensures.moments told) in
+    let moments = early_moments size c.args.version fits.in_limits spelled base m s0 s1 shows fits.allows (c.format.ensures.untouched told) (c.format.ensures.moments told) in
     let within = fits.in_limits in
     let sound : (cause : Cause) → c.in-Err.error ≢ errors.Damaged cause = λ cause is. true≢false (sym within ∙ c.in-Err.ensures.damaged cause is) in
-    let goes = format_refused size fits.in_limits spelled base m c.in-Err.error s0 s1 before after fits.fresh fits.allows moments sound (λ other. c.in-Err.ensures.quiet other told) (formatting_counts c.format.result c.in-Err.error before after c.in-Err.is c.format.ensures.count)
+    let goes = format_refused size c.args.version fits.in_limits spelled base m c.in-Err.error s0 s1 before after fits.fresh fits.allows moments sound (λ other. c.in-Err.ensures.quiet other told) (formatting_counts c.format.result c.in-Err.error before after c.in-Err.is c.format.ensures.count)
     (λ is. c.format.ensures.already (c.in-Err.is ∙ ap Err is) told) in
     record {
       same = same;
       goes = subst (λ (r : OpeningRefusal). Goes (setting_of size base) m format_call (shut_by r) s0 s1 before after (shut_down m)) (sym c.formatting_refusal.ensures) goes;
       fits = record {
         in_limits = subst (λ (n : ℕ). is_size n ≡ true) (sym same) fits.in_limits;
-        allows = subst (λ (n : ℕ). LeavesOnly (Allows (setting_of n base) (shut_down m)) (now s1)) (sym same) (refused_allows size fits.in_limits spelled base m s0 s1 fits.fresh fits.allows moments);
+        allows = subst (λ (n : ℕ). LeavesOnly (Allows (setting_of n base) (shut_down m)) (now s1)) (sym same) (refused_allows size c.args.version fits.in_limits spelled base m s0 s1 fits.fresh fits.allows moments);
         fresh = λ early. let f = fits.fresh early in record { settled = f.settled; doubt = f.doubt; began = f.began };
       };
     }

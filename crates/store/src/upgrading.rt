@@ -1,0 +1,203 @@
+// A store of version 1 becomes one of version 2: its segments get digests.
+ghost use Rattle.std.specs.Prelude.{◌≡◌, ◌≢◌, ◌↔◌, ℕ, true, false, Some, map, slice_get, Ok, Err, IfOk, IfErr};
+ghost use Rattle.std.specs.List.{list_all};
+ghost use Rattle.sha2.specs.Sha256.{sha256};
+ghost use Rattle.sector_dev.specs.Disk.{now, shown_image};
+ghost use Rattle.sector_dev.specs.Time.{OnlyReads};
+ghost use Rattle.cells.specs.Cell.{PlainTable};
+ghost use Rattle.catalogue.specs.Entries.{PlainEntry, plain_entry, is_segment, is_entry, runs_of, IsCatalogue};
+ghost use Rattle.commit.specs.Standing.{is_size, all_on_device};
+ghost use Rattle.store.specs.Reading.{IsRead, Unreads, OnlyReadsDevice, ended};
+ghost use Rattle.store.specs.Upgrading.{segments_of, AreDigests, StopsReading};
+ghost use Rattle.store.specs.inner.Reading.{runs_in};
+ghost use Rattle.store.specs.inner.Upgrading.{LacksCopy};
+
+use crate::Store;
+use crate::change::{Change, Edit};
+use crate::laws::table_laws;
+use crate::reading::{gather_entry, is_failure, read_bytes};
+use catalogue::{Segment, TableEntry};
+use commit::FormatVersion;
+use sector_dev::SectorDevice;
+use sha2::{Digest, Sha256};
+use std::alloc::Global;
+use tables::Refusal;
+
+/// What an upgrade did.
+#[derive(Clone, Copy, Debug, PartialEq, Eq)]
+pub enum Upgraded {
+    /// Each segment has a digest, and the store is one of version 2.
+    Done,
+    /// It was one.
+    Already,
+}
+
+fn digest_of(bytes: &[u8]) -> [u8; 32]
+    ensures { result ≡ sha256 bytes.now }
+{
+    Sha256::digest(bytes)
+}
+
+// The digests of segments, by their bytes.
+fn segment_digests<D: SectorDevice>(
+    alloc: Global,
+    device: &mut D,
+    segments: &[Segment],
+) -> Result<Vec<[u8; 32]>, Refusal>
+    requires size { is_size (D.size device.old) ≡ true }
+    requires placed { all_on_device (D.size device.old) (runs_in segments.now) ≡ true }
+    requires sound { list_all is_segment segments.now ≡ true }
+    ensures reads { OnlyReadsDevice D.size D.story D.failed D.tells (ended result) device.old device.new }
+    ensures found { IfOk result (λ digests. AreDigests D.tells (shown_image (now (D.story device.old))) segments.now digests.items) }
+    ensures told { IfErr result (LacksCopy D.tells (shown_image (now (D.story device.old))) segments.now) }
+{
+    let mut digests = Vec::new(alloc);
+    for (place, segment) in segments.iter().enumerate() {
+        match read_bytes(alloc, device, *segment, place) {
+            Ok(bytes) => match digests.push(digest_of(&bytes)) {
+                Ok(()) => {}
+                Err(_) => return Err(Refusal::OutOfMemory),
+            },
+            Err(refusal) => return Err(refusal),
+        }
+    }
+    Ok(digests)
+}
+
+// The digests of a table's segments. Its rows are read before, so that it is told as by a reading why one can't be taken.
+fn entry_digests<D: SectorDevice>(
+    alloc: Global,
+    device: &mut D,
+    entry: &TableEntry,
+) -> Result<Vec<[u8; 32]>, Refusal>
+    requires size { is_size (D.size device.old) ≡ true }
+    requires placed { all_on_device (D.size device.old) (runs_in (plain_entry entry.now).segments) ≡ true }
+    requires sound { is_entry (plain_entry entry.now) ≡ true }
+    ensures reads { OnlyReadsDevice D.size D.story D.failed D.tells (ended result) device.old device.new }
+    ensures read { IfOk result (λ digests. (table : PlainTable) × IsRead D.tells (shown_image (now (D.story device.old))) (plain_entry entry.now) table) }
+    ensures found { IfOk result (λ digests. AreDigests D.tells (shown_image (now (D.story device.old))) (plain_entry entry.now).segments digests.items) }
+    ensures unread { IfErr result (Unreads D.tells (shown_image (now (D.story device.old))) (plain_entry entry.now)) }
+{
+    match gather_entry(alloc, device, entry) {
+        Ok(gathered) => {
+            drop(gathered);
+            match segment_digests(alloc, device, &entry.segments) {
+                Ok(digests) => Ok(digests),
+                Err(refusal) => Err(refusal),
+            }
+        }
+        Err(refusal) => Err(refusal),
+    }
+}
+
+// The digests of the segments of all tables, in their order.
+fn all_digests<D: SectorDevice>(
+    alloc: Global,
+    device: &mut D,
+    entries: &[TableEntry],
+) -> Result<Vec<[u8; 32]>, Refusal>
+    requires size { is_size (D.size device.old) ≡ true }
+    requires placed { all_on_device (D.size device.old) (runs_of (map plain_entry entries.now)) ≡ true }
+    requires stands { IsCatalogue (map plain_entry entries.now) }
+    ensures reads { OnlyReadsDevice D.size D.story D.failed D.tells (ended result) device.old device.new }
+    ensures read { IfOk result (λ digests. (number : ℕ) (e : PlainEntry) → slice_get (map plain_entry entries.now) number ≡ Some e
+        → (table : PlainTable) × IsRead D.tells (shown_image (now (D.story device.old))) e table) }
+    ensures found { IfOk result (λ digests. AreDigests D.tells (shown_image (now (D.story device.old)))
+        (segments_of (map plain_entry entries.now)) digests.items) }
+    ensures stops { IfErr result (StopsReading D.tells (shown_image (now (D.story device.old))) (map plain_entry entries.now)) }
+{
+    let mut digests = Vec::new(alloc);
+    for entry in entries {
+        match entry_digests(alloc, device, entry) {
+            Ok(own) => match digests.extend_from_slice(&own) {
+                Ok(()) => {}
+                Err(_) => return Err(Refusal::OutOfMemory),
+            },
+            Err(refusal) => return Err(refusal),
+        }
+    }
+    Ok(digests)
+}
+
+impl<D: SectorDevice> Store<D> {
+    ghost use Rattle.commit.specs.declared.sector.FormatVersion.TheVariants.{Two};
+    ghost use Rattle.tables.specs.Tables.{Tables};
+    ghost use Rattle.store.specs.Calls.{upgrade_call, refused, counted};
+    ghost use Rattle.store.specs.Machine.{Machine};
+    ghost use Rattle.store.specs.Fits.{StoreFits, device_of, commit_of, listed_in, book_of, is_halted};
+    ghost use Rattle.store.specs.Reading.{OnlyReadsStore};
+    ghost use Rattle.store.specs.Applying.{GoesOn, IsKept};
+    ghost use Rattle.store.specs.Upgrading.{upgrade_reply, upgrade_ended, HasUpgraded, RefusesUpgrade};
+
+    // The digests of all segments. It only reads.
+    fn find_digests(&mut self, alloc: Global) -> Result<Vec<[u8; 32]>, Refusal>
+        requires on { self.old.halted ≡ false }
+        ensures reads { OnlyReadsStore D.size D.story D.failed D.tells (ended result) self.old self.new }
+        ensures read { IfOk result (λ digests. (number : ℕ) (e : PlainEntry) → slice_get (listed_in self.old) number ≡ Some e
+            → (table : PlainTable) × IsRead D.tells (shown_image (now (D.story (device_of self.old)))) e table) }
+        ensures found { IfOk result (λ digests. AreDigests D.tells (shown_image (now (D.story (device_of self.old)))) (segments_of (listed_in self.old))
+            digests.items) }
+        ensures stops { IfErr result (StopsReading D.tells (shown_image (now (D.story (device_of self.old)))) (listed_in self.old)) }
+    {
+        let opened = &self.opened;
+        let entries = opened.catalogue.list.entries();
+        match all_digests(alloc, &mut self.device, entries) {
+            Ok(digests) => Ok(digests),
+            Err(refusal) => {
+                self.halted = is_failure(refusal);
+                Err(refusal)
+            }
+        }
+    }
+
+    /// Makes a store of version 1 one of version 2: reads all tables, gives each segment the SHA-256 of its bytes, and publishes a catalogue that says
+    /// them. No segment is moved or written again. The tables stay as they are, at each moment. A store of version 2 is left as it is, without a call of
+    /// the device.
+    ///
+    /// # Errors
+    /// `Halted` after a failure of the device; of the first table that can't be read, `SegmentUnread` as [`Store::read`]; `Device`, after which the store
+    /// is halted; `TooMany(Epochs)`; `NoRoom` where the catalogue finds no free run; `OutOfMemory`. After any but `Device` nothing has changed.
+    pub fn upgrade(&mut self, alloc: Global) -> Result<Upgraded, Refusal>
+        // On a store that stands for a machine: the tables stay those of the settled commands, at each moment.
+        ensures goes { IfOk result (λ upgraded. D.tells ≡ true → (base : Tables) (m : Machine) → StoreFits D.size D.story base m self.old
+            → GoesOn D.size D.story D.failed base m upgrade_call (upgrade_reply upgraded) self.old self.new) }
+        ensures refused { IfErr result (λ e. D.tells ≡ true → (base : Tables) (m : Machine) → StoreFits D.size D.story base m self.old
+            → GoesOn D.size D.story D.failed base m upgrade_call (refused e) self.old self.new) }
+        // On any store and any device: the digests are those of the bytes that reads gave of its segments; each refusal has its one reason.
+        ensures upgraded { IfOk result (λ upgraded. HasUpgraded D.size D.story D.tells self.old upgraded self.new) }
+        ensures told { IfErr result (λ e. RefusesUpgrade D.size D.story D.tells (is_halted self.old) self.old e self.new) }
+        ensures already { is_halted self.old ≡ false → (commit_of self.old).version ≡ Two → result ≡ Ok Upgraded.Already }
+        ensures kept { IfErr result (λ e. IsKept self.old self.new) }
+        ensures reads { IfErr result (λ e. e ≢ Refusal.Device → D.tells ≡ true
+            → OnlyReads (D.story (device_of self.old)) (D.story (device_of self.new))) }
+        ensures halted { (result ≡ Err Refusal.Halted) ↔ (is_halted self.old ≡ true) }
+        ensures same { is_halted self.old ≡ true → self.new ≡ self.old }
+        ensures halts { is_halted self.old ≡ false → (is_halted self.new ≡ true) ↔ (result ≡ Err Refusal.Device) }
+        ensures size { D.size (device_of self.new) ≡ D.size (device_of self.old) }
+        ensures count { D.failed (device_of self.new) ≡ counted (upgrade_ended result) (D.failed (device_of self.old)) }
+        ensures book { book_of self.new ≡ book_of self.old }
+    {
+        if self.halted {
+            return Err(Refusal::Halted);
+        }
+        match self.opened.commit.version {
+            FormatVersion::Two => Ok(Upgraded::Already),
+            FormatVersion::One => {
+                table_laws();
+                match self.find_digests(alloc) {
+                    Ok(digests) => {
+                        let change = Change {
+                            edit: Edit::Digest { digests },
+                            new: None,
+                        };
+                        match self.carry_out(alloc, &change) {
+                            Ok(()) => Ok(Upgraded::Done),
+                            Err(refusal) => Err(refusal),
+                        }
+                    }
+                    Err(refusal) => Err(refusal),
+                }
+            }
+        }
+    }
+}
