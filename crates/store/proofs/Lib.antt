@@ -36,3 +36,5 @@ mod Stepped
 mod OpenExports
 mod ExportSteps
 mod ExportAnswers
+mod Fitted
+mod Salvaged

@@ -21,9 +21,11 @@ pub mod Applying
 pub mod Compacting
 pub mod Verdicts
 pub mod Listing
+pub mod Summary
 pub mod Reading
 pub mod Input
 pub mod Exporting
+pub mod Salvaging
 pub mod Places
 pub mod Answering
 pub mod laws

@@ -7,3 +7,4 @@ pub mod Reading
 pub mod LawsBelow
 pub mod Compacting
 pub mod Exporting
+pub mod Salvaging

@@ -36,8 +36,10 @@ mod opening_refusal;
 mod pairs;
 mod reading;
 mod running;
+mod salvaging;
 mod saving;
 mod store;
+mod summary;
 
 pub use beginning::{crashed_devices_are_left, devices_fit, left_devices_fit, new_devices_fit};
 pub use call::{Call, Place, Reply};
@@ -52,4 +54,6 @@ pub use laws::{
 };
 pub use pages::StoredCatalogue;
 pub use running::{answer, run};
+pub use salvaging::LeftOut;
 pub use store::Store;
+pub use summary::Summary;

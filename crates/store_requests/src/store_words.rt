@@ -91,6 +91,10 @@ pub enum StoreCommand<'a> {
     },
     /// Whether all tables can be read.
     Check,
+    /// The store in numbers, as lines or as JSON.
+    Info {
+        as_json: bool,
+    },
     /// Small segments are joined, and moved to the lowest free sectors.
     Compact,
 }
@@ -108,6 +112,7 @@ impl StoreCommand<'_> {
                 | StoreCommand::Schema { .. }
                 | StoreCommand::Export { .. }
                 | StoreCommand::Check
+                | StoreCommand::Info { .. }
         )
     }
 }
@@ -144,7 +149,7 @@ fn reads_table_word(word: &str) -> bool
 fn reads_word(word: &str) -> bool
     ensures { result ≡ reads_word word.now }
 {
-    reads_table_word(word) || matches!(word, "tables" | "check")
+    reads_table_word(word) || matches!(word, "tables" | "check" | "info")
 }
 
 #[tactic(auto, unfolding(crate::specs::StoreWords::is_store_word))]

@@ -31,6 +31,8 @@ mod plain_tables;
 #[cfg(test)]
 mod playing;
 #[cfg(test)]
+mod salvages;
+#[cfg(test)]
 mod selections;
 #[cfg(test)]
 mod shown;
@@ -40,5 +42,7 @@ mod snapshot;
 mod steps;
 #[cfg(test)]
 mod stops;
+#[cfg(test)]
+mod summaries;
 #[cfg(test)]
 mod without_memory;

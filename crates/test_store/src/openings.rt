@@ -78,8 +78,8 @@ pub fn device_after(alloc: Global, steps: Steps) -> Result<ModelDevice, NotMade>
     played(alloc, &mut new_slot(alloc, 16)?, steps)
 }
 
-// A byte of a sector: its number, the byte's place, and how it is changed.
-type Change = (u64, usize, u8);
+/// A byte of a sector: its number, the byte's place, and how it is changed.
+pub type Change = (u64, usize, u8);
 
 fn change(device: &mut ModelDevice, (n, at, bits): Change) -> Result<(), NotMade> {
     let mut sector = [0; 512];
@@ -97,8 +97,8 @@ fn change_all(device: &mut ModelDevice, changes: &[Change]) -> Result<(), NotMad
     Ok(())
 }
 
-// A device as it is, with these changes.
-fn changed(device: &ModelDevice, changes: &[Change]) -> Result<ModelDevice, NotMade> {
+/// A device as it is, with these changes.
+pub fn changed(device: &ModelDevice, changes: &[Change]) -> Result<ModelDevice, NotMade> {
     let mut left = device.crash(Choice::New)?;
     change_all(&mut left, changes)?;
     Ok(left)
