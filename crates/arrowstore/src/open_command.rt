@@ -54,6 +54,8 @@ pub enum OpenCommand<'a> {
     },
     /// Whether all tables can be read.
     Check,
+    /// The store in numbers, as lines or as JSON.
+    Info { as_json: bool },
     /// Steps of a compaction until there is nothing to do.
     Compact,
 }
@@ -141,6 +143,7 @@ pub fn stated<'a>(alloc: Global, command: &StoreCommand<'a>) -> Result<OpenComma
         StoreCommand::Schema { name } => Ok(OpenCommand::Schema { name }),
         StoreCommand::Export { name } => Ok(OpenCommand::Export { name }),
         StoreCommand::Check => Ok(OpenCommand::Check),
+        StoreCommand::Info { as_json } => Ok(OpenCommand::Info { as_json: *as_json }),
         StoreCommand::Compact => Ok(OpenCommand::Compact),
     }
 }

@@ -40,3 +40,5 @@ mod Upgraded
 mod OpenExports
 mod ExportSteps
 mod ExportAnswers
+mod Fitted
+mod Salvaged

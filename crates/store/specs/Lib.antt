@@ -22,10 +22,12 @@ pub mod Compacting
 pub mod Upgrading
 pub mod Verdicts
 pub mod Listing
+pub mod Summary
 pub mod Reading
 pub mod Digests
 pub mod Input
 pub mod Exporting
+pub mod Salvaging
 pub mod Places
 pub mod Answering
 pub mod laws

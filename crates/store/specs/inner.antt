@@ -8,3 +8,4 @@ pub mod LawsBelow
 pub mod Compacting
 pub mod Exporting
 pub mod Upgrading
+pub mod Salvaging

@@ -94,7 +94,7 @@ fn read_piece<D: SectorDevice>(
 }
 
 // The piece of the segment at a place.
-fn segment_piece<D: SectorDevice>(
+pub(crate) fn segment_piece<D: SectorDevice>(
     alloc: Global,
     device: &mut D,
     schema: &Schema,

@@ -36,8 +36,10 @@ mod opening_refusal;
 mod pairs;
 mod reading;
 mod running;
+mod salvaging;
 mod saving;
 mod store;
+mod summary;
 mod upgrading;
 
 pub use beginning::{crashed_devices_are_left, devices_fit, left_devices_fit, new_devices_fit};
@@ -53,5 +55,7 @@ pub use laws::{
 };
 pub use pages::StoredCatalogue;
 pub use running::{answer, run};
+pub use salvaging::LeftOut;
 pub use store::Store;
+pub use summary::Summary;
 pub use upgrading::Upgraded;

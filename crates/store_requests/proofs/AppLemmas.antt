@@ -29,7 +29,7 @@ use Rattle.clap.specs.declared.error.kind.ErrorKind.TheVariants.{OutOfMemory}
 use Rattle.clap.specs.declared.parser.matches.ArgMatches.{ArgMatches}
 use Rattle.clap.proofs.OnLiterals.{clap_on_literals}
 use Rattle.clap.proofs.WalkLemmas.{first_value-rows, one_text-rows, raw_values-rows}
-use Rattle.store_requests.specs.Apps.{format_app, copy_app, store_app, table_app, rename_app, create_app, append_app, query_app, other_parameters, parameters_of, replay_app, AreForms, IsAppWith, IsOwnApp, value_of, values_of}
+use Rattle.store_requests.specs.Apps.{info_app, format_app, copy_app, store_app, table_app, rename_app, create_app, append_app, query_app, other_parameters, parameters_of, replay_app, AreForms, IsAppWith, IsOwnApp, value_of, values_of}
 use Rattle.store_requests.specs.Apps.{HasFound}
 use Rattle.store_requests.specs.Asked.{request_word}
 use Rattle.store_requests.specs.Operands.{number_of, is_option, operands, names_file, names_table, IsNamedBy, Names}
@@ -53,6 +53,13 @@ file_plain : (name : Text) (p : ℕ) → ends_options (arg_by_index (built (file
 file_plain name p = by_first (1 == p) refl
   where
     by_first : (b : Bool) → (1 == p) ≡ b → ends_options (arg_by_index (built (file_app name)).top.rules p) ≡ false
+    by_first true e = rw e refl
+    by_first false e = rw e refl
+
+info_plain : (name : Text) (p : ℕ) → ends_options (arg_by_index (built (info_app name)).top.rules p) ≡ false
+info_plain name p = by_first (1 == p) refl
+  where
+    by_first : (b : Bool) → (1 == p) ≡ b → ends_options (arg_by_index (built (info_app name)).top.rules p) ≡ false
     by_first true e = rw e refl
     by_first false e = rw e refl
 
@@ -122,6 +129,9 @@ some_kind k ks h = let longer : length (k ∷ ks) ≡ 0 = ap (λ (xs : Kinds). l
 abbrev file_top : Text → Shape
 file_top name = (built (file_app name)).top
 
+abbrev info_top : Text → Shape
+info_top name = (built (info_app name)).top
+
 abbrev table_top : Text → Shape
 table_top name = (built (table_app name)).top
 
@@ -174,6 +184,19 @@ unfolding clap_on_literals
 file_named name [] e = absurd (some_kind _ _ e)
 file_named name (a ∷ []) e = refl
 file_named name (a ∷ b ∷ rest) e = absurd (some_kind _ _ e)
+
+info_named : (name : Text) (ops : List Text) → operands_fault (info_top name) ops ≡ [] → ops ≡ row_value (codes "STORE") (operand_rows (info_top name) ops) ∷ []
+unfolding clap_on_literals
+info_named name [] e = absurd (some_kind _ _ e)
+info_named name (a ∷ []) e = refl
+info_named name (a ∷ b ∷ rest) e = absurd (some_kind _ _ e)
+
+-- without its option
+info_alone : (name : Text) (ops : List Text) → operands_fault (info_top name) ops ≡ [] → one_of (codes "json") (operand_rows (info_top name) ops) ≡ Some (codes "false")
+unfolding clap_on_literals
+info_alone name [] e = absurd (some_kind _ _ e)
+info_alone name (a ∷ []) e = refl
+info_alone name (a ∷ b ∷ rest) e = absurd (some_kind _ _ e)
 
 table_named : (name : Text) (ops : List Text) → operands_fault (table_top name) ops ≡ []
     → ops ≡ row_value (codes "STORE") (operand_rows (table_top name) ops) ∷ row_value (codes "NAME") (operand_rows (table_top name) ops) ∷ []
@@ -342,6 +365,18 @@ module _ (word : Text) (words : List Text) (m : ArgMatches) (a : App) (name : Te
       let rows = (p.matches refl).0 ∙ reads.rows in
       file_named name ops (sym reads.fault ∙ p.faultless refl) ∙ ap (λ (v : Text). v ∷ []) (found_value m _ (codes "STORE") rows)
 
+  info_found : a ≡ info_app name → (ops : List Text) → operands words ≡ Some ops
+      → (ops ≡ value_of (found_of m) (codes "STORE") ∷ []) × (one_text (found_of m) (codes "json") ≡ Some (codes "false"))
+  unfolding clap_on_literals
+  info_found is ops e =
+      let reads = reads_operands (info_app name) word words ops e refl refl (info_plain name) in
+      let p : Parsed (info_app name) (word ∷ words) m = subst (λ (x : App). Parsed x (word ∷ words) m) is parsed in
+      let rows = (p.matches refl).0 ∙ reads.rows in
+      let faultless = sym reads.fault ∙ p.faultless refl in (
+        info_named name ops faultless ∙ ap (λ (v : Text). v ∷ []) (found_value m _ (codes "STORE") rows),
+        sym (found_one m _ (codes "json") rows) ∙ info_alone name ops faultless,
+      )
+
   table_found : a ≡ table_app name → (ops : List Text) → operands words ≡ Some ops
       → ops ≡ value_of (found_of m) (codes "STORE") ∷ value_of (found_of m) (codes "NAME") ∷ []
   unfolding clap_on_literals
@@ -446,6 +481,10 @@ module _ (word : Text) (words : List Text) (m : ArgMatches) (a : App) (own : IsO
   names_file_only : parameters_of word ≡ parameters.Nothing → (ops : List Text) → operands words ≡ Some ops → ops ≡ value_of (found_of m) (codes "STORE") ∷ []
   names_file_only is ops e = file_found word words m a word parsed (subst (λ (b : Parameters). IsAppWith word b a) is own) ops e
 
+  names_form : parameters_of word ≡ parameters.FileAndForm → (ops : List Text) → operands words ≡ Some ops
+      → (ops ≡ value_of (found_of m) (codes "STORE") ∷ []) × (one_text (found_of m) (codes "json") ≡ Some (codes "false"))
+  names_form is ops e = info_found word words m a word parsed (subst (λ (b : Parameters). IsAppWith word b a) is own) ops e
+
   names_one_table : parameters_of word ≡ parameters.Table → (ops : List Text) → operands words ≡ Some ops
       → ops ≡ value_of (found_of m) (codes "STORE") ∷ value_of (found_of m) (codes "NAME") ∷ []
   names_one_table is ops e = table_found word words m a word parsed (subst (λ (b : Parameters). IsAppWith word b a) is own) ops e
@@ -529,6 +568,11 @@ module _ (word : Text) (words : List Text) (m : ArgMatches) (a : App) (own : IsO
   names_command (requests.Command file (commands.Export name)) is found =
       named (requests.Command file (commands.Export name))
       (λ ops e. (names_one_table (of_word (codes "export") parameters.Table is refl) ops e ∙ (λ i. sym found.0 i ∷ sym found.1 i ∷ []), tt))
+  names_command (requests.Command file (commands.Info as_json)) is found =
+      named (requests.Command file (commands.Info as_json))
+      (λ ops e.
+      let has = names_form (of_word (codes "info") parameters.FileAndForm is refl) ops e in
+      (has.0 ∙ ap (λ (v : Text). v ∷ []) (sym found.0), found.1.lines has.1))
   names_command (requests.Command file (commands.Rename from to)) is found =
       named (requests.Command file (commands.Rename from to))
       (λ ops e. (

@@ -35,6 +35,13 @@ store_app name = with_rule (new_app name) (required_rule (codes "STORE"))
 abbrev pub sectors_rule : Rule
 sectors_rule = record (required_rule (codes "SECTORS")) { parser = Some (parsers.Unsigned 0 18446744073709551615) }
 
+-- one that takes an option without a value
+abbrev pub json_rule : Rule
+json_rule = record (new_rule (codes "json")) { long = Some (codes "json"); action = Some SetTrue }
+
+abbrev pub info_app : Text → App
+info_app name = with_rule (store_app name) json_rule
+
 -- one that takes how many sectors the store has, and one that names a new file before
 abbrev pub format_app : Text → App
 format_app name = with_rule (store_app name) sectors_rule
@@ -114,6 +121,7 @@ pub record AreForms (forms : ValueParser) : Type 0 where
 -- the command of a name, by what it takes
 abbrev pub IsAppWith : Text → Parameters → App → Type 0
 IsAppWith name parameters.Nothing command = command ≡ store_app name
+IsAppWith name parameters.FileAndForm command = command ≡ info_app name
 IsAppWith name parameters.Table command = command ≡ table_app name
 IsAppWith name parameters.TableAndNewName command = command ≡ rename_app name
 IsAppWith name parameters.Sectors command = command ≡ format_app name
@@ -128,7 +136,8 @@ unfoldable pub other_parameters : Text → Parameters
 other_parameters word =
     if bytes_eq (codes "format") word then parameters.Sectors
     else (if bytes_eq (codes "copy") word then parameters.NewStore else (if bytes_eq (codes "create") word then parameters.TableAndFields else (if bytes_eq
-    (codes "append") word then parameters.TableAndRows else (if bytes_eq (codes "replay") word then parameters.ScriptAndFaults else parameters.TableAndQuery))))
+    (codes "append") word then parameters.TableAndRows else (if bytes_eq (codes "replay") word then parameters.ScriptAndFaults else (if bytes_eq
+    (codes "info") word then parameters.FileAndForm else parameters.TableAndQuery)))))
 
 unfoldable pub parameters_of : Text → Parameters
 parameters_of word =
@@ -158,6 +167,11 @@ pub record HasForm (found : Found) (form : RowForm) : Type 0 where
   pub arrays : one_text found (codes "objects") ≡ Some (codes "false") → form ≡ Array
   pub objects : one_text found (codes "objects") ≡ Some (codes "true") → form ≡ Object
 
+-- numbers are printed as JSON where the option stands
+pub record HasJson (found : Found) (as_json : Bool) : Type 0 where
+  pub lines : one_text found (codes "json") ≡ Some (codes "false") → as_json ≡ false
+  pub object : one_text found (codes "json") ≡ Some (codes "true") → as_json ≡ true
+
 -- a command has the names that were found
 abbrev pub HasNames : Found → StoreCommand → Type 0
 HasNames found (commands.Import name) = name.now ≡ value_of found (codes "NAME")
@@ -170,6 +184,7 @@ HasNames found (commands.SaveAs from to query) =
 HasNames found (commands.Drop name) = name.now ≡ value_of found (codes "NAME")
 HasNames found (commands.Schema name) = name.now ≡ value_of found (codes "NAME")
 HasNames found (commands.Export name) = name.now ≡ value_of found (codes "NAME")
+HasNames found (commands.Info as_json) = HasJson found as_json
 HasNames found (commands.Rename from to) = (from.now ≡ value_of found (codes "NAME")) × (to.now ≡ value_of found (codes "NEW"))
 HasNames found _ = Unit {0}
 

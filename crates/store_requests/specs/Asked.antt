@@ -20,6 +20,7 @@ command_word commands.Tables = codes "tables"
 command_word (commands.Schema name) = codes "schema"
 command_word (commands.Export name) = codes "export"
 command_word commands.Check = codes "check"
+command_word (commands.Info as_json) = codes "info"
 command_word commands.Compact = codes "compact"
 
 abbrev pub request_word : StoreRequest → Text

@@ -51,13 +51,15 @@ names_in commands.Tables = []
 names_in (commands.Schema name) = name.now ∷ []
 names_in (commands.Export name) = name.now ∷ []
 names_in commands.Check = []
+names_in (commands.Info as_json) = []
 names_in commands.Compact = []
 
--- what it is without options: rows are appended of a stream, and all columns of all rows are printed as arrays
+-- what it is without options: rows are appended of a stream, all columns of all rows are printed as arrays, and numbers as lines
 abbrev pub IsWithoutOptions : StoreCommand → Type 0
 IsWithoutOptions (commands.AppendText name form) = ⊥
 IsWithoutOptions (commands.Query name query form) = (query.columns ≡ None) × (query.limit ≡ None) × (form ≡ Array)
 IsWithoutOptions (commands.SaveAs from to query) = ⊥
+IsWithoutOptions (commands.Info as_json) = as_json ≡ false
 IsWithoutOptions _ = Unit {0}
 
 -- a request that names its files and its tables, or how many sectors, by these words

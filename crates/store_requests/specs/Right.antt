@@ -30,6 +30,7 @@ are_files_and_number _ = false
 -- the operands that a command takes; a script is not played without an option
 abbrev pub takes : Parameters → List Text → Bool
 takes parameters.Nothing words = length words == 1
+takes parameters.FileAndForm words = length words == 1
 takes parameters.Table words = length words == 2
 takes parameters.TableAndNewName words = length words == 3
 takes parameters.Sectors words = are_file_and_number words

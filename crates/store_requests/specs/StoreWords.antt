@@ -20,7 +20,7 @@ reads_table_word word = bytes_eq (codes "schema") word || (bytes_eq (codes "expo
 
 -- those that read tables
 unfoldable pub reads_word : Text → Bool
-reads_word word = reads_table_word word || (bytes_eq (codes "tables") word || bytes_eq (codes "check") word)
+reads_word word = reads_table_word word || (bytes_eq (codes "tables") word || (bytes_eq (codes "check") word || bytes_eq (codes "info") word))
 
 -- those that make a store in a new file
 unfoldable pub makes_word : Text → Bool

@@ -6,9 +6,9 @@ ghost use Rattle.clap.specs.Walk.{texts};
 ghost use Rattle.clap.specs.Words.{app_of, first_value, found_of, new_app, rule_of, with_rule};
 ghost use Rattle.clap.specs.declared.builder.value_parser.ValueParser.{ValueParser};
 ghost use Rattle.store_requests.specs.declared.store_command_line.Mistake.TheVariants as mistakes;
-ghost use Rattle.store_requests.specs.Apps.{required_rule, sectors_rule, repeated_rule, option_rule, form_rule, null_rule, limit_rule, objects_rule};
-ghost use Rattle.store_requests.specs.Apps.{store_app, format_app, new_file_app, copy_app, table_app, rename_app, create_app, append_app, conditions_app, query_app};
-ghost use Rattle.store_requests.specs.Apps.{AreForms, other_parameters, parameters_of, IsOwnApp, value_of, values_of, HasQuery, HasForm, HasNames, HasFound, IsOfMemory};
+ghost use Rattle.store_requests.specs.Apps.{required_rule, json_rule, sectors_rule, repeated_rule, option_rule, form_rule, null_rule, limit_rule, objects_rule};
+ghost use Rattle.store_requests.specs.Apps.{store_app, info_app, format_app, new_file_app, copy_app, table_app, rename_app, create_app, append_app, conditions_app, query_app};
+ghost use Rattle.store_requests.specs.Apps.{AreForms, other_parameters, parameters_of, IsOwnApp, value_of, values_of, HasQuery, HasForm, HasJson, HasNames, HasFound, IsOfMemory};
 ghost use Rattle.store_requests.specs.Asked.{command_word, request_word};
 ghost use Rattle.store_requests.specs.Operands.{names_file, names_table, number_of, Names};
 ghost use Rattle.store_requests.specs.Right.{is_number, AreRightWords, IsFoundTakable};
@@ -339,6 +339,13 @@ fn create_command<'a>(
     })
 }
 
+// Whether numbers are printed as JSON.
+fn asks_json(words: &ArgMatches<'_>) -> bool
+    ensures { HasJson (found_of words.now) result }
+{
+    words.get_flag("json")
+}
+
 fn command_of<'a>(
     alloc: Global,
     command: &str,
@@ -364,6 +371,9 @@ fn command_of<'a>(
         "schema" => Ok(StoreCommand::Schema { name }),
         "export" => Ok(StoreCommand::Export { name }),
         "check" => Ok(StoreCommand::Check),
+        "info" => Ok(StoreCommand::Info {
+            as_json: asks_json(words),
+        }),
         "compact" => Ok(StoreCommand::Compact),
         _ => Ok(StoreCommand::Tables),
     }
@@ -373,6 +383,7 @@ fn command_of<'a>(
 #[derive(Clone, Copy)]
 enum Parameters {
     Nothing,
+    FileAndForm,
     Sectors,
     NewStore,
     Table,
@@ -391,7 +402,7 @@ struct Usage {
 }
 
 // In the order of the help.
-const COMMANDS: [Usage; 14] = [
+const COMMANDS: [Usage; 15] = [
     Usage {
         name: "format",
         about: "Makes a file of the given number of sectors, and an empty store in it",
@@ -461,6 +472,14 @@ seconds, .. they are after 1970-01-01.",
         example: "Example: arrowstore check store",
     },
     Usage {
+        name: "info",
+        about: "Prints the store in numbers",
+        example: "Example: arrowstore info store --json
+
+Sectors are counted in 512 bytes. The used ones are those of the two commits, of the
+catalogue and of the tables.",
+    },
+    Usage {
         name: "compact",
         about: "Joins small segments, moves the last ones forward, and prints how many steps that took",
         example: "Example: arrowstore compact store
@@ -502,6 +521,15 @@ pub(crate) fn option<'a>(alloc: Global, id: &'a str, value: &'a str, help: &'a s
     ensures { (rule_of result ≡ option_rule id.entry.now) × (result.global ≡ false) }
 {
     Arg::new(alloc, id).long(id).value_name(value).help(help)
+}
+
+fn json<'a>(alloc: Global) -> Arg<'a>
+    ensures { (rule_of result ≡ json_rule) × (result.global ≡ false) }
+{
+    Arg::new(alloc, "json")
+        .long("json")
+        .action(ArgAction::SetTrue)
+        .help("Prints one JSON object on one line")
 }
 
 fn sectors<'a>(alloc: Global) -> Arg<'a>
@@ -583,6 +611,7 @@ fn other_parameters(word: &str) -> Parameters
         "create" => Parameters::TableAndFields,
         "append" => Parameters::TableAndRows,
         "replay" => Parameters::ScriptAndFaults,
+        "info" => Parameters::FileAndForm,
         _ => Parameters::TableAndQuery,
     }
 }
@@ -633,6 +662,13 @@ fn with_file<'a>(alloc: Global, name: &'a str) -> Result<Command<'a>, AllocError
     ensures { IfOk result (λ c. app_of c ≡ store_app name.now) }
 {
     with_operand(alloc, name, "STORE", "The file of the store")
+}
+
+// One that takes a form of numbers.
+fn with_form<'a>(alloc: Global, name: &'a str) -> Result<Command<'a>, AllocError>
+    ensures { IfOk result (λ c. app_of c ≡ info_app name.now) }
+{
+    with_file(alloc, name)?.arg(json(alloc))
 }
 
 // One that names a table too.
@@ -727,6 +763,7 @@ fn command<'a>(alloc: Global, name: &'a str) -> Result<Command<'a>, AllocError>
 {
     match parameters_of(name) {
         Parameters::Nothing => with_file(alloc, name),
+        Parameters::FileAndForm => with_form(alloc, name),
         Parameters::Table => with_table(alloc, name),
         Parameters::TableAndNewName => with_new_name(alloc, name),
         Parameters::Sectors => with_sectors(alloc, name),

@@ -93,6 +93,10 @@ pub enum StoreCommand<'a> {
     },
     /// Whether all tables can be read.
     Check,
+    /// The store in numbers, as lines or as JSON.
+    Info {
+        as_json: bool,
+    },
     /// Small segments are joined, and moved to the lowest free sectors.
     Compact,
 }
@@ -110,6 +114,7 @@ impl StoreCommand<'_> {
                 | StoreCommand::Schema { .. }
                 | StoreCommand::Export { .. }
                 | StoreCommand::Check
+                | StoreCommand::Info { .. }
         )
     }
 }
@@ -146,7 +151,7 @@ fn reads_table_word(word: &str) -> bool
 fn reads_word(word: &str) -> bool
     ensures { result ≡ reads_word word.now }
 {
-    reads_table_word(word) || matches!(word, "tables" | "check")
+    reads_table_word(word) || matches!(word, "tables" | "check" | "info")
 }
 
 #[tactic(auto, unfolding(crate::specs::StoreWords::is_store_word))]

@@ -1,0 +1,35 @@
+use Rattle.std.specs.Io.KnownBytes.{Appends}
+use Rattle.std.proofs.Common.{◌≡◌, ◌∙◌, false, ap, subst}
+use Rattle.std.proofs.lemmas.Result.{on_ok_weaker, IfErr-weaker}
+use Rattle.sector_dev.specs.Disk.{now, shown_image}
+use Rattle.arrow_schema.specs.View.{schema_of}
+use Rattle.tables.specs.declared.refusal.Refusal.TheVariants.{Write, OutOfMemory}
+use Rattle.store.specs.Calls.{is_failure}
+use Rattle.store.specs.Salvaging.{BreaksOff, plain_left}
+use Rattle.store.specs.declared.salvaging.LeftOut.{LeftOut}
+use Rattle.store.proofs.ReadTables.{reads_ended}
+use Rattle.store.proofs.Salvaged.{salvaged_rows, salvaged_none, breaks_reading, breaks_writing}
+use Rattle.store.proofs.salvaging.salvage_segment.Goals as goal
+
+-- ---- the rows are written
+
+pub returns-in-Ok-Some-clause-reads : goal.returns-in-Ok-Some-clause-reads
+returns-in-Ok-Some-clause-reads g c =
+    let D = g.D.SectorDevice in
+    let reads = c.in-Ok-Some.ensures.reads in
+    reads_ended D.size D.story D.failed D.tells c.write_bytes.result c.args.device.now c.messages_of.new.device
+    (IfErr-weaker c.write_bytes.result (λ e. e ≡ Write) (λ e. is_failure e ≡ false) (λ e is. ap is_failure is) c.write_bytes.ensures.fails)
+    (record { same = reads.same; moments = reads.moments; count = reads.count })
+
+pub returns-in-Ok-Some-clause-salvaged : goal.returns-in-Ok-Some-clause-salvaged
+returns-in-Ok-Some-clause-salvaged g c =
+    let D = g.D.SectorDevice in
+    let W = g.W.Write in
+    let finds = rw c.in-Ok-Some.field-0-is at c.in-Ok-Some.ensures.found in
+    on_ok_weaker c.write_bytes.result
+    (λ wrote. salvaged_rows D.tells (shown_image (now (D.story c.args.device.now))) (schema_of c.args.schema.now) c.args.segment c.args.place c.in-Ok-Some.messages.items _ _ (plain_left c.args.left_out.now.items) finds
+    (subst (Appends (W.contents c.args.writer.now) (W.contents c.write_bytes.new.writer)) c.deref.ensures.value wrote))
+    c.write_bytes.ensures.written
+
+pub returns-in-Ok-Some-clause-fails : goal.returns-in-Ok-Some-clause-fails
+returns-in-Ok-Some-clause-fails g c = IfErr-weaker c.write_bytes.result (λ e. e ≡ Write) BreaksOff breaks_writing c.write_bytes.ensures.fails

@@ -1,0 +1,15 @@
+use Rattle.std.specs.Prelude.{take}
+use Rattle.sector_dev.specs.Disk.{now, shown_image}
+use Rattle.arrow_schema.specs.View.{schema_of}
+use Rattle.store.specs.Calls.{done}
+use Rattle.store.specs.Reading.{OnlyReadsDevice}
+use Rattle.store.specs.Salvaging.{plain_left}
+use Rattle.store.specs.inner.Salvaging.{SalvagesEach}
+use Rattle.store.proofs.salvaging.salvage_segments.Given as goal
+
+-- the first segments were salvaged
+abbrev pub invariant-loop-place : goal.invariant-loop-place
+invariant-loop-place g l = let D = g.D.SectorDevice in record {
+  reads : OnlyReadsDevice D.size D.story D.failed D.tells done l.fn.device l.device;
+  salvaged : SalvagesEach D.tells (shown_image (now (D.story l.fn.device))) (schema_of l.schema) (take l.place l.segments) (g.W.Write.contents l.fn.writer) (g.W.Write.contents l.writer) (plain_left l.left_out.items);
+}

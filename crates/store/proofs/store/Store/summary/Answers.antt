@@ -1,0 +1,43 @@
+use Rattle.std.proofs.Common.{◌∙◌, ℕ, refl, subst, arith}
+use Rattle.segments.specs.Usages.{IsUsedIn}
+use Rattle.catalogue.specs.Entries.{runs_of}
+use Rattle.store.specs.Fits.{commit_of, listed_in}
+use Rattle.store.specs.Summary.{IsLargest}
+use Rattle.store.proofs.Fitted.{used_fit, used_are}
+use Rattle.store.proofs.store.Store.summary.Goals as goal
+
+pub sectors_of-requires : goal.sectors_of-requires
+sectors_of-requires g c =
+    let store = c.args.self.now in
+    let fits = used_fit (g.D.SectorDevice.size store.device) (commit_of store).catalogue.run (runs_of (listed_in store)) c.deref.result.now store.in_limits store.placed store.fit (c.deref.ensures.value ∙ c.in_ok-runs.ensures) in
+    omega (arith, fits.0, fits.1)
+
+pub overflow_add-used-2 : goal.overflow_add-used-2
+overflow_add-used-2 g c =
+    let store = c.args.self.now in
+    let fits = used_fit (g.D.SectorDevice.size store.device) (commit_of store).catalogue.run (runs_of (listed_in store)) c.deref.result.now store.in_limits store.placed store.fit (c.deref.ensures.value ∙ c.in_ok-runs.ensures) in
+    omega (arith, fits.0, fits.1, c.sectors_of.ensures)
+
+pub overflow_sub-result : goal.overflow_sub-result
+overflow_sub-result g c =
+    let store = c.args.self.now in
+    let fits = used_fit (g.D.SectorDevice.size store.device) (commit_of store).catalogue.run (runs_of (listed_in store)) c.deref.result.now store.in_limits store.placed store.fit (c.deref.ensures.value ∙ c.in_ok-runs.ensures) in
+    omega (arith, fits.0, c.sectors_of.ensures, c.sectors-sectors.ensures)
+
+pub returns : goal.returns
+returns g c =
+    let store = c.args.self.now in
+    let are = c.deref.ensures.value ∙ c.in_ok-runs.ensures in
+    let fits = used_fit (g.D.SectorDevice.size store.device) (commit_of store).catalogue.run (runs_of (listed_in store)) c.deref.result.now store.in_limits store.placed store.fit are in (
+      c.if-self.false,
+      record {
+        format_version = c.version_number.ensures;
+        epoch = refl;
+        sectors = c.sectors-sectors.ensures;
+        used = used_are (commit_of store).catalogue.run (runs_of (listed_in store)) c.deref.result.now c.sectors_of.result c.sectors_of.ensures are;
+        free = omega (arith, fits.0, c.sectors_of.ensures, c.sectors-sectors.ensures);
+        largest = subst (λ (n : ℕ). IsLargest n (IsUsedIn store.opened.map.entries) c.largest_free.result) c.sectors-sectors.ensures c.largest_free.ensures;
+        tables = c.len.ensures.tables;
+        segments = c.segment_count.ensures;
+      },
+    )

@@ -1,0 +1,33 @@
+-- A store in numbers.
+use Rattle.std.specs.Prelude.{◌≡◌, ◌≤◌, ◌+◌, ℕ, length, sum_by}
+use Rattle.sector_dev.specs.declared.device.SectorDevice.{Ghosts}
+use Rattle.segments.specs.declared.run.Run.{Run}
+use Rattle.segments.specs.Runs.{IsFree}
+use Rattle.segments.specs.Usages.{IsUsedIn}
+use Rattle.catalogue.specs.Entries.{segment_count}
+use Rattle.commit.specs.Sector.{version_number}
+use Rattle.commit.specs.Standing.{used_runs}
+use Rattle.pages.specs.Stored.{stored_reading}
+use Rattle.store.specs.declared.store.Store.{Store}
+use Rattle.store.specs.declared.summary.Summary.{Summary}
+use Rattle.store.specs.Fits.{commit_of, listed_in}
+
+-- the largest free run has so many sectors; 0 where no sector is free
+pub record IsLargest (size : ℕ) (used : Run → Type 0) (count : ℕ) : Type 0 where
+  pub none_larger : (run : Run) → IsFree size used run → run.count ≤ count
+  pub some : 1 ≤ count → (run : Run) × (run.count ≡ count) × IsFree size used run
+
+-- the sectors of the two commits, and of the runs in use: that of the catalogue's text, and those that the catalogue names
+abbrev pub used_sectors : {D : Type 0} {g : Ghosts D} → Store D g → ℕ
+used_sectors store = 2 + sum_by (λ r. r.count) (used_runs stored_reading (commit_of store) (listed_in store))
+
+-- the numbers of a store on a device of this size; no free run meets one that is in use, or that an open export keeps
+pub record IsSummary {D : Type 0} {g : Ghosts D} (size : ℕ) (store : Store D g) (s : Summary) : Type 0 where
+  pub format_version : s.format_version ≡ version_number (commit_of store).version
+  pub epoch : s.epoch ≡ (commit_of store).epoch
+  pub sectors : s.sectors ≡ size
+  pub used : s.used ≡ used_sectors store
+  pub free : s.used + s.free ≡ size
+  pub largest : IsLargest size (IsUsedIn store.opened.map.entries) s.largest_free_run
+  pub tables : s.tables ≡ length (listed_in store)
+  pub segments : s.segments ≡ segment_count (listed_in store)

@@ -1,0 +1,50 @@
+-- What a salvage gives of one segment, and of some.
+use Rattle.std.specs.Prelude.{◌≡◌, ◌++◌, ℕ, Bool, true, false, List, [], ◌∷◌, Option, Some, None}
+use Rattle.std.specs.List.{flat_map}
+use Rattle.std.specs.Io.KnownBytes.{Appends}
+use Rattle.sector_dev.specs.Disk.{Image}
+use Rattle.arrow_schema.specs.Column.{PlainSchema}
+use Rattle.cells.specs.Cell.{Cell}
+use Rattle.canonical_stream.specs.Canonical.{rows_messages}
+use Rattle.catalogue.specs.declared.entry.Segment.{Segment}
+use Rattle.tables.specs.declared.refusal.Refusal.{Refusal}
+use Rattle.tables.specs.declared.refusal.Refusal.TheVariants as refusals
+use Rattle.store.specs.Exporting.{HasRows}
+use Rattle.store.specs.Held.{segment_rows}
+use Rattle.store.specs.Salvaging.{AreFound, left_out}
+
+-- a refusal that is of one segment alone
+abbrev pub is_of_segment : Refusal → Bool
+is_of_segment (refusals.SegmentUnread place) = true
+is_of_segment (refusals.SegmentDamaged place) = true
+is_of_segment _ = false
+
+-- what is written fails for want of memory, or with its writer
+abbrev pub FailsWriting : Refusal → Type 0
+FailsWriting refusals.OutOfMemory = Unit {0}
+FailsWriting refusals.Write = Unit {0}
+FailsWriting _ = ⊥
+
+-- the messages of the rows that a segment has, or none where it does not hold them
+abbrev pub FindsMessages : (tells : Bool) → Image → PlainSchema → Segment → Option (List ℕ) → Type 0
+FindsMessages tells image schema g (Some messages) = HasRows tells image schema g (Some messages)
+FindsMessages tells image schema g None = tells ≡ true → segment_rows schema g image ≡ None
+
+-- the messages of the rows that were found
+abbrev pub messages_found : PlainSchema → Option (List (List Cell)) → List ℕ
+messages_found schema None = []
+messages_found schema (Some rows) = rows_messages schema rows
+
+-- the segment at a place was salvaged
+pub record SalvagesOne (tells : Bool) (image : Image) (schema : PlainSchema) (place : ℕ) (g : Segment) (written written' : Option (List ℕ)) (left left' : List (ℕ × ℕ)) : Type 0 where
+  pub found : Option (List (List Cell))
+  pub shown : tells ≡ true → segment_rows schema g image ≡ found
+  pub messages : Appends written written' (messages_found schema found)
+  pub others : left' ≡ left ++ left_out place (g ∷ []) (found ∷ [])
+
+-- and all of these segments
+pub record SalvagesEach (tells : Bool) (image : Image) (schema : PlainSchema) (segments : List Segment) (written written' : Option (List ℕ)) (left : List (ℕ × ℕ)) : Type 0 where
+  pub found : List (Option (List (List Cell)))
+  pub shown : AreFound tells image schema segments found
+  pub messages : Appends written written' (flat_map (messages_found schema) found)
+  pub others : left ≡ left_out 0 segments found

@@ -1,0 +1,246 @@
+// The rows of a table of which some segments may be lost.
+ghost use Rattle.std.specs.Prelude.{◌≡◌, ◌++◌, true, IfOk, IfErr, OnOk, option_map};
+ghost use Rattle.std.specs.List.{list_all};
+ghost use Rattle.std.specs.Io.KnownBytes.{Appends};
+ghost use Rattle.sector_dev.specs.Disk.{now, shown_image};
+ghost use Rattle.arrow_schema.specs.Limits.{IsWithinLimits};
+ghost use Rattle.arrow_schema.specs.View.{schema_of};
+ghost use Rattle.ipc_write.specs.Written.{schema_message, end_of_stream};
+ghost use Rattle.catalogue.specs.Entries.{is_segment, is_entry, plain_entry};
+ghost use Rattle.commit.specs.Standing.{is_size, is_on_device, all_on_device};
+ghost use Rattle.store.specs.Reading.{OnlyReadsDevice, ended};
+ghost use Rattle.store.specs.Salvaging.{Salvages, BreaksOff, plain_left};
+ghost use Rattle.store.specs.inner.Reading.{FailsReading, runs_in};
+ghost use Rattle.store.specs.inner.Salvaging.{is_of_segment, FailsWriting, FindsMessages, SalvagesOne, SalvagesEach};
+
+use crate::Store;
+use crate::exports::segment_piece;
+use crate::reading::is_failure;
+use arrow_schema::Schema;
+use catalogue::{Segment, TableEntry};
+use ipc_write::{write_end, write_schema};
+use sector_dev::SectorDevice;
+use std::alloc::Global;
+use std::io::Write;
+use tables::Refusal;
+
+/// A segment of a table whose rows are left out.
+#[derive(Clone, Copy)]
+pub struct LeftOut {
+    /// Its place among those of the table, counted from 0.
+    pub place: u64,
+    /// How many rows the catalogue says it has.
+    pub rows: u64,
+}
+
+// Whether it is told of one segment alone: the others may be read all the same.
+fn is_of_segment(refusal: Refusal) -> bool
+    ensures { result ≡ is_of_segment refusal }
+{
+    matches!(
+        refusal,
+        Refusal::SegmentUnread(_) | Refusal::SegmentDamaged(_)
+    )
+}
+
+// The messages of the rows of the segment at a place, or none where it doesn't hold them.
+fn messages_of<D: SectorDevice>(
+    alloc: Global,
+    device: &mut D,
+    schema: &Schema,
+    place: usize,
+    segment: Segment,
+) -> Result<Option<Vec<u8>>, Refusal>
+    requires size { is_size (D.size device.old) ≡ true }
+    requires placed { is_on_device (D.size device.old) segment.place.run ≡ true }
+    requires sound { is_segment segment ≡ true }
+    requires limits { IsWithinLimits (schema_of schema.now) }
+    ensures reads { OnlyReadsDevice D.size D.story D.failed D.tells (ended result) device.old device.new }
+    ensures found { IfOk result (λ messages. FindsMessages D.tells (shown_image (now (D.story device.old))) (schema_of schema.now) segment
+        (option_map (λ v. v.items) messages)) }
+    ensures fails { IfErr result FailsReading }
+{
+    match segment_piece(alloc, device, schema, place, segment) {
+        Ok(messages) => Ok(messages),
+        Err(refusal) => {
+            if is_of_segment(refusal) {
+                Ok(None)
+            } else {
+                Err(refusal)
+            }
+        }
+    }
+}
+
+fn write_bytes<W: Write>(writer: &mut W, bytes: &[u8]) -> Result<(), Refusal>
+    ensures written { OnOk result (Appends (W.contents writer.old) (W.contents writer.new) bytes.now) }
+    ensures fails { IfErr result (λ e. e ≡ Refusal.Write) }
+{
+    writer.write_all(bytes).map_err(|_| Refusal::Write)
+}
+
+// Writes the rows of the segment at a place, or counts it among those that are left out. One segment is in memory at a time.
+fn salvage_segment<D: SectorDevice, W: Write>(
+    alloc: Global,
+    device: &mut D,
+    schema: &Schema,
+    place: usize,
+    segment: Segment,
+    writer: &mut W,
+    left_out: &mut Vec<LeftOut>,
+) -> Result<(), Refusal>
+    requires size { is_size (D.size device.old) ≡ true }
+    requires placed { is_on_device (D.size device.old) segment.place.run ≡ true }
+    requires sound { is_segment segment ≡ true }
+    requires limits { IsWithinLimits (schema_of schema.now) }
+    ensures reads { OnlyReadsDevice D.size D.story D.failed D.tells (ended result) device.old device.new }
+    ensures salvaged { OnOk result (SalvagesOne D.tells (shown_image (now (D.story device.old))) (schema_of schema.now) place segment
+        (W.contents writer.old) (W.contents writer.new) (plain_left left_out.old.items) (plain_left left_out.new.items)) }
+    ensures fails { IfErr result BreaksOff }
+{
+    match messages_of(alloc, device, schema, place, segment) {
+        Ok(Some(messages)) => write_bytes(writer, &messages),
+        Ok(None) => match left_out.push(LeftOut {
+            place: place as u64,
+            rows: segment.rows,
+        }) {
+            Ok(()) => Ok(()),
+            Err(_) => Err(Refusal::OutOfMemory),
+        },
+        Err(refusal) => Err(refusal),
+    }
+}
+
+// Each segment, in order.
+fn salvage_segments<D: SectorDevice, W: Write>(
+    alloc: Global,
+    device: &mut D,
+    schema: &Schema,
+    segments: &[Segment],
+    writer: &mut W,
+) -> Result<Vec<LeftOut>, Refusal>
+    requires size { is_size (D.size device.old) ≡ true }
+    requires placed { all_on_device (D.size device.old) (runs_in segments.now) ≡ true }
+    requires sound { list_all is_segment segments.now ≡ true }
+    requires limits { IsWithinLimits (schema_of schema.now) }
+    ensures reads { OnlyReadsDevice D.size D.story D.failed D.tells (ended result) device.old device.new }
+    ensures salvaged { IfOk result (λ left. SalvagesEach D.tells (shown_image (now (D.story device.old))) (schema_of schema.now) segments.now
+        (W.contents writer.old) (W.contents writer.new) (plain_left left.items)) }
+    ensures fails { IfErr result BreaksOff }
+{
+    let mut left_out = Vec::new(alloc);
+    for (place, segment) in segments.iter().enumerate() {
+        match salvage_segment(
+            alloc,
+            device,
+            schema,
+            place,
+            *segment,
+            writer,
+            &mut left_out,
+        ) {
+            Ok(()) => {}
+            Err(refusal) => return Err(refusal),
+        }
+    }
+    Ok(left_out)
+}
+
+// The message of the schema.
+fn write_front<W: Write>(alloc: Global, schema: &Schema, writer: &mut W) -> Result<(), Refusal>
+    requires { IsWithinLimits (schema_of schema.now) }
+    ensures written { OnOk result (Appends (W.contents writer.old) (W.contents writer.new) (schema_message (schema_of schema.now))) }
+    ensures fails { IfErr result FailsWriting }
+{
+    let mut front = Vec::new(alloc);
+    match write_schema(alloc, &mut front, schema) {
+        Ok(()) => write_bytes(writer, &front),
+        Err(_) => Err(Refusal::OutOfMemory),
+    }
+}
+
+// The end of stream. All is flushed then.
+fn write_last<W: Write>(alloc: Global, writer: &mut W) -> Result<(), Refusal>
+    ensures written { OnOk result (Appends (W.contents writer.old) (W.contents writer.new) end_of_stream) }
+    ensures fails { IfErr result FailsWriting }
+{
+    let mut last = Vec::new(alloc);
+    match write_end(&mut last) {
+        Ok(()) => {
+            write_bytes(writer, &last)?;
+            writer.flush().map_err(|_| Refusal::Write)
+        }
+        Err(_) => Err(Refusal::OutOfMemory),
+    }
+}
+
+// The table of an entry.
+fn salvage_entry<D: SectorDevice, W: Write>(
+    alloc: Global,
+    device: &mut D,
+    entry: &TableEntry,
+    writer: &mut W,
+) -> Result<Vec<LeftOut>, Refusal>
+    requires size { is_size (D.size device.old) ≡ true }
+    requires placed { all_on_device (D.size device.old) (runs_in (plain_entry entry.now).segments) ≡ true }
+    requires sound { is_entry (plain_entry entry.now) ≡ true }
+    ensures reads { OnlyReadsDevice D.size D.story D.failed D.tells (ended result) device.old device.new }
+    ensures salvaged { IfOk result (λ left. Salvages D.tells (shown_image (now (D.story device.old))) (plain_entry entry.now)
+        (W.contents writer.old) (W.contents writer.new) (plain_left left.items)) }
+    ensures fails { IfErr result BreaksOff }
+{
+    match write_front(alloc, &entry.schema, writer) {
+        Ok(()) => match salvage_segments(alloc, device, &entry.schema, &entry.segments, writer) {
+            Ok(left_out) => match write_last(alloc, writer) {
+                Ok(()) => Ok(left_out),
+                Err(refusal) => Err(refusal),
+            },
+            Err(refusal) => Err(refusal),
+        },
+        Err(refusal) => Err(refusal),
+    }
+}
+
+impl<D: SectorDevice> Store<D> {
+    ghost use Rattle.std.specs.Prelude.{None};
+    ghost use Rattle.catalogue.specs.Edits.{entry_of};
+    ghost use Rattle.store.specs.Fits.{device_of, listed_in, is_halted};
+    ghost use Rattle.store.specs.Reading.{OnlyReadsStore};
+    ghost use Rattle.store.specs.Salvaging.{SalvagesAt, RefusesSalvage};
+
+    /// Writes the stream of all rows of a table that can be read, flushes, and gives the segments that are left out. It is for a table that is damaged: it
+    /// only reads, and holds one segment at a time. The stream of a table without damage means that table.
+    ///
+    /// # Errors
+    /// `Halted` after a failure of the device; `NoTable` where no table has the name; `Device`, after which the store is halted; `OutOfMemory`; `Write` where
+    /// the writer fails. After the last three some of the stream may be written.
+    pub fn salvage<W: Write>(
+        &mut self,
+        alloc: Global,
+        name: &str,
+        writer: &mut W,
+    ) -> Result<Vec<LeftOut>, Refusal>
+        // What is written are the rows of each segment that holds its own, as reads show them, and no others; each refusal has its one reason.
+        ensures salvaged { IfOk result (λ left. SalvagesAt (is_halted self.old) D.tells (shown_image (now (D.story (device_of self.old))))
+            (entry_of (listed_in self.old) name.now) (W.contents writer.old) (W.contents writer.new) (plain_left left.items)) }
+        ensures told { IfErr result (RefusesSalvage (is_halted self.old) (entry_of (listed_in self.old) name.now)) }
+        ensures halted { is_halted self.old ≡ true → writer.new ≡ writer.old }
+        ensures no_table { entry_of (listed_in self.old) name.now ≡ None → writer.new ≡ writer.old }
+        ensures reads { OnlyReadsStore D.size D.story D.failed D.tells (ended result) self.old self.new }
+    {
+        if self.halted {
+            return Err(Refusal::Halted);
+        }
+        let opened = &self.opened;
+        match opened.catalogue.list.get(name) {
+            Some(entry) => match salvage_entry(alloc, &mut self.device, entry, writer) {
+                Ok(left_out) => Ok(left_out),
+                Err(refusal) => {
+                    self.halted = is_failure(refusal);
+                    Err(refusal)
+                }
+            },
+            None => Err(Refusal::NoTable),
+        }
+    }
+}

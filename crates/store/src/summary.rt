@@ -1,0 +1,98 @@
+// A store in numbers.
+ghost use Rattle.std.specs.Prelude.{◌≡◌, ◌≤◌, ◌<◌, ◌^◌, sum_by};
+ghost use Rattle.segments.specs.Usages.{IsUsedIn};
+ghost use Rattle.commit.specs.Sector.{version_number};
+ghost use Rattle.store.specs.Summary.{IsLargest};
+
+use crate::Store;
+use commit::FormatVersion;
+use sector_dev::SectorDevice;
+use segments::{FreeMap, Run};
+use std::alloc::Global;
+use tables::Refusal;
+
+/// A store in numbers, of which those of sectors count 512 bytes each.
+#[derive(Clone, Copy)]
+pub struct Summary {
+    pub format_version: u32,
+    /// That of the commit that rules: each change of the tables has the next one.
+    pub epoch: u64,
+    /// All of the device.
+    pub sectors: u64,
+    /// Those of the two commits, of the catalogue and of the segments that it names.
+    pub used: u64,
+    /// The others. An export that is open may keep some of them.
+    pub free: u64,
+    /// Of the largest run that can be written.
+    pub largest_free_run: u64,
+    pub tables: u64,
+    pub segments: u64,
+}
+
+fn version_number(version: FormatVersion) -> u32
+    ensures { result ≡ version_number version }
+{
+    match version {
+        FormatVersion::One => 1,
+    }
+}
+
+fn sectors_of(runs: &[Run]) -> u64
+    requires { sum_by (λ r. r.count) runs.now < 2 ^ 64 }
+    ensures { result ≡ sum_by (λ r. r.count) runs.now }
+{
+    runs.iter().map(|run| run.count).sum()
+}
+
+// The largest number of sectors of which a free run is found, by halving what is in question.
+fn largest_free(map: &FreeMap, sectors: u64) -> u64
+    requires { map.now.size ≡ sectors }
+    ensures { IsLargest sectors (IsUsedIn map.now.entries) result }
+{
+    let mut some = 0;
+    let mut most = sectors;
+    while some < most {
+        let count = most - (most - some) / 2;
+        match map.find(count) {
+            Some(_) => some = count,
+            None => most = count - 1,
+        }
+    }
+    some
+}
+
+impl<D: SectorDevice> Store<D> {
+    ghost use Rattle.std.specs.Prelude.{◌≡◌, false, MatchResult};
+    ghost use Rattle.store.specs.Fits.{device_of, is_halted};
+    ghost use Rattle.store.specs.Listing.{RefusesTables};
+    ghost use Rattle.store.specs.Summary.{IsSummary};
+
+    /// The store in numbers. No call of the device is made.
+    ///
+    /// # Errors
+    /// `Halted` after a failure of the device; `OutOfMemory`.
+    pub fn summary(&self, alloc: Global) -> Result<Summary, Refusal>
+        ensures { MatchResult result
+            (λ summary. (is_halted self.now ≡ false) × IsSummary (D.size (device_of self.now)) self.now summary)
+            (λ e. RefusesTables (is_halted self.now) e) }
+    {
+        if self.halted {
+            return Err(Refusal::Halted);
+        }
+        let opened = &self.opened;
+        let list = &opened.catalogue.list;
+        let runs = list.runs(alloc)?;
+        let sectors = self.device.sectors();
+        let used = 2 + opened.commit.catalogue.run.count + sectors_of(&runs);
+        Ok(Summary {
+            format_version: version_number(opened.commit.version),
+            epoch: opened.commit.epoch,
+            sectors,
+            used,
+            free: sectors - used,
+            largest_free_run: largest_free(&opened.map, sectors),
+            tables: list.len() as u64,
+            segments: list.segment_count(),
+        })
+    }
+}
