@@ -55,9 +55,13 @@ pub enum OpenCommand<'a> {
     /// Whether all tables can be read.
     Check,
     /// The store in numbers, as lines or as JSON.
-    Info { as_json: bool },
+    Info {
+        as_json: bool,
+    },
     /// Steps of a compaction until there is nothing to do.
     Compact,
+    /// A digest for each segment.
+    Upgrade,
 }
 
 fn create(alloc: Global, name: &str, fields: &[&str]) -> Result<Command, Refusal>
@@ -145,5 +149,6 @@ pub fn stated<'a>(alloc: Global, command: &StoreCommand<'a>) -> Result<OpenComma
         StoreCommand::Check => Ok(OpenCommand::Check),
         StoreCommand::Info { as_json } => Ok(OpenCommand::Info { as_json: *as_json }),
         StoreCommand::Compact => Ok(OpenCommand::Compact),
+        StoreCommand::Upgrade => Ok(OpenCommand::Upgrade),
     }
 }

@@ -11,7 +11,7 @@ use std::io::{Read, Write};
 use store::Store;
 use store_commands::{
     append_input, append_text, apply_command, check_tables, compact_tables, export_table,
-    import_input, print_schema, print_selection, print_summary, print_tables,
+    import_input, print_schema, print_selection, print_summary, print_tables, upgrade_store,
 };
 use text_import::RefusedPart;
 
@@ -51,5 +51,6 @@ pub fn serve_open<D: SectorDevice, R: Read, W: Write>(
         OpenCommand::Check => check_tables(alloc, store, output),
         OpenCommand::Info { as_json } => print_summary(alloc, store, as_json, output),
         OpenCommand::Compact => compact_tables(alloc, store, output),
+        OpenCommand::Upgrade => upgrade_store(alloc, store, output),
     }
 }

@@ -10,7 +10,7 @@ ghost use Rattle.store.specs.Exported.{AreExportable, exportable_prop};
 
 use crate::OpeningRefusal;
 use crate::opening_refusal::opening_refusal;
-use commit::{Opened, recover};
+use commit::{FormatVersion, Opened, recover};
 use export_book::ExportBook;
 use pages::StoredCatalogue;
 use sector_dev::SectorDevice;
@@ -41,7 +41,7 @@ impl<D: SectorDevice> Store<D> {
     ghost use Rattle.tables.specs.Tables.{Tables};
     ghost use Rattle.store.specs.Calls.{open_call, shut_by, counted};
     ghost use Rattle.store.specs.Machine.{Machine};
-    ghost use Rattle.store.specs.Fits.{DeviceFits, FindsStore, Opens, Shuts, device_of, is_halted};
+    ghost use Rattle.store.specs.Fits.{DeviceFits, FindsStore, Opens, Shuts, commit_of, device_of, is_halted};
     ghost use Rattle.pages.specs.Stored.{stored_reading};
     ghost use Rattle.store.specs.Opening.{TellsOpening};
 
@@ -83,6 +83,13 @@ impl<D: SectorDevice> Store<D> {
             }),
             Err(error) => Err((opening_refusal(error), device)),
         }
+    }
+
+    /// The version of the format that it is kept in.
+    pub fn version(&self) -> FormatVersion
+        ensures { result ≡ (commit_of self.now).version }
+    {
+        self.opened.commit.version
     }
 
     /// Closes the store, also one that is halted. No call of the device is made.

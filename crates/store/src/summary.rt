@@ -34,6 +34,7 @@ fn version_number(version: FormatVersion) -> u32
 {
     match version {
         FormatVersion::One => 1,
+        FormatVersion::Two => 2,
     }
 }
 

@@ -2,7 +2,7 @@
 //!
 //! [`apply_command`], [`import_input`], [`append_input`] and [`append_text`] change its tables; [`print_tables`],
 //! [`print_schema`], [`print_selection`], [`print_summary`], [`export_table`] and [`check_tables`] read them; [`compact_tables`] moves their rows together,
-//! and [`copy_tables`] copies all into another store. Their contracts say which bytes are taken and given, and what became of the store.
+//! [`upgrade_store`] gives their segments digests, and [`copy_tables`] copies all into another store. Their contracts say which bytes are taken and given, and what became of the store.
 //! [`recode`] reads a stream and writes its canonical form.
 //!
 //! ```
@@ -22,6 +22,7 @@ mod selecting;
 mod stream;
 mod summing;
 mod text_rows;
+mod upgrading;
 
 pub use changing::{append_input, apply_command, import_input};
 pub use compacting::compact_tables;
@@ -34,3 +35,4 @@ pub use selecting::{print_selection, query_of};
 pub use stream::recode;
 pub use summing::print_summary;
 pub use text_rows::append_text;
+pub use upgrading::upgrade_store;

@@ -15,7 +15,7 @@ use Rattle.clap.specs.declared.error.kind.ErrorKind.TheVariants.{OutOfMemory}
 use Rattle.store_requests.specs.declared.store_command_line.Parameters.{Parameters}
 use Rattle.store_requests.specs.declared.store_command_line.Parameters.TheVariants as parameters
 use Rattle.store_requests.specs.Choices.{IsChoice}
-use Rattle.store_requests.specs.Operands.{names_file, names_table, number_of}
+use Rattle.store_requests.specs.Operands.{names_file, names_table, number_of, version_named}
 use Rattle.store_requests.specs.declared.store_command_line.Mistake.{Mistake}
 use Rattle.store_requests.specs.declared.store_command_line.Mistake.TheVariants as mistakes
 use Rattle.store_requests.specs.declared.store_words.QueryWords.{QueryWords}
@@ -42,9 +42,21 @@ json_rule = record (new_rule (codes "json")) { long = Some (codes "json"); actio
 abbrev pub info_app : Text → App
 info_app name = with_rule (store_app name) json_rule
 
--- one that takes how many sectors the store has, and one that names a new file before
+-- an option with a value
+abbrev pub option_rule : Text → Rule
+option_rule id = record (new_rule id) { long = Some id; value_names = 1 }
+
+-- an option with a number of 64 bits
+abbrev pub number_rule : Text → Rule
+number_rule id = record (option_rule id) { parser = Some (parsers.Unsigned 0 18446744073709551615) }
+
+-- the version of a store that is made
+abbrev pub version_rule : Rule
+version_rule = record (option_rule (codes "format-version")) { parser = Some (parsers.Unsigned 1 2) }
+
+-- one that takes how many sectors the store has and its version, and one that names a new file before the sectors
 abbrev pub format_app : Text → App
-format_app name = with_rule (store_app name) sectors_rule
+format_app name = with_rule (with_rule (store_app name) sectors_rule) version_rule
 
 abbrev pub new_file_app : Text → App
 new_file_app name = with_rule (store_app name) (required_rule (codes "NEW"))
@@ -62,10 +74,6 @@ rename_app name = with_rule (table_app name) (required_rule (codes "NEW"))
 -- a word that may stand any number of times
 abbrev pub repeated_rule : Text → Rule
 repeated_rule id = record (new_rule id) { range = Some (record { start_inclusive = 0; end_inclusive = usize_max }) }
-
--- an option with a value
-abbrev pub option_rule : Text → Rule
-option_rule id = record (new_rule id) { long = Some id; value_names = 1 }
 
 -- a command that takes the fields of a new table
 abbrev pub create_app : Text → App
@@ -97,9 +105,6 @@ query_app name = with_rule (with_rule (with_rule (with_rule (conditions_app name
     objects_rule
 
 -- a script, and what goes wrong while it is played
-abbrev pub number_rule : Text → Rule
-number_rule id = record (option_rule id) { parser = Some (parsers.Unsigned 0 18446744073709551615) }
-
 abbrev pub size_rule : Rule
 size_rule = record (number_rule (codes "sectors")) { required = true }
 
@@ -110,7 +115,8 @@ abbrev pub script_app : Text → App
 script_app name = with_rule (new_app name) (required_rule (codes "SCRIPT"))
 
 abbrev pub replay_app : Text → App
-replay_app name = with_rule (with_rule (with_rule (with_rule (script_app name) size_rule) (number_rule (codes "fail"))) (number_rule (codes "stop"))) choice_rule
+replay_app name = with_rule (with_rule (with_rule (with_rule (with_rule (script_app name) size_rule) (number_rule (codes "fail"))) (number_rule (codes "stop"))) choice_rule)
+    version_rule
 
 -- the forms of an input
 pub record AreForms (forms : ValueParser) : Type 0 where
@@ -190,13 +196,15 @@ HasNames found _ = Unit {0}
 
 abbrev pub HasFound : Found → StoreRequest → Type 0
 HasFound found (requests.Command path command) = (path.now ≡ value_of found (codes "STORE")) × HasNames found command
-HasFound found (requests.Format path sectors) = (path.now ≡ value_of found (codes "STORE")) × (sectors ≡ number_of (value_of found (codes "SECTORS")))
+HasFound found (requests.Format path sectors version) =
+    (path.now ≡ value_of found (codes "STORE")) × (sectors ≡ number_of (value_of found (codes "SECTORS")))
+    × (version ≡ version_named (first_value found (codes "format-version")))
 HasFound found (requests.Copy path new sectors) =
     (path.now ≡ value_of found (codes "STORE")) × (new.now ≡ value_of found (codes "NEW")) × (sectors ≡ number_of (value_of found (codes "SECTORS")))
 HasFound found (requests.Replay words) =
     (words.script.now ≡ value_of found (codes "SCRIPT")) × (words.sectors ≡ number_of (value_of found (codes "sectors")))
     × (words.fail ≡ number_of (value_of found (codes "fail"))) × (words.stop ≡ number_of (value_of found (codes "stop")))
-    × IsChoice (value_of found (codes "choice")) words.choice
+    × IsChoice (value_of found (codes "choice")) words.choice × (words.version ≡ version_named (first_value found (codes "format-version")))
 
 -- memory was refused
 abbrev pub IsOfMemory : Mistake → Type 0

@@ -57,6 +57,10 @@ pub returns-in-Info-clause-reads : goal.returns-in-Info-clause-reads
 unfolding takes_input_word
 returns-in-Info-clause-reads c = rw c.in-Info.is refl
 
+pub returns-in-Upgrade-clause-reads : goal.returns-in-Upgrade-clause-reads
+unfolding takes_input_word
+returns-in-Upgrade-clause-reads c = rw c.in-Upgrade.is refl
+
 pub returns-in-Compact-clause-reads : goal.returns-in-Compact-clause-reads
 unfolding takes_input_word
 returns-in-Compact-clause-reads c = rw c.in-Compact.is refl
@@ -94,6 +98,10 @@ returns-in-Check-clause-stated c = rw c.in-Check.is tt
 pub returns-in-Info-clause-stated : goal.returns-in-Info-clause-stated
 unfolding States
 returns-in-Info-clause-stated c = rw c.in-Info.is refl
+
+pub returns-in-Upgrade-clause-stated : goal.returns-in-Upgrade-clause-stated
+unfolding States
+returns-in-Upgrade-clause-stated c = rw c.in-Upgrade.is tt
 
 pub returns-in-Compact-clause-stated : goal.returns-in-Compact-clause-stated
 unfolding States

@@ -90,3 +90,11 @@ returns-in-Compact-clause-serves g c =
     let new = c.compact_tables.new in
     serves_as g.R.Read.remaining g.W.Write.contents c.args.command opened.Compact c.args.store.now new.store (channels c.args.input.now c.args.output.now c.args.hint.now)
     (channels c.args.input.now new.output c.args.hint.now) c.compact_tables.result c.in-Compact.is (c.compact_tables.ensures.compacts, refl)
+
+pub returns-in-Upgrade-clause-serves : goal.returns-in-Upgrade-clause-serves
+unfolding Serves
+returns-in-Upgrade-clause-serves g c =
+    let e = c.upgrade_store.ensures in
+    let new = c.upgrade_store.new in
+    serves_as g.R.Read.remaining g.W.Write.contents c.args.command opened.Upgrade c.args.store.now new.store (channels c.args.input.now c.args.output.now c.args.hint.now)
+    (channels c.args.input.now new.output c.args.hint.now) c.upgrade_store.result c.in-Upgrade.is (record { goes = e.goes; told = e.told; written = e.written; unhinted = refl })
