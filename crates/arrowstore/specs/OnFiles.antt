@@ -12,8 +12,8 @@ use Rattle.sector_dev.specs.declared.file.TheConstants.{LEAST_SECTORS, MOST_SECT
 use Rattle.commit.specs.Standing.{is_size}
 use Rattle.text_import.specs.declared.part.RefusedPart.{RefusedPart}
 use Rattle.store.specs.declared.store.Store.{Store}
-use Rattle.commit.specs.declared.sector.FormatVersion.TheVariants.{One}
-use Rattle.store.specs.Fits.{device_of, IsNewStore}
+use Rattle.commit.specs.declared.sector.FormatVersion.{FormatVersion}
+use Rattle.store.specs.Fits.{commit_of, device_of, IsNewStore}
 use Rattle.store.specs.Answering.{LeavesUnformatted}
 use Rattle.command_refusals.specs.declared.refusal.Refusal.{Refusal}
 use Rattle.command_refusals.specs.declared.refusal.Refusal.TheVariants as refusals
@@ -89,20 +89,20 @@ RefusesFormat g sectors refusals.BadSize = ¬ ((LEAST_SECTORS ≤ sectors) × (s
 RefusesFormat g sectors (refusals.Opening r) = (is_size sectors ≡ true) × FailsToFormat g sectors (refusals.Opening r)
 RefusesFormat g sectors _ = ⊥
 
--- an empty store of this number of sectors was made on a device, in version 1, and `ok` is written
-pub record MakesStore {D : Type 0} (g : Ghosts D) {W : Type 0} (contents : W → Option (List ℕ)) (sectors : ℕ) (output output' : W)
+-- an empty store of this number of sectors was made on a device, in this version, and `ok` is written
+pub record MakesStore {D : Type 0} (g : Ghosts D) {W : Type 0} (contents : W → Option (List ℕ)) (sectors : ℕ) (version : FormatVersion) (output output' : W)
     (result : Result (Unit {0}) Refusal) : Type 0 where
   pub store : Store D g
-  pub made : IsNewStore sectors One store
+  pub made : IsNewStore sectors version store
   pub size : g.size (device_of store) ≡ sectors
   pub written : OnOk result (Appends (contents output) (contents output') (codes "ok\n"))
   pub failed : IfErr result (λ refusal. refusal ≡ refusals.Io)
 
 -- or why not, and then nothing is written
-abbrev pub Formats : {D : Type 0} → (g : Ghosts D) → {W : Type 0} → (contents : W → Option (List ℕ)) → (sectors : ℕ) → (output output' : W)
+abbrev pub Formats : {D : Type 0} → (g : Ghosts D) → {W : Type 0} → (contents : W → Option (List ℕ)) → (sectors : ℕ) → FormatVersion → (output output' : W)
     → Result (Unit {0}) Refusal → Type 0
-Formats g contents sectors output output' result =
-    IsErrAnd result (λ refusal. RefusesFormat g sectors refusal × (output' ≡ output)) ⊎ MakesStore g contents sectors output output' result
+Formats g contents sectors version output output' result =
+    IsErrAnd result (λ refusal. RefusesFormat g sectors refusal × (output' ≡ output)) ⊎ MakesStore g contents sectors version output output' result
 
 -- ---- a copy of the store of a file, in a new file
 
@@ -116,10 +116,10 @@ pub record OpensStore {D : Type 0} (g : Ghosts D) (is_opened : D → Type 0) (st
 abbrev pub FailsToOpen : {D : Type 0} → (g : Ghosts D) → (is_opened : D → Type 0) → Refusal → Type 0
 FailsToOpen {D} g is_opened refusal = IsOfFile refusal ⊎ ((device : D) × is_opened device × ((back : D) × RefusesOpening g device back refusal))
 
--- a new store of this number of sectors was made, and the tables of another one were copied into it, which was answered so
+-- a new store of this number of sectors was made in the version of another one, and the tables of that one were copied into it, which was answered so
 pub record CopiesInto {D : Type 0} (g : Ghosts D) (sectors : ℕ) (from : Store D g) (answer : Result (Unit {0}) tables.Refusal) : Type 0 where
   pub made : Store D g
-  pub new : IsNewStore sectors One made
+  pub new : IsNewStore sectors (commit_of from).version made
   pub size : g.size (device_of made) ≡ sectors
   pub after_it : Store D g
   pub full : Store D g
@@ -164,8 +164,8 @@ Replays g of_file of_none contents words output output' result =
 abbrev pub ServesRequest : {D : Type 0} → (g : Ghosts D) → (is_opened : D → Type 0) → {R W : Type 0} → (remaining : R → Option (List ℕ))
     → (contents : W → Option (List ℕ)) → (replays : ReplayWords → W → W → Result (Unit {0}) Refusal → Type 0) → StoreRequest → (before after : Channels R W)
     → Result (Unit {0}) Refusal → Type 0
-ServesRequest g is_opened remaining contents replays (requests.Format path sectors) before after result =
-    Formats g contents sectors before.output after.output result × (after.hint ≡ before.hint)
+ServesRequest g is_opened remaining contents replays (requests.Format path sectors version) before after result =
+    Formats g contents sectors version before.output after.output result × (after.hint ≡ before.hint)
 ServesRequest g is_opened remaining contents replays (requests.Copy path new sectors) before after result =
     CopiesStore g is_opened contents sectors before.output after.output result × (after.hint ≡ before.hint)
 ServesRequest g is_opened remaining contents replays (requests.Replay words) before after result =

@@ -44,7 +44,9 @@ States words.Tables opened.Tables = Unit {0}
 States (words.Schema name) (opened.Schema n) = n.now ≡ name.now
 States (words.Export name) (opened.Export n) = n.now ≡ name.now
 States words.Check opened.Check = Unit {0}
+States (words.Info as_json) (opened.Info j) = j ≡ as_json
 States words.Compact opened.Compact = Unit {0}
+States words.Upgrade opened.Upgrade = Unit {0}
 States _ _ = ⊥
 
 -- why the words state no command: the texts of fields or of conditions are refused, or memory is, where the command owns its names

@@ -18,17 +18,21 @@ use Rattle.tables.specs.declared.refusal.Refusal as tables
 use Rattle.tables.specs.declared.refusal.Refusal.TheVariants.{BadName, NoTable}
 use Rattle.store.specs.declared.store.Store.{Store}
 use Rattle.store.specs.Applying.{GoesOn}
-use Rattle.store.specs.Calls.{apply_call}
+use Rattle.store.specs.Calls.{apply_call, upgrade_call}
 use Rattle.store.specs.Deciding.{has_entry}
 use Rattle.store.specs.Fits.{StoreFits, device_of, is_halted, listed_in}
 use Rattle.store.specs.Listing.{RefusesTables, RefusesSchema}
 use Rattle.store.specs.Machine.{Machine}
 use Rattle.store.specs.Reading.{ReadsTable, RefusesRead, OnlyReadsStore, ended}
+use Rattle.store.specs.Summary.{IsSummary}
+use Rattle.store.specs.Upgrading.{upgrade_ended}
+use Rattle.store.specs.declared.summary.Summary.{Summary}
 use Rattle.command_refusals.specs.declared.refusal.Refusal.{Refusal}
 use Rattle.command_refusals.specs.declared.refusal.Refusal.TheVariants.{Io}
 use Rattle.store_commands.specs.Changing.{Answered, AnswersCommand, AnswersInput}
 use Rattle.store_commands.specs.Compacting.{Compacts}
-use Rattle.store_commands.specs.Printed.{tables_text, schema_text, RefusesPrinting}
+use Rattle.store_commands.specs.Upgrading.{AnsweredUpgrade, AnswersUpgrade}
+use Rattle.store_commands.specs.Printed.{tables_text, schema_text, summary_text, RefusesPrinting}
 use Rattle.store_commands.specs.Reading.{OfStore, store_ended, IsReadable, RefusesCheck}
 use Rattle.store_commands.specs.Selecting.{rows_text, QueryAnswers, RefusesQuery}
 use Rattle.store_commands.specs.TextRows.{HandsRows, RefusesText, IfOfText, IfHinted}
@@ -50,6 +54,15 @@ pub record Carries {D : Type 0} {g : Ghosts D} {R W : Type 0} (contents : W → 
   pub goes : g.tells ≡ true → (base : Tables) (m : Machine) → StoreFits g.size g.story base m old
       → Answered (λ answer. GoesOn g.size g.story g.failed base m (apply_call command) (ended answer) old new) result
   pub told : Answered (λ answer. AnswersCommand g.size g.story g.tells command answer old new) result
+  pub written : OnOk result (Appends (contents before.output) (contents after.output) (codes "ok\n"))
+  pub unhinted : after.hint ≡ before.hint
+
+-- so is an upgrade (`upgrade_store`)
+pub record Upgrades {D : Type 0} {g : Ghosts D} {R W : Type 0} (contents : W → Option (List ℕ)) (old new : Store D g) (before after : Channels R W)
+    (result : Result (Unit {0}) Refusal) : Type 0 where
+  pub goes : g.tells ≡ true → (base : Tables) (m : Machine) → StoreFits g.size g.story base m old
+      → AnsweredUpgrade (λ answer. GoesOn g.size g.story g.failed base m upgrade_call (upgrade_ended answer) old new) result
+  pub told : AnsweredUpgrade (λ answer. AnswersUpgrade g.size g.story g.tells answer old new) result
   pub written : OnOk result (Appends (contents before.output) (contents after.output) (codes "ok\n"))
   pub unhinted : after.hint ≡ before.hint
 
@@ -75,7 +88,8 @@ pub record CarriesText {D : Type 0} {g : Ghosts D} {R W : Type 0} (contents : W 
   pub hinted : IfHinted after.hint form (entry_of (listed_in old) name) input result
   pub written : OnOk result (Appends (contents before.output) (contents after.output) (codes "ok\n"))
 
--- what is printed of a store, why nothing is, and what becomes of the store (`print_tables`, `print_schema`, `print_selection`, `export_table`, `check_tables`)
+-- what is printed of a store, why nothing is, and what becomes of the store (`print_tables`, `print_schema`, `print_selection`, `print_summary`, `export_table`,
+-- `check_tables`)
 pub record Prints {R W : Type 0} (printed : Type 0) (refuses : Refusal → Type 0) (left : Type 0) (before after : Channels R W)
     (result : Result (Unit {0}) Refusal) : Type 0 where
   pub written : OnOk result printed
@@ -130,5 +144,9 @@ Serves {g = g} remaining contents opened.Check old new before after result =
     Prints (Appends (contents before.output) (contents after.output) (codes "ok\n") × AreReadable old)
     (OfStore (λ refusal. g.tells ≡ true → RefusesCheck (is_halted old) (image_of old) (listed_in old) refusal) (AreReadable old))
     (OnlyRead result old new) before after result
+Serves {g = g} remaining contents (opened.Info as_json) old new before after result =
+    Prints ((s : Summary) × IsSummary (g.size (device_of old)) old s × Appends (contents before.output) (contents after.output) (summary_text as_json s))
+    (RefusesPrinting (RefusesTables (is_halted old)) (is_halted old ≡ false)) (new ≡ old) before after result
 Serves remaining contents opened.Compact old new before after result =
     Compacts contents old new before.output after.output result × (after.hint ≡ before.hint)
+Serves remaining contents opened.Upgrade old new before after result = Upgrades contents old new before after result

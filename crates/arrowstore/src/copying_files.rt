@@ -27,7 +27,7 @@ fn open_to_read<
     }
 }
 
-// All tables of a store, in a store in a new file. Where that is refused, no file is left, unless the system refuses to remove it too.
+// All tables of a store, in a store of its version in a new file. Where that is refused, no file is left, unless the system refuses to remove it too.
 fn copy_into_file<
     F: Read + Write + Seek + OpenFile + LockFile + Drop,
     H: Files<File = F> + AllocGlobal,
@@ -35,7 +35,8 @@ fn copy_into_file<
     ensures copied { OnOk result (CopiesInto ⟦<FileDevice<F> as SectorDevice>⟧ sectors from.old (Ok tt)) }
     ensures refused { IfErr result (FailsToCopy ⟦<FileDevice<F> as SectorDevice>⟧ sectors from.old) }
 {
-    let mut to = format_file(rt, path, sectors)?;
+    let version = from.version();
+    let mut to = format_file(rt, path, sectors, version)?;
     match copy_tables(rt.alloc(), from, &mut to) {
         Ok(()) => Ok(()),
         // It is removed while the device still has it locked: nobody else has put anything into it.
@@ -46,7 +47,8 @@ fn copy_into_file<
     }
 }
 
-/// Makes a store of `sectors` sectors of 512 bytes in a new file, copies all tables of the store in another file into it, and writes `ok`.
+/// Makes a store of `sectors` sectors of 512 bytes in a new file, in the version of the store in another file, copies all tables of that one into it, and
+/// writes `ok`.
 pub(crate) fn serve_copy<
     F: Read + Write + Seek + OpenFile + LockFile + Drop,
     H: Files<File = F> + AllocGlobal,

@@ -54,8 +54,14 @@ pub enum OpenCommand<'a> {
     },
     /// Whether all tables can be read.
     Check,
+    /// The store in numbers, as lines or as JSON.
+    Info {
+        as_json: bool,
+    },
     /// Steps of a compaction until there is nothing to do.
     Compact,
+    /// A digest for each segment.
+    Upgrade,
 }
 
 fn create(alloc: Global, name: &str, fields: &[&str]) -> Result<Command, Refusal>
@@ -141,6 +147,8 @@ pub fn stated<'a>(alloc: Global, command: &StoreCommand<'a>) -> Result<OpenComma
         StoreCommand::Schema { name } => Ok(OpenCommand::Schema { name }),
         StoreCommand::Export { name } => Ok(OpenCommand::Export { name }),
         StoreCommand::Check => Ok(OpenCommand::Check),
+        StoreCommand::Info { as_json } => Ok(OpenCommand::Info { as_json: *as_json }),
         StoreCommand::Compact => Ok(OpenCommand::Compact),
+        StoreCommand::Upgrade => Ok(OpenCommand::Upgrade),
     }
 }

@@ -24,5 +24,12 @@ pub(crate) fn serve_replay<F: Read + OpenFile + Drop, H: Files<File = F> + Alloc
         stop: words.stop,
         choice: words.choice,
     };
-    replay(rt, words.script, words.sectors, faults, output)
+    replay(
+        rt,
+        words.script,
+        words.sectors,
+        words.version,
+        faults,
+        output,
+    )
 }

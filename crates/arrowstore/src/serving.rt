@@ -1,6 +1,5 @@
 // The commands of a store, on its file.
 ghost use Rattle.std.specs.Prelude.{◌≡◌, ◌≢◌, ◌⊎◌, true, IfOk, IfErr};
-ghost use Rattle.commit.specs.declared.sector.FormatVersion.TheVariants.{One};
 ghost use Rattle.store.specs.Fits.{device_of, IsNewStore};
 ghost use Rattle.store_requests.specs.Asked.{command_word, request_word};
 ghost use Rattle.store_requests.specs.StoreWords.{takes_input_word};
@@ -12,6 +11,7 @@ use crate::open_command::stated;
 use crate::replaying::serve_replay;
 use crate::serving_device::serve_device;
 use command_refusals::{Refusal, write_whole};
+use commit::FormatVersion;
 use sector_dev::{FileDevice, FileError, LockFile, ModelDevice, SectorDevice};
 use std::alloc::Global;
 use std::fs::{self, OpenFile};
@@ -22,12 +22,16 @@ use store_requests::{StoreCommand, StoreRequest};
 use text_import::RefusedPart;
 
 // An empty store on a device, or why not, with the device.
-fn format_on<D: SectorDevice + Drop>(alloc: Global, device: D) -> Result<Store<D>, (Refusal, D)>
-    ensures made { IfOk result (IsNewStore (D.size device) One) }
+fn format_on<D: SectorDevice + Drop>(
+    alloc: Global,
+    device: D,
+    version: FormatVersion,
+) -> Result<Store<D>, (Refusal, D)>
+    ensures made { IfOk result (IsNewStore (D.size device) version) }
     ensures size { IfOk result (λ store. D.size (device_of store) ≡ D.size device) }
     ensures refused { IfErr result (λ e. FailsToFormat ⟦<D as SectorDevice>⟧ (D.size device) e.0) }
 {
-    match Store::format(alloc, device) {
+    match Store::format_version(alloc, device, version) {
         Ok(store) => Ok(store),
         Err((refusal, back)) => Err((Refusal::Opening(refusal), back)),
     }
@@ -63,13 +67,13 @@ fn device_of<F: Read + Write + Seek + OpenFile + LockFile + Drop, H: Files<File 
 pub(crate) fn format_file<
     F: Read + Write + Seek + OpenFile + LockFile + Drop,
     H: Files<File = F> + AllocGlobal,
->(rt: &H, path: &str, sectors: u64) -> Result<Store<FileDevice<F>>, Refusal>
-    ensures made { IfOk result (IsNewStore sectors One) }
+>(rt: &H, path: &str, sectors: u64, version: FormatVersion) -> Result<Store<FileDevice<F>>, Refusal>
+    ensures made { IfOk result (IsNewStore sectors version) }
     ensures size { IfOk result (λ store. ⟦<FileDevice<F> as SectorDevice>⟧.size (device_of store) ≡ sectors) }
     ensures refused { IfErr result (RefusesFormat ⟦<FileDevice<F> as SectorDevice>⟧ sectors) }
 {
     let device = FileDevice::create(rt, path, sectors)?;
-    match format_on(rt.alloc(), device) {
+    match format_on(rt.alloc(), device, version) {
         Ok(store) => Ok(store),
         // It is removed while the device still has it locked: nobody else has put anything into it.
         Err((refusal, _device)) => {
@@ -83,12 +87,12 @@ fn serve_format<
     F: Read + Write + Seek + OpenFile + LockFile + Drop,
     H: Files<File = F> + AllocGlobal,
     W: Write,
->(rt: &H, path: &str, sectors: u64, output: &mut W) -> Result<(), Refusal>
-    ensures formats { Formats ⟦<FileDevice<F> as SectorDevice>⟧ W.contents sectors output.old output.new result }
+>(rt: &H, path: &str, sectors: u64, version: FormatVersion, output: &mut W) -> Result<(), Refusal>
+    ensures formats { Formats ⟦<FileDevice<F> as SectorDevice>⟧ W.contents sectors version output.old output.new result }
     ensures silent { IfErr result (λ refusal. refusal ≢ Refusal.Io → output.new ≡ output.old) }
 {
     let _places = take_places_of_streams(rt)?;
-    let _store = format_file(rt, path, sectors)?;
+    let _store = format_file(rt, path, sectors, version)?;
     write_whole(output, b"ok\n")
 }
 
@@ -140,7 +144,11 @@ pub(crate) fn serve<
     ensures silent { IfErr result (λ refusal. refusal ≢ Refusal.Io → output.new ≡ output.old) }
 {
     match request {
-        StoreRequest::Format { path, sectors } => serve_format(rt, path, *sectors, output),
+        StoreRequest::Format {
+            path,
+            sectors,
+            version,
+        } => serve_format(rt, path, *sectors, *version, output),
         StoreRequest::Copy { path, new, sectors } => serve_copy(rt, path, new, *sectors, output),
         StoreRequest::Replay(words) => serve_replay(rt, words, output),
         StoreRequest::Command { path, command } => {

@@ -11,7 +11,7 @@ use std::io::{Read, Write};
 use store::Store;
 use store_commands::{
     append_input, append_text, apply_command, check_tables, compact_tables, export_table,
-    import_input, print_schema, print_selection, print_tables,
+    import_input, print_schema, print_selection, print_summary, print_tables, upgrade_store,
 };
 use text_import::RefusedPart;
 
@@ -49,6 +49,8 @@ pub fn serve_open<D: SectorDevice, R: Read, W: Write>(
         OpenCommand::Schema { name } => print_schema(alloc, store, name, output),
         OpenCommand::Export { name } => export_table(alloc, store, name, output),
         OpenCommand::Check => check_tables(alloc, store, output),
+        OpenCommand::Info { as_json } => print_summary(alloc, store, as_json, output),
         OpenCommand::Compact => compact_tables(alloc, store, output),
+        OpenCommand::Upgrade => upgrade_store(alloc, store, output),
     }
 }

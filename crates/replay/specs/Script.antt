@@ -17,6 +17,7 @@ pub data PlainLine : Type 0 where
   rename : (from to : List ℕ) → PlainLine
   drop : (name : List ℕ) → PlainLine
   compact : PlainLine
+  upgrade : PlainLine
   reopen : PlainLine
 
 -- the last part is empty
@@ -34,7 +35,10 @@ words_of line = let words = slice_split (λ b. b == 32) line in if list_all is_u
 -- ---- what words ask for
 
 unfoldable pub alone : List ℕ → Option PlainLine
-alone word = if bytes_eq (codes "compact") word then Some compact else if bytes_eq (codes "reopen") word then Some reopen else None
+alone word =
+    if bytes_eq (codes "compact") word then Some compact
+    else if bytes_eq (codes "upgrade") word then Some upgrade
+    else if bytes_eq (codes "reopen") word then Some reopen else None
 
 unfoldable pub with_name : List ℕ → List ℕ → Option PlainLine
 with_name word name = if bytes_eq (codes "drop") word then Some (drop name) else None

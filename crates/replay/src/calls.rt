@@ -65,6 +65,7 @@ fn call_of<F: Read + OpenFile + Drop, H: Files<File = F> + AllocGlobal>(
         ScriptLine::Rename { from, to } => rename(rt.alloc(), from, to)?,
         ScriptLine::Drop { name } => drop_table(rt.alloc(), name)?,
         ScriptLine::Compact => return Ok(Call::Compact),
+        ScriptLine::Upgrade => return Ok(Call::Upgrade),
         ScriptLine::Reopen => return Ok(Call::Open),
     };
     Ok(Call::Apply(command))

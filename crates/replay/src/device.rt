@@ -16,14 +16,19 @@ ghost use Rattle.store.specs.declared.call.Call.TheVariants as calls;
 
 use crate::playing::push_refusal;
 use command_refusals::Refusal;
+use commit::FormatVersion;
 use sector_dev::{Choice, ModelDevice, SectorDevice};
 use std::alloc::{AllocError, Global};
 use std::io::{Empty, Read};
 use store::{Call, Place, Reply, Store, answer, devices_fit, left_devices_fit};
 use store_commands::lines_of_tables;
 
-/// A device of so many sectors on which an empty store stands. No call of it is to fail.
-pub(crate) fn empty_store(alloc: Global, sectors: u64) -> Result<ModelDevice, Refusal>
+/// A device of `sectors` sectors on which an empty store of this version stands. No call of it is to fail.
+pub(crate) fn empty_store(
+    alloc: Global,
+    sectors: u64,
+    version: FormatVersion,
+) -> Result<ModelDevice, Refusal>
     ensures empty { IfOk result (IsEmptyStore sectors) }
     ensures faults { IfOk result (λ device. faults_of device ≡ no_faults) }
     ensures in_limits { OnOk result (is_size sectors ≡ true) }
@@ -31,7 +36,7 @@ pub(crate) fn empty_store(alloc: Global, sectors: u64) -> Result<ModelDevice, Re
 {
     let device = ModelDevice::new(alloc, sectors)?;
     devices_fit(&device);
-    match Store::format(alloc, device) {
+    match Store::format_version(alloc, device, version) {
         Ok(store) => {
             let formatted = store.close();
             let left = formatted.crash(Choice::New)?;

@@ -13,6 +13,7 @@ use crate::files::read_script;
 use crate::playing::{lines_of_replies, play};
 use crate::{ScriptError, ScriptLine, parse_script};
 use command_refusals::{Refusal, write_whole};
+use commit::FormatVersion;
 use sector_dev::{Choice, ModelDevice, SectorDevice};
 use std::alloc::{AllocError, Global};
 use std::fs::OpenFile;
@@ -78,7 +79,7 @@ fn lines_of(alloc: Global, script: &[u8]) -> Result<Vec<ScriptLine<'_>>, Refusal
     }
 }
 
-/// Plays the script at a path on a device in memory of so many sectors, and prints what its lines answer, whether the device stopped, and which tables a
+/// Plays the script at a path on a device in memory of `sectors` sectors with an empty store of this version, and prints what its lines answer, whether the device stopped, and which tables a
 /// crash leaves.
 ///
 /// # Errors
@@ -88,6 +89,7 @@ pub fn replay<F: Read + OpenFile + Drop, H: Files<File = F> + AllocGlobal, W: Wr
     rt: &H,
     script: &str,
     sectors: u64,
+    version: FormatVersion,
     faults: Faults,
     output: &mut W,
 ) -> Result<(), Refusal>
@@ -98,7 +100,7 @@ pub fn replay<F: Read + OpenFile + Drop, H: Files<File = F> + AllocGlobal, W: Wr
     ensures silent { IfErr result (λ refusal. refusal ≢ Refusal.Io → output.new ≡ output.old) }
 {
     let alloc = rt.alloc();
-    let device = empty_store(alloc, sectors)?;
+    let device = empty_store(alloc, sectors, version)?;
     let script = read_script(rt, script)?;
     let lines = lines_of(alloc, &script)?;
     let calls = calls_of(rt, &lines)?;

@@ -25,6 +25,8 @@ pub enum ScriptLine<'a> {
     Drop { name: &'a str },
     /// One step of a compaction.
     Compact,
+    /// Digests for all segments.
+    Upgrade,
     /// The store is closed and opened again.
     Reopen,
 }
@@ -109,6 +111,8 @@ fn alone<'a>(word: &str) -> Option<ScriptLine<'a>>
 {
     if word == "compact" {
         Some(ScriptLine::Compact)
+    } else if word == "upgrade" {
+        Some(ScriptLine::Upgrade)
     } else if word == "reopen" {
         Some(ScriptLine::Reopen)
     } else {

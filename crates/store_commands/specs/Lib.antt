@@ -3,6 +3,7 @@ pub mod Recode
 pub mod Printed
 pub mod Changing
 pub mod Compacting
+pub mod Upgrading
 pub mod Copying
 pub mod inner
 pub mod TextRows

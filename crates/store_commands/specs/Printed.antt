@@ -1,8 +1,9 @@
--- What is printed of a store's tables and of a schema.
-use Rattle.std.specs.Prelude.{ℕ, List, [], ◌∷◌, ◌++◌, codes}
+-- What is printed of a store's tables, of a schema and of a store in numbers.
+use Rattle.std.specs.Prelude.{ℕ, Bool, if◌then◌else◌, List, [], ◌∷◌, ◌++◌, codes}
 use Rattle.std.specs.Fmt.{decimal}
 use Rattle.arrow_schema.specs.Column.{Column}
 use Rattle.field_texts.specs.FieldText.{printed, field_text}
+use Rattle.store.specs.declared.summary.Summary.{Summary}
 use Rattle.tables.specs.declared.refusal.Refusal as tables
 use Rattle.command_refusals.specs.declared.refusal.Refusal.{Refusal}
 use Rattle.command_refusals.specs.declared.refusal.Refusal.TheVariants.{Io, Store, OutOfMemory}
@@ -16,6 +17,23 @@ tables_text (t ∷ ts) = t.0 ++ codes " " ++ decimal t.1 ++ codes "\n" ++ tables
 abbrev pub schema_text : List Column → List ℕ
 schema_text [] = []
 schema_text (c ∷ cs) = field_text printed c ++ codes "\n" ++ schema_text cs
+
+-- a line for each number of a store: its name, and the number
+abbrev pub summary_lines : Summary → List ℕ
+summary_lines s =
+    codes "format_version " ++ decimal s.format_version ++ codes "\nepoch " ++ decimal s.epoch ++ codes "\nsectors " ++ decimal s.sectors
+    ++ codes "\nused " ++ decimal s.used ++ codes "\nfree " ++ decimal s.free ++ codes "\nlargest_free_run " ++ decimal s.largest_free_run
+    ++ codes "\ntables " ++ decimal s.tables ++ codes "\nsegments " ++ decimal s.segments ++ codes "\n"
+
+-- the same as one object of JSON (RFC 8259), on one line
+abbrev pub summary_object : Summary → List ℕ
+summary_object s =
+    codes "{\"format_version\":" ++ decimal s.format_version ++ codes ",\"epoch\":" ++ decimal s.epoch ++ codes ",\"sectors\":" ++ decimal s.sectors
+    ++ codes ",\"used\":" ++ decimal s.used ++ codes ",\"free\":" ++ decimal s.free ++ codes ",\"largest_free_run\":" ++ decimal s.largest_free_run
+    ++ codes ",\"tables\":" ++ decimal s.tables ++ codes ",\"segments\":" ++ decimal s.segments ++ codes "}\n"
+
+abbrev pub summary_text : (as_json : Bool) → Summary → List ℕ
+summary_text as_json s = if as_json then summary_object s else summary_lines s
 
 -- why no text is printed of what the store is asked for: the store refuses, and this holds of its refusal; or it answers, which that says, and memory was
 -- refused or the output failed

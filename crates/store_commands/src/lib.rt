@@ -1,8 +1,8 @@
 //! The commands of an open store on any device, over any reader and writer, and [`recode`].
 //!
 //! [`apply_command`], [`import_input`], [`append_input`] and [`append_text`] change its tables; [`print_tables`],
-//! [`print_schema`], [`print_selection`], [`export_table`] and [`check_tables`] read them; [`compact_tables`] moves their rows together,
-//! and [`copy_tables`] copies all into another store. Their contracts say which bytes are taken and given, and what became of the store.
+//! [`print_schema`], [`print_selection`], [`print_summary`], [`export_table`] and [`check_tables`] read them; [`compact_tables`] moves their rows together,
+//! [`upgrade_store`] gives their segments digests, and [`copy_tables`] copies all into another store. Their contracts say which bytes are taken and given, and what became of the store.
 //! [`recode`] reads a stream and writes its canonical form.
 //!
 //! ```
@@ -20,7 +20,9 @@ mod printing;
 mod reading;
 mod selecting;
 mod stream;
+mod summing;
 mod text_rows;
+mod upgrading;
 
 pub use changing::{append_input, apply_command, import_input};
 pub use compacting::compact_tables;
@@ -31,4 +33,6 @@ pub use printing::{lines_of_tables, print_schema, print_tables};
 pub use reading::{check_tables, export_table};
 pub use selecting::{print_selection, query_of};
 pub use stream::recode;
+pub use summing::print_summary;
 pub use text_rows::append_text;
+pub use upgrading::upgrade_store;

@@ -29,10 +29,10 @@ use Rattle.clap.specs.declared.error.kind.ErrorKind.TheVariants.{OutOfMemory}
 use Rattle.clap.specs.declared.parser.matches.ArgMatches.{ArgMatches}
 use Rattle.clap.proofs.OnLiterals.{clap_on_literals}
 use Rattle.clap.proofs.WalkLemmas.{first_value-rows, one_text-rows, raw_values-rows}
-use Rattle.store_requests.specs.Apps.{format_app, copy_app, store_app, table_app, rename_app, create_app, append_app, query_app, other_parameters, parameters_of, replay_app, AreForms, IsAppWith, IsOwnApp, value_of, values_of}
+use Rattle.store_requests.specs.Apps.{info_app, format_app, copy_app, store_app, table_app, rename_app, create_app, append_app, query_app, other_parameters, parameters_of, replay_app, AreForms, IsAppWith, IsOwnApp, value_of, values_of}
 use Rattle.store_requests.specs.Apps.{HasFound}
 use Rattle.store_requests.specs.Asked.{request_word}
-use Rattle.store_requests.specs.Operands.{number_of, is_option, operands, names_file, names_table, IsNamedBy, Names}
+use Rattle.store_requests.specs.Operands.{number_of, version_named, is_option, operands, names_file, names_table, IsNamedBy, Names}
 use Rattle.store_requests.specs.Right.{is_number, are_file_and_number, are_files_and_number, takes, are_right, AreTaken, NamesChoice, IsTakable, IsFoundTakable}
 use Rattle.store_requests.specs.StoreWords.{is_of_store, is_store_word, makes_word, first_word}
 use Rattle.store_requests.specs.declared.store_command_line.Parameters.{Parameters}
@@ -53,6 +53,13 @@ file_plain : (name : Text) (p : ℕ) → ends_options (arg_by_index (built (file
 file_plain name p = by_first (1 == p) refl
   where
     by_first : (b : Bool) → (1 == p) ≡ b → ends_options (arg_by_index (built (file_app name)).top.rules p) ≡ false
+    by_first true e = rw e refl
+    by_first false e = rw e refl
+
+info_plain : (name : Text) (p : ℕ) → ends_options (arg_by_index (built (info_app name)).top.rules p) ≡ false
+info_plain name p = by_first (1 == p) refl
+  where
+    by_first : (b : Bool) → (1 == p) ≡ b → ends_options (arg_by_index (built (info_app name)).top.rules p) ≡ false
     by_first true e = rw e refl
     by_first false e = rw e refl
 
@@ -122,6 +129,9 @@ some_kind k ks h = let longer : length (k ∷ ks) ≡ 0 = ap (λ (xs : Kinds). l
 abbrev file_top : Text → Shape
 file_top name = (built (file_app name)).top
 
+abbrev info_top : Text → Shape
+info_top name = (built (info_app name)).top
+
 abbrev table_top : Text → Shape
 table_top name = (built (table_app name)).top
 
@@ -175,6 +185,19 @@ file_named name [] e = absurd (some_kind _ _ e)
 file_named name (a ∷ []) e = refl
 file_named name (a ∷ b ∷ rest) e = absurd (some_kind _ _ e)
 
+info_named : (name : Text) (ops : List Text) → operands_fault (info_top name) ops ≡ [] → ops ≡ row_value (codes "STORE") (operand_rows (info_top name) ops) ∷ []
+unfolding clap_on_literals
+info_named name [] e = absurd (some_kind _ _ e)
+info_named name (a ∷ []) e = refl
+info_named name (a ∷ b ∷ rest) e = absurd (some_kind _ _ e)
+
+-- without its option
+info_alone : (name : Text) (ops : List Text) → operands_fault (info_top name) ops ≡ [] → one_of (codes "json") (operand_rows (info_top name) ops) ≡ Some (codes "false")
+unfolding clap_on_literals
+info_alone name [] e = absurd (some_kind _ _ e)
+info_alone name (a ∷ []) e = refl
+info_alone name (a ∷ b ∷ rest) e = absurd (some_kind _ _ e)
+
 table_named : (name : Text) (ops : List Text) → operands_fault (table_top name) ops ≡ []
     → ops ≡ row_value (codes "STORE") (operand_rows (table_top name) ops) ∷ row_value (codes "NAME") (operand_rows (table_top name) ops) ∷ []
 unfolding clap_on_literals
@@ -200,6 +223,15 @@ format_named name [] e = absurd (some_kind _ _ e)
 format_named name (a ∷ []) e = absurd (some_kind _ _ e)
 format_named name (a ∷ b ∷ []) e = refl
 format_named name (a ∷ b ∷ c ∷ rest) e = absurd (some_kind _ _ e)
+
+-- without its option
+format_alone : (name : Text) (ops : List Text) → operands_fault (format_top name) ops ≡ []
+    → first_of (codes "format-version") (operand_rows (format_top name) ops) ≡ None
+unfolding clap_on_literals
+format_alone name [] e = absurd (some_kind _ _ e)
+format_alone name (a ∷ []) e = absurd (some_kind _ _ e)
+format_alone name (a ∷ b ∷ []) e = refl
+format_alone name (a ∷ b ∷ c ∷ rest) e = absurd (some_kind _ _ e)
 
 copy_named : (name : Text) (ops : List Text) → operands_fault (copy_top name) ops ≡ []
     → ops ≡ row_value (codes "STORE") (operand_rows (copy_top name) ops) ∷ row_value (codes "NEW") (operand_rows (copy_top name) ops)
@@ -342,6 +374,18 @@ module _ (word : Text) (words : List Text) (m : ArgMatches) (a : App) (name : Te
       let rows = (p.matches refl).0 ∙ reads.rows in
       file_named name ops (sym reads.fault ∙ p.faultless refl) ∙ ap (λ (v : Text). v ∷ []) (found_value m _ (codes "STORE") rows)
 
+  info_found : a ≡ info_app name → (ops : List Text) → operands words ≡ Some ops
+      → (ops ≡ value_of (found_of m) (codes "STORE") ∷ []) × (one_text (found_of m) (codes "json") ≡ Some (codes "false"))
+  unfolding clap_on_literals
+  info_found is ops e =
+      let reads = reads_operands (info_app name) word words ops e refl refl (info_plain name) in
+      let p : Parsed (info_app name) (word ∷ words) m = subst (λ (x : App). Parsed x (word ∷ words) m) is parsed in
+      let rows = (p.matches refl).0 ∙ reads.rows in
+      let faultless = sym reads.fault ∙ p.faultless refl in (
+        info_named name ops faultless ∙ ap (λ (v : Text). v ∷ []) (found_value m _ (codes "STORE") rows),
+        sym (found_one m _ (codes "json") rows) ∙ info_alone name ops faultless,
+      )
+
   table_found : a ≡ table_app name → (ops : List Text) → operands words ≡ Some ops
       → ops ≡ value_of (found_of m) (codes "STORE") ∷ value_of (found_of m) (codes "NAME") ∷ []
   unfolding clap_on_literals
@@ -371,6 +415,14 @@ module _ (word : Text) (words : List Text) (m : ArgMatches) (a : App) (name : Te
       let rows = (p.matches refl).0 ∙ reads.rows in
       format_named name ops (sym reads.fault ∙ p.faultless refl)
       ∙ (λ i. found_value m _ (codes "STORE") rows i ∷ found_value m _ (codes "SECTORS") rows i ∷ [])
+
+  format_default : a ≡ format_app name → (ops : List Text) → operands words ≡ Some ops → first_value (found_of m) (codes "format-version") ≡ None
+  unfolding clap_on_literals
+  format_default is ops e =
+      let reads = reads_operands (format_app name) word words ops e refl refl (format_plain name) in
+      let p : Parsed (format_app name) (word ∷ words) m = subst (λ (x : App). Parsed x (word ∷ words) m) is parsed in
+      let rows = (p.matches refl).0 ∙ reads.rows in
+      sym (found_first m _ (codes "format-version") rows) ∙ format_alone name ops (sym reads.fault ∙ p.faultless refl)
 
   copy_found : a ≡ copy_app name → (ops : List Text) → operands words ≡ Some ops
       → ops ≡ value_of (found_of m) (codes "STORE") ∷ value_of (found_of m) (codes "NEW") ∷ value_of (found_of m) (codes "SECTORS") ∷ []
@@ -446,6 +498,10 @@ module _ (word : Text) (words : List Text) (m : ArgMatches) (a : App) (own : IsO
   names_file_only : parameters_of word ≡ parameters.Nothing → (ops : List Text) → operands words ≡ Some ops → ops ≡ value_of (found_of m) (codes "STORE") ∷ []
   names_file_only is ops e = file_found word words m a word parsed (subst (λ (b : Parameters). IsAppWith word b a) is own) ops e
 
+  names_form : parameters_of word ≡ parameters.FileAndForm → (ops : List Text) → operands words ≡ Some ops
+      → (ops ≡ value_of (found_of m) (codes "STORE") ∷ []) × (one_text (found_of m) (codes "json") ≡ Some (codes "false"))
+  names_form is ops e = info_found word words m a word parsed (subst (λ (b : Parameters). IsAppWith word b a) is own) ops e
+
   names_one_table : parameters_of word ≡ parameters.Table → (ops : List Text) → operands words ≡ Some ops
       → ops ≡ value_of (found_of m) (codes "STORE") ∷ value_of (found_of m) (codes "NAME") ∷ []
   names_one_table is ops e = table_found word words m a word parsed (subst (λ (b : Parameters). IsAppWith word b a) is own) ops e
@@ -457,6 +513,9 @@ module _ (word : Text) (words : List Text) (m : ArgMatches) (a : App) (own : IsO
   names_sectors : parameters_of word ≡ parameters.Sectors → (ops : List Text) → operands words ≡ Some ops
       → ops ≡ value_of (found_of m) (codes "STORE") ∷ value_of (found_of m) (codes "SECTORS") ∷ []
   names_sectors is ops e = format_found word words m a word parsed (subst (λ (b : Parameters). IsAppWith word b a) is own) ops e
+
+  asks_newest : parameters_of word ≡ parameters.Sectors → (ops : List Text) → operands words ≡ Some ops → first_value (found_of m) (codes "format-version") ≡ None
+  asks_newest is ops e = format_default word words m a word parsed (subst (λ (b : Parameters). IsAppWith word b a) is own) ops e
 
   names_new_store : parameters_of word ≡ parameters.NewStore → (ops : List Text) → operands words ≡ Some ops
       → ops ≡ value_of (found_of m) (codes "STORE") ∷ value_of (found_of m) (codes "NEW") ∷ value_of (found_of m) (codes "SECTORS") ∷ []
@@ -492,12 +551,14 @@ module _ (word : Text) (words : List Text) (m : ArgMatches) (a : App) (own : IsO
 
   pub names_command : (request : StoreRequest) → request_word request ≡ word → HasFound (found_of m) request → IfSome (operands words) (IsNamedBy request)
   unfolding IsNamedBy names_file names_table other_parameters parameters_of
-  names_command (requests.Format file sectors) is found =
-      named (requests.Format file sectors)
-      (λ ops e. (
+  names_command (requests.Format file sectors version) is found =
+      named (requests.Format file sectors version)
+      (λ ops e.
+      let taken = of_word (codes "format") parameters.Sectors is refl in (
         value_of (found_of m) (codes "SECTORS"),
-        names_sectors (of_word (codes "format") parameters.Sectors is refl) ops e ∙ (λ i. sym found.0 i ∷ value_of (found_of m) (codes "SECTORS") ∷ []),
-        found.1,
+        names_sectors taken ops e ∙ (λ i. sym found.0 i ∷ value_of (found_of m) (codes "SECTORS") ∷ []),
+        found.1.0,
+        found.1.1 ∙ ap version_named (asks_newest taken ops e),
       ))
   names_command (requests.Copy file new sectors) is found =
       named (requests.Copy file new sectors)
@@ -529,6 +590,14 @@ module _ (word : Text) (words : List Text) (m : ArgMatches) (a : App) (own : IsO
   names_command (requests.Command file (commands.Export name)) is found =
       named (requests.Command file (commands.Export name))
       (λ ops e. (names_one_table (of_word (codes "export") parameters.Table is refl) ops e ∙ (λ i. sym found.0 i ∷ sym found.1 i ∷ []), tt))
+  names_command (requests.Command file commands.Upgrade) is found =
+      named (requests.Command file commands.Upgrade)
+      (λ ops e. (names_file_only (of_word (codes "upgrade") parameters.Nothing is refl) ops e ∙ ap (λ (v : Text). v ∷ []) (sym found.0), tt))
+  names_command (requests.Command file (commands.Info as_json)) is found =
+      named (requests.Command file (commands.Info as_json))
+      (λ ops e.
+      let has = names_form (of_word (codes "info") parameters.FileAndForm is refl) ops e in
+      (has.0 ∙ ap (λ (v : Text). v ∷ []) (sym found.0), found.1.lines has.1))
   names_command (requests.Command file (commands.Rename from to)) is found =
       named (requests.Command file (commands.Rename from to))
       (λ ops e. (
@@ -595,6 +664,12 @@ number_in_bounds word is =
 number_accepted : (word : Text) → is_number word ≡ true → is_unsigned_in 0 18446744073709551615 word ≡ true
 number_accepted word is = subst (λ (t : Text). in_bounds t ≡ true) (sym (without_plus word is)) (number_in_bounds word is)
 
+full_info : (name : Text) (ops : List Text) → length ops ≡ 1 → operands_fault (info_top name) ops ≡ []
+unfolding clap_on_literals
+full_info name [] e = absurd (omega (arith, e))
+full_info name (a ∷ []) e = refl
+full_info name (a ∷ b ∷ rest) e = absurd (omega (arith, e))
+
 full_format : (name : Text) (ops : List Text) → are_file_and_number ops ≡ true → operands_fault (format_top name) ops ≡ []
 unfolding clap_on_literals
 full_format name [] e = absurd (true≢false (sym e))
@@ -659,6 +734,9 @@ module _ (word : Text) (words ops : List Text) (is : operands words ≡ Some ops
   right_faultless parameters.Nothing a own right =
       subst (λ (x : App). IsFaultless x (word ∷ words)) (sym own)
       (refl, (reads_operands (file_app word) word words ops is refl refl (file_plain word)).fault ∙ full_file word ops (eqb-true (length ops) 1 right))
+  right_faultless parameters.FileAndForm a own right =
+      subst (λ (x : App). IsFaultless x (word ∷ words)) (sym own)
+      (refl, (reads_operands (info_app word) word words ops is refl refl (info_plain word)).fault ∙ full_info word ops (eqb-true (length ops) 1 right))
   right_faultless parameters.Table a own right =
       subst (λ (x : App). IsFaultless x (word ∷ words)) (sym own)
       (refl, (reads_operands (table_app word) word words ops is refl refl (table_plain word)).fault ∙ full_table word ops (eqb-true (length ops) 2 right))
@@ -714,8 +792,8 @@ is_replay word e = named_as parameters.ScriptAndFaults (codes "replay") word e r
 no_replay : (word : Text) (ops : List Text) → takes (parameters_of word) ops ≡ true → bytes_eq (codes "replay") word ≡ true → ⊥
 no_replay word ops right e = true≢false (sym (subst (λ (b : Parameters). takes b ops ≡ true) (is_replay word e) right))
 
-limit_alone : (o : Option Text) → o ≡ None → option_map_or is_number o true ≡ true
-limit_alone o none = rw none refl
+option_alone : (o : Option Text) → o ≡ None → option_map_or is_number o true ≡ true
+option_alone o none = rw none refl
 
 module _ (word : Text) (words : List Text) (m : ArgMatches) (a : App) (own : IsOwnApp word a) (parsed : Parsed a (word ∷ words) m) (ops : List Text)
     (is : operands words ≡ Some ops) (right : takes (parameters_of word) ops ≡ true) where
@@ -735,8 +813,10 @@ module _ (word : Text) (words : List Text) (m : ArgMatches) (a : App) (own : IsO
   right_takable : IsFoundTakable word (found_of m)
   right_takable = record {
     sectors = sectors_right (bytes_eq (codes "format") word) (bytes_eq (codes "copy") word) refl refl;
-    limit = λ e. limit_alone (first_value (found_of m) (codes "limit")) (asks_all word words m a own parsed (is_query word e) ops is).limit;
+    limit = λ e. option_alone (first_value (found_of m) (codes "limit")) (asks_all word words m a own parsed (is_query word e) ops is).limit;
     printed = λ e. inl (asks_all word words m a own parsed (is_query word e) ops is).save;
+    version = λ e. option_alone (first_value (found_of m) (codes "format-version")) (asks_newest word words m a own parsed (is_format word e) ops is);
+    played = λ e. absurd (no_replay word ops right e);
     size = λ e. absurd (no_replay word ops right e);
     fail = λ e. absurd (no_replay word ops right e);
     stop = λ e. absurd (no_replay word ops right e);
@@ -837,6 +917,7 @@ right_is_takable args word words m a right first after own faultless matches =
 
 own_simple : (word : Text) (b : Parameters) (a : App) → IsAppWith word b a → is_simple a ≡ true
 own_simple word parameters.Nothing a own = rw own refl
+own_simple word parameters.FileAndForm a own = rw own refl
 own_simple word parameters.Table a own = rw own refl
 own_simple word parameters.TableAndNewName a own = rw own refl
 own_simple word parameters.Sectors a own = rw own refl
@@ -856,6 +937,8 @@ found_takable word m rows same is =
       limit = λ e. subst (λ (o : Option Text). option_map_or is_number o true ≡ true) (first (codes "limit")) (is.limit e);
       printed =
           λ e. subst₂ (λ (o p : Option Text). (o ≡ None) ⊎ (p ≡ Some (codes "false"))) (first (codes "save")) (found_one m rows (codes "objects") same) (is.printed e);
+      version = λ e. subst (λ (o : Option Text). option_map_or is_number o true ≡ true) (first (codes "format-version")) (is.version e);
+      played = λ e. subst (λ (o : Option Text). option_map_or is_number o true ≡ true) (first (codes "format-version")) (is.played e);
       size = λ e. subst (λ (o : Option Text). option_map_or is_number o true ≡ true) (first (codes "sectors")) (is.size e);
       fail = λ e. subst (λ (o : Option Text). option_map_or is_number o true ≡ true) (first (codes "fail")) (is.fail e);
       stop = λ e. subst (λ (o : Option Text). option_map_or is_number o true ≡ true) (first (codes "stop")) (is.stop e);

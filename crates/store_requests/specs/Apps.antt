@@ -15,7 +15,7 @@ use Rattle.clap.specs.declared.error.kind.ErrorKind.TheVariants.{OutOfMemory}
 use Rattle.store_requests.specs.declared.store_command_line.Parameters.{Parameters}
 use Rattle.store_requests.specs.declared.store_command_line.Parameters.TheVariants as parameters
 use Rattle.store_requests.specs.Choices.{IsChoice}
-use Rattle.store_requests.specs.Operands.{names_file, names_table, number_of}
+use Rattle.store_requests.specs.Operands.{names_file, names_table, number_of, version_named}
 use Rattle.store_requests.specs.declared.store_command_line.Mistake.{Mistake}
 use Rattle.store_requests.specs.declared.store_command_line.Mistake.TheVariants as mistakes
 use Rattle.store_requests.specs.declared.store_words.QueryWords.{QueryWords}
@@ -35,9 +35,28 @@ store_app name = with_rule (new_app name) (required_rule (codes "STORE"))
 abbrev pub sectors_rule : Rule
 sectors_rule = record (required_rule (codes "SECTORS")) { parser = Some (parsers.Unsigned 0 18446744073709551615) }
 
--- one that takes how many sectors the store has, and one that names a new file before
+-- one that takes an option without a value
+abbrev pub json_rule : Rule
+json_rule = record (new_rule (codes "json")) { long = Some (codes "json"); action = Some SetTrue }
+
+abbrev pub info_app : Text → App
+info_app name = with_rule (store_app name) json_rule
+
+-- an option with a value
+abbrev pub option_rule : Text → Rule
+option_rule id = record (new_rule id) { long = Some id; value_names = 1 }
+
+-- an option with a number of 64 bits
+abbrev pub number_rule : Text → Rule
+number_rule id = record (option_rule id) { parser = Some (parsers.Unsigned 0 18446744073709551615) }
+
+-- the version of a store that is made
+abbrev pub version_rule : Rule
+version_rule = record (option_rule (codes "format-version")) { parser = Some (parsers.Unsigned 1 2) }
+
+-- one that takes how many sectors the store has and its version, and one that names a new file before the sectors
 abbrev pub format_app : Text → App
-format_app name = with_rule (store_app name) sectors_rule
+format_app name = with_rule (with_rule (store_app name) sectors_rule) version_rule
 
 abbrev pub new_file_app : Text → App
 new_file_app name = with_rule (store_app name) (required_rule (codes "NEW"))
@@ -55,10 +74,6 @@ rename_app name = with_rule (table_app name) (required_rule (codes "NEW"))
 -- a word that may stand any number of times
 abbrev pub repeated_rule : Text → Rule
 repeated_rule id = record (new_rule id) { range = Some (record { start_inclusive = 0; end_inclusive = usize_max }) }
-
--- an option with a value
-abbrev pub option_rule : Text → Rule
-option_rule id = record (new_rule id) { long = Some id; value_names = 1 }
 
 -- a command that takes the fields of a new table
 abbrev pub create_app : Text → App
@@ -90,9 +105,6 @@ query_app name = with_rule (with_rule (with_rule (with_rule (conditions_app name
     objects_rule
 
 -- a script, and what goes wrong while it is played
-abbrev pub number_rule : Text → Rule
-number_rule id = record (option_rule id) { parser = Some (parsers.Unsigned 0 18446744073709551615) }
-
 abbrev pub size_rule : Rule
 size_rule = record (number_rule (codes "sectors")) { required = true }
 
@@ -103,7 +115,8 @@ abbrev pub script_app : Text → App
 script_app name = with_rule (new_app name) (required_rule (codes "SCRIPT"))
 
 abbrev pub replay_app : Text → App
-replay_app name = with_rule (with_rule (with_rule (with_rule (script_app name) size_rule) (number_rule (codes "fail"))) (number_rule (codes "stop"))) choice_rule
+replay_app name = with_rule (with_rule (with_rule (with_rule (with_rule (script_app name) size_rule) (number_rule (codes "fail"))) (number_rule (codes "stop"))) choice_rule)
+    version_rule
 
 -- the forms of an input
 pub record AreForms (forms : ValueParser) : Type 0 where
@@ -114,6 +127,7 @@ pub record AreForms (forms : ValueParser) : Type 0 where
 -- the command of a name, by what it takes
 abbrev pub IsAppWith : Text → Parameters → App → Type 0
 IsAppWith name parameters.Nothing command = command ≡ store_app name
+IsAppWith name parameters.FileAndForm command = command ≡ info_app name
 IsAppWith name parameters.Table command = command ≡ table_app name
 IsAppWith name parameters.TableAndNewName command = command ≡ rename_app name
 IsAppWith name parameters.Sectors command = command ≡ format_app name
@@ -128,7 +142,8 @@ unfoldable pub other_parameters : Text → Parameters
 other_parameters word =
     if bytes_eq (codes "format") word then parameters.Sectors
     else (if bytes_eq (codes "copy") word then parameters.NewStore else (if bytes_eq (codes "create") word then parameters.TableAndFields else (if bytes_eq
-    (codes "append") word then parameters.TableAndRows else (if bytes_eq (codes "replay") word then parameters.ScriptAndFaults else parameters.TableAndQuery))))
+    (codes "append") word then parameters.TableAndRows else (if bytes_eq (codes "replay") word then parameters.ScriptAndFaults else (if bytes_eq
+    (codes "info") word then parameters.FileAndForm else parameters.TableAndQuery)))))
 
 unfoldable pub parameters_of : Text → Parameters
 parameters_of word =
@@ -158,6 +173,11 @@ pub record HasForm (found : Found) (form : RowForm) : Type 0 where
   pub arrays : one_text found (codes "objects") ≡ Some (codes "false") → form ≡ Array
   pub objects : one_text found (codes "objects") ≡ Some (codes "true") → form ≡ Object
 
+-- numbers are printed as JSON where the option stands
+pub record HasJson (found : Found) (as_json : Bool) : Type 0 where
+  pub lines : one_text found (codes "json") ≡ Some (codes "false") → as_json ≡ false
+  pub object : one_text found (codes "json") ≡ Some (codes "true") → as_json ≡ true
+
 -- a command has the names that were found
 abbrev pub HasNames : Found → StoreCommand → Type 0
 HasNames found (commands.Import name) = name.now ≡ value_of found (codes "NAME")
@@ -170,18 +190,21 @@ HasNames found (commands.SaveAs from to query) =
 HasNames found (commands.Drop name) = name.now ≡ value_of found (codes "NAME")
 HasNames found (commands.Schema name) = name.now ≡ value_of found (codes "NAME")
 HasNames found (commands.Export name) = name.now ≡ value_of found (codes "NAME")
+HasNames found (commands.Info as_json) = HasJson found as_json
 HasNames found (commands.Rename from to) = (from.now ≡ value_of found (codes "NAME")) × (to.now ≡ value_of found (codes "NEW"))
 HasNames found _ = Unit {0}
 
 abbrev pub HasFound : Found → StoreRequest → Type 0
 HasFound found (requests.Command path command) = (path.now ≡ value_of found (codes "STORE")) × HasNames found command
-HasFound found (requests.Format path sectors) = (path.now ≡ value_of found (codes "STORE")) × (sectors ≡ number_of (value_of found (codes "SECTORS")))
+HasFound found (requests.Format path sectors version) =
+    (path.now ≡ value_of found (codes "STORE")) × (sectors ≡ number_of (value_of found (codes "SECTORS")))
+    × (version ≡ version_named (first_value found (codes "format-version")))
 HasFound found (requests.Copy path new sectors) =
     (path.now ≡ value_of found (codes "STORE")) × (new.now ≡ value_of found (codes "NEW")) × (sectors ≡ number_of (value_of found (codes "SECTORS")))
 HasFound found (requests.Replay words) =
     (words.script.now ≡ value_of found (codes "SCRIPT")) × (words.sectors ≡ number_of (value_of found (codes "sectors")))
     × (words.fail ≡ number_of (value_of found (codes "fail"))) × (words.stop ≡ number_of (value_of found (codes "stop")))
-    × IsChoice (value_of found (codes "choice")) words.choice
+    × IsChoice (value_of found (codes "choice")) words.choice × (words.version ≡ version_named (first_value found (codes "format-version")))
 
 -- memory was refused
 abbrev pub IsOfMemory : Mistake → Type 0

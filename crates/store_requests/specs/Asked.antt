@@ -20,10 +20,12 @@ command_word commands.Tables = codes "tables"
 command_word (commands.Schema name) = codes "schema"
 command_word (commands.Export name) = codes "export"
 command_word commands.Check = codes "check"
+command_word (commands.Info as_json) = codes "info"
 command_word commands.Compact = codes "compact"
+command_word commands.Upgrade = codes "upgrade"
 
 abbrev pub request_word : StoreRequest → Text
-request_word (requests.Format path sectors) = codes "format"
+request_word (requests.Format path sectors version) = codes "format"
 request_word (requests.Copy path new sectors) = codes "copy"
 request_word (requests.Replay words) = codes "replay"
 request_word (requests.Command path command) = command_word command

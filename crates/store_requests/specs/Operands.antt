@@ -4,6 +4,8 @@ use Rattle.std.specs.Str.{bytes_eq}
 use Rattle.std.specs.Str.Parse.{digits_value, without_leading_plus}
 use Rattle.clap.specs.Walk.{texts}
 use Rattle.clap.specs.Words.{Text}
+use Rattle.commit.specs.declared.sector.FormatVersion.{FormatVersion}
+use Rattle.commit.specs.declared.sector.FormatVersion.TheVariants.{One, Two}
 use Rattle.query.specs.declared.row_form.RowForm.TheVariants.{Array}
 use Rattle.store_requests.specs.declared.store_words.StoreCommand.{StoreCommand}
 use Rattle.store_requests.specs.declared.store_words.StoreCommand.TheVariants as commands
@@ -28,7 +30,8 @@ words_after_command arguments = drop 2 arguments
 
 -- the commands that name a store alone, and those that name a table in it
 unfoldable pub names_file : Text → Bool
-names_file word = bytes_eq (codes "tables") word || (bytes_eq (codes "check") word || bytes_eq (codes "compact") word)
+names_file word =
+    bytes_eq (codes "tables") word || (bytes_eq (codes "check") word || (bytes_eq (codes "compact") word || bytes_eq (codes "upgrade") word))
 
 unfoldable pub names_table : Text → Bool
 names_table word = bytes_eq (codes "import") word || (bytes_eq (codes "drop") word || (bytes_eq (codes "schema") word || bytes_eq (codes "export") word))
@@ -36,6 +39,11 @@ names_table word = bytes_eq (codes "import") word || (bytes_eq (codes "drop") wo
 -- the number that decimal digits write; a plus sign before them does not count
 abbrev pub number_of : Text → ℕ
 number_of word = digits_value 10 (without_leading_plus word)
+
+-- the version of a store that a word of an option names; without the option the newest
+abbrev pub version_named : Option Text → FormatVersion
+version_named None = Two
+version_named (Some word) = if number_of word == 1 then One else Two
 
 -- the names, fields and conditions that a command has after its file
 abbrev pub names_in : StoreCommand → List Text
@@ -51,19 +59,23 @@ names_in commands.Tables = []
 names_in (commands.Schema name) = name.now ∷ []
 names_in (commands.Export name) = name.now ∷ []
 names_in commands.Check = []
+names_in (commands.Info as_json) = []
 names_in commands.Compact = []
+names_in commands.Upgrade = []
 
--- what it is without options: rows are appended of a stream, and all columns of all rows are printed as arrays
+-- what it is without options: rows are appended of a stream, all columns of all rows are printed as arrays, and numbers as lines
 abbrev pub IsWithoutOptions : StoreCommand → Type 0
 IsWithoutOptions (commands.AppendText name form) = ⊥
 IsWithoutOptions (commands.Query name query form) = (query.columns ≡ None) × (query.limit ≡ None) × (form ≡ Array)
 IsWithoutOptions (commands.SaveAs from to query) = ⊥
+IsWithoutOptions (commands.Info as_json) = as_json ≡ false
 IsWithoutOptions _ = Unit {0}
 
 -- a request that names its files and its tables, or how many sectors, by these words
 unfoldable pub IsNamedBy : StoreRequest → List Text → Type 0
 IsNamedBy (requests.Command path command) words = (words ≡ path.now ∷ names_in command) × IsWithoutOptions command
-IsNamedBy (requests.Format path sectors) words = (number : Text) × (words ≡ path.now ∷ number ∷ []) × (sectors ≡ number_of number)
+IsNamedBy (requests.Format path sectors version) words =
+    (number : Text) × (words ≡ path.now ∷ number ∷ []) × (sectors ≡ number_of number) × (version ≡ Two)
 IsNamedBy (requests.Copy path new sectors) words = (number : Text) × (words ≡ path.now ∷ new.now ∷ number ∷ []) × (sectors ≡ number_of number)
 -- a script is played with options, which are no operands
 IsNamedBy (requests.Replay script) words = Unit {0}

@@ -30,6 +30,7 @@ are_files_and_number _ = false
 -- the operands that a command takes; a script is not played without an option
 abbrev pub takes : Parameters → List Text → Bool
 takes parameters.Nothing words = length words == 1
+takes parameters.FileAndForm words = length words == 1
 takes parameters.Table words = length words == 2
 takes parameters.TableAndNewName words = length words == 3
 takes parameters.Sectors words = are_file_and_number words
@@ -57,6 +58,8 @@ pub record IsTakable (word : Text) (first : Text → Option Text) (objects : Opt
   pub sectors : makes_word word ≡ true → is_number (unwrap_or (first (codes "SECTORS")) []) ≡ true
   pub limit : bytes_eq (codes "query") word ≡ true → option_map_or is_number (first (codes "limit")) true ≡ true
   pub printed : bytes_eq (codes "query") word ≡ true → (first (codes "save") ≡ None) ⊎ (objects ≡ Some (codes "false"))
+  pub version : bytes_eq (codes "format") word ≡ true → option_map_or is_number (first (codes "format-version")) true ≡ true
+  pub played : bytes_eq (codes "replay") word ≡ true → option_map_or is_number (first (codes "format-version")) true ≡ true
   pub size : bytes_eq (codes "replay") word ≡ true → option_map_or is_number (first (codes "sectors")) true ≡ true
   pub fail : bytes_eq (codes "replay") word ≡ true → option_map_or is_number (first (codes "fail")) true ≡ true
   pub stop : bytes_eq (codes "replay") word ≡ true → option_map_or is_number (first (codes "stop")) true ≡ true

@@ -12,7 +12,8 @@ takes_input_word word = bytes_eq (codes "import") word || bytes_eq (codes "appen
 unfoldable pub changes_word : Text → Bool
 changes_word word =
     takes_input_word word
-    || (bytes_eq (codes "create") word || (bytes_eq (codes "rename") word || (bytes_eq (codes "drop") word || bytes_eq (codes "compact") word)))
+    || (bytes_eq (codes "create") word || (bytes_eq (codes "rename") word || (bytes_eq (codes "drop") word
+    || (bytes_eq (codes "compact") word || bytes_eq (codes "upgrade") word))))
 
 -- those that read one table; a query may be saved as another one
 unfoldable pub reads_table_word : Text → Bool
@@ -20,7 +21,7 @@ reads_table_word word = bytes_eq (codes "schema") word || (bytes_eq (codes "expo
 
 -- those that read tables
 unfoldable pub reads_word : Text → Bool
-reads_word word = reads_table_word word || (bytes_eq (codes "tables") word || bytes_eq (codes "check") word)
+reads_word word = reads_table_word word || (bytes_eq (codes "tables") word || (bytes_eq (codes "check") word || bytes_eq (codes "info") word))
 
 -- those that make a store in a new file
 unfoldable pub makes_word : Text → Bool

@@ -6,11 +6,14 @@ ghost use Rattle.store_requests.specs.Asked.{request_word};
 ghost use Rattle.store_requests.specs.Choices.{IsNumber, IsChoice};
 ghost use Rattle.store_requests.specs.Right.{is_number, IsLost, NamesChoice, IsFoundTakable};
 
-use crate::store_command_line::{number_in, option, with_operand, word};
+use crate::store_command_line::{
+    format_version, number_in, option, version_in, with_operand, word,
+};
 use crate::{Mistake, StoreRequest};
 use clap::builder::ValueParser;
 use clap::error::ErrorKind;
 use clap::{Arg, ArgMatches, Command};
+use commit::FormatVersion;
 use sector_dev::Choice;
 use std::alloc::{AllocError, Global};
 
@@ -27,6 +30,8 @@ pub struct ReplayWords<'a> {
     pub stop: u64,
     /// What a crash leaves then.
     pub choice: Choice,
+    /// The version of the store on it.
+    pub version: FormatVersion,
 }
 
 // A number in decimal digits alone.
@@ -96,6 +101,7 @@ pub(crate) fn replay_request<'a>(
         fail: number_in(words, "fail")?,
         stop: number_in(words, "stop")?,
         choice,
+        version: version_in(words)?,
     }))
 }
 
@@ -141,5 +147,6 @@ pub(crate) fn with_faults<'a>(alloc: Global, name: &'a str) -> Result<Command<'a
             "K",
             "The write or sync in which the device stops; without this option none",
         ))?
-        .arg(choice(alloc))
+        .arg(choice(alloc))?
+        .arg(format_version(alloc))
 }

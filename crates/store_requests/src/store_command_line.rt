@@ -1,16 +1,17 @@
 // How `clap` reads a command line of a store.
-ghost use Rattle.std.specs.Prelude.{◌≡◌, true, false, codes, map, drop, option_map, IfOk, IfErr, IsOk};
+ghost use Rattle.std.specs.Prelude.{◌≡◌, ◌==◌, true, false, codes, map, drop, option_map, IfOk, IfErr, IsOk, if◌then◌else◌};
 ghost use Rattle.std.specs.Option.{option_map_or};
 ghost use Rattle.std.specs.Str.{bytes_eq};
 ghost use Rattle.clap.specs.Walk.{texts};
 ghost use Rattle.clap.specs.Words.{app_of, first_value, found_of, new_app, rule_of, with_rule};
 ghost use Rattle.clap.specs.declared.builder.value_parser.ValueParser.{ValueParser};
+ghost use Rattle.commit.specs.declared.sector.FormatVersion.TheVariants.{One, Two};
 ghost use Rattle.store_requests.specs.declared.store_command_line.Mistake.TheVariants as mistakes;
-ghost use Rattle.store_requests.specs.Apps.{required_rule, sectors_rule, repeated_rule, option_rule, form_rule, null_rule, limit_rule, objects_rule};
-ghost use Rattle.store_requests.specs.Apps.{store_app, format_app, new_file_app, copy_app, table_app, rename_app, create_app, append_app, conditions_app, query_app};
-ghost use Rattle.store_requests.specs.Apps.{AreForms, other_parameters, parameters_of, IsOwnApp, value_of, values_of, HasQuery, HasForm, HasNames, HasFound, IsOfMemory};
+ghost use Rattle.store_requests.specs.Apps.{required_rule, json_rule, sectors_rule, version_rule, repeated_rule, option_rule, form_rule, null_rule, limit_rule, objects_rule};
+ghost use Rattle.store_requests.specs.Apps.{store_app, info_app, format_app, new_file_app, copy_app, table_app, rename_app, create_app, append_app, conditions_app, query_app};
+ghost use Rattle.store_requests.specs.Apps.{AreForms, other_parameters, parameters_of, IsOwnApp, value_of, values_of, HasQuery, HasForm, HasJson, HasNames, HasFound, IsOfMemory};
 ghost use Rattle.store_requests.specs.Asked.{command_word, request_word};
-ghost use Rattle.store_requests.specs.Operands.{names_file, names_table, number_of, Names};
+ghost use Rattle.store_requests.specs.Operands.{names_file, names_table, number_of, version_named, Names};
 ghost use Rattle.store_requests.specs.Right.{is_number, AreRightWords, IsFoundTakable};
 ghost use Rattle.store_requests.specs.StoreWords.{is_store_word, is_of_store, first_word};
 
@@ -19,6 +20,7 @@ use crate::{QueryWords, StoreCommand, StoreRequest};
 use clap::builder::ValueParser;
 use clap::error::ErrorKind;
 use clap::{Arg, ArgAction, ArgMatches, Command, Error};
+use commit::FormatVersion;
 use query::RowForm;
 use std::alloc::{AllocError, Global};
 use std::convert::AsStr;
@@ -223,14 +225,41 @@ fn limit_of(words: &ArgMatches<'_>) -> Result<Option<u64>, Mistake>
     }
 }
 
+fn version_of(number: u64) -> FormatVersion
+    ensures { result ≡ (if number == 1 then One else Two) }
+{
+    if number == 1 {
+        FormatVersion::One
+    } else {
+        FormatVersion::Two
+    }
+}
+
+/// The version of a store that is made; without the option the newest.
+pub(crate) fn version_in(words: &ArgMatches<'_>) -> Result<FormatVersion, Mistake>
+    ensures read { IfOk result (λ version. version ≡ version_named (first_value (found_of words.now) (codes "format-version"))) }
+    ensures taken { option_map_or is_number (first_value (found_of words.now) (codes "format-version")) true ≡ true → IsOk result }
+{
+    match words.get_str("format-version") {
+        Some(text) => Ok(version_of(number(text)?)),
+        None => Ok(FormatVersion::Two),
+    }
+}
+
 fn format_request<'a>(path: &'a str, words: &ArgMatches<'a>) -> Result<StoreRequest<'a>, Mistake>
     requires { path.now ≡ value_of (found_of words.now) (codes "STORE") }
     ensures word { IfOk result (λ request. request_word request ≡ codes "format") }
     ensures named { IfOk result (HasFound (found_of words.now)) }
-    ensures taken { is_number (value_of (found_of words.now) (codes "SECTORS")) ≡ true → IsOk result }
+    ensures taken { is_number (value_of (found_of words.now) (codes "SECTORS")) ≡ true
+        → option_map_or is_number (first_value (found_of words.now) (codes "format-version")) true ≡ true → IsOk result }
 {
     let sectors = sectors_of(words)?;
-    Ok(StoreRequest::Format { path, sectors })
+    let version = version_in(words)?;
+    Ok(StoreRequest::Format {
+        path,
+        sectors,
+        version,
+    })
 }
 
 fn copy_request<'a>(path: &'a str, words: &ArgMatches<'a>) -> Result<StoreRequest<'a>, Mistake>
@@ -339,6 +368,13 @@ fn create_command<'a>(
     })
 }
 
+// Whether numbers are printed as JSON.
+fn asks_json(words: &ArgMatches<'_>) -> bool
+    ensures { HasJson (found_of words.now) result }
+{
+    words.get_flag("json")
+}
+
 fn command_of<'a>(
     alloc: Global,
     command: &str,
@@ -364,7 +400,11 @@ fn command_of<'a>(
         "schema" => Ok(StoreCommand::Schema { name }),
         "export" => Ok(StoreCommand::Export { name }),
         "check" => Ok(StoreCommand::Check),
+        "info" => Ok(StoreCommand::Info {
+            as_json: asks_json(words),
+        }),
         "compact" => Ok(StoreCommand::Compact),
+        "upgrade" => Ok(StoreCommand::Upgrade),
         _ => Ok(StoreCommand::Tables),
     }
 }
@@ -373,6 +413,7 @@ fn command_of<'a>(
 #[derive(Clone, Copy)]
 enum Parameters {
     Nothing,
+    FileAndForm,
     Sectors,
     NewStore,
     Table,
@@ -391,7 +432,7 @@ struct Usage {
 }
 
 // In the order of the help.
-const COMMANDS: [Usage; 14] = [
+const COMMANDS: [Usage; 16] = [
     Usage {
         name: "format",
         about: "Makes a file of the given number of sectors, and an empty store in it",
@@ -461,12 +502,28 @@ seconds, .. they are after 1970-01-01.",
         example: "Example: arrowstore check store",
     },
     Usage {
+        name: "info",
+        about: "Prints the store in numbers",
+        example: "Example: arrowstore info store --json
+
+Sectors are counted in 512 bytes. The used ones are those of the two commits, of the
+catalogue and of the tables.",
+    },
+    Usage {
         name: "compact",
         about: "Joins small segments, moves the last ones forward, and prints how many steps that took",
         example: "Example: arrowstore compact store
 
 The tables stay as they are, also where it is stopped. Each append leaves a segment of
 its own, with a bound on how many a store has; what is joined is read faster too.",
+    },
+    Usage {
+        name: "upgrade",
+        about: "Gives each segment of a store of version 1 the digest of its bytes",
+        example: "Example: arrowstore upgrade store
+
+The tables stay as they are, also where it is stopped. A store of version 2 notices when
+a disk has changed its bytes. Programs that know version 1 alone do not read it.",
     },
     Usage {
         name: "copy",
@@ -479,7 +536,7 @@ its own, with a bound on how many a store has; what is joined is read faster too
         example: "Example: arrowstore replay script --sectors 16 --stop 8 --choice new
 where script has a command on each line, its words split by single spaces:
 create NAME FIELD .., import NAME FILE, append NAME FILE, rename NAME NEW, drop NAME,
-compact (one step) or reopen. Each line prints ok or its refusal. Writes and syncs of
+compact (one step), upgrade or reopen. Each line prints ok or its refusal. Writes and syncs of
 the device are counted from 1, the first one after the formatting.",
     },
 ];
@@ -504,6 +561,15 @@ pub(crate) fn option<'a>(alloc: Global, id: &'a str, value: &'a str, help: &'a s
     Arg::new(alloc, id).long(id).value_name(value).help(help)
 }
 
+fn json<'a>(alloc: Global) -> Arg<'a>
+    ensures { (rule_of result ≡ json_rule) × (result.global ≡ false) }
+{
+    Arg::new(alloc, "json")
+        .long("json")
+        .action(ArgAction::SetTrue)
+        .help("Prints one JSON object on one line")
+}
+
 fn sectors<'a>(alloc: Global) -> Arg<'a>
     ensures { (rule_of result ≡ sectors_rule) × (result.global ≡ false) }
 {
@@ -513,6 +579,18 @@ fn sectors<'a>(alloc: Global) -> Arg<'a>
         "How many sectors of 512 bytes, 16 to 4194304",
     )
     .value_parser(ValueParser::unsigned(0, u64::MAX))
+}
+
+pub(crate) fn format_version<'a>(alloc: Global) -> Arg<'a>
+    ensures { (rule_of result ≡ version_rule) × (result.global ≡ false) }
+{
+    option(
+        alloc,
+        "format-version",
+        "V",
+        "The version of the store: 2, each segment with a digest, which it is without this option; 1 without digests",
+    )
+    .value_parser(ValueParser::unsigned(1, 2))
 }
 
 fn form<'a>(alloc: Global) -> Arg<'a>
@@ -563,7 +641,7 @@ fn limit<'a>(alloc: Global) -> Arg<'a>
 fn names_file(word: &str) -> bool
     ensures { result ≡ names_file word.now }
 {
-    matches!(word, "tables" | "check" | "compact")
+    matches!(word, "tables" | "check" | "compact" | "upgrade")
 }
 
 #[tactic(auto, unfolding(crate::specs::Operands::names_table))]
@@ -583,6 +661,7 @@ fn other_parameters(word: &str) -> Parameters
         "create" => Parameters::TableAndFields,
         "append" => Parameters::TableAndRows,
         "replay" => Parameters::ScriptAndFaults,
+        "info" => Parameters::FileAndForm,
         _ => Parameters::TableAndQuery,
     }
 }
@@ -635,6 +714,13 @@ fn with_file<'a>(alloc: Global, name: &'a str) -> Result<Command<'a>, AllocError
     with_operand(alloc, name, "STORE", "The file of the store")
 }
 
+// One that takes a form of numbers.
+fn with_form<'a>(alloc: Global, name: &'a str) -> Result<Command<'a>, AllocError>
+    ensures { IfOk result (λ c. app_of c ≡ info_app name.now) }
+{
+    with_file(alloc, name)?.arg(json(alloc))
+}
+
 // One that names a table too.
 fn with_table<'a>(alloc: Global, name: &'a str) -> Result<Command<'a>, AllocError>
     ensures { IfOk result (λ c. app_of c ≡ table_app name.now) }
@@ -648,11 +734,13 @@ fn with_new_name<'a>(alloc: Global, name: &'a str) -> Result<Command<'a>, AllocE
     with_table(alloc, name)?.arg(required(alloc, "NEW", "Its new name"))
 }
 
-// One that takes how many sectors its store has.
+// One that takes how many sectors its store has, and its version.
 fn with_sectors<'a>(alloc: Global, name: &'a str) -> Result<Command<'a>, AllocError>
     ensures { IfOk result (λ c. app_of c ≡ format_app name.now) }
 {
-    with_file(alloc, name)?.arg(sectors(alloc))
+    with_file(alloc, name)?
+        .arg(sectors(alloc))?
+        .arg(format_version(alloc))
 }
 
 fn with_new_file<'a>(alloc: Global, name: &'a str) -> Result<Command<'a>, AllocError>
@@ -727,6 +815,7 @@ fn command<'a>(alloc: Global, name: &'a str) -> Result<Command<'a>, AllocError>
 {
     match parameters_of(name) {
         Parameters::Nothing => with_file(alloc, name),
+        Parameters::FileAndForm => with_form(alloc, name),
         Parameters::Table => with_table(alloc, name),
         Parameters::TableAndNewName => with_new_name(alloc, name),
         Parameters::Sectors => with_sectors(alloc, name),

@@ -4,6 +4,7 @@ ghost use Rattle.store_requests.specs.Asked.{command_word};
 ghost use Rattle.store_requests.specs.StoreWords.{takes_input_word, changes_word, makes_word, reads_table_word, reads_word, is_store_word, is_of_store, takes_input, is_help_word, ask_for_help, ask_help_of_command};
 
 use crate::ReplayWords;
+use commit::FormatVersion;
 use query::RowForm;
 use std::convert::AsStr;
 use text_import::TextForm;
@@ -19,10 +20,11 @@ pub struct QueryWords<'a> {
 /// What is asked of the store in the file at a path.
 #[derive(Drop)]
 pub enum StoreRequest<'a> {
-    /// An empty store of `sectors` sectors of 512 bytes, in a new file.
+    /// An empty store of `sectors` sectors of 512 bytes in a version of the format, in a new file.
     Format {
         path: &'a str,
         sectors: u64,
+        version: FormatVersion,
     },
     /// A store of `sectors` sectors of 512 bytes in a new file at `new`, with the tables of the one at `path`.
     Copy {
@@ -93,8 +95,14 @@ pub enum StoreCommand<'a> {
     },
     /// Whether all tables can be read.
     Check,
+    /// The store in numbers, as lines or as JSON.
+    Info {
+        as_json: bool,
+    },
     /// Small segments are joined, and moved to the lowest free sectors.
     Compact,
+    /// Each segment gets the digest of its bytes.
+    Upgrade,
 }
 
 impl StoreCommand<'_> {
@@ -110,6 +118,7 @@ impl StoreCommand<'_> {
                 | StoreCommand::Schema { .. }
                 | StoreCommand::Export { .. }
                 | StoreCommand::Check
+                | StoreCommand::Info { .. }
         )
     }
 }
@@ -125,7 +134,7 @@ fn takes_input_word(word: &str) -> bool
 fn changes_word(word: &str) -> bool
     ensures { result ≡ changes_word word.now }
 {
-    takes_input_word(word) || matches!(word, "create" | "rename" | "drop" | "compact")
+    takes_input_word(word) || matches!(word, "create" | "rename" | "drop" | "compact" | "upgrade")
 }
 
 #[tactic(auto, unfolding(crate::specs::StoreWords::makes_word))]
@@ -146,7 +155,7 @@ fn reads_table_word(word: &str) -> bool
 fn reads_word(word: &str) -> bool
     ensures { result ≡ reads_word word.now }
 {
-    reads_table_word(word) || matches!(word, "tables" | "check")
+    reads_table_word(word) || matches!(word, "tables" | "check" | "info")
 }
 
 #[tactic(auto, unfolding(crate::specs::StoreWords::is_store_word))]

@@ -33,6 +33,8 @@ mod plain_tables;
 #[cfg(test)]
 mod playing;
 #[cfg(test)]
+mod salvages;
+#[cfg(test)]
 mod selections;
 #[cfg(test)]
 mod shown;
@@ -42,6 +44,8 @@ mod snapshot;
 mod steps;
 #[cfg(test)]
 mod stops;
+#[cfg(test)]
+mod summaries;
 #[cfg(test)]
 mod versions;
 #[cfg(test)]

@@ -53,6 +53,14 @@ pub returns-in-Check-clause-reads : goal.returns-in-Check-clause-reads
 unfolding takes_input_word
 returns-in-Check-clause-reads c = rw c.in-Check.is refl
 
+pub returns-in-Info-clause-reads : goal.returns-in-Info-clause-reads
+unfolding takes_input_word
+returns-in-Info-clause-reads c = rw c.in-Info.is refl
+
+pub returns-in-Upgrade-clause-reads : goal.returns-in-Upgrade-clause-reads
+unfolding takes_input_word
+returns-in-Upgrade-clause-reads c = rw c.in-Upgrade.is refl
+
 pub returns-in-Compact-clause-reads : goal.returns-in-Compact-clause-reads
 unfolding takes_input_word
 returns-in-Compact-clause-reads c = rw c.in-Compact.is refl
@@ -86,6 +94,14 @@ returns-in-Export-clause-stated c = rw c.in-Export.is refl
 pub returns-in-Check-clause-stated : goal.returns-in-Check-clause-stated
 unfolding States
 returns-in-Check-clause-stated c = rw c.in-Check.is tt
+
+pub returns-in-Info-clause-stated : goal.returns-in-Info-clause-stated
+unfolding States
+returns-in-Info-clause-stated c = rw c.in-Info.is refl
+
+pub returns-in-Upgrade-clause-stated : goal.returns-in-Upgrade-clause-stated
+unfolding States
+returns-in-Upgrade-clause-stated c = rw c.in-Upgrade.is tt
 
 pub returns-in-Compact-clause-stated : goal.returns-in-Compact-clause-stated
 unfolding States

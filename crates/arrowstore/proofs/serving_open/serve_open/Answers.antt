@@ -76,9 +76,25 @@ returns-in-Check-clause-serves g c =
     serves_as g.R.Read.remaining g.W.Write.contents c.args.command opened.Check c.args.store.now new.store (channels c.args.input.now c.args.output.now c.args.hint.now)
     (channels c.args.input.now new.output c.args.hint.now) c.check_tables.result c.in-Check.is (record { written = both_written c.check_tables.result _ _ e.written e.read; told = e.told; leaves = e.reads; unhinted = refl })
 
+pub returns-in-Info-clause-serves : goal.returns-in-Info-clause-serves
+unfolding Serves
+returns-in-Info-clause-serves g c =
+    let e = c.print_summary.ensures in
+    let new = c.print_summary.new in
+    serves_as g.R.Read.remaining g.W.Write.contents c.args.command (opened.Info c.in-Info.as_json) c.args.store.now c.args.store.now (channels c.args.input.now c.args.output.now c.args.hint.now)
+    (channels c.args.input.now new.output c.args.hint.now) c.print_summary.result c.in-Info.is (record { written = e.written; told = e.told; leaves = refl; unhinted = refl })
+
 pub returns-in-Compact-clause-serves : goal.returns-in-Compact-clause-serves
 unfolding Serves
 returns-in-Compact-clause-serves g c =
     let new = c.compact_tables.new in
     serves_as g.R.Read.remaining g.W.Write.contents c.args.command opened.Compact c.args.store.now new.store (channels c.args.input.now c.args.output.now c.args.hint.now)
     (channels c.args.input.now new.output c.args.hint.now) c.compact_tables.result c.in-Compact.is (c.compact_tables.ensures.compacts, refl)
+
+pub returns-in-Upgrade-clause-serves : goal.returns-in-Upgrade-clause-serves
+unfolding Serves
+returns-in-Upgrade-clause-serves g c =
+    let e = c.upgrade_store.ensures in
+    let new = c.upgrade_store.new in
+    serves_as g.R.Read.remaining g.W.Write.contents c.args.command opened.Upgrade c.args.store.now new.store (channels c.args.input.now c.args.output.now c.args.hint.now)
+    (channels c.args.input.now new.output c.args.hint.now) c.upgrade_store.result c.in-Upgrade.is (record { goes = e.goes; told = e.told; written = e.written; unhinted = refl })

@@ -4,6 +4,9 @@ use Rattle.store_requests.proofs.store_command_line.command.Goals as goal
 pub returns-in-Nothing : goal.returns-in-Nothing
 returns-in-Nothing c = own_of _ _ _ _ c.parameters_of.ensures c.in-Nothing.is c.with_file.ensures
 
+pub returns-in-FileAndForm : goal.returns-in-FileAndForm
+returns-in-FileAndForm c = own_of _ _ _ _ c.parameters_of.ensures c.in-FileAndForm.is c.with_form.ensures
+
 pub returns-in-Table : goal.returns-in-Table
 returns-in-Table c = own_of _ _ _ _ c.parameters_of.ensures c.in-Table.is c.with_table.ensures
 
