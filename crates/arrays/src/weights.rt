@@ -514,6 +514,12 @@ fn first_entries_weight(
     )
 }
 
+// Whether a dictionary has no entries but the first ones, and fewer than so many slots: their weights are looked up faster than offsets.
+fn are_first_alone(view: ArrayView<'_>, count: usize) -> bool {
+    let entries = entry_count(view.dictionary());
+    entries <= FIRST_ENTRIES as u128 && entries < count as u128
+}
+
 // The same, of whatever dictionary. Where its entries are texts or binaries in one array, their offsets tell what they weigh.
 #[cycle(weights)]
 fn entries_weight(
@@ -533,6 +539,9 @@ fn entries_weight(
     ensures { let kind = kind_of field.now.data_type in
         result ≡ capped_weight (sum_from (kind_weight kind) (unless_null (indexed_cell (index_of spec) kind) (view_array view.entry)) from count) }
 {
+    if are_first_alone(view, count) {
+        return first_entries_weight(field, spec, view, from, count, none);
+    }
     match sized_entries(&field.data_type, view) {
         Some(entries) => {
             let slots = CodedSlots::new(spec, view);
