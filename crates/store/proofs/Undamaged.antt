@@ -1,9 +1,8 @@
 -- Tables are made of bytes that have the digests of their segments, and a segment that can't be read and one with other bytes are told apart.
-use Rattle.std.specs.Prelude.{slice_get, if◌then◌else◌, nat_lt}
+use Rattle.std.specs.Prelude.{slice_get, nat_lt}
 use Rattle.std.proofs.Common.{◌≡◌, ◌≢◌, ◌<◌, ◌++◌, ◌∷◌, [], ℕ, zero, suc, Bool, true, false, List, Option, Some, None, take, refl, sym, ap, ◌∙◌, subst, arith, append_assoc}
 use Rattle.std.proofs.lemmas.Bool.{ltb-true, ltb-false}
 use Rattle.std.proofs.lemmas.List.Sums.{sum_by-append}
-use Rattle.sha2.specs.Sha256.{sha256}
 use Rattle.sector_dev.specs.Disk.{Image}
 use Rattle.arrow_schema.specs.Column.{PlainSchema}
 use Rattle.cells.specs.Cell.{Cell, PlainTable}
@@ -11,7 +10,7 @@ use Rattle.cells.specs.Weight.{row_weight, table_weight}
 use Rattle.cells.specs.declared.limits.TheConstants.{MAX_TABLE_WEIGHT}
 use Rattle.catalogue.specs.declared.entry.Segment.{Segment}
 use Rattle.catalogue.specs.Entries.{PlainEntry}
-use Rattle.store.specs.Held.{is_undamaged, bytes_of, rows_in_bytes, rows_in_segment, segment_rows, joined_rows, rows_held, table_held}
+use Rattle.store.specs.Held.{is_undamaged, bytes_of, rows_in_bytes, segment_rows, rows_held, table_held}
 use Rattle.store.specs.Reading.{HasRead, HaveRead, ArePast, IsUnread, IsDamaged, IsRead}
 use Rattle.store.specs.Exporting.{HasRows}
 use Rattle.store.specs.Digests.{HaveDigest, MeanRows}

@@ -1,6 +1,5 @@
 -- Rows of a segment come only of bytes that have the digest of its entry.
 use Rattle.std.specs.Prelude.{◌≡◌, ◌++◌, Bool, true, false, List, [], ◌∷◌, Option, Some, None, if◌then◌else◌, refl}
-use Rattle.std.specs.Str.{bytes_eq}
 use Rattle.std.proofs.Common.{ℕ, sym, ap, ◌∙◌, append-nil, append_assoc}
 use Rattle.std.proofs.lemmas.Slice.Eq.{bytes_eq-Decides}
 use Rattle.sha2.specs.Sha256.{sha256}

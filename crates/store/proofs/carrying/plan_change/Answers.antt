@@ -3,7 +3,6 @@ use Rattle.std.specs.Prelude.{Err}
 use Rattle.std.specs.Global.{Vec}
 use Rattle.std.specs.List.{list_all}
 use Rattle.std.proofs.lemmas.Result.{err_from_is_err_and}
-use Rattle.segments.specs.declared.piece.Piece.{Piece}
 use Rattle.segments.specs.declared.run.Run.{Run}
 use Rattle.segments.specs.Pieces.{plain_pieces}
 use Rattle.segments.specs.Usages.{IsUsedIn, GivesAll}

@@ -1,5 +1,5 @@
 use Rattle.std.specs.Prelude.{get_or}
-use Rattle.std.proofs.Common.{◌≡◌, ◌<◌, ℕ, List, None, length, refl, ◌∙◌, arith}
+use Rattle.std.proofs.Common.{None, arith}
 use Rattle.std.proofs.lemmas.List.{get_or_default}
 use Rattle.catalogue.specs.declared.entry.Segment.{Segment}
 use Rattle.store.proofs.Turns.{placed_more}

@@ -1,5 +1,5 @@
 use Rattle.std.specs.Prelude.{Result, Err}
-use Rattle.std.proofs.Common.{◌≡◌, ◌≢◌, ◌<◌, ◌+◌, ◌++◌, ℕ, Bool, true, List, Option, Some, length, refl, sym, ap, ◌∙◌, subst, length-append}
+use Rattle.std.proofs.Common.{◌≡◌, ◌≢◌, ◌<◌, ◌+◌, ◌++◌, ℕ, Bool, List, Option, Some, length, refl, sym, ap, ◌∙◌, subst, length-append}
 use Rattle.sector_dev.specs.Disk.{Image, now, shown_image}
 use Rattle.arrow_schema.specs.Column.{PlainSchema}
 use Rattle.cells.specs.Cell.{Cell, PlainTable}

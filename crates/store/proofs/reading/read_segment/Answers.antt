@@ -1,7 +1,6 @@
-use Rattle.std.proofs.Common.{◌≡◌, false, refl, sym, ap, ◌∙◌, subst}
+use Rattle.std.proofs.Common.{refl, sym, ◌∙◌, subst}
 use Rattle.sector_dev.specs.Disk.{now, shown_image}
 use Rattle.tables.specs.declared.refusal.Refusal.{Refusal}
-use Rattle.tables.specs.declared.refusal.Refusal.TheVariants.{OutOfMemory}
 use Rattle.store.specs.Reading.{LacksRows}
 use Rattle.store.specs.laws.Digests.{copy_undamaged, copy_rows, lacks_rows}
 use Rattle.store.proofs.reading.read_segment.Goals as goal
