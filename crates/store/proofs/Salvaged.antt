@@ -16,9 +16,10 @@ use Rattle.catalogue.specs.Entries.{PlainEntry}
 use Rattle.tables.specs.declared.refusal.Refusal.{Refusal}
 use Rattle.tables.specs.declared.refusal.Refusal.TheVariants as refusals
 use Rattle.store.specs.Calls.{done, refused, is_failure}
-use Rattle.store.specs.Exporting.{HasRows, LacksRows}
+use Rattle.store.specs.Exporting.{HasRows}
 use Rattle.store.specs.Held.{segment_rows}
-use Rattle.store.specs.Reading.{OnlyReadsDevice}
+use Rattle.store.specs.Reading.{LacksRows, OnlyReadsDevice}
+use Rattle.store.specs.laws.Digests.{read_rows, damaged_lacks}
 use Rattle.store.specs.Salvaging.{AreFound, rows_found, left_out, Salvages, SalvagesAt, BreaksOff, RefusesSalvage}
 use Rattle.store.specs.inner.Reading.{FailsReading}
 use Rattle.store.specs.inner.Salvaging.{is_of_segment, FailsWriting, FindsMessages, messages_found, SalvagesOne, SalvagesEach}
@@ -35,7 +36,8 @@ module _ (tells : Bool) (image : Image) (s : PlainSchema) (g : Segment) where
   pub lost_rows : (place : ℕ) (r : Refusal) → LacksRows tells image s g place r → is_of_segment r ≡ true → FindsMessages tells image s g None
   lost_rows place refusals.Device lacks is = absurd (true≢false (sym is))
   lost_rows place refusals.OutOfMemory lacks is = absurd (true≢false (sym is))
-  lost_rows place (refusals.SegmentUnread other) lacks is = lacks.1
+  lost_rows place (refusals.SegmentUnread other) lacks is = λ told. (lacks.1 told).1
+  lost_rows place (refusals.SegmentDamaged other) lacks is = λ told. damaged_lacks s g image (lacks.1 told)
   lost_rows place _ lacks is = absurd lacks
 
   -- any other one is of the device or of memory
@@ -43,6 +45,7 @@ module _ (tells : Bool) (image : Image) (s : PlainSchema) (g : Segment) where
   fails_else place refusals.Device lacks is = tt
   fails_else place refusals.OutOfMemory lacks is = tt
   fails_else place (refusals.SegmentUnread other) lacks is = absurd (true≢false is)
+  fails_else place (refusals.SegmentDamaged other) lacks is = absurd (true≢false is)
   fails_else place _ lacks is = absurd lacks
 
   -- the rows of one that holds them are written
@@ -52,7 +55,7 @@ module _ (tells : Bool) (image : Image) (s : PlainSchema) (g : Segment) where
       let same : messages ≡ rows_messages s finds.0 = cc finds.2 in
       record {
         found = Some finds.0;
-        shown = finds.1;
+        shown = read_rows tells image s g finds.0 finds.1;
         messages = subst (Appends written written') same wrote;
         others = sym (append-nil left);
       }

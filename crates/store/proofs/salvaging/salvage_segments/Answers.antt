@@ -1,6 +1,6 @@
 use Rattle.std.specs.Prelude.{get_or}
 use Rattle.std.specs.List.{list_all}
-use Rattle.std.proofs.Common.{◌≡◌, ◌<◌, Bool, true, false, ℕ, List, [], ◌+◌, length, take, refl, sym, ap, ◌∙◌, subst, arith, take_all, length-take}
+use Rattle.std.proofs.Common.{◌≡◌, ◌<◌, Bool, true, false, ℕ, List, [], None, ◌+◌, length, take, refl, sym, ap, ◌∙◌, subst, arith, take_all, length-take}
 use Rattle.std.proofs.lemmas.Bool.{true≢false}
 use Rattle.std.proofs.lemmas.List.{get_or_default}
 use Rattle.std.proofs.lemmas.List.Folds.{list_all_at}
@@ -18,7 +18,7 @@ use Rattle.store.proofs.Salvaged.{each_first, each_more}
 use Rattle.store.proofs.salvaging.salvage_segments.Goals as goal
 
 abbrev no_segment : Segment
-no_segment = record { place = record { run = record { start = 0; count = 0 }; bytes = 0 }; rows = 0 }
+no_segment = record { place = record { run = record { start = 0; count = 0 }; bytes = 0 }; rows = 0; digest = None }
 
 -- the segment at a place, whatever stands for one past the end
 at_place : (segments : List Segment) (place : ℕ) (segment : Segment) → segment ≡ get_or segments place no_segment → place < length segments → segment ≡ get_or segments place segment
