@@ -18,12 +18,19 @@ fn is_of_one(fields: &[Field], name: &str) -> bool
     count_named(fields, name) == 1
 }
 
+// Whether no other field has the name of this one.
+fn is_alone(fields: &[Field], field: &Field) -> bool
+    ensures { result ≡ is_of_one (map column_of fields.now) (name_of_column (column_of field.now)) }
+{
+    is_of_one(fields, field.name.as_str())
+}
+
 /// Whether no two of the fields have the same name: only then an object has a member for each.
 pub fn are_named_apart(fields: &[Field]) -> bool
     ensures { result ≡ are_named_apart (map column_of fields.now) }
 {
     for field in fields {
-        if !is_of_one(fields, field.name.as_str()) {
+        if !is_alone(fields, field) {
             return false;
         }
     }
