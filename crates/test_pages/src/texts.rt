@@ -132,8 +132,10 @@ fn is_one_table(schema: &Schema, segments: &[Segment], form: SegmentForm) -> boo
 
 fn seen_formed(alloc: Global, form: SegmentForm, most: u64, bytes: &[u8]) -> Result<Seen, NotMade> {
     match decode_page(alloc, form, most, bytes) {
-        Ok((schema, segments)) if is_one_table(&schema, &segments, form) => Ok(Seen::Same),
-        Ok(_) => Ok(Seen::Other),
+        Ok((schema, segments)) => {
+            let is_same = is_one_table(&schema, &segments, form);
+            Ok(if is_same { Seen::Same } else { Seen::Other })
+        }
         Err(DecodeError::NoText) => Ok(Seen::Refused),
         Err(DecodeError::OutOfMemory) => Err(NotMade),
     }
