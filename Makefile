@@ -75,7 +75,7 @@ vectors: bin/arrowstore
 	tests/stores bin/arrowstore
 	tests/images_open bin/arrowstore
 	tests/queries bin/arrowstore
-	tests/sessions bin/arrowstore tests/vectors/sessions_pages tests/vectors/replays_pages
+	tests/sessions bin/arrowstore tests/vectors/sessions_digests tests/vectors/replays_digests
 	tests/replays bin/arrowstore
 	tests/killed bin/arrowstore
 	tests/types bin/arrowstore
