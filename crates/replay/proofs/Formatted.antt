@@ -1,7 +1,6 @@
 -- An empty store on a device that is shut.
-use Rattle.std.proofs.Common.{◌≡◌, ◌∙◌, ℕ, Bool, [], ◌∷◌, Option, Some, None, replicate, refl, ap, ap₂, sym, subst}
-use Rattle.sector_dev.specs.Disk.{Story, now, shown_image}
-use Rattle.sector_dev.specs.History.{all_synced, zeros}
+use Rattle.std.proofs.Common.{◌≡◌, ◌∙◌, ℕ, Bool, ap, sym, subst}
+use Rattle.sector_dev.specs.Disk.{Story, now}
 use Rattle.sector_dev.specs.Faults.{no_faults}
 use Rattle.sector_dev.specs.Time.{LeavesOnly}
 use Rattle.sector_dev.specs.View.{size_of, failed_of, history_of}
@@ -10,36 +9,14 @@ use Rattle.sector_dev.specs.declared.model.ModelDevice.{ModelDevice}
 use Rattle.sector_dev.specs.declared.device.SectorDevice.{Ghosts}
 use Rattle.store.specs.declared.store.Store.{Store}
 use Rattle.store.specs.Beginning.{IsLeftOf}
-use Rattle.commit.specs.Ruling.{newer, ruling}
 use Rattle.commit.specs.Standing.{is_size}
-use Rattle.commit.specs.laws.Sectors.{none_begins}
-use Rattle.commit.specs.declared.opening_refusal.OpeningRefusal.{OpeningRefusal}
-use Rattle.commit.specs.declared.sector.Commit.{Commit}
-use Rattle.store.specs.Opening.{TellsFormatting, IsOfFormatting}
 use Rattle.tables.specs.Tables.{Tables, no_tables}
 use Rattle.store.specs.Calls.{format_call, done}
 use Rattle.store.specs.Fits.{setting_of, fresh, resumed, device_of, DeviceFits, Opens}
 use Rattle.store.specs.Machine.{Setting, Machine, Allows, shut_down}
 use Rattle.store.specs.Places.{ShutFits}
 use Rattle.store.specs.Steps.{Step}
-use Rattle.replay.specs.Replay.{IsEmptyStore, IsOfNewDevice, after_opening}
-
--- zeros hold no commit
-zeros_unruled : ruling (λ _. Some zeros) ≡ None
-unfolding zeros ruling
-zeros_unruled = ap₂ newer (none_begins 0 0 (replicate 511 0) refl) (none_begins 1 0 (replicate 511 0) refl)
-
-pub new_unruled : (device : ModelDevice) → history_of device ≡ all_synced (λ _. Some zeros) ∷ [] → ruling (shown_image (now (history_of device))) ≡ None
-unfolding all_synced
-new_unruled device new = subst (λ (story : Story). ruling (shown_image (now story)) ≡ None) (sym new) zeros_unruled
-
--- so that no store is told to stand there already
-pub new_refused : (sectors size : ℕ) (refusal : OpeningRefusal) (found : Option Commit) → size ≡ sectors → found ≡ None → TellsFormatting refusal size found
-    → IsOfFormatting size refusal → IsOfNewDevice sectors refusal
-new_refused sectors size refusal found same none tells why = (
-  λ already. subst (λ (r : OpeningRefusal). TellsFormatting r size found) already tells none,
-  subst (λ (n : ℕ). IsOfFormatting n refusal) same why,
-)
+use Rattle.replay.specs.Replay.{IsEmptyStore, after_opening}
 
 -- what a formatting made goes on as a store that a run may begin with
 pub formatted_resumed : (s : Setting) (m next : Machine) (wrote : Bool) → Step s m format_call done wrote next → shut_down next ≡ resumed

@@ -1,5 +1,5 @@
 -- A script that is replayed: on which device, what was answered, what a crash left of it, and what is printed.
-use Rattle.std.specs.Prelude.{◌≡◌, ◌≢◌, ◌+◌, ◌-◌, ◌^◌, ◌++◌, ℕ, zero, suc, min, true, List, [], ◌∷◌, take, length, codes, Option, IfSome, Ok, Err}
+use Rattle.std.specs.Prelude.{◌≡◌, ◌+◌, ◌-◌, ◌^◌, ◌++◌, ℕ, zero, suc, min, true, List, [], ◌∷◌, take, length, codes, Option, IfSome, Ok, Err}
 use Rattle.sector_dev.specs.Disk.{now, shown_image}
 use Rattle.sector_dev.specs.Chosen.{IsChosen}
 use Rattle.sector_dev.specs.Faults.{no_faults}
@@ -25,7 +25,6 @@ use Rattle.store.specs.Places.{AreCallsOf, device_in, ShutFits}
 use Rattle.store.specs.Answering.{AnswersCall}
 use Rattle.store.specs.Opening.{IsOfFormatting}
 use Rattle.commit.specs.Standing.{is_size}
-use Rattle.commit.specs.declared.opening_refusal.OpeningRefusal.{OpeningRefusal}
 use Rattle.commit.specs.declared.opening_refusal.OpeningRefusal.TheVariants as openings
 use Rattle.command_refusals.specs.declared.refusal.Refusal.{Refusal}
 use Rattle.command_refusals.specs.declared.refusal.Refusal.TheVariants.{TooManyBytes, Io, BadScript, Opening, OutOfMemory}
@@ -33,7 +32,7 @@ use Rattle.store_commands.specs.declared.input.TheConstants.{LARGEST_INPUT}
 use Rattle.store_commands.specs.Changing.{StateSchema}
 use Rattle.replay.specs.declared.script.ScriptError.TheVariants.{BadLine}
 use Rattle.std.specs.Io.KnownBytes.{Appends}
-use Rattle.replay.specs.Script.{IsScript, PlainLine, create, import_file, append_file, rename, drop, compact, upgrade, reopen}
+use Rattle.replay.specs.Script.{IsScript, PlainLine, create, import_file, append_file, rename, drop, compact, reopen}
 use Rattle.replay.specs.Playing.{Plays, replies_text, stop_text, FoundText}
 
 -- ---- lines as calls
@@ -54,7 +53,6 @@ IsCallOfLine remaining (append_file name path) (calls.Apply command) = (bytes : 
 IsCallOfLine remaining (rename from to) (calls.Apply command) = command_of command ≡ commands.rename from to
 IsCallOfLine remaining (drop name) (calls.Apply command) = command_of command ≡ commands.drop_table name
 IsCallOfLine remaining compact calls.Compact = Unit {0}
-IsCallOfLine remaining upgrade calls.Upgrade = Unit {0}
 IsCallOfLine remaining reopen calls.Open = Unit {0}
 IsCallOfLine remaining _ _ = ⊥
 
@@ -141,13 +139,9 @@ IsOfReading Io = Unit {0}
 IsOfReading OutOfMemory = Unit {0}
 IsOfReading _ = ⊥
 
--- a new device, on which no store stands, is not formatted
-abbrev pub IsOfNewDevice : (sectors : ℕ) → OpeningRefusal → Type 0
-IsOfNewDevice sectors refusal = (refusal ≢ openings.AlreadyAStore) × IsOfFormatting sectors refusal
-
--- it does not become an empty store
+-- a new device does not become an empty store
 abbrev pub FailsToFormat : (sectors : ℕ) → Refusal → Type 0
-FailsToFormat sectors (Opening refusal) = IsOfNewDevice sectors refusal
+FailsToFormat sectors (Opening refusal) = IsOfFormatting sectors refusal
 FailsToFormat sectors OutOfMemory = Unit {0}
 FailsToFormat sectors _ = ⊥
 
@@ -167,7 +161,7 @@ RefusesScript script _ = ⊥
 -- the number of sectors is none of a store, which is told first; some file has a script whose line of this number is the first that is none; a file can't be
 -- read, or the output can't be written; or memory is refused
 abbrev pub RefusesReplay : {F : Type 0} → (remaining : F → Option (List ℕ)) → (sectors : ℕ) → Refusal → Type 0
-RefusesReplay remaining sectors (Opening refusal) = IsOfNewDevice sectors refusal
+RefusesReplay remaining sectors (Opening refusal) = IsOfFormatting sectors refusal
 RefusesReplay remaining sectors (BadScript number) = (is_size sectors ≡ true) × ((script : List ℕ) × IsOfFile remaining script × IsScript script (Err (BadLine number)))
 RefusesReplay remaining sectors Io = is_size sectors ≡ true
 RefusesReplay remaining sectors TooManyBytes = is_size sectors ≡ true

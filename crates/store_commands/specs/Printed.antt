@@ -18,19 +18,23 @@ abbrev pub schema_text : List Column → List ℕ
 schema_text [] = []
 schema_text (c ∷ cs) = field_text printed c ++ codes "\n" ++ schema_text cs
 
+-- a text, and a number after it
+abbrev pub numbered : List ℕ → ℕ → List ℕ
+numbered before number = before ++ decimal number
+
 -- a line for each number of a store: its name, and the number
 abbrev pub summary_lines : Summary → List ℕ
 summary_lines s =
-    codes "format_version " ++ decimal s.format_version ++ codes "\nepoch " ++ decimal s.epoch ++ codes "\nsectors " ++ decimal s.sectors
-    ++ codes "\nused " ++ decimal s.used ++ codes "\nfree " ++ decimal s.free ++ codes "\nlargest_free_run " ++ decimal s.largest_free_run
-    ++ codes "\ntables " ++ decimal s.tables ++ codes "\nsegments " ++ decimal s.segments ++ codes "\n"
+    numbered (codes "format_version ") s.format_version ++ numbered (codes "\nepoch ") s.epoch ++ numbered (codes "\nsectors ") s.sectors
+    ++ numbered (codes "\nused ") s.used ++ numbered (codes "\nfree ") s.free ++ numbered (codes "\nlargest_free_run ") s.largest_free_run
+    ++ numbered (codes "\ntables ") s.tables ++ numbered (codes "\nsegments ") s.segments ++ codes "\n"
 
 -- the same as one object of JSON (RFC 8259), on one line
 abbrev pub summary_object : Summary → List ℕ
 summary_object s =
-    codes "{\"format_version\":" ++ decimal s.format_version ++ codes ",\"epoch\":" ++ decimal s.epoch ++ codes ",\"sectors\":" ++ decimal s.sectors
-    ++ codes ",\"used\":" ++ decimal s.used ++ codes ",\"free\":" ++ decimal s.free ++ codes ",\"largest_free_run\":" ++ decimal s.largest_free_run
-    ++ codes ",\"tables\":" ++ decimal s.tables ++ codes ",\"segments\":" ++ decimal s.segments ++ codes "}\n"
+    numbered (codes "{\"format_version\":") s.format_version ++ numbered (codes ",\"epoch\":") s.epoch ++ numbered (codes ",\"sectors\":") s.sectors
+    ++ numbered (codes ",\"used\":") s.used ++ numbered (codes ",\"free\":") s.free ++ numbered (codes ",\"largest_free_run\":") s.largest_free_run
+    ++ numbered (codes ",\"tables\":") s.tables ++ numbered (codes ",\"segments\":") s.segments ++ codes "}\n"
 
 abbrev pub summary_text : (as_json : Bool) → Summary → List ℕ
 summary_text as_json s = if as_json then summary_object s else summary_lines s

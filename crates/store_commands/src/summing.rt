@@ -1,10 +1,10 @@
 // A store in numbers, on an output.
-ghost use Rattle.std.specs.Prelude.{◌≡◌, ◌≢◌, string_bytes, false, IfOk, IfErr, OnOk};
+ghost use Rattle.std.specs.Prelude.{◌≡◌, ◌≢◌, ◌++◌, string_bytes, false, IfOk, IfErr, OnOk};
 ghost use Rattle.std.specs.Io.KnownBytes.{Appends};
 ghost use Rattle.store.specs.Fits.{device_of, is_halted};
 ghost use Rattle.store.specs.Listing.{RefusesTables};
 ghost use Rattle.store.specs.Summary.{IsSummary};
-ghost use Rattle.store_commands.specs.Printed.{summary_lines, summary_object, summary_text, RefusesPrinting};
+ghost use Rattle.store_commands.specs.Printed.{numbered, summary_lines, summary_object, summary_text, RefusesPrinting};
 
 use command_refusals::{Refusal, write_whole};
 use sector_dev::SectorDevice;
@@ -13,22 +13,26 @@ use std::fmt::Write as _;
 use std::io::Write;
 use store::{Store, Summary};
 
+// A text, and a number after it.
+fn push_number(text: &mut String, before: &str, number: u64) -> Result<(), AllocError>
+    ensures { OnOk result (string_bytes text.new ≡ string_bytes text.old ++ numbered before.now number) }
+{
+    write!(text, "{before}{number}")
+}
+
 fn lines_of(alloc: Global, s: &Summary) -> Result<String, AllocError>
     ensures { IfOk result (λ text. string_bytes text ≡ summary_lines s.now) }
 {
     let mut text = String::new(alloc);
-    write!(
-        text,
-        "format_version {}\nepoch {}\nsectors {}\nused {}\nfree {}\nlargest_free_run {}\ntables {}\nsegments {}\n",
-        s.format_version,
-        s.epoch,
-        s.sectors,
-        s.used,
-        s.free,
-        s.largest_free_run,
-        s.tables,
-        s.segments
-    )?;
+    push_number(&mut text, "format_version ", s.format_version as u64)?;
+    push_number(&mut text, "\nepoch ", s.epoch)?;
+    push_number(&mut text, "\nsectors ", s.sectors)?;
+    push_number(&mut text, "\nused ", s.used)?;
+    push_number(&mut text, "\nfree ", s.free)?;
+    push_number(&mut text, "\nlargest_free_run ", s.largest_free_run)?;
+    push_number(&mut text, "\ntables ", s.tables)?;
+    push_number(&mut text, "\nsegments ", s.segments)?;
+    text.push_str("\n")?;
     Ok(text)
 }
 
@@ -36,18 +40,15 @@ fn object_of(alloc: Global, s: &Summary) -> Result<String, AllocError>
     ensures { IfOk result (λ text. string_bytes text ≡ summary_object s.now) }
 {
     let mut text = String::new(alloc);
-    write!(
-        text,
-        "{{\"format_version\":{},\"epoch\":{},\"sectors\":{},\"used\":{},\"free\":{},\"largest_free_run\":{},\"tables\":{},\"segments\":{}}}\n",
-        s.format_version,
-        s.epoch,
-        s.sectors,
-        s.used,
-        s.free,
-        s.largest_free_run,
-        s.tables,
-        s.segments
-    )?;
+    push_number(&mut text, "{\"format_version\":", s.format_version as u64)?;
+    push_number(&mut text, ",\"epoch\":", s.epoch)?;
+    push_number(&mut text, ",\"sectors\":", s.sectors)?;
+    push_number(&mut text, ",\"used\":", s.used)?;
+    push_number(&mut text, ",\"free\":", s.free)?;
+    push_number(&mut text, ",\"largest_free_run\":", s.largest_free_run)?;
+    push_number(&mut text, ",\"tables\":", s.tables)?;
+    push_number(&mut text, ",\"segments\":", s.segments)?;
+    text.push_str("}\n")?;
     Ok(text)
 }
 

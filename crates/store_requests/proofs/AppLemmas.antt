@@ -1,47 +1,36 @@
 -- What the commands of names alone make of their operands.
-use Rattle.std.proofs.Common.{◌≡◌, ◌⊎◌, ◌∙◌, ◌==◌, ◌+◌, ◌^◌, ◌<◌, ◌≤◌, ◌&&◌, ℕ, Bool, true, false, refl, sym, ap, ap₂, subst, subst₂, List, [], ◌∷◌, ◌++◌, length, drop, codes, Option, Some, None, inl}
-use Rattle.std.proofs.Common.{inr, eqb-true, ltb-true, le-ltb, le-leb, leb-true, true≢false, arith}
-use Rattle.std.proofs.lemmas.Bool.{and_parts, and_from}
-use Rattle.std.specs.Prelude.{IfSome, IfOk, Result, Ok, Err, option_map, unwrap_or, nat_le, nat_lt}
-use Rattle.std.specs.Char.{digit_value}
-use Rattle.std.specs.List.{list_all}
-use Rattle.std.specs.Option.{option_map_or}
-use Rattle.std.specs.Str.Parse.{digits_value, without_leading_plus}
+use Rattle.std.proofs.Common.{◌≡◌, ◌⊎◌, ◌∙◌, ◌==◌, ℕ, Bool, true, false, refl, sym, ap, subst, List, [], ◌∷◌, ◌++◌, length, drop, codes, Option, Some, None, inl}
+use Rattle.std.proofs.Common.{inr, eqb-true, true≢false, arith}
+use Rattle.std.specs.Prelude.{IfSome, IfOk, Result, Ok, Err, option_map, unwrap_or}
 use Rattle.std.specs.Borrow.{Bor}
 use Rattle.std.specs.Str.{bytes_eq}
-use Rattle.std.proofs.lemmas.Option.{none-some, same_Some}
+use Rattle.std.proofs.lemmas.Option.{none-some}
 use Rattle.std.proofs.lemmas.Slice.Eq.{bytes_eq-Decides}
 use Rattle.clap.specs.Walk.{Held, Row, Rule, first_of, one_of, all_of, arg_by_index, finished, rows_of, settled, walked}
-use Rattle.clap.specs.Simple.{App, HasMatchesOf, Shape, app_of, built, is_simple, matches_of}
-use Rattle.clap.specs.Takes.{takes as takes_words}
+use Rattle.clap.specs.Simple.{App, HasMatchesOf, Shape, app_of, built}
 use Rattle.clap.specs.declared.builder.command.Command.{Command}
 use Rattle.clap.specs.Matches.{first_value, found_of, one_text}
-use Rattle.clap.specs.declared.parser.matches.Found.{Found}
-use Rattle.clap.specs.Kinds.{IsAmong, Kinds, or_else, values_kinds}
-use Rattle.clap.specs.Lexer.{usize_max}
-use Rattle.clap.specs.ValueTests.{accepts, is_numeral, is_unsigned_in}
+use Rattle.clap.specs.Kinds.{IsAmong, Kinds, or_else}
 use Rattle.clap.specs.Faults.{fault_of, is_simple_and_free, defaults_fault, check_fault}
 use Rattle.clap.specs.declared.builder.value_parser.ValueParser.{ValueParser}
-use Rattle.clap.specs.declared.builder.value_parser.ValueParser.TheVariants as parsers
 use Rattle.clap.specs.Words.{Text}
 use Rattle.clap.specs.declared.error.kind.ErrorKind.{ErrorKind}
 use Rattle.clap.specs.declared.error.kind.ErrorKind.TheVariants.{OutOfMemory}
 use Rattle.clap.specs.declared.parser.matches.ArgMatches.{ArgMatches}
 use Rattle.clap.proofs.OnLiterals.{clap_on_literals}
 use Rattle.clap.proofs.WalkLemmas.{first_value-rows, one_text-rows, raw_values-rows}
-use Rattle.store_requests.specs.Apps.{info_app, format_app, copy_app, store_app, table_app, rename_app, create_app, append_app, query_app, other_parameters, parameters_of, replay_app, AreForms, IsAppWith, IsOwnApp, value_of, values_of}
-use Rattle.store_requests.specs.Apps.{HasFound}
+use Rattle.store_requests.specs.Apps.{info_app, format_app, copy_app, store_app, table_app, rename_app, create_app, append_app, query_app, other_parameters, parameters_of, IsAppWith, IsOwnApp, value_of, values_of}
+use Rattle.store_requests.specs.Apps.{HasFound, takes_number}
 use Rattle.store_requests.specs.Asked.{request_word}
-use Rattle.store_requests.specs.Operands.{number_of, version_named, is_option, operands, names_file, names_table, IsNamedBy, Names}
-use Rattle.store_requests.specs.Right.{is_number, are_file_and_number, are_files_and_number, takes, are_right, AreTaken, NamesChoice, IsTakable, IsFoundTakable}
-use Rattle.store_requests.specs.StoreWords.{is_of_store, is_store_word, makes_word, first_word}
+use Rattle.store_requests.specs.Operands.{number_of, version_named, operands, names_file, names_table, wanted, are_as_many, are_right, IsNamedBy, Names}
+use Rattle.store_requests.specs.StoreWords.{is_of_store, is_store_word, first_word}
 use Rattle.store_requests.specs.declared.store_command_line.Parameters.{Parameters}
 use Rattle.store_requests.specs.declared.store_command_line.Parameters.TheVariants as parameters
 use Rattle.store_requests.specs.declared.store_words.StoreCommand.TheVariants as commands
 use Rattle.store_requests.specs.declared.store_words.StoreRequest.{StoreRequest}
 use Rattle.store_requests.specs.declared.store_words.StoreRequest.TheVariants as requests
 use Rattle.store_requests.proofs.WordLemmas.{first_of_store}
-use Rattle.store_requests.proofs.OperandLemmas.{at, ends_options, operands_fault, operands_held, operand_rows, reads_operands, level_with, words_held, words_read, words_faultless}
+use Rattle.store_requests.proofs.OperandLemmas.{at, ends_options, operands_fault, operands_held, operand_rows, reads_operands, words_held, words_read}
 
 -- ---- the three commands, by what they take after the file
 
@@ -316,13 +305,12 @@ append_stream forms name (a ∷ []) e = absurd (some_kind _ _ (last_fault (appen
 append_stream forms name (a ∷ b ∷ []) e = refl
 append_stream forms name (a ∷ b ∷ c ∷ rest) e = absurd (some_kind _ _ e)
 
-abbrev options_in : Text → Held → Option Text × Option Text × Option Text × Option Text
+abbrev options_in : Text → Held → Option Text × Option Text × Option Text
 options_in name h =
     let rows = finished (query_top name).rules h in
-    (first_of (codes "columns") rows, first_of (codes "limit") rows, first_of (codes "save") rows, one_of (codes "objects") rows)
+    (first_of (codes "columns") rows, first_of (codes "limit") rows, first_of (codes "save") rows)
 
-query_alone : (name : Text) (ops : List Text) → operands_fault (query_top name) ops ≡ []
-    → options_in name (operands_held (query_top name) ops) ≡ (None, None, None, Some (codes "false"))
+query_alone : (name : Text) (ops : List Text) → operands_fault (query_top name) ops ≡ [] → options_in name (operands_held (query_top name) ops) ≡ (None, None, None)
 unfolding walked clap_on_literals
 query_alone name [] e = absurd (some_kind _ _ e)
 query_alone name (a ∷ []) e = absurd (some_kind _ _ e)
@@ -338,6 +326,12 @@ pub own_of : {E : Type 0} (r : Result Command E) (word : Text) (has b : Paramete
     → IfOk r (λ c. IsOwnApp word (app_of c))
 own_of (Ok c) word has b e is own = subst (λ (x : Parameters). IsAppWith word x (app_of c)) (sym is ∙ e) own
 own_of (Err x) word has b e is own = tt
+
+-- of one with options nothing is said
+pub own_any : {E : Type 0} (r : Result Command E) (word : Text) (has : Parameters) → has ≡ parameters_of word → has ≡ parameters.ScriptAndFaults
+    → IfOk r (λ c. IsOwnApp word (app_of c))
+own_any (Ok c) word has e is = subst (λ (x : Parameters). IsAppWith word x (app_of c)) (sym is ∙ e) tt
+own_any (Err x) word has e is = tt
 
 -- ---- the names that a request has
 
@@ -357,13 +351,6 @@ found_one m rows id e = ap (one_of id) (sym e) ∙ sym (one_text-rows (found_of 
 
 found_values : (m : ArgMatches) (rows : List Row) (id : Text) → rows_of (found_of m) ≡ rows → row_values id rows ≡ values_of (found_of m) id
 found_values m rows id e = ap (row_values id) (sym e) ∙ ap (λ (o : Option (List Text)). unwrap_or o []) (sym (raw_values-rows (found_of m) id))
-
--- none of the options of a query was found
-record HasNoOption (found : Found) : Type 0 where
-  pub columns : first_value found (codes "columns") ≡ None
-  pub limit : first_value found (codes "limit") ≡ None
-  pub save : first_value found (codes "save") ≡ None
-  pub objects : one_text found (codes "objects") ≡ Some (codes "false")
 
 module _ (word : Text) (words : List Text) (m : ArgMatches) (a : App) (name : Text) (parsed : Parsed a (word ∷ words) m) where
   file_found : a ≡ file_app name → (ops : List Text) → operands words ≡ Some ops → ops ≡ value_of (found_of m) (codes "STORE") ∷ []
@@ -472,19 +459,18 @@ module _ (word : Text) (words : List Text) (m : ArgMatches) (a : App) (name : Te
       let rows = (p.matches refl).0 ∙ reads.rows in
       sym (found_value m _ (codes "as") rows) ∙ append_stream forms name ops (sym reads.fault ∙ p.faultless refl)
 
-  query_options : a ≡ query_app name → (ops : List Text) → operands words ≡ Some ops → HasNoOption (found_of m)
+  query_options : a ≡ query_app name → (ops : List Text) → operands words ≡ Some ops
+      → (first_value (found_of m) (codes "columns") ≡ None) × (first_value (found_of m) (codes "limit") ≡ None) × (first_value (found_of m) (codes "save") ≡ None)
   unfolding clap_on_literals
   query_options is ops e =
       let reads = reads_operands (query_app name) word words ops e refl refl (query_plain name) in
       let p : Parsed (query_app name) (word ∷ words) m = subst (λ (x : App). Parsed x (word ∷ words) m) is parsed in
       let rows = (p.matches refl).0 ∙ reads.rows in
-      let none = query_alone name ops (sym reads.fault ∙ p.faultless refl) in
-      record {
-        columns = sym (found_first m _ (codes "columns") rows) ∙ (λ i. (none i).0);
-        limit = sym (found_first m _ (codes "limit") rows) ∙ (λ i. (none i).1);
-        save = sym (found_first m _ (codes "save") rows) ∙ (λ i. (none i).2);
-        objects = sym (found_one m _ (codes "objects") rows) ∙ (λ i. (none i).3);
-      }
+      let none = query_alone name ops (sym reads.fault ∙ p.faultless refl) in (
+        sym (found_first m _ (codes "columns") rows) ∙ (λ i. (none i).0),
+        sym (found_first m _ (codes "limit") rows) ∙ (λ i. (none i).1),
+        sym (found_first m _ (codes "save") rows) ∙ (λ i. (none i).2),
+      )
 
 no_text : (o : Option (Bor Text)) → option_map (λ s. s.now) o ≡ None → o ≡ None
 no_text None e = refl
@@ -525,7 +511,7 @@ module _ (word : Text) (words : List Text) (m : ArgMatches) (a : App) (own : IsO
       → ops ≡ value_of (found_of m) (codes "STORE") ∷ value_of (found_of m) (codes "NAME") ∷ []
   names_rows is ops e =
       let own_app = subst (λ (b : Parameters). IsAppWith word b a) is own in
-      append_found word words m a word parsed own_app.0 own_app.2 ops e
+      append_found word words m a word parsed own_app.0 own_app.1 ops e
 
   names_fields : parameters_of word ≡ parameters.TableAndFields → (ops : List Text) → operands words ≡ Some ops
       → ops ≡ value_of (found_of m) (codes "STORE") ∷ value_of (found_of m) (codes "NAME") ∷ values_of (found_of m) (codes "FIELD")
@@ -538,9 +524,10 @@ module _ (word : Text) (words : List Text) (m : ArgMatches) (a : App) (own : IsO
   asks_stream : parameters_of word ≡ parameters.TableAndRows → (ops : List Text) → operands words ≡ Some ops → bytes_eq (value_of (found_of m) (codes "as")) (codes "stream") ≡ false → ⊥
   asks_stream is ops e other =
       let own_app = subst (λ (b : Parameters). IsAppWith word b a) is own in
-      true≢false (ap (λ (form : Text). bytes_eq form (codes "stream")) (sym (append_default word words m a word parsed own_app.0 own_app.2 ops e)) ∙ other)
+      true≢false (ap (λ (form : Text). bytes_eq form (codes "stream")) (sym (append_default word words m a word parsed own_app.0 own_app.1 ops e)) ∙ other)
 
-  asks_all : parameters_of word ≡ parameters.TableAndQuery → (ops : List Text) → operands words ≡ Some ops → HasNoOption (found_of m)
+  asks_all : parameters_of word ≡ parameters.TableAndQuery → (ops : List Text) → operands words ≡ Some ops
+      → (first_value (found_of m) (codes "columns") ≡ None) × (first_value (found_of m) (codes "limit") ≡ None) × (first_value (found_of m) (codes "save") ≡ None)
   asks_all is ops e = query_options word words m a word parsed (subst (λ (b : Parameters). IsAppWith word b a) is own) ops e
 
   of_word : (w : Text) (b : Parameters) → w ≡ word → parameters_of w ≡ b → parameters_of word ≡ b
@@ -618,239 +605,117 @@ module _ (word : Text) (words : List Text) (m : ArgMatches) (a : App) (own : IsO
   names_command (requests.Command file (commands.AppendText name form)) is found =
       named (requests.Command file (commands.AppendText name form))
       (λ ops e. absurd (asks_stream (of_word (codes "append") parameters.TableAndRows is refl) ops e found.1.1))
-  names_command (requests.Command file (commands.Query name query form)) is found =
-      named (requests.Command file (commands.Query name query form))
+  names_command (requests.Command file (commands.Query name query)) is found =
+      named (requests.Command file (commands.Query name query))
       (λ ops e.
       let taken = of_word (codes "query") parameters.TableAndQuery is refl in
       let none = asks_all taken ops e in
       let has = found.1.1 in (
         names_conditions taken ops e ∙ (λ i. sym found.0 i ∷ sym found.1.0 i ∷ sym has.conditions i),
-        (no_text query.columns (has.columns ∙ none.columns), has.limit ∙ ap (option_map number_of) none.limit, found.1.2.arrays none.objects),
+        (no_text query.columns (has.columns ∙ none.0), has.limit ∙ ap (option_map number_of) none.1),
       ))
   names_command (requests.Command file (commands.SaveAs from to query)) is found =
       named (requests.Command file (commands.SaveAs from to query))
       (λ ops e.
       let none = asks_all (of_word (codes "query") parameters.TableAndQuery is refl) ops e in
-      absurd (none-some to.now (sym none.save ∙ sym found.1.1)))
+      absurd (none-some to.now (sym none.2 ∙ sym found.1.1)))
 
 -- ---- arguments that are right
 
-digits_alone : (c : ℕ) (cs : Text) (plus : Bool) → (c == 43) ≡ plus → is_number (c ∷ cs) ≡ true → without_leading_plus (c ∷ cs) ≡ c ∷ cs
-unfolding is_number
-digits_alone c cs true e is =
-    let sign : is_number (43 ∷ cs) ≡ true = subst (λ (x : ℕ). is_number (x ∷ cs) ≡ true) (eqb-true c 43 e) is in
-    let some = and_parts (nat_lt 0 (length (43 ∷ cs))) (list_all (λ d. nat_lt (digit_value d) 10) (43 ∷ cs) && nat_lt (digits_value 10 (43 ∷ cs)) (2 ^ 64))
-    sign in
-    absurd (true≢false (sym some.1))
-digits_alone c cs false e is = rw e refl
+abbrev IsOfNames : Parameters → Text → Type 0
+IsOfNames b word = (parameters_of word ≡ b) × (takes_number word ≡ false)
 
-pub without_plus : (word : Text) → is_number word ≡ true → without_leading_plus word ≡ word
-without_plus [] is = refl
-without_plus (c ∷ cs) is = digits_alone c cs (c == 43) refl is
+pub data Right (word : Text) (words : List Text) : Type 0 where
+  of_file : IsOfNames parameters.Nothing word → (ops : List Text) → operands words ≡ Some ops → length ops ≡ 1 → Right word words
+  of_table : IsOfNames parameters.Table word → (ops : List Text) → operands words ≡ Some ops → length ops ≡ 2 → Right word words
+  of_rename : IsOfNames parameters.TableAndNewName word → (ops : List Text) → operands words ≡ Some ops → length ops ≡ 3 → Right word words
 
-abbrev in_bounds : Text → Bool
-in_bounds digits = is_numeral digits && (nat_lt (digits_value 10 digits) (2 ^ 64) && (nat_le 0 (digits_value 10 digits) && nat_le (digits_value 10 digits)
-    18446744073709551615))
+as_many : (n : ℕ) (o : Option (List Text)) → are_as_many (Some n) o ≡ true → (ops : List Text) × (o ≡ Some ops) × (length ops ≡ n)
+as_many n None e = absurd (true≢false (sym e))
+as_many n (Some ops) e = (ops, refl, eqb-true (length ops) n e)
 
-number_in_bounds : (word : Text) → is_number word ≡ true → in_bounds word ≡ true
-unfolding is_number
-number_in_bounds word is =
-    let n = digits_value 10 word in
-    let some = and_parts (nat_lt 0 (length word)) (list_all (λ c. nat_lt (digit_value c) 10) word && nat_lt n (2 ^ 64)) is in
-    let all = and_parts (list_all (λ c. nat_lt (digit_value c) 10) word) (nat_lt n (2 ^ 64)) some.1 in
-    let below : n < 18446744073709551616 = ltb-true n (2 ^ 64) all.1 in
-    and_from _ _ (and_from _ _ some.0 all.0) (and_from _ _ all.1 (and_from _ _ (le-leb 0 n (omega arith)) (le-leb n 18446744073709551615 (omega (arith, below)))))
+named_as : (b : Parameters) (other word : Text) → bytes_eq other word ≡ true → IsOfNames b other → IsOfNames b word
+named_as b other word e is = subst (IsOfNames b) ((bytes_eq-Decides other word).0 e) is
 
-number_accepted : (word : Text) → is_number word ≡ true → is_unsigned_in 0 18446744073709551615 word ≡ true
-number_accepted word is = subst (λ (t : Text). in_bounds t ≡ true) (sym (without_plus word is)) (number_in_bounds word is)
+file_number : (word : Text) (tables check compact upgrade : Bool) → bytes_eq (codes "tables") word ≡ tables → bytes_eq (codes "check") word ≡ check
+    → bytes_eq (codes "compact") word ≡ compact → bytes_eq (codes "upgrade") word ≡ upgrade → names_file word ≡ true → IsOfNames parameters.Nothing word
+unfolding names_file names_table other_parameters parameters_of
+file_number word true c m u t e f g is = named_as parameters.Nothing (codes "tables") word t (refl, refl)
+file_number word false true m u t e f g is = named_as parameters.Nothing (codes "check") word e (refl, refl)
+file_number word false false true u t e f g is = named_as parameters.Nothing (codes "compact") word f (refl, refl)
+file_number word false false false true t e f g is = named_as parameters.Nothing (codes "upgrade") word g (refl, refl)
+file_number word false false false false t e f g is = let none : false ≡ true = rw (t, e, f, g) at is in absurd (true≢false (sym none))
 
-full_info : (name : Text) (ops : List Text) → length ops ≡ 1 → operands_fault (info_top name) ops ≡ []
-unfolding clap_on_literals
-full_info name [] e = absurd (omega (arith, e))
-full_info name (a ∷ []) e = refl
-full_info name (a ∷ b ∷ rest) e = absurd (omega (arith, e))
+table_number : (word : Text) (import drops schema export : Bool) → bytes_eq (codes "import") word ≡ import → bytes_eq (codes "drop") word ≡ drops
+    → bytes_eq (codes "schema") word ≡ schema
+    → bytes_eq (codes "export") word ≡ export → names_table word ≡ true → IsOfNames parameters.Table word
+unfolding names_file names_table other_parameters parameters_of
+table_number word true d s x ei ed es ex is = named_as parameters.Table (codes "import") word ei (refl, refl)
+table_number word false true s x ei ed es ex is = named_as parameters.Table (codes "drop") word ed (refl, refl)
+table_number word false false true x ei ed es ex is = named_as parameters.Table (codes "schema") word es (refl, refl)
+table_number word false false false true ei ed es ex is = named_as parameters.Table (codes "export") word ex (refl, refl)
+table_number word false false false false ei ed es ex is = let none : false ≡ true = rw (ei, ed, es, ex) at is in absurd (true≢false (sym none))
 
-full_format : (name : Text) (ops : List Text) → are_file_and_number ops ≡ true → operands_fault (format_top name) ops ≡ []
-unfolding clap_on_literals
-full_format name [] e = absurd (true≢false (sym e))
-full_format name (a ∷ []) e = absurd (true≢false (sym e))
-full_format name (a ∷ b ∷ []) e = rw (number_accepted b e) refl
-full_format name (a ∷ b ∷ c ∷ rest) e = absurd (true≢false (sym e))
+rename_number : (word : Text) → bytes_eq (codes "rename") word ≡ true → IsOfNames parameters.TableAndNewName word
+unfolding names_file names_table other_parameters parameters_of
+rename_number word e = named_as parameters.TableAndNewName (codes "rename") word e (refl, refl)
 
-full_copy : (name : Text) (ops : List Text) → are_files_and_number ops ≡ true → operands_fault (copy_top name) ops ≡ []
-unfolding clap_on_literals
-full_copy name [] e = absurd (true≢false (sym e))
-full_copy name (a ∷ []) e = absurd (true≢false (sym e))
-full_copy name (a ∷ b ∷ []) e = absurd (true≢false (sym e))
-full_copy name (a ∷ b ∷ c ∷ []) e = rw (number_accepted c e) refl
-full_copy name (a ∷ b ∷ c ∷ d ∷ rest) e = absurd (true≢false (sym e))
+which : (word : Text) (words : List Text) (file table rename : Bool) → names_file word ≡ file → names_table word ≡ table
+    → bytes_eq (codes "rename") word ≡ rename
+    → are_as_many (wanted word) (operands words) ≡ true → Right word words
+which word words true t r ef et er right =
+    let m = as_many 1 (operands words) (rw ef at right) in
+    of_file (file_number word (bytes_eq (codes "tables") word) (bytes_eq (codes "check") word) (bytes_eq (codes "compact") word) (bytes_eq
+    (codes "upgrade") word) refl refl refl refl ef) m.0 m.1 m.2
+which word words false true r ef et er right =
+    let m = as_many 2 (operands words) (rw (ef, et) at right) in
+    of_table (table_number word (bytes_eq (codes "import") word) (bytes_eq (codes "drop") word) (bytes_eq (codes "schema") word) (bytes_eq
+    (codes "export") word) refl refl refl refl et) m.0 m.1 m.2
+which word words false false true ef et er right =
+    let m = as_many 3 (operands words) (rw (ef, et, er) at right) in
+    of_rename (rename_number word er) m.0 m.1 m.2
+which word words false false false ef et er right =
+    let none : are_as_many None (operands words) ≡ true = rw (ef, et, er) at right in
+    absurd (true≢false (sym none))
 
-full_append : (forms : ValueParser) (name : Text) (ops : List Text) → AreForms forms → length ops ≡ 2
-    → operands_fault (append_top forms name) ops ≡ []
-unfolding clap_on_literals
-full_append forms name [] known e = absurd (omega (arith, e))
-full_append forms name (a ∷ []) known e = absurd (omega (arith, e))
-full_append forms name (a ∷ b ∷ []) known e = rw known.stream refl
-full_append forms name (a ∷ b ∷ c ∷ rest) known e = absurd (omega (arith, e))
-
-texts_accepted : (vs : List Text) → values_kinds false parsers.String vs ≡ []
-texts_accepted [] = refl
-texts_accepted (v ∷ vs) = texts_accepted vs
-
-full_create : (name : Text) (ops : List Text) → nat_le 2 (length ops) ≡ true → length ops ≤ usize_max → operands_fault (create_top name) ops ≡ []
-unfolding walked clap_on_literals
-full_create name [] e few = let two : 2 ≤ 0 = leb-true 2 0 e in absurd (omega (arith, two))
-full_create name (a ∷ []) e few = let two : 2 ≤ length (a ∷ []) = leb-true 2 (length (a ∷ [])) e in absurd (omega (arith, two))
-full_create name (a ∷ b ∷ []) e few = refl
-full_create name (a ∷ b ∷ c ∷ rest) e few =
-    let s = create_top name in
-    let rows = file_and_table s.rules a b in
-    let held = words_read s (codes "FIELD") rows (field_met name a b) (c ∷ []) rest in
-    let free = words_faultless s (codes "FIELD") rows (field_met name a b) (λ vs v. refl) (c ∷ []) rest in
-    let within : nat_lt usize_max (length (c ∷ rest)) ≡ false = le-ltb usize_max (length (c ∷ rest)) (omega (arith, few)) in
-    let some : nat_lt (length (c ∷ rest)) 0 ≡ false = le-ltb (length (c ∷ rest)) 0 (omega arith) in
-    ap₂ (level_with s) free held ∙ rw (some, within, texts_accepted rest) refl
-
-full_query : (name : Text) (ops : List Text) → nat_le 2 (length ops) ≡ true → length ops ≤ usize_max → operands_fault (query_top name) ops ≡ []
-unfolding walked clap_on_literals
-full_query name [] e few = let two : 2 ≤ 0 = leb-true 2 0 e in absurd (omega (arith, two))
-full_query name (a ∷ []) e few = let two : 2 ≤ length (a ∷ []) = leb-true 2 (length (a ∷ [])) e in absurd (omega (arith, two))
-full_query name (a ∷ b ∷ []) e few = refl
-full_query name (a ∷ b ∷ c ∷ rest) e few =
-    let s = query_top name in
-    let rows = file_and_table s.rules a b in
-    let held = words_read s (codes "CONDITION") rows (condition_met name a b) (c ∷ []) rest in
-    let free = words_faultless s (codes "CONDITION") rows (condition_met name a b) (λ vs v. refl) (c ∷ []) rest in
-    let within : nat_lt usize_max (length (c ∷ rest)) ≡ false = le-ltb usize_max (length (c ∷ rest)) (omega (arith, few)) in
-    let some : nat_lt (length (c ∷ rest)) 0 ≡ false = le-ltb (length (c ∷ rest)) 0 (omega arith) in
-    ap₂ (level_with s) free held ∙ rw (some, within, texts_accepted rest) refl
+right_of : (word : Text) (words : List Text) → are_as_many (wanted word) (operands words) ≡ true → Right word words
+right_of word words = which word words (names_file word) (names_table word) (bytes_eq (codes "rename") word) refl refl refl
 
 abbrev IsFaultless : App → List Text → Type 0
 IsFaultless a words = (is_simple_and_free a ≡ true) × (fault_of a words ≡ [])
 
-module _ (word : Text) (words ops : List Text) (is : operands words ≡ Some ops) (few : length ops ≤ usize_max) where
-  right_faultless : (b : Parameters) (a : App) → IsAppWith word b a → takes b ops ≡ true → IsFaultless a (word ∷ words)
-  unfolding clap_on_literals
-  right_faultless parameters.Nothing a own right =
-      subst (λ (x : App). IsFaultless x (word ∷ words)) (sym own)
-      (refl, (reads_operands (file_app word) word words ops is refl refl (file_plain word)).fault ∙ full_file word ops (eqb-true (length ops) 1 right))
-  right_faultless parameters.FileAndForm a own right =
-      subst (λ (x : App). IsFaultless x (word ∷ words)) (sym own)
-      (refl, (reads_operands (info_app word) word words ops is refl refl (info_plain word)).fault ∙ full_info word ops (eqb-true (length ops) 1 right))
-  right_faultless parameters.Table a own right =
-      subst (λ (x : App). IsFaultless x (word ∷ words)) (sym own)
-      (refl, (reads_operands (table_app word) word words ops is refl refl (table_plain word)).fault ∙ full_table word ops (eqb-true (length ops) 2 right))
-  right_faultless parameters.TableAndNewName a own right =
-      subst (λ (x : App). IsFaultless x (word ∷ words)) (sym own)
-      (refl, (reads_operands (rename_app word) word words ops is refl refl (rename_plain word)).fault ∙ full_rename word ops (eqb-true (length ops) 3 right))
-  right_faultless parameters.Sectors a own right =
-      subst (λ (x : App). IsFaultless x (word ∷ words)) (sym own)
-      (refl, (reads_operands (format_app word) word words ops is refl refl (format_plain word)).fault ∙ full_format word ops right)
-  right_faultless parameters.NewStore a own right =
-      subst (λ (x : App). IsFaultless x (word ∷ words)) (sym own)
-      (refl, (reads_operands (copy_app word) word words ops is refl refl (copy_plain word)).fault ∙ full_copy word ops right)
-  right_faultless parameters.TableAndFields a own right =
-      subst (λ (x : App). IsFaultless x (word ∷ words)) (sym own)
-      (refl, (reads_operands (create_app word) word words ops is refl refl (create_plain word)).fault ∙ full_create word ops right few)
-  right_faultless parameters.TableAndRows a own right =
-      subst (λ (x : App). IsFaultless x (word ∷ words)) (sym own.2) (
-        refl,
-        (reads_operands (append_app own.0 word) word words ops is refl refl (append_plain own.0 word)).fault
-            ∙ full_append own.0 word ops own.1 (eqb-true (length ops) 2 right),
-      )
-  right_faultless parameters.TableAndQuery a own right =
-      subst (λ (x : App). IsFaultless x (word ∷ words)) (sym own)
-      (refl, (reads_operands (query_app word) word words ops is refl refl (query_plain word)).fault ∙ full_query word ops right few)
-  right_faultless parameters.ScriptAndFaults a own right = absurd (true≢false (sym right))
+right_faultless : (word : Text) (words : List Text) (a : App) → IsOwnApp word a → Right word words → IsFaultless a (word ∷ words)
+unfolding clap_on_literals
+right_faultless word words a own (of_file is ops e n) =
+    let same : a ≡ file_app word = subst (λ (b : Parameters). IsAppWith word b a) is.0 own in
+    subst (λ (x : App). IsFaultless x (word ∷ words)) (sym same) (
+      refl,
+      (reads_operands (file_app word) word words ops e refl refl (file_plain word)).fault
+          ∙ full_file word ops n,
+    )
+right_faultless word words a own (of_table is ops e n) =
+    let same : a ≡ table_app word = subst (λ (b : Parameters). IsAppWith word b a) is.0 own in
+    subst (λ (x : App). IsFaultless x (word ∷ words)) (sym same) (
+      refl,
+      (reads_operands (table_app word) word words ops e refl refl
+          (table_plain word)).fault ∙ full_table word ops n,
+    )
+right_faultless word words a own (of_rename is ops e n) =
+    let same : a ≡ rename_app word = subst (λ (b : Parameters). IsAppWith word b a) is.0 own in
+    subst (λ (x : App). IsFaultless x (word ∷ words)) (sym same) (
+      refl,
+      (reads_operands (rename_app word) word words ops e refl refl
+          (rename_plain word)).fault ∙ full_rename word ops n,
+    )
 
--- ---- what is found of them
-
-of_right : (word : Text) (o : Option (List Text)) → option_map_or (takes (parameters_of word)) o false ≡ true
-    → (ops : List Text) × (o ≡ Some ops) × (takes (parameters_of word) ops ≡ true)
-of_right word None right = absurd (true≢false (sym right))
-of_right word (Some ops) right = (ops, refl, right)
-
-named_as : (b : Parameters) (other word : Text) → bytes_eq other word ≡ true → parameters_of other ≡ b → parameters_of word ≡ b
-named_as b other word e is = subst (λ (w : Text). parameters_of w ≡ b) ((bytes_eq-Decides other word).0 e) is
-
-is_format : (word : Text) → bytes_eq (codes "format") word ≡ true → parameters_of word ≡ parameters.Sectors
-unfolding names_file names_table other_parameters parameters_of
-is_format word e = named_as parameters.Sectors (codes "format") word e refl
-
-is_copy : (word : Text) → bytes_eq (codes "copy") word ≡ true → parameters_of word ≡ parameters.NewStore
-unfolding names_file names_table other_parameters parameters_of
-is_copy word e = named_as parameters.NewStore (codes "copy") word e refl
-
-is_query : (word : Text) → bytes_eq (codes "query") word ≡ true → parameters_of word ≡ parameters.TableAndQuery
-unfolding names_file names_table other_parameters parameters_of
-is_query word e = named_as parameters.TableAndQuery (codes "query") word e refl
-
-is_replay : (word : Text) → bytes_eq (codes "replay") word ≡ true → parameters_of word ≡ parameters.ScriptAndFaults
-unfolding names_file names_table other_parameters parameters_of
-is_replay word e = named_as parameters.ScriptAndFaults (codes "replay") word e refl
-
-no_replay : (word : Text) (ops : List Text) → takes (parameters_of word) ops ≡ true → bytes_eq (codes "replay") word ≡ true → ⊥
-no_replay word ops right e = true≢false (sym (subst (λ (b : Parameters). takes b ops ≡ true) (is_replay word e) right))
-
-option_alone : (o : Option Text) → o ≡ None → option_map_or is_number o true ≡ true
-option_alone o none = rw none refl
-
-module _ (word : Text) (words : List Text) (m : ArgMatches) (a : App) (own : IsOwnApp word a) (parsed : Parsed a (word ∷ words) m) (ops : List Text)
-    (is : operands words ≡ Some ops) (right : takes (parameters_of word) ops ≡ true) where
-  sectors_right : (format copy : Bool) → bytes_eq (codes "format") word ≡ format → bytes_eq (codes "copy") word ≡ copy → makes_word word ≡ true
-      → is_number (value_of (found_of m) (codes "SECTORS")) ≡ true
-  unfolding makes_word
-  sectors_right true copy f c e =
-      let p = is_format word f in
-      subst (λ (words : List Text). are_file_and_number words ≡ true) (names_sectors word words m a own parsed p ops is)
-      (subst (λ (b : Parameters). takes b ops ≡ true) p right)
-  sectors_right false true f c e =
-      let p = is_copy word c in
-      subst (λ (words : List Text). are_files_and_number words ≡ true) (names_new_store word words m a own parsed p ops is)
-      (subst (λ (b : Parameters). takes b ops ≡ true) p right)
-  sectors_right false false f c e = let none : false ≡ true = rw (f, c) at e in absurd (true≢false (sym none))
-
-  right_takable : IsFoundTakable word (found_of m)
-  right_takable = record {
-    sectors = sectors_right (bytes_eq (codes "format") word) (bytes_eq (codes "copy") word) refl refl;
-    limit = λ e. option_alone (first_value (found_of m) (codes "limit")) (asks_all word words m a own parsed (is_query word e) ops is).limit;
-    printed = λ e. inl (asks_all word words m a own parsed (is_query word e) ops is).save;
-    version = λ e. option_alone (first_value (found_of m) (codes "format-version")) (asks_newest word words m a own parsed (is_format word e) ops is);
-    played = λ e. absurd (no_replay word ops right e);
-    size = λ e. absurd (no_replay word ops right e);
-    fail = λ e. absurd (no_replay word ops right e);
-    stop = λ e. absurd (no_replay word ops right e);
-    choice = λ e. absurd (no_replay word ops right e);
-  }
+right_number : (word : Text) (words : List Text) → Right word words → takes_number word ≡ false
+right_number word words (of_file is ops e n) = is.1
+right_number word words (of_table is ops e n) = is.1
+right_number word words (of_rename is ops e n) = is.1
 
 only_memory : (kind : ErrorKind) (kinds : Kinds) → kinds ≡ [] → (kind ≡ OutOfMemory) ⊎ IsAmong kind kinds → kind ≡ OutOfMemory
 only_memory kind kinds none (inl memory) = memory
 only_memory kind kinds none (inr among) = absurd (subst (IsAmong kind) none among)
-
-fewer_with : (n : ℕ) (word : Text) (o : Option (List Text)) (ops : List Text) → ((others : List Text) → o ≡ Some others → length others ≤ n)
-    → option_map (λ (others : List Text). word ∷ others) o ≡ Some ops → length ops ≤ n + 1
-fewer_with n word None ops few e = absurd (none-some ops e)
-fewer_with n word (Some others) ops few e =
-    subst (λ (xs : List Text). length xs ≤ n + 1) (same_Some (word ∷ others) ops e) (omega (arith, few others refl))
-
--- no more than the words
-fewer_by : (word : Text) (rest ops : List Text) → ((others : List Text) → operands rest ≡ Some others → length others ≤ length rest)
-    → (ends option : Bool) → bytes_eq word (codes "--") ≡ ends → is_option word ≡ option → operands (word ∷ rest) ≡ Some ops → length ops ≤ length (word ∷ rest)
-unfolding operands
-fewer_by word rest ops few true option d o e =
-    let all : Some rest ≡ Some ops = rw d at e in
-    subst (λ (xs : List Text). length xs ≤ length (word ∷ rest)) (same_Some rest ops all) (omega arith)
-fewer_by word rest ops few false true d o e =
-    let all : None ≡ Some ops = rw (d, o) at e in
-    absurd (none-some ops all)
-fewer_by word rest ops few false false d o e =
-    let all : option_map (λ (others : List Text). word ∷ others) (operands rest) ≡ Some ops = rw (d, o) at e in
-    fewer_with (length rest) word (operands rest) ops few all
-
-fewer : (words ops : List Text) → operands words ≡ Some ops → length ops ≤ length words
-unfolding operands
-fewer [] ops e = subst (λ (xs : List Text). length xs ≤ 0) (same_Some [] ops e) (omega arith)
-fewer (word ∷ rest) ops e = fewer_by word rest ops (fewer rest) (bytes_eq word (codes "--")) (is_option word) refl refl e
 
 -- ---- the arguments of the program
 
@@ -873,86 +738,21 @@ named_result args word words m a (Ok request) of_store first after own faultless
     names_arguments args word words m a request of_store first after own (record { faultless = faultless; matches = matches }) (asks is) found
 named_result args word words m a (Err e) of_store first after own faultless matches asks found = tt
 
--- the parts of right arguments
-pub record RightWords (args : List Text) (word : Text) (words : List Text) : Type 0 where
-  pub rest : List Text
-  pub after : words ≡ word ∷ rest
-  pub ops : List Text
-  pub are : operands rest ≡ Some ops
-  pub taken : takes (parameters_of word) ops ≡ true
-  pub few : length ops ≤ length args
-
-right_words : (args : List Text) (word : Text) (words : List Text) → are_right args ≡ true → word ≡ first_word args → words ≡ drop 1 args → RightWords args word words
-unfolding are_right first_word
-right_words [] word words right first after = absurd (true≢false (sym right))
-right_words (name ∷ []) word words right first after = absurd (true≢false (sym right))
-right_words (name ∷ w ∷ rest) word words right first after =
-    let parts = and_parts (is_store_word w) (option_map_or (takes (parameters_of w)) (operands rest) false) right in
-    let p = of_right w (operands rest) parts.1 in
-    record {
-      rest = rest;
-      after = after ∙ ap (λ (x : Text). x ∷ rest) (sym first);
-      ops = p.0;
-      are = p.1;
-      taken = subst (λ (x : Text). takes (parameters_of x) p.0 ≡ true) (sym first) p.2;
-      few = omega (arith, fewer rest p.0 p.1);
-    }
-
 pub right_by_memory : (args : List Text) (word : Text) (words : List Text) (a : App) (kind : ErrorKind) → are_right args ≡ true → word ≡ first_word args
-    → words ≡ drop 1 args → IsOwnApp word a → length args ≤ usize_max
+    → words ≡ drop 1 args → IsOwnApp word a
     → (is_simple_and_free a ≡ true → (kind ≡ OutOfMemory) ⊎ IsAmong kind (fault_of a words)) → kind ≡ OutOfMemory
-right_by_memory args word words a kind right first after own few has =
-    let r = right_words args word words right first after in
-    let faultless = subst (IsFaultless a) (sym r.after) (right_faultless word r.rest r.ops r.are (omega (arith, r.few, few)) (parameters_of word) a own r.taken) in
+unfolding are_right first_word
+right_by_memory [] word words a kind right first after own has = absurd (true≢false (sym right))
+right_by_memory (name ∷ []) word words a kind right first after own has = absurd (true≢false (sym right))
+right_by_memory (name ∷ w ∷ rest) word words a kind right first after own has =
+    let same : words ≡ word ∷ rest = after ∙ ap (λ (x : Text). x ∷ rest) (sym first) in
+    let are : are_as_many (wanted word) (operands rest) ≡ true = subst (λ (x : Text). are_as_many (wanted x) (operands rest) ≡ true) (sym first) right in
+    let faultless = subst (IsFaultless a) (sym same) (right_faultless word rest a own (right_of word rest are)) in
     only_memory kind (fault_of a words) faultless.1 (has faultless.0)
 
-pub right_is_takable : (args : List Text) (word : Text) (words : List Text) (m : ArgMatches) (a : App) → are_right args ≡ true → word ≡ first_word args
-    → words ≡ drop 1 args → IsOwnApp word a → (is_simple_and_free a ≡ true → fault_of a words ≡ []) → HasMatchesOf a words m → IsFoundTakable word (found_of m)
-right_is_takable args word words m a right first after own faultless matches =
-    let r = right_words args word words right first after in
-    let parsed : Parsed a words m = record { faultless = faultless; matches = matches } in
-    right_takable word r.rest m a own (subst (λ (ws : List Text). Parsed a ws m) r.after parsed) r.ops r.are r.taken
-
--- ---- words that `clap` takes
-
-own_simple : (word : Text) (b : Parameters) (a : App) → IsAppWith word b a → is_simple a ≡ true
-own_simple word parameters.Nothing a own = rw own refl
-own_simple word parameters.FileAndForm a own = rw own refl
-own_simple word parameters.Table a own = rw own refl
-own_simple word parameters.TableAndNewName a own = rw own refl
-own_simple word parameters.Sectors a own = rw own refl
-own_simple word parameters.NewStore a own = rw own refl
-own_simple word parameters.TableAndFields a own = rw own refl
-own_simple word parameters.TableAndRows a own = rw own.2 refl
-own_simple word parameters.TableAndQuery a own = rw own refl
-own_simple word parameters.ScriptAndFaults a own = rw own refl
-
--- what is so of the rows is so of what was found
-found_takable : (word : Text) (m : ArgMatches) (rows : List Row) → rows_of (found_of m) ≡ rows → IsTakable word (λ id. first_of id rows) (one_of (codes "objects") rows)
-    → IsFoundTakable word (found_of m)
-found_takable word m rows same is =
-    let first : (id : Text) → first_of id rows ≡ first_value (found_of m) id = λ id. found_first m rows id same in
-    record {
-      sectors = λ e. subst (λ (o : Option Text). is_number (unwrap_or o []) ≡ true) (first (codes "SECTORS")) (is.sectors e);
-      limit = λ e. subst (λ (o : Option Text). option_map_or is_number o true ≡ true) (first (codes "limit")) (is.limit e);
-      printed =
-          λ e. subst₂ (λ (o p : Option Text). (o ≡ None) ⊎ (p ≡ Some (codes "false"))) (first (codes "save")) (found_one m rows (codes "objects") same) (is.printed e);
-      version = λ e. subst (λ (o : Option Text). option_map_or is_number o true ≡ true) (first (codes "format-version")) (is.version e);
-      played = λ e. subst (λ (o : Option Text). option_map_or is_number o true ≡ true) (first (codes "format-version")) (is.played e);
-      size = λ e. subst (λ (o : Option Text). option_map_or is_number o true ≡ true) (first (codes "sectors")) (is.size e);
-      fail = λ e. subst (λ (o : Option Text). option_map_or is_number o true ≡ true) (first (codes "fail")) (is.fail e);
-      stop = λ e. subst (λ (o : Option Text). option_map_or is_number o true ≡ true) (first (codes "stop")) (is.stop e);
-      choice = λ e. subst (λ (o : Option Text). NamesChoice (unwrap_or o [])) (first (codes "choice")) (is.choice e);
-    }
-
-pub taken_is_takable : (args : List Text) (word : Text) (words : List Text) (m : ArgMatches) (a : App) → AreTaken args → word ≡ first_word args → words ≡ drop 1 args
-    → IsOwnApp word a → HasMatchesOf a words m → IsFoundTakable word (found_of m)
-taken_is_takable args word words m a taken first after own matches =
-    let t = taken a (subst (λ (w : Text). IsOwnApp w a) first own) in
-    let rows : rows_of (found_of m) ≡ matches_of a (drop 1 args) = (matches (own_simple word (parameters_of word) a own)).0 ∙ ap (matches_of a) after in
-    subst (λ (w : Text). IsFoundTakable w (found_of m)) (sym first) (found_takable (first_word args) m (matches_of a (drop 1 args)) rows t.1)
-
-pub taken_by_memory : (args : List Text) (word : Text) (words : List Text) (a : App) (kind : ErrorKind) → AreTaken args → word ≡ first_word args → words ≡ drop 1 args
-    → IsOwnApp word a → (takes_words a words ≡ true → kind ≡ OutOfMemory) → kind ≡ OutOfMemory
-taken_by_memory args word words a kind taken first after own passes =
-    passes (ap (takes_words a) after ∙ (taken a (subst (λ (w : Text). IsOwnApp w a) first own)).0)
+pub right_takes_no_number : (args : List Text) (word : Text) → are_right args ≡ true → word ≡ first_word args → takes_number word ≡ false
+unfolding are_right first_word
+right_takes_no_number [] word right first = absurd (true≢false (sym right))
+right_takes_no_number (name ∷ []) word right first = absurd (true≢false (sym right))
+right_takes_no_number (name ∷ w ∷ rest) word right first =
+    right_number word rest (right_of word rest (subst (λ (x : Text). are_as_many (wanted x) (operands rest) ≡ true) (sym first) right))

@@ -2,15 +2,12 @@
 use Rattle.std.specs.Prelude.{◌≡◌, Bool, true, false, ◌||◌, List, [], ◌∷◌, codes, Some, option_map, if◌then◌else◌, unwrap_or}
 use Rattle.std.specs.Str.{bytes_eq}
 use Rattle.clap.specs.Lexer.{usize_max}
-use Rattle.clap.specs.ValueTests.{accepts}
 use Rattle.clap.specs.Walk.{texts}
 use Rattle.clap.specs.Words.{App, Rule, Text, new_app, new_rule, with_rule, first_value, matched_of, one_text, raw_values, kind_of}
 use Rattle.clap.specs.declared.builder.action.ArgAction.TheVariants.{SetTrue}
 use Rattle.clap.specs.declared.builder.value_parser.ValueParser.{ValueParser}
 use Rattle.clap.specs.declared.builder.value_parser.ValueParser.TheVariants as parsers
 use Rattle.clap.specs.declared.parser.matches.Found.{Found}
-use Rattle.query.specs.declared.row_form.RowForm.{RowForm}
-use Rattle.query.specs.declared.row_form.RowForm.TheVariants.{Array, Object}
 use Rattle.clap.specs.declared.error.kind.ErrorKind.TheVariants.{OutOfMemory}
 use Rattle.store_requests.specs.declared.store_command_line.Parameters.{Parameters}
 use Rattle.store_requests.specs.declared.store_command_line.Parameters.TheVariants as parameters
@@ -45,10 +42,6 @@ info_app name = with_rule (store_app name) json_rule
 -- an option with a value
 abbrev pub option_rule : Text → Rule
 option_rule id = record (new_rule id) { long = Some id; value_names = 1 }
-
--- an option with a number of 64 bits
-abbrev pub number_rule : Text → Rule
-number_rule id = record (option_rule id) { parser = Some (parsers.Unsigned 0 18446744073709551615) }
 
 -- the version of a store that is made
 abbrev pub version_rule : Rule
@@ -93,36 +86,11 @@ append_app forms name = with_rule (with_rule (table_app name) (form_rule forms))
 abbrev pub limit_rule : Rule
 limit_rule = record (option_rule (codes "limit")) { parser = Some (parsers.Unsigned 0 18446744073709551615) }
 
--- an option without a value
-abbrev pub objects_rule : Rule
-objects_rule = record (new_rule (codes "objects")) { long = Some (codes "objects"); action = Some SetTrue }
-
 abbrev pub conditions_app : Text → App
 conditions_app name = with_rule (table_app name) (repeated_rule (codes "CONDITION"))
 
 abbrev pub query_app : Text → App
-query_app name = with_rule (with_rule (with_rule (with_rule (conditions_app name) (option_rule (codes "columns"))) limit_rule) (option_rule (codes "save")))
-    objects_rule
-
--- a script, and what goes wrong while it is played
-abbrev pub size_rule : Rule
-size_rule = record (number_rule (codes "sectors")) { required = true }
-
-abbrev pub choice_rule : Rule
-choice_rule = record (option_rule (codes "choice")) { defaults = codes "old" ∷ [] }
-
-abbrev pub script_app : Text → App
-script_app name = with_rule (new_app name) (required_rule (codes "SCRIPT"))
-
-abbrev pub replay_app : Text → App
-replay_app name = with_rule (with_rule (with_rule (with_rule (with_rule (script_app name) size_rule) (number_rule (codes "fail"))) (number_rule (codes "stop"))) choice_rule)
-    version_rule
-
--- the forms of an input
-pub record AreForms (forms : ValueParser) : Type 0 where
-  pub stream : accepts false forms (codes "stream") ≡ true
-  pub csv : accepts false forms (codes "csv") ≡ true
-  pub lines : accepts false forms (codes "jsonl") ≡ true
+query_app name = with_rule (with_rule (with_rule (conditions_app name) (option_rule (codes "columns"))) limit_rule) (option_rule (codes "save"))
 
 -- the command of a name, by what it takes
 abbrev pub IsAppWith : Text → Parameters → App → Type 0
@@ -133,9 +101,10 @@ IsAppWith name parameters.TableAndNewName command = command ≡ rename_app name
 IsAppWith name parameters.Sectors command = command ≡ format_app name
 IsAppWith name parameters.NewStore command = command ≡ copy_app name
 IsAppWith name parameters.TableAndFields command = command ≡ create_app name
-IsAppWith name parameters.TableAndRows command = (forms : ValueParser) × AreForms forms × (command ≡ append_app forms name)
+IsAppWith name parameters.TableAndRows command = (forms : ValueParser) × (command ≡ append_app forms name)
 IsAppWith name parameters.TableAndQuery command = command ≡ query_app name
-IsAppWith name parameters.ScriptAndFaults command = command ≡ replay_app name
+-- one that is of no store: a script, and options
+IsAppWith name parameters.ScriptAndFaults command = Unit {0}
 
 -- what the command of a word takes
 unfoldable pub other_parameters : Text → Parameters
@@ -168,11 +137,6 @@ pub record HasQuery (found : Found) (query : QueryWords) : Type 0 where
   pub columns : option_map (λ s. s.now) query.columns ≡ first_value found (codes "columns")
   pub limit : query.limit ≡ option_map number_of (first_value found (codes "limit"))
 
--- rows are objects where the option stands
-pub record HasForm (found : Found) (form : RowForm) : Type 0 where
-  pub arrays : one_text found (codes "objects") ≡ Some (codes "false") → form ≡ Array
-  pub objects : one_text found (codes "objects") ≡ Some (codes "true") → form ≡ Object
-
 -- numbers are printed as JSON where the option stands
 pub record HasJson (found : Found) (as_json : Bool) : Type 0 where
   pub lines : one_text found (codes "json") ≡ Some (codes "false") → as_json ≡ false
@@ -184,9 +148,9 @@ HasNames found (commands.Import name) = name.now ≡ value_of found (codes "NAME
 HasNames found (commands.Create name fields) = (name.now ≡ value_of found (codes "NAME")) × (texts fields.items ≡ values_of found (codes "FIELD"))
 HasNames found (commands.Append name) = name.now ≡ value_of found (codes "NAME")
 HasNames found (commands.AppendText name form) = (name.now ≡ value_of found (codes "NAME")) × (bytes_eq (value_of found (codes "as")) (codes "stream") ≡ false)
-HasNames found (commands.Query name query form) = (name.now ≡ value_of found (codes "NAME")) × HasQuery found query × HasForm found form
+HasNames found (commands.Query name query) = (name.now ≡ value_of found (codes "NAME")) × HasQuery found query
 HasNames found (commands.SaveAs from to query) =
-    (from.now ≡ value_of found (codes "NAME")) × (Some to.now ≡ first_value found (codes "save")) × HasQuery found query × HasForm found Array
+    (from.now ≡ value_of found (codes "NAME")) × (Some to.now ≡ first_value found (codes "save")) × HasQuery found query
 HasNames found (commands.Drop name) = name.now ≡ value_of found (codes "NAME")
 HasNames found (commands.Schema name) = name.now ≡ value_of found (codes "NAME")
 HasNames found (commands.Export name) = name.now ≡ value_of found (codes "NAME")
@@ -210,3 +174,7 @@ HasFound found (requests.Replay words) =
 abbrev pub IsOfMemory : Mistake → Type 0
 IsOfMemory (mistakes.Words error) = kind_of error ≡ OutOfMemory
 IsOfMemory mistakes.SignedNumber = ⊥
+
+-- the words of commands that take a number
+abbrev pub takes_number : Text → Bool
+takes_number word = bytes_eq (codes "format") word || (bytes_eq (codes "copy") word || (bytes_eq (codes "query") word || bytes_eq (codes "replay") word))

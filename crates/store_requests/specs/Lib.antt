@@ -3,4 +3,3 @@ pub mod Asked
 pub mod Operands
 pub mod Choices
 pub mod Apps
-pub mod Right

@@ -6,7 +6,6 @@ use Rattle.clap.specs.Walk.{texts}
 use Rattle.clap.specs.Words.{Text}
 use Rattle.commit.specs.declared.sector.FormatVersion.{FormatVersion}
 use Rattle.commit.specs.declared.sector.FormatVersion.TheVariants.{One, Two}
-use Rattle.query.specs.declared.row_form.RowForm.TheVariants.{Array}
 use Rattle.store_requests.specs.declared.store_words.StoreCommand.{StoreCommand}
 use Rattle.store_requests.specs.declared.store_words.StoreCommand.TheVariants as commands
 use Rattle.store_requests.specs.declared.store_words.StoreRequest.{StoreRequest}
@@ -36,6 +35,20 @@ names_file word =
 unfoldable pub names_table : Text → Bool
 names_table word = bytes_eq (codes "import") word || (bytes_eq (codes "drop") word || (bytes_eq (codes "schema") word || bytes_eq (codes "export") word))
 
+-- how many operands these commands take, and the one that gives a table another name
+abbrev pub wanted : Text → Option ℕ
+wanted word = if names_file word then Some 1 else (if names_table word then Some 2 else (if bytes_eq (codes "rename") word then Some 3 else None))
+
+abbrev pub are_as_many : Option ℕ → Option (List Text) → Bool
+are_as_many (Some n) (Some words) = length words == n
+are_as_many _ _ = false
+
+-- the program's name, one of these commands, and as many operands as it takes
+unfoldable pub are_right : List Text → Bool
+are_right [] = false
+are_right (name ∷ []) = false
+are_right (name ∷ word ∷ rest) = are_as_many (wanted word) (operands rest)
+
 -- the number that decimal digits write; a plus sign before them does not count
 abbrev pub number_of : Text → ℕ
 number_of word = digits_value 10 (without_leading_plus word)
@@ -51,7 +64,7 @@ names_in (commands.Create name fields) = name.now ∷ texts fields.items
 names_in (commands.Import name) = name.now ∷ []
 names_in (commands.Append name) = name.now ∷ []
 names_in (commands.AppendText name form) = name.now ∷ []
-names_in (commands.Query name query form) = name.now ∷ texts query.conditions.items
+names_in (commands.Query name query) = name.now ∷ texts query.conditions.items
 names_in (commands.SaveAs from to query) = from.now ∷ texts query.conditions.items
 names_in (commands.Rename from to) = from.now ∷ to.now ∷ []
 names_in (commands.Drop name) = name.now ∷ []
@@ -63,15 +76,15 @@ names_in (commands.Info as_json) = []
 names_in commands.Compact = []
 names_in commands.Upgrade = []
 
--- what it is without options: rows are appended of a stream, all columns of all rows are printed as arrays, and numbers as lines
+-- what it is without options: rows are appended of a stream, all columns of all rows are printed, and numbers as lines
 abbrev pub IsWithoutOptions : StoreCommand → Type 0
 IsWithoutOptions (commands.AppendText name form) = ⊥
-IsWithoutOptions (commands.Query name query form) = (query.columns ≡ None) × (query.limit ≡ None) × (form ≡ Array)
+IsWithoutOptions (commands.Query name query) = (query.columns ≡ None) × (query.limit ≡ None)
 IsWithoutOptions (commands.SaveAs from to query) = ⊥
 IsWithoutOptions (commands.Info as_json) = as_json ≡ false
 IsWithoutOptions _ = Unit {0}
 
--- a request that names its files and its tables, or how many sectors, by these words
+-- a request that names its files and its tables, or how many sectors, by these words; without its option a store is made in the newest version
 unfoldable pub IsNamedBy : StoreRequest → List Text → Type 0
 IsNamedBy (requests.Command path command) words = (words ≡ path.now ∷ names_in command) × IsWithoutOptions command
 IsNamedBy (requests.Format path sectors version) words =

@@ -1,10 +1,9 @@
 // A script that is played on a device in memory, as words of a command line.
-ghost use Rattle.std.specs.Prelude.{◌≡◌, true, false, codes, IfSome, IsSome, IfOk, IfErr};
-ghost use Rattle.clap.specs.Words.{app_of, found_of, rule_of};
-ghost use Rattle.store_requests.specs.Apps.{HasFound, IsOfMemory, number_rule, choice_rule, replay_app};
+ghost use Rattle.std.specs.Prelude.{◌≡◌, codes, IfSome, IfOk};
+ghost use Rattle.clap.specs.Words.{found_of};
+ghost use Rattle.store_requests.specs.Apps.{HasFound};
 ghost use Rattle.store_requests.specs.Asked.{request_word};
 ghost use Rattle.store_requests.specs.Choices.{IsNumber, IsChoice};
-ghost use Rattle.store_requests.specs.Right.{is_number, IsLost, NamesChoice, IsFoundTakable};
 
 use crate::store_command_line::{
     format_version, number_in, option, version_in, with_operand, word,
@@ -36,8 +35,7 @@ pub struct ReplayWords<'a> {
 
 // A number in decimal digits alone.
 fn number_of(text: &str) -> Option<u64>
-    ensures read { IfSome result (IsNumber text.now) }
-    ensures taken { is_number text.now ≡ true → IsSome result }
+    ensures { IfSome result (IsNumber text.now) }
 {
     if text.starts_with('+') {
         return None;
@@ -47,8 +45,7 @@ fn number_of(text: &str) -> Option<u64>
 
 // The sectors that are lost: all, or those of the bits.
 fn lost_of(text: &str) -> Option<Choice>
-    ensures read { IfSome result (IsChoice text.now) }
-    ensures taken { IsLost text.now → IsSome result }
+    ensures { IfSome result (IsChoice text.now) }
 {
     if text == "lost" {
         return Some(Choice::Lost(u64::MAX));
@@ -58,8 +55,7 @@ fn lost_of(text: &str) -> Option<Choice>
 
 // What a word says that a crash leaves.
 fn choice_of(text: &str) -> Option<Choice>
-    ensures read { IfSome result (IsChoice text.now) }
-    ensures taken { NamesChoice text.now → IsSome result }
+    ensures { IfSome result (IsChoice text.now) }
 {
     match text {
         "old" => Some(Choice::Old),
@@ -90,7 +86,6 @@ pub(crate) fn replay_request<'a>(
 ) -> Result<StoreRequest<'a>, Mistake>
     ensures word { IfOk result (λ request. request_word request ≡ codes "replay") }
     ensures named { IfOk result (HasFound (found_of words.now)) }
-    ensures taken { IsFoundTakable (codes "replay") (found_of words.now) → IfErr result IsOfMemory }
 {
     let Some(choice) = choice_of(word(words, "choice")) else {
         return Err(wrong_choice(alloc)?);
@@ -105,15 +100,11 @@ pub(crate) fn replay_request<'a>(
     }))
 }
 
-fn number<'a>(alloc: Global, id: &'a str, value: &'a str, help: &'a str) -> Arg<'a>
-    ensures { (rule_of result ≡ number_rule id.entry.now) × (result.global ≡ false) }
-{
+fn number<'a>(alloc: Global, id: &'a str, value: &'a str, help: &'a str) -> Arg<'a> {
     option(alloc, id, value, help).value_parser(ValueParser::unsigned(0, u64::MAX))
 }
 
-fn choice<'a>(alloc: Global) -> Arg<'a>
-    ensures { (rule_of result ≡ choice_rule) × (result.global ≡ false) }
-{
+fn choice<'a>(alloc: Global) -> Arg<'a> {
     option(
         alloc,
         "choice",
@@ -124,9 +115,7 @@ fn choice<'a>(alloc: Global) -> Arg<'a>
 }
 
 /// The command with its script, the size of the device, and what goes wrong on it.
-pub(crate) fn with_faults<'a>(alloc: Global, name: &'a str) -> Result<Command<'a>, AllocError>
-    ensures { IfOk result (λ c. app_of c ≡ replay_app name.now) }
-{
+pub(crate) fn with_faults<'a>(alloc: Global, name: &'a str) -> Result<Command<'a>, AllocError> {
     with_operand(alloc, name, "SCRIPT", "The file of the script")?
         .arg(number(
             alloc,

@@ -1,27 +1,23 @@
 // How `clap` reads a command line of a store.
-ghost use Rattle.std.specs.Prelude.{◌≡◌, ◌==◌, true, false, codes, map, drop, option_map, IfOk, IfErr, IsOk, if◌then◌else◌};
-ghost use Rattle.std.specs.Option.{option_map_or};
+ghost use Rattle.std.specs.Prelude.{◌≡◌, ◌==◌, true, false, codes, map, drop, option_map, IfOk, IfErr, if◌then◌else◌};
 ghost use Rattle.std.specs.Str.{bytes_eq};
 ghost use Rattle.clap.specs.Walk.{texts};
 ghost use Rattle.clap.specs.Words.{app_of, first_value, found_of, new_app, rule_of, with_rule};
 ghost use Rattle.clap.specs.declared.builder.value_parser.ValueParser.{ValueParser};
 ghost use Rattle.commit.specs.declared.sector.FormatVersion.TheVariants.{One, Two};
 ghost use Rattle.store_requests.specs.declared.store_command_line.Mistake.TheVariants as mistakes;
-ghost use Rattle.store_requests.specs.Apps.{required_rule, json_rule, sectors_rule, version_rule, repeated_rule, option_rule, form_rule, null_rule, limit_rule, objects_rule};
+ghost use Rattle.store_requests.specs.Apps.{required_rule, json_rule, sectors_rule, version_rule, repeated_rule, option_rule, form_rule, null_rule, limit_rule};
 ghost use Rattle.store_requests.specs.Apps.{store_app, info_app, format_app, new_file_app, copy_app, table_app, rename_app, create_app, append_app, conditions_app, query_app};
-ghost use Rattle.store_requests.specs.Apps.{AreForms, other_parameters, parameters_of, IsOwnApp, value_of, values_of, HasQuery, HasForm, HasJson, HasNames, HasFound, IsOfMemory};
+ghost use Rattle.store_requests.specs.Apps.{other_parameters, parameters_of, IsOwnApp, value_of, values_of, HasQuery, HasJson, HasNames, HasFound, IsOfMemory, takes_number};
 ghost use Rattle.store_requests.specs.Asked.{command_word, request_word};
-ghost use Rattle.store_requests.specs.Operands.{names_file, names_table, number_of, version_named, Names};
-ghost use Rattle.store_requests.specs.Right.{is_number, AreRightWords, IsFoundTakable};
+ghost use Rattle.store_requests.specs.Operands.{are_right, names_file, names_table, number_of, version_named, Names};
 ghost use Rattle.store_requests.specs.StoreWords.{is_store_word, is_of_store, first_word};
 
 use crate::replaying::{replay_request, with_faults};
 use crate::{QueryWords, StoreCommand, StoreRequest};
 use clap::builder::ValueParser;
-use clap::error::ErrorKind;
 use clap::{Arg, ArgAction, ArgMatches, Command, Error};
 use commit::FormatVersion;
-use query::RowForm;
 use std::alloc::{AllocError, Global};
 use std::convert::AsStr;
 use std::str::FromStr;
@@ -69,11 +65,9 @@ pub fn request_of<'a, S: AsStr>(
         → IfOk result (λ request. request_word request ≡ first_word (map S.text arguments.now)) }
     // Where these are operands alone, they are its files, names, fields, conditions and numbers, and it has no option.
     ensures named { is_of_store (map S.text arguments.now) ≡ true → IfOk result (Names (map S.text arguments.now)) }
-    // Operands alone that the command takes are right, and so is all that `clap` takes, with options too, where each number has digits alone.
-    ensures taken { AreRightWords (map S.text arguments.now) → IfErr result IsOfMemory }
+    // As many operands as a command of names takes are right.
+    ensures taken { are_right (map S.text arguments.now) ≡ true → IfErr result IsOfMemory }
 {
-    // A number of the code is below 2^64, and so is that of the words.
-    let _count = arguments.len();
     let word = first_word(arguments);
     let command = own_command(alloc, program_name(arguments), word)?;
     let matches = command.try_get_matches_from(words_from_command(arguments))?;
@@ -99,7 +93,7 @@ fn asked<'a>(
 ) -> Result<StoreRequest<'a>, Mistake>
     ensures word { is_store_word command.now ≡ true → IfOk result (λ request. request_word request ≡ command.now) }
     ensures named { IfOk result (HasFound (found_of words.now)) }
-    ensures taken { IsFoundTakable command.now (found_of words.now) → IfErr result IsOfMemory }
+    ensures taken { takes_number command.now ≡ false → IfErr result IsOfMemory }
 {
     let path = word(words, "STORE");
     match command {
@@ -122,7 +116,7 @@ fn command_request<'a>(
         → bytes_eq (codes "replay") command.now ≡ false
         → IfOk result (λ request. request_word request ≡ command.now) }
     ensures named { IfOk result (HasFound (found_of words.now)) }
-    ensures taken { IsFoundTakable command.now (found_of words.now) → IfErr result IsOfMemory }
+    ensures taken { takes_number command.now ≡ false → IfErr result IsOfMemory }
 {
     let command = command_of(alloc, command, words)?;
     Ok(StoreRequest::Command { path, command })
@@ -162,8 +156,7 @@ fn words_from_command<S: AsStr>(arguments: &[S]) -> &[S]
 
 // Numbers are decimal digits alone. `clap` takes a plus sign before them, and has refused all else.
 fn number(text: &str) -> Result<u64, Mistake>
-    ensures read { IfOk result (λ n. n ≡ number_of text.now) }
-    ensures taken { is_number text.now ≡ true → IsOk result }
+    ensures { IfOk result (λ n. n ≡ number_of text.now) }
 {
     if text.starts_with('+') {
         return Err(Mistake::SignedNumber);
@@ -198,16 +191,14 @@ fn words_of<'a>(
 }
 
 fn sectors_of(words: &ArgMatches<'_>) -> Result<u64, Mistake>
-    ensures read { IfOk result (λ sectors. sectors ≡ number_of (value_of (found_of words.now) (codes "SECTORS"))) }
-    ensures taken { is_number (value_of (found_of words.now) (codes "SECTORS")) ≡ true → IsOk result }
+    ensures { IfOk result (λ sectors. sectors ≡ number_of (value_of (found_of words.now) (codes "SECTORS"))) }
 {
     number(word(words, "SECTORS"))
 }
 
 /// The number of an argument; 0 where there is none.
 pub(crate) fn number_in(words: &ArgMatches<'_>, id: &str) -> Result<u64, Mistake>
-    ensures read { IfOk result (λ n. n ≡ number_of (value_of (found_of words.now) id.now)) }
-    ensures taken { option_map_or is_number (first_value (found_of words.now) id.now) true ≡ true → IsOk result }
+    ensures { IfOk result (λ n. n ≡ number_of (value_of (found_of words.now) id.now)) }
 {
     match words.get_str(id) {
         Some(text) => number(text),
@@ -216,8 +207,7 @@ pub(crate) fn number_in(words: &ArgMatches<'_>, id: &str) -> Result<u64, Mistake
 }
 
 fn limit_of(words: &ArgMatches<'_>) -> Result<Option<u64>, Mistake>
-    ensures read { IfOk result (λ limit. limit ≡ option_map number_of (first_value (found_of words.now) (codes "limit"))) }
-    ensures taken { option_map_or is_number (first_value (found_of words.now) (codes "limit")) true ≡ true → IsOk result }
+    ensures { IfOk result (λ limit. limit ≡ option_map number_of (first_value (found_of words.now) (codes "limit"))) }
 {
     match words.get_str("limit") {
         Some(text) => Ok(Some(number(text)?)),
@@ -237,8 +227,7 @@ fn version_of(number: u64) -> FormatVersion
 
 /// The version of a store that is made; without the option the newest.
 pub(crate) fn version_in(words: &ArgMatches<'_>) -> Result<FormatVersion, Mistake>
-    ensures read { IfOk result (λ version. version ≡ version_named (first_value (found_of words.now) (codes "format-version"))) }
-    ensures taken { option_map_or is_number (first_value (found_of words.now) (codes "format-version")) true ≡ true → IsOk result }
+    ensures { IfOk result (λ version. version ≡ version_named (first_value (found_of words.now) (codes "format-version"))) }
 {
     match words.get_str("format-version") {
         Some(text) => Ok(version_of(number(text)?)),
@@ -250,8 +239,6 @@ fn format_request<'a>(path: &'a str, words: &ArgMatches<'a>) -> Result<StoreRequ
     requires { path.now ≡ value_of (found_of words.now) (codes "STORE") }
     ensures word { IfOk result (λ request. request_word request ≡ codes "format") }
     ensures named { IfOk result (HasFound (found_of words.now)) }
-    ensures taken { is_number (value_of (found_of words.now) (codes "SECTORS")) ≡ true
-        → option_map_or is_number (first_value (found_of words.now) (codes "format-version")) true ≡ true → IsOk result }
 {
     let sectors = sectors_of(words)?;
     let version = version_in(words)?;
@@ -266,7 +253,6 @@ fn copy_request<'a>(path: &'a str, words: &ArgMatches<'a>) -> Result<StoreReques
     requires { path.now ≡ value_of (found_of words.now) (codes "STORE") }
     ensures word { IfOk result (λ request. request_word request ≡ codes "copy") }
     ensures named { IfOk result (HasFound (found_of words.now)) }
-    ensures taken { is_number (value_of (found_of words.now) (codes "SECTORS")) ≡ true → IsOk result }
 {
     let sectors = sectors_of(words)?;
     let new = word(words, "NEW");
@@ -299,33 +285,13 @@ fn append_command<'a>(name: &'a str, words: &ArgMatches<'a>) -> StoreCommand<'a>
 }
 
 fn query_words<'a>(alloc: Global, words: &ArgMatches<'a>) -> Result<QueryWords<'a>, Mistake>
-    ensures read { IfOk result (HasQuery (found_of words.now)) }
-    ensures taken { option_map_or is_number (first_value (found_of words.now) (codes "limit")) true ≡ true → IfErr result IsOfMemory }
+    ensures { IfOk result (HasQuery (found_of words.now)) }
 {
     Ok(QueryWords {
         conditions: words_of(alloc, words, "CONDITION")?,
         columns: words.get_str("columns"),
         limit: limit_of(words)?,
     })
-}
-
-fn row_form(words: &ArgMatches<'_>) -> RowForm
-    ensures { HasForm (found_of words.now) result }
-{
-    if words.get_flag("objects") {
-        RowForm::Object
-    } else {
-        RowForm::Array
-    }
-}
-
-fn saved_objects(alloc: Global) -> Result<Mistake, AllocError> {
-    let mut command = with_query(alloc, "query")?.bin_name("arrowstore query")?;
-    let error = command.error(
-        ErrorKind::ArgumentConflict,
-        "the argument '--objects' cannot be used with '--save <NEW>'",
-    )?;
-    Ok(Mistake::Words(error))
 }
 
 // What is selected is printed, or saved as a table.
@@ -337,20 +303,16 @@ fn query_command<'a>(
     requires { name.now ≡ value_of (found_of words.now) (codes "NAME") }
     ensures word { IfOk result (λ command. command_word command ≡ codes "query") }
     ensures named { IfOk result (HasNames (found_of words.now)) }
-    ensures taken { IsFoundTakable (codes "query") (found_of words.now) → IfErr result IsOfMemory }
 {
     let query = query_words(alloc, words)?;
-    let form = row_form(words);
-    match (words.get_str("save"), form) {
-        (None, _) => Ok(StoreCommand::Query { name, query, form }),
-        (Some(to), RowForm::Array) => Ok(StoreCommand::SaveAs {
+    Ok(match words.get_str("save") {
+        Some(to) => StoreCommand::SaveAs {
             from: name,
             to,
             query,
-        }),
-        // A table that is saved is not printed.
-        (Some(_), RowForm::Object) => Err(saved_objects(alloc)?),
-    }
+        },
+        None => StoreCommand::Query { name, query },
+    })
 }
 
 fn create_command<'a>(
@@ -384,7 +346,7 @@ fn command_of<'a>(
         → bytes_eq (codes "replay") command.now ≡ false
         → IfOk result (λ asked. command_word asked ≡ command.now) }
     ensures named { IfOk result (HasNames (found_of words.now)) }
-    ensures taken { IsFoundTakable command.now (found_of words.now) → IfErr result IsOfMemory }
+    ensures taken { takes_number command.now ≡ false → IfErr result IsOfMemory }
 {
     let name = word(words, "NAME");
     match command {
@@ -594,7 +556,7 @@ pub(crate) fn format_version<'a>(alloc: Global) -> Arg<'a>
 }
 
 fn form<'a>(alloc: Global) -> Arg<'a>
-    ensures { ((forms : ValueParser) × AreForms forms × (rule_of result ≡ form_rule forms)) × (result.global ≡ false) }
+    ensures { ((forms : ValueParser) × (rule_of result ≡ form_rule forms)) × (result.global ≡ false) }
 {
     option(
         alloc,
@@ -617,15 +579,6 @@ fn null_text<'a>(alloc: Global) -> Arg<'a>
     )
     .default_value("")
     .hide_default_value(true)
-}
-
-fn objects<'a>(alloc: Global) -> Arg<'a>
-    ensures { (rule_of result ≡ objects_rule) × (result.global ≡ false) }
-{
-    Arg::new(alloc, "objects")
-        .long("objects")
-        .action(ArgAction::SetTrue)
-        .help("Prints each row as an object by the names of the columns, which then have to differ")
 }
 
 fn limit<'a>(alloc: Global) -> Arg<'a>
@@ -768,7 +721,7 @@ fn with_fields<'a>(alloc: Global, name: &'a str) -> Result<Command<'a>, AllocErr
 
 // One that takes the form of its input.
 fn with_rows<'a>(alloc: Global, name: &'a str) -> Result<Command<'a>, AllocError>
-    ensures { IfOk result (λ c. (forms : ValueParser) × AreForms forms × (app_of c ≡ append_app forms name.now)) }
+    ensures { IfOk result (λ c. (forms : ValueParser) × (app_of c ≡ append_app forms name.now)) }
 {
     with_table(alloc, name)?
         .arg(form(alloc))?
@@ -805,8 +758,7 @@ fn with_query<'a>(alloc: Global, name: &'a str) -> Result<Command<'a>, AllocErro
     with_conditions(alloc, name)?
         .arg(columns)?
         .arg(limit(alloc))?
-        .arg(save)?
-        .arg(objects(alloc))
+        .arg(save)
 }
 
 // A command of a store.

@@ -1,7 +1,7 @@
 use Rattle.std.proofs.Common.{refl}
 use Rattle.tables.specs.Tables.{no_tables}
 use Rattle.store.specs.Fits.{fresh}
-use Rattle.replay.proofs.Formatted.{formatted_empty, new_unruled, new_refused}
+use Rattle.replay.proofs.Formatted.{formatted_empty}
 use Rattle.replay.proofs.device.empty_store.Goals as goal
 
 pub returns-in-Ok-clause-empty : goal.returns-in-Ok-clause-empty
@@ -11,8 +11,3 @@ returns-in-Ok-clause-empty c =
     let opens = c.in-Ok.ensures.opened refl no_tables fresh new in
     formatted_empty c.args.sectors c.in_ok-device.device c.close-formatted.result left.left c.in-Ok.store opens c.close-formatted.ensures c.in_ok-device.ensures.size left.ensures.size left.ensures.failed
     c.left_devices_fit.ensures.goes_on (record { same = left.ensures.size; synced = left.ensures.synced; allowed = left.ensures.allowed })
-
-pub returns-in-Err-clause-told : goal.returns-in-Err-clause-told
-returns-in-Err-clause-told c =
-    let device = c.in_ok-device.ensures in
-    new_refused c.args.sectors _ c.in-Err.refusal _ device.size (new_unruled c.in_ok-device.device device.zeros) (c.in-Err.ensures.told refl) c.in-Err.ensures.reason
