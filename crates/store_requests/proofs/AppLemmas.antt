@@ -544,8 +544,8 @@ module _ (word : Text) (words : List Text) (m : ArgMatches) (a : App) (own : IsO
       let taken = of_word (codes "format") parameters.Sectors is refl in (
         value_of (found_of m) (codes "SECTORS"),
         names_sectors taken ops e ∙ (λ i. sym found.0 i ∷ value_of (found_of m) (codes "SECTORS") ∷ []),
-        found.1.0,
-        found.1.1 ∙ ap version_named (asks_newest taken ops e),
+        found.1,
+        found.2 ∙ ap version_named (asks_newest taken ops e),
       ))
   names_command (requests.Copy file new sectors) is found =
       named (requests.Copy file new sectors)
