@@ -32,7 +32,7 @@ use Rattle.store_commands.specs.declared.input.TheConstants.{LARGEST_INPUT}
 use Rattle.store_commands.specs.Changing.{StateSchema}
 use Rattle.replay.specs.declared.script.ScriptError.TheVariants.{BadLine}
 use Rattle.std.specs.Io.KnownBytes.{Appends}
-use Rattle.replay.specs.Script.{IsScript, PlainLine, create, import_file, append_file, rename, drop, compact, reopen}
+use Rattle.replay.specs.Script.{IsScript, PlainLine, create, import_file, append_file, rename, drop, compact, upgrade, reopen}
 use Rattle.replay.specs.Playing.{Plays, replies_text, stop_text, FoundText}
 
 -- ---- lines as calls
@@ -53,6 +53,7 @@ IsCallOfLine remaining (append_file name path) (calls.Apply command) = (bytes : 
 IsCallOfLine remaining (rename from to) (calls.Apply command) = command_of command ≡ commands.rename from to
 IsCallOfLine remaining (drop name) (calls.Apply command) = command_of command ≡ commands.drop_table name
 IsCallOfLine remaining compact calls.Compact = Unit {0}
+IsCallOfLine remaining upgrade calls.Upgrade = Unit {0}
 IsCallOfLine remaining reopen calls.Open = Unit {0}
 IsCallOfLine remaining _ _ = ⊥
 
