@@ -35,8 +35,7 @@ fn copy_into_file<
     ensures copied { OnOk result (CopiesInto ⟦<FileDevice<F> as SectorDevice>⟧ sectors from.old (Ok tt)) }
     ensures refused { IfErr result (FailsToCopy ⟦<FileDevice<F> as SectorDevice>⟧ sectors from.old) }
 {
-    let version = from.version();
-    let mut to = format_file(rt, path, sectors, version)?;
+    let mut to = format_file(rt, path, sectors, from.version())?;
     match copy_tables(rt.alloc(), from, &mut to) {
         Ok(()) => Ok(()),
         // It is removed while the device still has it locked: nobody else has put anything into it.

@@ -1,5 +1,7 @@
-use Rattle.std.proofs.Common.{inl, inr, refl}
+use Rattle.std.proofs.Common.{inl, inr, refl, subst}
 use Rattle.std.proofs.lemmas.Result.{err_from_is_err_and}
+use Rattle.commit.specs.declared.sector.FormatVersion.{FormatVersion}
+use Rattle.store.specs.Fits.{IsNewStore}
 use Rattle.arrowstore.proofs.copying_files.copy_into_file.Goals as goal
 
 pub returns-in_err-to-clause-refused : goal.returns-in_err-to-clause-refused
@@ -10,7 +12,7 @@ returns-in_err-to-clause-refused g c =
 pub returns-in-Ok-clause-copied : goal.returns-in-Ok-clause-copied
 returns-in-Ok-clause-copied g c = record {
   made = c.in_ok-to.to;
-  new = c.in_ok-to.ensures.made;
+  new = subst (λ (v : FormatVersion). IsNewStore c.args.sectors v c.in_ok-to.to) c.version.ensures c.in_ok-to.ensures.made;
   size = c.in_ok-to.ensures.size;
   after_it = c.copy_tables.new.from;
   full = c.copy_tables.new.to;
@@ -23,7 +25,7 @@ returns-clause-refused g c = inr (
   refl,
   record {
     made = c.in_ok-to.to;
-    new = c.in_ok-to.ensures.made;
+    new = subst (λ (v : FormatVersion). IsNewStore c.args.sectors v c.in_ok-to.to) c.version.ensures c.in_ok-to.ensures.made;
     size = c.in_ok-to.ensures.size;
     after_it = c.copy_tables.new.from;
     full = c.copy_tables.new.to;
