@@ -29,8 +29,7 @@ use Rattle.program_texts.specs.declared.status.Ended.{Ended}
 use Rattle.program_texts.specs.declared.status.Status.{Status}
 use Rattle.program_texts.specs.declared.status.Status.TheVariants.{Done, Refused}
 use Rattle.store_requests.specs.Asked.{request_word}
-use Rattle.store_requests.specs.Operands.{Names}
-use Rattle.store_requests.specs.Right.{AreRightWords}
+use Rattle.store_requests.specs.Operands.{are_right, Names}
 use Rattle.store_requests.specs.StoreWords.{first_word, ask_for_help}
 use Rattle.sector_dev.specs.declared.model.ModelDevice.{ModelDevice}
 use Rattle.replay.specs.Replay.{IsReplayOfFile, RefusesReplay}
@@ -227,7 +226,7 @@ GivesHelpOrWrong contents asks_for_help output output' status =
 -- no command is served: some word asks for help, or the words are wrong; right ones are served unless memory is refused
 abbrev pub AsksForNone : {W : Type 0} → (contents : W → Option (List ℕ)) → (arguments : List (List ℕ)) → (output output' : W) → Status → Type 0
 AsksForNone contents arguments output output' status =
-    GivesHelpOrWrong contents (ask_for_help arguments) output output' status × (AreRightWords arguments → status ≡ Refused refusals.OutOfMemory)
+    GivesHelpOrWrong contents (ask_for_help arguments) output output' status × (are_right arguments ≡ true → status ≡ Refused refusals.OutOfMemory)
 
 -- arguments for a store: no command of them is served, and nothing is read; or the request that they state was served
 abbrev pub RunsOnStore : {D : Type 0} → (g : Ghosts D) → (is_opened : D → Type 0) → {R W E : Type 0} → (remaining : R → Option (List ℕ))
