@@ -13,6 +13,7 @@ use Rattle.sector_dev.specs.declared.file.FileError.{FileError}
 use Rattle.sector_dev.specs.declared.file.TheConstants.{LEAST_SECTORS, MOST_SECTORS}
 use Rattle.sector_dev.specs.declared.file.FileError.TheVariants as files
 use Rattle.commit.specs.Standing.{is_size}
+use Rattle.commit.specs.declared.sector.FormatVersion.{FormatVersion}
 use Rattle.command_refusals.specs.declared.refusal.Refusal.{Refusal}
 use Rattle.command_refusals.specs.declared.refusal.Refusal.TheVariants.{Io, Opening}
 use Rattle.command_refusals.specs.Refusals.{file_refusal}
@@ -43,15 +44,15 @@ opened_file (Ok device) over none_failed none_buffered = record { over = over; n
 opened_file (Err e) over none_failed none_buffered = tt
 
 -- no file was made since the places of the streams were not taken
-pub of_places : {D : Type 0} (g : Ghosts D) (sectors : ℕ) (e : FileError) → e ≡ files.Io → RefusesFormat g sectors (file_refusal e)
+pub of_places : {D : Type 0} (g : Ghosts D) (sectors : ℕ) (version : FormatVersion) (e : FileError) → e ≡ files.Io → RefusesFormat g sectors version (file_refusal e)
 unfolding RefusesFormat
-of_places g sectors files.Io is = tt
-of_places g sectors files.BadSize is = absurd (cc is)
+of_places g sectors version files.Io is = tt
+of_places g sectors version files.BadSize is = absurd (cc is)
 
-pub of_making : {D T : Type 0} (g : Ghosts D) (sectors : ℕ) (e : FileError) → (IsErrOf {T = T} (Err e) files.BadSize ↔ ¬ ((LEAST_SECTORS ≤ sectors) × (sectors ≤ MOST_SECTORS))) → RefusesFormat g sectors (file_refusal e)
+pub of_making : {D T : Type 0} (g : Ghosts D) (sectors : ℕ) (version : FormatVersion) (e : FileError) → (IsErrOf {T = T} (Err e) files.BadSize ↔ ¬ ((LEAST_SECTORS ≤ sectors) × (sectors ≤ MOST_SECTORS))) → RefusesFormat g sectors version (file_refusal e)
 unfolding RefusesFormat
-of_making g sectors files.Io bad = tt
-of_making g sectors files.BadSize bad = bad.0 refl
+of_making g sectors version files.Io bad = tt
+of_making g sectors version files.BadSize bad = bad.0 refl
 
 -- a file that was made has a size of a store
 pub of_size : {T : Type 0} (sectors : ℕ) (made : T) → (IsErrOf {T = T} (Ok made) files.BadSize ↔ ¬ ((LEAST_SECTORS ≤ sectors) × (sectors ≤ MOST_SECTORS))) → is_size sectors ≡ true
@@ -64,10 +65,14 @@ of_size sectors made bad = by_test (is_size sectors) refl
         absurd (cc no)
 
 -- a formatting that was refused on a device of this size
-pub of_formatting : {D : Type 0} (g : Ghosts D) (size sectors : ℕ) (refusal : Refusal) → size ≡ sectors → is_size sectors ≡ true → FailsToFormat g size refusal → RefusesFormat g sectors refusal
+pub of_formatting : {D : Type 0} (g : Ghosts D) (size sectors : ℕ) (version : FormatVersion) (refusal : Refusal) → size ≡ sectors → is_size sectors ≡ true → FailsToFormat g size version refusal → RefusesFormat g sectors version refusal
 unfolding FailsToFormat RefusesFormat
-of_formatting g size sectors (Opening r) same limits why = (limits, subst (λ (n : ℕ). FailsToFormat g n (Opening r)) same why)
-of_formatting g size sectors _ same limits why = absurd why
+of_formatting g size sectors version (Opening r) same limits why = (limits, subst (λ (n : ℕ). FailsToFormat g n version (Opening r)) same why)
+of_formatting g size sectors version _ same limits why = absurd why
+
+-- a refusal of a store of one version is one of a store of the same version
+pub in_version : {D : Type 0} (g : Ghosts D) (sectors : ℕ) (v w : FormatVersion) (refusal : Refusal) → v ≡ w → RefusesFormat g sectors v refusal → RefusesFormat g sectors w refusal
+in_version g sectors v w refusal same why = subst (λ (version : FormatVersion). RefusesFormat g sectors version refusal) same why
 
 -- how a run ends whose request was done or refused
 pub ends_as : (done : Result (Unit {0}) Refusal) (status : Status) (kept reported : Type 0) → (IsOk done → (status ≡ Done) × kept × reported) → IfErr done (λ refusal. status ≡ Refused refusal) → status ≡ status_of done

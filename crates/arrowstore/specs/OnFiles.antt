@@ -1,20 +1,27 @@
 -- What a request of a store comes to, on devices of one kind.
-use Rattle.std.specs.Prelude.{◌≡◌, ◌⊎◌, ◌≤◌, ℕ, Bool, true, List, codes, Option, Some, None, Result, Ok, Err, IfErr, OnOk, IsErrAnd}
+use Rattle.std.specs.Prelude.{◌≡◌, ◌≢◌, ◌⊎◌, ◌≤◌, ℕ, Bool, true, List, codes, Option, Some, None, Result, Ok, Err, IfErr, OnOk, IsErrAnd}
 use Rattle.std.specs.Io.KnownBytes.{Appends}
 use Rattle.std.specs.declared.io.traits.Read.{Ghosts as ReadGhosts}
 use Rattle.std.specs.declared.io.traits.Write.{Ghosts as WriteGhosts}
 use Rattle.std.specs.declared.io.traits.Seek.{Ghosts as SeekGhosts}
 use Rattle.sector_dev.specs.declared.device.SectorDevice.{Ghosts}
+use Rattle.sector_dev.specs.Disk.{now, shown_image}
+use Rattle.sector_dev.specs.Time.{Grows, OnlyReads}
 use Rattle.sector_dev.specs.View.{failures_of, IsOver}
 use Rattle.sector_dev.specs.Written.{IsEmpty}
 use Rattle.sector_dev.specs.declared.file.FileDevice.{FileDevice}
 use Rattle.sector_dev.specs.declared.file.TheConstants.{LEAST_SECTORS, MOST_SECTORS}
 use Rattle.commit.specs.Standing.{is_size}
+use Rattle.commit.specs.Ruling.{ruling}
+use Rattle.commit.specs.Formatting.{IsFormatting}
+use Rattle.commit.specs.declared.opening_refusal.OpeningRefusal.{OpeningRefusal}
+use Rattle.commit.specs.declared.opening_refusal.OpeningRefusal.TheVariants as openings
 use Rattle.text_import.specs.declared.part.RefusedPart.{RefusedPart}
 use Rattle.store.specs.declared.store.Store.{Store}
 use Rattle.commit.specs.declared.sector.FormatVersion.{FormatVersion}
 use Rattle.store.specs.Fits.{commit_of, device_of, IsNewStore}
-use Rattle.store.specs.Answering.{LeavesUnformatted}
+use Rattle.store.specs.Opening.{TellsFormatting, IsOfFormatting}
+use Rattle.store.specs.Answering.{RefusesSize}
 use Rattle.command_refusals.specs.declared.refusal.Refusal.{Refusal}
 use Rattle.command_refusals.specs.declared.refusal.Refusal.TheVariants as refusals
 use Rattle.tables.specs.declared.refusal.Refusal as tables
@@ -75,18 +82,27 @@ ServesCommand g is_opened remaining contents command before after result =
     IsErrAnd result (λ refusal. RefusesCommand command refusal × (after ≡ before))
     ⊎ ServesStated g is_opened remaining contents command before after result
 
--- why no store is made on a device of this number of sectors
-unfoldable pub FailsToFormat : {D : Type 0} → (g : Ghosts D) → (sectors : ℕ) → Refusal → Type 0
-FailsToFormat {D} g sectors (refusals.Opening r) =
-    (device : D) × (back : D) × (g.size device ≡ sectors) × LeavesUnformatted g.size g.story g.tells device r back
-FailsToFormat g sectors _ = ⊥
+-- a device was not formatted in this version: why it was not, and what each moment and the end of it leave
+pub record LeavesUnformatted {D : Type 0} (g : Ghosts D) (version : FormatVersion) (device : D) (refusal : OpeningRefusal) (back : D) : Type 0 where
+  pub told : g.tells ≡ true → TellsFormatting refusal (g.size device) (ruling (shown_image (now (g.story device))))
+  pub reason : IsOfFormatting (g.size device) refusal
+  pub untouched : g.tells ≡ true → ruling (shown_image (now (g.story device))) ≢ None → OnlyReads (g.story device) (g.story back)
+  pub quiet : refusal ≢ openings.Device → g.tells ≡ true → now (g.story back) ≡ now (g.story device)
+  pub moments : g.tells ≡ true → Grows (IsFormatting (g.size device) version (now (g.story device))) (g.story device) (g.story back)
+  pub limits : RefusesSize g.size g.story device refusal back
+
+-- why no store of this version is made on a device of this number of sectors
+unfoldable pub FailsToFormat : {D : Type 0} → (g : Ghosts D) → (sectors : ℕ) → FormatVersion → Refusal → Type 0
+FailsToFormat {D} g sectors version (refusals.Opening r) =
+    (device : D) × (back : D) × (g.size device ≡ sectors) × LeavesUnformatted g version device r back
+FailsToFormat g sectors version _ = ⊥
 
 -- why none is made in a new file of this number of sectors: the system refuses the file, no store has that size, or some device was not formatted
-unfoldable pub RefusesFormat : {D : Type 0} → (g : Ghosts D) → (sectors : ℕ) → Refusal → Type 0
-RefusesFormat g sectors refusals.Io = Unit {0}
-RefusesFormat g sectors refusals.BadSize = ¬ ((LEAST_SECTORS ≤ sectors) × (sectors ≤ MOST_SECTORS))
-RefusesFormat g sectors (refusals.Opening r) = (is_size sectors ≡ true) × FailsToFormat g sectors (refusals.Opening r)
-RefusesFormat g sectors _ = ⊥
+unfoldable pub RefusesFormat : {D : Type 0} → (g : Ghosts D) → (sectors : ℕ) → FormatVersion → Refusal → Type 0
+RefusesFormat g sectors version refusals.Io = Unit {0}
+RefusesFormat g sectors version refusals.BadSize = ¬ ((LEAST_SECTORS ≤ sectors) × (sectors ≤ MOST_SECTORS))
+RefusesFormat g sectors version (refusals.Opening r) = (is_size sectors ≡ true) × FailsToFormat g sectors version (refusals.Opening r)
+RefusesFormat g sectors version _ = ⊥
 
 -- an empty store of this number of sectors was made on a device, in this version, and `ok` is written
 pub record MakesStore {D : Type 0} (g : Ghosts D) {W : Type 0} (contents : W → Option (List ℕ)) (sectors : ℕ) (version : FormatVersion) (output output' : W)
@@ -101,7 +117,7 @@ pub record MakesStore {D : Type 0} (g : Ghosts D) {W : Type 0} (contents : W →
 abbrev pub Formats : {D : Type 0} → (g : Ghosts D) → {W : Type 0} → (contents : W → Option (List ℕ)) → (sectors : ℕ) → FormatVersion → (output output' : W)
     → Result (Unit {0}) Refusal → Type 0
 Formats g contents sectors version output output' result =
-    IsErrAnd result (λ refusal. RefusesFormat g sectors refusal × (output' ≡ output)) ⊎ MakesStore g contents sectors version output output' result
+    IsErrAnd result (λ refusal. RefusesFormat g sectors version refusal × (output' ≡ output)) ⊎ MakesStore g contents sectors version output output' result
 
 -- ---- a copy of the store of a file, in a new file
 
@@ -126,7 +142,7 @@ pub record CopiesInto {D : Type 0} (g : Ghosts D) (sectors : ℕ) (from : Store 
 
 -- why no copy is made: no new store is made, or some table is not copied into it
 abbrev pub FailsToCopy : {D : Type 0} → (g : Ghosts D) → (sectors : ℕ) → (from : Store D g) → Refusal → Type 0
-FailsToCopy g sectors from refusal = RefusesFormat g sectors refusal ⊎ ((r : tables.Refusal) × (refusal ≡ refusals.Store r) × CopiesInto g sectors from (Err r))
+FailsToCopy g sectors from refusal = RefusesFormat g sectors (commit_of from).version refusal ⊎ ((r : tables.Refusal) × (refusal ≡ refusals.Store r) × CopiesInto g sectors from (Err r))
 
 -- why a store is not copied: it is not opened, or it is and no copy is made
 abbrev pub RefusesCopying : {D : Type 0} → (g : Ghosts D) → (is_opened : D → Type 0) → (sectors : ℕ) → Refusal → Type 0

@@ -29,7 +29,7 @@ fn format_on<D: SectorDevice + Drop>(
 ) -> Result<Store<D>, (Refusal, D)>
     ensures made { IfOk result (IsNewStore (D.size device) version) }
     ensures size { IfOk result (λ store. D.size (device_of store) ≡ D.size device) }
-    ensures refused { IfErr result (λ e. FailsToFormat ⟦<D as SectorDevice>⟧ (D.size device) e.0) }
+    ensures refused { IfErr result (λ e. FailsToFormat ⟦<D as SectorDevice>⟧ (D.size device) version e.0) }
 {
     match Store::format_version(alloc, device, version) {
         Ok(store) => Ok(store),
@@ -70,7 +70,7 @@ pub(crate) fn format_file<
 >(rt: &H, path: &str, sectors: u64, version: FormatVersion) -> Result<Store<FileDevice<F>>, Refusal>
     ensures made { IfOk result (IsNewStore sectors version) }
     ensures size { IfOk result (λ store. ⟦<FileDevice<F> as SectorDevice>⟧.size (device_of store) ≡ sectors) }
-    ensures refused { IfErr result (RefusesFormat ⟦<FileDevice<F> as SectorDevice>⟧ sectors) }
+    ensures refused { IfErr result (RefusesFormat ⟦<FileDevice<F> as SectorDevice>⟧ sectors version) }
 {
     let device = FileDevice::create(rt, path, sectors)?;
     match format_on(rt.alloc(), device, version) {

@@ -7,7 +7,7 @@ pub returns-in_err-_places-clause-formats : goal.returns-in_err-_places-clause-f
 returns-in_err-_places-clause-formats g c =
     let p = err_from_is_err_and c.from_residual.result c.from_residual.ensures.1 in
     let kept : c.args.output.now ≡ c.args.output.now = refl in
-    rw (p.1, p.2) (inl (of_places _ c.args.sectors c.in_err-_places.field-0.0 c.in_err-_places.ensures, kept))
+    rw (p.1, p.2) (inl (of_places _ c.args.sectors c.args.version c.in_err-_places.field-0.0 c.in_err-_places.ensures, kept))
 
 pub returns-clause-formats : goal.returns-clause-formats
 returns-clause-formats g c = inr (record {
