@@ -3,10 +3,11 @@ _arrowstore() {
     local word=${COMP_WORDS[COMP_CWORD]} before=${COMP_WORDS[COMP_CWORD-1]} flags=
     COMPREPLY=()
     if [ $COMP_CWORD -eq 1 ]; then
-        COMPREPLY=($(compgen -W 'format create import append query export rename drop tables schema check compact copy replay recode help -h --help --version' -- "$word"))
+        COMPREPLY=($(compgen -W 'format create import append query export rename drop tables schema check info compact upgrade copy replay recode help -h --help --version' -- "$word"))
         return
     fi
     case "${COMP_WORDS[1]} $before" in
+    'format --format-version') return ;;
     'append --as') COMPREPLY=($(compgen -W 'stream csv jsonl' -- "$word")); return ;;
     'append --null') return ;;
     'query --columns') return ;;
@@ -16,9 +17,10 @@ _arrowstore() {
     'replay --fail') return ;;
     'replay --stop') return ;;
     'replay --choice') return ;;
+    'replay --format-version') return ;;
     esac
     case "${COMP_WORDS[1]}" in
-    format) flags='-h --help' ;;
+    format) flags='--format-version -h --help' ;;
     create) flags='-h --help' ;;
     import) flags='-h --help' ;;
     append) flags='--as --null -h --help' ;;
@@ -29,11 +31,13 @@ _arrowstore() {
     tables) flags='-h --help' ;;
     schema) flags='-h --help' ;;
     check) flags='-h --help' ;;
+    info) flags='--json -h --help' ;;
     compact) flags='-h --help' ;;
+    upgrade) flags='-h --help' ;;
     copy) flags='-h --help' ;;
-    replay) flags='--sectors --fail --stop --choice -h --help' ;;
+    replay) flags='--sectors --fail --stop --choice --format-version -h --help' ;;
     recode) flags='-h --help' ;;
-    help) [ $COMP_CWORD -eq 2 ] && COMPREPLY=($(compgen -W 'format create import append query export rename drop tables schema check compact copy replay recode refusals' -- "$word")); return ;;
+    help) [ $COMP_CWORD -eq 2 ] && COMPREPLY=($(compgen -W 'format create import append query export rename drop tables schema check info compact upgrade copy replay recode refusals' -- "$word")); return ;;
     esac
     if [ "${word#-}" != "$word" ]; then
         COMPREPLY=($(compgen -W "$flags" -- "$word"))

@@ -13,12 +13,15 @@ complete -c arrowstore -n __fish_use_subcommand -a drop -d 'Removes a table with
 complete -c arrowstore -n __fish_use_subcommand -a tables -d 'Prints a line for each table: its name, and how many rows it has'
 complete -c arrowstore -n __fish_use_subcommand -a schema -d 'Prints a line for each field of a table'
 complete -c arrowstore -n __fish_use_subcommand -a check -d 'Reads all tables, and prints ok where each can be read'
+complete -c arrowstore -n __fish_use_subcommand -a info -d 'Prints the store in numbers'
 complete -c arrowstore -n __fish_use_subcommand -a compact -d 'Joins small segments, moves the last ones forward, and prints how many steps that took'
+complete -c arrowstore -n __fish_use_subcommand -a upgrade -d 'Gives each segment of a store of version 1 the digest of its bytes'
 complete -c arrowstore -n __fish_use_subcommand -a copy -d 'Makes a store of the given number of sectors in a new file, with all tables of another one'
 complete -c arrowstore -n __fish_use_subcommand -a replay -d 'Plays a script on a device in memory that fails or stops, and prints what a crash leaves'
 complete -c arrowstore -n __fish_use_subcommand -a recode -d 'Reads a stream from standard input, and writes its canonical form to standard output'
 complete -c arrowstore -n __fish_use_subcommand -a help -d 'Print this message or the help of the given command'
 complete -c arrowstore -n '__fish_seen_subcommand_from format; and test (count (commandline -opc)) -eq 2' -F
+complete -c arrowstore -n '__fish_seen_subcommand_from format' -l format-version -x -d 'The version of the store: 2, each segment with a digest, which it is without this option; 1 without digests'
 complete -c arrowstore -n '__fish_seen_subcommand_from format' -s h -l help -d 'Print help'
 complete -c arrowstore -n '__fish_seen_subcommand_from create; and test (count (commandline -opc)) -eq 2' -F
 complete -c arrowstore -n '__fish_seen_subcommand_from create' -s h -l help -d 'Print help'
@@ -45,8 +48,13 @@ complete -c arrowstore -n '__fish_seen_subcommand_from schema; and test (count (
 complete -c arrowstore -n '__fish_seen_subcommand_from schema' -s h -l help -d 'Print help'
 complete -c arrowstore -n '__fish_seen_subcommand_from check; and test (count (commandline -opc)) -eq 2' -F
 complete -c arrowstore -n '__fish_seen_subcommand_from check' -s h -l help -d 'Print help'
+complete -c arrowstore -n '__fish_seen_subcommand_from info; and test (count (commandline -opc)) -eq 2' -F
+complete -c arrowstore -n '__fish_seen_subcommand_from info' -l json -d 'Prints one JSON object on one line'
+complete -c arrowstore -n '__fish_seen_subcommand_from info' -s h -l help -d 'Print help'
 complete -c arrowstore -n '__fish_seen_subcommand_from compact; and test (count (commandline -opc)) -eq 2' -F
 complete -c arrowstore -n '__fish_seen_subcommand_from compact' -s h -l help -d 'Print help'
+complete -c arrowstore -n '__fish_seen_subcommand_from upgrade; and test (count (commandline -opc)) -eq 2' -F
+complete -c arrowstore -n '__fish_seen_subcommand_from upgrade' -s h -l help -d 'Print help'
 complete -c arrowstore -n '__fish_seen_subcommand_from copy; and test (count (commandline -opc)) -eq 2' -F
 complete -c arrowstore -n '__fish_seen_subcommand_from copy' -s h -l help -d 'Print help'
 complete -c arrowstore -n '__fish_seen_subcommand_from replay; and test (count (commandline -opc)) -eq 2' -F
@@ -54,6 +62,7 @@ complete -c arrowstore -n '__fish_seen_subcommand_from replay' -l sectors -x -d 
 complete -c arrowstore -n '__fish_seen_subcommand_from replay' -l fail -x -d 'The write or sync that fails once; without this option none'
 complete -c arrowstore -n '__fish_seen_subcommand_from replay' -l stop -x -d 'The write or sync in which the device stops; without this option none'
 complete -c arrowstore -n '__fish_seen_subcommand_from replay' -l choice -x -d 'What the crash leaves of sectors that are not yet synced: old, new, lost, N (new where its bits are 1) or lost:N'
+complete -c arrowstore -n '__fish_seen_subcommand_from replay' -l format-version -x -d 'The version of the store: 2, each segment with a digest, which it is without this option; 1 without digests'
 complete -c arrowstore -n '__fish_seen_subcommand_from replay' -s h -l help -d 'Print help'
 complete -c arrowstore -n '__fish_seen_subcommand_from recode' -s h -l help -d 'Print help'
-complete -c arrowstore -n '__fish_seen_subcommand_from help' -a 'format create import append query export rename drop tables schema check compact copy replay recode refusals'
+complete -c arrowstore -n '__fish_seen_subcommand_from help' -a 'format create import append query export rename drop tables schema check info compact upgrade copy replay recode refusals'
