@@ -170,7 +170,7 @@ CopiesStore g is_opened contents sectors output output' result =
 abbrev pub Replays : (g : Ghosts ModelDevice) → {F R W : Type 0} → (of_file : F → Option (List ℕ)) → (of_none : R → Option (List ℕ)) → (contents : W → Option (List ℕ))
     → ReplayWords → (output output' : W) → Result (Unit {0}) Refusal → Type 0
 Replays g of_file of_none contents words output output' result =
-    OnOk result (IsReplayOfFile g of_file of_none words.sectors words.fail words.stop words.choice (contents output) (contents output'))
+    OnOk result (IsReplayOfFile g of_file of_none words.sectors words.version words.fail words.stop words.choice (contents output) (contents output'))
     × IfErr result (RefusesReplay of_file words.sectors)
 
 -- ---- requests

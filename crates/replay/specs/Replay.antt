@@ -1,5 +1,5 @@
 -- A script that is replayed: on which device, what was answered, what a crash left of it, and what is printed.
-use Rattle.std.specs.Prelude.{◌≡◌, ◌+◌, ◌-◌, ◌^◌, ◌++◌, ℕ, zero, suc, min, true, List, [], ◌∷◌, take, length, codes, Option, IfSome, Ok, Err}
+use Rattle.std.specs.Prelude.{◌≡◌, ◌+◌, ◌-◌, ◌^◌, ◌++◌, ℕ, zero, suc, min, true, false, List, [], ◌∷◌, take, length, codes, Option, IfSome, Ok, Err}
 use Rattle.sector_dev.specs.Disk.{now, shown_image}
 use Rattle.sector_dev.specs.Chosen.{IsChosen}
 use Rattle.sector_dev.specs.Faults.{no_faults}
@@ -13,6 +13,7 @@ use Rattle.tables.specs.Verdict.{after}
 use Rattle.tables.specs.Commands as commands
 use Rattle.tables.specs.Commands.{PlainCommand}
 use Rattle.tables.specs.View.{command_of}
+use Rattle.store.specs.declared.store.Store.{Store}
 use Rattle.store.specs.declared.call.Call.{Call}
 use Rattle.store.specs.declared.call.Call.TheVariants as calls
 use Rattle.store.specs.declared.call.Place.{Place}
@@ -20,11 +21,13 @@ use Rattle.store.specs.declared.call.Place.TheVariants as places
 use Rattle.store.specs.Beginning.{IsLeftOf}
 use Rattle.store.specs.Calls.{PlainCall, PlainReply, done, counts}
 use Rattle.store.specs.History.{InOrder, acknowledged, begun}
-use Rattle.store.specs.Fits.{resumed}
+use Rattle.store.specs.Fits.{FormatsStore, device_of, resumed}
 use Rattle.store.specs.Places.{AreCallsOf, device_in, ShutFits}
 use Rattle.store.specs.Answering.{AnswersCall}
-use Rattle.store.specs.Opening.{IsOfFormatting}
 use Rattle.commit.specs.Standing.{is_size}
+use Rattle.commit.specs.declared.cause.Cause.TheVariants.{DeviceSize}
+use Rattle.commit.specs.declared.opening_refusal.OpeningRefusal.{OpeningRefusal}
+use Rattle.commit.specs.declared.sector.FormatVersion.{FormatVersion}
 use Rattle.commit.specs.declared.opening_refusal.OpeningRefusal.TheVariants as openings
 use Rattle.command_refusals.specs.declared.refusal.Refusal.{Refusal}
 use Rattle.command_refusals.specs.declared.refusal.Refusal.TheVariants.{TooManyBytes, Io, BadScript, Opening, OutOfMemory}
@@ -65,11 +68,15 @@ AreCallsOfLines remaining _ _ = ⊥
 
 -- ---- the device
 
--- a device of so many sectors, as many as a store may have, on which an empty store stands
-pub record IsEmptyStore (sectors : ℕ) (device : ModelDevice) : Type 0 where
+-- a device of this number of sectors, which a store may have, on which an empty store stands; it is what a crash left after a formatting in this version
+pub record IsEmptyStore (g : Ghosts ModelDevice) (sectors : ℕ) (version : FormatVersion) (device : ModelDevice) : Type 0 where
   pub size : size_of device ≡ sectors
   pub failed : failed_of device ≡ 0
   pub stands : ShutFits size_of history_of no_tables resumed device
+  pub new : ModelDevice
+  pub store : Store ModelDevice g
+  pub formatted : FormatsStore size_of history_of version new store
+  pub left : IsLeftOf size_of history_of (device_of store) device
 
 -- a call of this number after the opening, which makes one call; 0: none
 abbrev pub after_opening : ℕ → ℕ
@@ -98,10 +105,11 @@ pub record IsKept {R : Type 0} (remaining : R → Option (List ℕ)) (lines : Li
 
 -- ---- all of it
 
-pub record IsReplay (g : Ghosts ModelDevice) {R : Type 0} (remaining : R → Option (List ℕ)) (sectors fail stop : ℕ) (choice : Choice) (lines : List (Call R)) (text : List ℕ) : Type 0 where
+pub record IsReplay (g : Ghosts ModelDevice) {R : Type 0} (remaining : R → Option (List ℕ)) (sectors : ℕ) (version : FormatVersion) (fail stop : ℕ) (choice : Choice)
+    (lines : List (Call R)) (text : List ℕ) : Type 0 where
   -- a device with an empty store: these calls of it are to fail
   pub device : ModelDevice
-  pub empty : IsEmptyStore sectors device
+  pub empty : IsEmptyStore g sectors version device
   pub faults : faults_of device ≡ record no_faults { fail = after_opening fail; stop = after_opening stop }
   -- its store is opened, and the lines are played
   pub begin : Place ModelDevice g
@@ -120,8 +128,8 @@ pub record IsReplay (g : Ghosts ModelDevice) {R : Type 0} (remaining : R → Opt
   pub printed : text ≡ replies_text replies ++ stop_text (faults_of (device_in end)).stopped ++ codes "after:\n" ++ tables
 
 -- a file has a script, its lines have these calls, and the replay of these is written
-pub record IsReplayOfFile (g : Ghosts ModelDevice) {F R : Type 0} (remaining : F → Option (List ℕ)) (no_reader : R → Option (List ℕ)) (sectors fail stop : ℕ) (choice : Choice)
-    (output output' : Option (List ℕ)) : Type 0 where
+pub record IsReplayOfFile (g : Ghosts ModelDevice) {F R : Type 0} (remaining : F → Option (List ℕ)) (no_reader : R → Option (List ℕ)) (sectors : ℕ)
+    (version : FormatVersion) (fail stop : ℕ) (choice : Choice) (output output' : Option (List ℕ)) : Type 0 where
   pub script : List ℕ
   pub of_file : IsOfFile remaining script
   pub lines : List PlainLine
@@ -129,7 +137,7 @@ pub record IsReplayOfFile (g : Ghosts ModelDevice) {F R : Type 0} (remaining : F
   pub calls : List (Call R)
   pub are : AreCallsOfLines remaining lines calls
   pub text : List ℕ
-  pub replay : IsReplay g no_reader sectors fail stop choice calls text
+  pub replay : IsReplay g no_reader sectors version fail stop choice calls text
   pub written : Appends output output' text
 
 -- ---- why nothing is played
@@ -140,9 +148,15 @@ IsOfReading Io = Unit {0}
 IsOfReading OutOfMemory = Unit {0}
 IsOfReading _ = ⊥
 
--- a new device does not become an empty store
+-- why a new device, on which no store stands, does not become one: no store has its size, or memory is refused, to the device too
+abbrev pub IsOfNewDevice : (sectors : ℕ) → OpeningRefusal → Type 0
+IsOfNewDevice sectors (openings.Damaged cause) = (cause ≡ DeviceSize) × (is_size sectors ≡ false)
+IsOfNewDevice sectors openings.Device = Unit {0}
+IsOfNewDevice sectors openings.OutOfMemory = Unit {0}
+IsOfNewDevice sectors _ = ⊥
+
 abbrev pub FailsToFormat : (sectors : ℕ) → Refusal → Type 0
-FailsToFormat sectors (Opening refusal) = IsOfFormatting sectors refusal
+FailsToFormat sectors (Opening refusal) = IsOfNewDevice sectors refusal
 FailsToFormat sectors OutOfMemory = Unit {0}
 FailsToFormat sectors _ = ⊥
 
@@ -162,7 +176,7 @@ RefusesScript script _ = ⊥
 -- the number of sectors is none of a store, which is told first; some file has a script whose line of this number is the first that is none; a file can't be
 -- read, or the output can't be written; or memory is refused
 abbrev pub RefusesReplay : {F : Type 0} → (remaining : F → Option (List ℕ)) → (sectors : ℕ) → Refusal → Type 0
-RefusesReplay remaining sectors (Opening refusal) = IsOfFormatting sectors refusal
+RefusesReplay remaining sectors (Opening refusal) = IsOfNewDevice sectors refusal
 RefusesReplay remaining sectors (BadScript number) = (is_size sectors ≡ true) × ((script : List ℕ) × IsOfFile remaining script × IsScript script (Err (BadLine number)))
 RefusesReplay remaining sectors Io = is_size sectors ≡ true
 RefusesReplay remaining sectors TooManyBytes = is_size sectors ≡ true

@@ -29,7 +29,7 @@ pub(crate) fn empty_store(
     sectors: u64,
     version: FormatVersion,
 ) -> Result<ModelDevice, Refusal>
-    ensures empty { IfOk result (IsEmptyStore sectors) }
+    ensures empty { IfOk result (IsEmptyStore ⟦<ModelDevice as SectorDevice>⟧ sectors version) }
     ensures faults { IfOk result (λ device. faults_of device ≡ no_faults) }
     ensures in_limits { OnOk result (is_size sectors ≡ true) }
     ensures told { IfErr result (FailsToFormat sectors) }
@@ -76,7 +76,8 @@ pub(crate) fn with_faults(device: ModelDevice, fail: u64, stop: u64) -> ModelDev
 pub(crate) fn open(alloc: Global, device: ModelDevice) -> Result<Place<ModelDevice>, Refusal>
     ensures opened { IfOk result (λ place. AnswersCall ⟦<ModelDevice as SectorDevice>⟧.size ⟦<ModelDevice as SectorDevice>⟧.story ⟦<ModelDevice as SectorDevice>⟧.failed
         ⟦<ModelDevice as SectorDevice>⟧.tells ⟦<Empty as Read>⟧.remaining (Shut device) calls.Open done place) }
-    ensures told { IfErr result (λ refusal. (sectors : ℕ) → IsEmptyStore sectors device → IsOfPlaying refusal) }
+    ensures told { IfErr result (λ refusal. (sectors : ℕ) (version : FormatVersion) → IsEmptyStore ⟦<ModelDevice as SectorDevice>⟧ sectors version device
+        → IsOfPlaying refusal) }
 {
     let call: Call = Call::Open;
     let (place, reply) = answer(alloc, Place::Shut(device), call);

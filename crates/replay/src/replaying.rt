@@ -52,9 +52,10 @@ pub(crate) fn play_lines(
     faults: Faults,
 ) -> Result<String, Refusal>
     requires { faults_of device ≡ no_faults }
-    ensures replays { IfOk result (λ text. (sectors : ℕ) → IsEmptyStore sectors device
-        → IsReplay ⟦<ModelDevice as SectorDevice>⟧ ⟦<Empty as Read>⟧.remaining sectors faults.fail faults.stop faults.choice lines.items (string_bytes text)) }
-    ensures told { IfErr result (λ refusal. (sectors : ℕ) → IsEmptyStore sectors device → IsOfPlaying refusal) }
+    ensures replays { IfOk result (λ text. (sectors : ℕ) (version : FormatVersion) → IsEmptyStore ⟦<ModelDevice as SectorDevice>⟧ sectors version device
+        → IsReplay ⟦<ModelDevice as SectorDevice>⟧ ⟦<Empty as Read>⟧.remaining sectors version faults.fail faults.stop faults.choice lines.items (string_bytes text)) }
+    ensures told { IfErr result (λ refusal. (sectors : ℕ) (version : FormatVersion) → IsEmptyStore ⟦<ModelDevice as SectorDevice>⟧ sectors version device
+        → IsOfPlaying refusal) }
 {
     let device = with_faults(device, faults.fail, faults.stop);
     let place = open(alloc, device)?;
@@ -79,11 +80,11 @@ fn lines_of(alloc: Global, script: &[u8]) -> Result<Vec<ScriptLine<'_>>, Refusal
     }
 }
 
-/// Plays the script at a path on a device in memory of `sectors` sectors with an empty store of this version, and prints what its lines answer, whether the device stopped, and which tables a
-/// crash leaves.
+/// Plays the script at a path on a device in memory of `sectors` sectors with an empty store of this version, and prints what its lines answer, whether the
+/// device stopped, and which tables a crash leaves.
 ///
 /// # Errors
-/// `Opening` where no store has so many sectors; `Io` where a file can't be read; `BadScript` with the first line that is none; `TooManyBytes` of a file;
+/// `Opening` where no store has that number of sectors; `Io` where a file can't be read; `BadScript` with the first line that is none; `TooManyBytes` of a file;
 /// `OutOfMemory`. Then nothing is printed, unless a write fails.
 pub fn replay<F: Read + OpenFile + Drop, H: Files<File = F> + AllocGlobal, W: Write>(
     rt: &H,
@@ -93,8 +94,8 @@ pub fn replay<F: Read + OpenFile + Drop, H: Files<File = F> + AllocGlobal, W: Wr
     faults: Faults,
     output: &mut W,
 ) -> Result<(), Refusal>
-    ensures replays { OnOk result (IsReplayOfFile ⟦<ModelDevice as SectorDevice>⟧ F.remaining ⟦<Empty as Read>⟧.remaining sectors faults.fail faults.stop faults.choice
-        (W.contents output.old) (W.contents output.new)) }
+    ensures replays { OnOk result (IsReplayOfFile ⟦<ModelDevice as SectorDevice>⟧ F.remaining ⟦<Empty as Read>⟧.remaining sectors version
+        faults.fail faults.stop faults.choice (W.contents output.old) (W.contents output.new)) }
     ensures told { IfErr result (RefusesReplay F.remaining sectors) }
     // Where it is refused nothing is printed, unless a write failed.
     ensures silent { IfErr result (λ refusal. refusal ≢ Refusal.Io → output.new ≡ output.old) }

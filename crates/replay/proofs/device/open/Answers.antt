@@ -8,5 +8,5 @@ abbrev none_left : Empty → Option (List ℕ)
 none_left reader = Some []
 
 pub returns-in-NotOpened-clause-told : goal.returns-in-NotOpened-clause-told
-returns-in-NotOpened-clause-told c = λ sectors empty.
+returns-in-NotOpened-clause-told c = λ sectors version empty.
     opening_told ghosts none_left refl c.args.device empty.stands c.answer-place.result.1 c.in-NotOpened.refusal c.answer-place.result.0 c.answer-place.ensures c.in-NotOpened.is

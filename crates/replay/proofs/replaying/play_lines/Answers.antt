@@ -29,16 +29,16 @@ pub returns-in_err-place-clause-told : goal.returns-in_err-place-clause-told
 returns-in_err-place-clause-told c =
     let p = err_from_is_err_and c.from_residual.result c.from_residual.ensures.1 in
     let faulty = c.with_faults-device in
-    rw (p.1, p.2) (λ sectors empty. c.in_err-place.ensures.told sectors
-    (still_empty sectors c.args.device faulty.result faulty.ensures.size faulty.ensures.history faulty.ensures.failed empty))
+    rw (p.1, p.2) (λ sectors version empty. c.in_err-place.ensures.told sectors version
+    (still_empty sectors version c.args.device faulty.result faulty.ensures.size faulty.ensures.history faulty.ensures.failed empty))
 
 pub returns-clause-replays : goal.returns-clause-replays
-returns-clause-replays c = λ sectors empty.
+returns-clause-replays c = λ sectors version empty.
     let faulty = c.with_faults-device in
     let end = c.in_ok-place-2.place in
     let replies = c.in_ok-place-2.replies.items in
     let left = c.in_ok-left.left in
-    let stands = still_empty sectors c.args.device faulty.result faulty.ensures.size faulty.ensures.history faulty.ensures.failed empty in
+    let stands = still_empty sectors version c.args.device faulty.result faulty.ensures.size faulty.ensures.history faulty.ensures.failed empty in
     let crash = subst (λ (d : ModelDevice). IsLeftOf size_of history_of d left) c.device.ensures c.in_ok-left.ensures.left in
     let chosen =
     subst (λ (d : ModelDevice). IsChosen c.args.faults.choice (now (history_of d)) (size_of d) (shown_image (now (history_of left)))) c.device.ensures c.in_ok-left.ensures.chosen in

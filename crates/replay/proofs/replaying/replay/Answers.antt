@@ -14,7 +14,7 @@ pub returns-in_err-text-clause-told : goal.returns-in_err-text-clause-told
 returns-in_err-text-clause-told g c =
     let p = err_from_is_err_and c.from_residual-in_err-text.result c.from_residual-in_err-text.ensures.1 in
     let device = c.in_ok-device.ensures in
-    rw (p.1, p.2) (playing_refused g.F.Read.remaining c.args.sectors _ device.in_limits (c.in_err-text.ensures.told c.args.sectors device.empty))
+    rw (p.1, p.2) (playing_refused g.F.Read.remaining c.args.sectors _ device.in_limits (c.in_err-text.ensures.told c.args.sectors c.args.version device.empty))
 
 pub returns-clause-replays : goal.returns-clause-replays
 returns-clause-replays g c =
@@ -30,6 +30,6 @@ returns-clause-replays g c =
           subst (λ (lines : List ScriptLine). AreCallsOfLines g.F.Read.remaining (plain_lines lines) c.in_ok-calls.calls.items) c.deref-2.ensures.value
           c.in_ok-calls.ensures.calls;
       text = string_bytes c.in_ok-text.text;
-      replay = c.in_ok-text.ensures.replays c.args.sectors c.in_ok-device.ensures.empty;
+      replay = c.in_ok-text.ensures.replays c.args.sectors c.args.version c.in_ok-device.ensures.empty;
       written = subst (λ (bytes : List ℕ). Appends old new bytes) c.as_bytes.ensures.value written;
     }) c.write_whole.ensures.written
