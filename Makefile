@@ -98,8 +98,8 @@ bench-shapes: bin/arrowstore
 bench-texts: bin/arrowstore
 	bench/texts bin/arrowstore
 
-bench-store: bin/arrowstore
-	bench/store bin/arrowstore
+bench-store: bin/arrowstore crates/bench/out/bench
+	bench/store $^
 
 bench-device: crates/bench/out/bench
 	bench/device.sh $<

@@ -1,12 +1,13 @@
-//! Measures counting and joining bits beside reading the same bytes, and a device that is a file.
+//! Measures counting and joining bits beside reading the same bytes, a device that is a file, and an export in pieces.
 //!
 //! `bench [bitmap MEGABYTES] [device PATH MEBIBYTES]` prints on standard output what it counted, and on standard error how long each
-//! step took. `bitmap` takes two masks of that size. `device` writes so much to a new file at the path, sector by sector, syncs it,
+//! step took; `bench pieces STORE TABLE` writes the stream of a table, of which it holds one segment at a time. `bitmap` takes two masks of that size. `device` writes so much to a new file at the path, sector by sector, syncs it,
 //! reads it again, writes as much to another new file by 32 sectors at a time, syncs that, and removes the file.
 #![tactic(auto)]
 
 mod file_device;
 mod masks;
+mod pieces;
 
 use anyhow::{Result, bail};
 use std::env;
@@ -29,6 +30,9 @@ fn measure(rt: &HostRuntime, words: &[String]) -> Result<()> {
         [what, path, mebibytes] if what.as_str() == "device" => {
             file_device::measure(rt, path.as_str(), mebibytes.as_str())
         }
-        _ => bail!("usage: bench [bitmap MEGABYTES] [device PATH MEBIBYTES]"),
+        [what, path, table] if what.as_str() == "pieces" => {
+            pieces::write(rt, path.as_str(), table.as_str())
+        }
+        _ => bail!("usage: bench [bitmap MEGABYTES] [device PATH MEBIBYTES | pieces STORE TABLE]"),
     }
 }

@@ -1,0 +1,46 @@
+// An export that gives its pieces one after another: one segment of the table is in memory at a time.
+use anyhow::{Error, Result, bail};
+use sector_dev::{FileDevice, SectorDevice};
+use std::alloc::Global;
+use std::fs::File;
+use std::io::Write;
+use store::Store;
+
+// More than the pieces of a table of 65,536 segments: of each segment one, the schema and the end of stream.
+const MOST_PIECES: u32 = 65_600;
+
+fn write_pieces<D: SectorDevice, W: Write>(
+    alloc: Global,
+    store: &mut Store<D>,
+    export: u64,
+    output: &mut W,
+) -> Result<()> {
+    for _ in 0..MOST_PIECES {
+        match store.export_next(alloc, export).map_err(Error::msg)? {
+            Some(piece) => output.write_all(&piece)?,
+            None => return Ok(()),
+        }
+    }
+    bail!("a table has no such number of pieces")
+}
+
+fn write_table<D: SectorDevice + Drop>(rt: &HostRuntime, device: D, table: &str) -> Result<()> {
+    let alloc = rt.alloc();
+    let mut store = match Store::open(alloc, device) {
+        Ok(store) => store,
+        Err((refusal, _device)) => bail!("{refusal}"),
+    };
+    let export = store.open_export(alloc, table).map_err(Error::msg)?;
+    write_pieces(alloc, &mut store, export, &mut rt.stdout())?;
+    store.close_export(export).map_err(Error::msg)?;
+    let _device = store.close();
+    Ok(())
+}
+
+/// Writes the stream of a table of the store in a file to standard output, piece by piece.
+pub fn write(rt: &HostRuntime, path: &str, table: &str) -> Result<()> {
+    match FileDevice::<File>::open_to_read(rt, path) {
+        Ok(device) => write_table(rt, device, table),
+        Err(error) => bail!("{error:?}"),
+    }
+}
