@@ -29,12 +29,12 @@ passes_at (x ∷ xs) zero d all lt = (and_parts (is_entry x) (list_all is_entry 
 passes_at (x ∷ xs) (suc k) d all lt = passes_at xs k d (and_parts (is_entry x) (list_all is_entry xs) all).1 (omega arith)
 
 -- the segments so far and those of the next entry are among all
-pub counted_within : (es : List TableEntry) (i : ℕ) (x : TableEntry) → i < length es → x ≡ get_or es i x → segment_count (map plain_entry (take i es)) + length x.segments.items ≤ segment_count (map plain_entry es)
+pub counted_within : (es : List TableEntry) (i : ℕ) (x : TableEntry) → i < length es → x ≡ get_or es i x → segment_count (map plain_entry (take i es)) + length (plain_entry x).segments ≤ segment_count (map plain_entry es)
 counted_within es i x lt is =
     let count : PlainEntry → ℕ = λ e. length e.segments in
     let whole : sum_by count (take i (map plain_entry es)) + count (get_or (map plain_entry es) i (plain_entry x)) ≤ sum_by count (map plain_entry es) =
     sum_by_more_le count (map plain_entry es) i (plain_entry x) (let len = length-map es plain_entry in omega arith) in
-    let here : count (get_or (map plain_entry es) i (plain_entry x)) ≡ length x.segments.items = ap count (map_at plain_entry es i x) ∙ ap (λ (e : TableEntry). length e.segments.items) (sym is) in
+    let here : count (get_or (map plain_entry es) i (plain_entry x)) ≡ length (plain_entry x).segments = ap count (map_at plain_entry es i x) ∙ ap (λ (e : TableEntry). length (plain_entry e).segments) (sym is) in
     let front : sum_by count (take i (map plain_entry es)) ≡ segment_count (map plain_entry (take i es)) = ap (sum_by count) (take-map plain_entry i es) in
     omega (arith, whole, here, front)
 
@@ -50,7 +50,7 @@ rows_fit es i x kept lt is =
     let stood = entry_is (plain_entry x) (subst (λ e. is_entry e ≡ true) at (passes_at (map plain_entry es) i (plain_entry x) k.entries within)) in
     let front = counted_within es i x lt is in
     let most = few_segments es kept in
-    omega (arith, rows_le x.segments.items stood.segments, front, most)
+    omega (arith, rows_le (plain_entry x).segments stood.segments, front, most)
 
 -- the runs so far, and those of the next entry
 pub more_runs : (es : List TableEntry) (i : ℕ) (x : TableEntry) → i < length es → x ≡ get_or es i x
@@ -81,7 +81,7 @@ next_made f g xs i x old new y lt is e same h =
 -- what is known of an entry of a catalogue
 pub record StandsAt (x : TableEntry) : Type 0 where
   pub sound : is_entry (plain_entry x) ≡ true
-  pub few : length x.segments.items ≤ 65536
+  pub few : length (plain_entry x).segments ≤ 65536
 
 pub stands_at : (es : List TableEntry) (i : ℕ) (x : TableEntry) → is_catalogue (map plain_entry es) ≡ true → i < length es → x ≡ get_or es i x → StandsAt x
 stands_at es i x kept lt is =

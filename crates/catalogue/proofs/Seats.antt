@@ -1,6 +1,6 @@
 -- Entries of the code, and their places.
 use Rattle.std.proofs.Common.{◌≡◌, ◌≤◌, ◌<◌, ◌+◌, ◌++◌, ℕ, true, false, List, [], ◌∷◌, length, get_or, set, insert, remove, take, map, Option, Some, None, Ok, Err, refl, sym, ap, subst, ◌∙◌, arith}
-use Rattle.std.specs.Prelude.{string_bytes, nat_le, Result, OnOk, OnErr}
+use Rattle.std.specs.Prelude.{nat_le, Result, OnOk, OnErr}
 use Rattle.std.specs.List.{list_all}
 use Rattle.std.proofs.lemmas.Bool.{lt-leb}
 use Rattle.std.proofs.lemmas.List.{length-map, map-set}
@@ -19,9 +19,9 @@ use Rattle.catalogue.specs.laws.Sums.{refilled}
 pub record Seated (es : List TableEntry) (e : TableEntry) (place : ℕ) : Type 0 where
   pub within : place < length es
   pub put : map plain_entry (set es place e) ≡ with_entry (map plain_entry es) (plain_entry e)
-  pub stood : (d : TableEntry) → entry_of (map plain_entry es) (string_bytes e.name) ≡ Some (plain_entry (get_or es place d))
+  pub stood : (d : TableEntry) → entry_of (map plain_entry es) ((plain_entry e).name) ≡ Some (plain_entry (get_or es place d))
 
-pub seat_in : (es : List TableEntry) (e : TableEntry) (place : ℕ) → seat_of (string_bytes e.name) 0 (map plain_entry es) ≡ Ok place → Seated es e place
+pub seat_in : (es : List TableEntry) (e : TableEntry) (place : ℕ) → seat_of ((plain_entry e).name) 0 (map plain_entry es) ≡ Ok place → Seated es e place
 seat_in es e place h =
     let s = seated (map plain_entry es) (plain_entry e) 0 place h in
     let at : s.index ≡ place = let p = s.is in omega arith in
@@ -37,7 +37,7 @@ pub record Gapped (es : List TableEntry) (e : TableEntry) (place : ℕ) : Type 0
   pub within : place ≤ length es
   pub put : map plain_entry (insert es place e) ≡ with_entry (map plain_entry es) (plain_entry e)
 
-pub gap_in : (es : List TableEntry) (e : TableEntry) (place : ℕ) → seat_of (string_bytes e.name) 0 (map plain_entry es) ≡ Err place → Gapped es e place
+pub gap_in : (es : List TableEntry) (e : TableEntry) (place : ℕ) → seat_of ((plain_entry e).name) 0 (map plain_entry es) ≡ Err place → Gapped es e place
 gap_in es e place h =
     let s = gap (map plain_entry es) (plain_entry e) 0 place h in
     let at : s.index ≡ place = let p = s.is in omega arith in
@@ -65,7 +65,7 @@ place_in es name place h =
     }
 
 -- one entry more than fits
-pub too_many : (es : List TableEntry) (i left most : ℕ) (x : TableEntry) → i < length es → x ≡ get_or es i x → segment_count (map plain_entry (take i es)) + left ≡ most → left < length x.segments.items → nat_le (segment_count (map plain_entry es)) most ≡ false
+pub too_many : (es : List TableEntry) (i left most : ℕ) (x : TableEntry) → i < length es → x ≡ get_or es i x → segment_count (map plain_entry (take i es)) + left ≡ most → left < length (plain_entry x).segments → nat_le (segment_count (map plain_entry es)) most ≡ false
 too_many es i left most x lt is so_far more = lt-leb (segment_count (map plain_entry es)) most (let within = counted_within es i x lt is in omega (arith, within, so_far, more))
 
 -- ---- results of changes
@@ -109,7 +109,7 @@ pub more_at : {A B : Type 0} (r : Result A B) (es : List TableEntry) (name : Lis
     → OnOk r (plain_entry new ≡ refilled (plain_entry x) ((plain_entry x).segments ++ more)) → OnOk r (map plain_entry (set es place new) ≡ with_more (map plain_entry es) name more)
 more_at (Ok y) es name place x new [] some h is new_is = absurd (some refl)
 more_at (Ok y) es name place x new (s ∷ more) some h is new_is =
-    refilled_at es name place x new (x.segments.items ++ s ∷ more) h is new_is ∙ sym (more_is (map plain_entry es) name (plain_entry x) s more (stood_at es name place x h is))
+    refilled_at es name place x new ((plain_entry x).segments ++ s ∷ more) h is new_is ∙ sym (more_is (map plain_entry es) name (plain_entry x) s more (stood_at es name place x h is))
 more_at (Err y) es name place x new more some h is new_is = tt
 
 -- after `exchange`: some of them were exchanged
@@ -117,7 +117,7 @@ pub exchanged_at : {A B : Type 0} (r : Result A B) (es : List TableEntry) (name 
     → OnOk r (plain_entry new ≡ refilled (plain_entry x) (with_others (plain_entry x).segments place count others))
     → OnOk r (map plain_entry (set es at new) ≡ with_exchanged (map plain_entry es) name place count others)
 exchanged_at (Ok y) es name at x new place count others h is new_is =
-    refilled_at es name at x new (with_others x.segments.items place count others) h is new_is
+    refilled_at es name at x new (with_others (plain_entry x).segments place count others) h is new_is
     ∙ sym (exchanged_is (map plain_entry es) name (plain_entry x) (stood_at es name at x h is) place count others)
 exchanged_at (Err y) es name at x new place count others h is new_is = tt
 

@@ -29,7 +29,8 @@ PlainCatalogue = List PlainEntry
 
 -- what an entry of the code is
 abbrev pub plain_entry : TableEntry → PlainEntry
-plain_entry e = record { name = string_bytes e.name; schema = schema_of e.schema; segments = e.segments.items; page = e.page }
+plain_entry e =
+    record { name = string_bytes e.table.value.name; schema = schema_of e.table.value.schema; segments = e.table.value.segments.items; page = e.page }
 
 -- a table of a root: its name, and where its page lies
 pub record PlainRoot : Type 0 where

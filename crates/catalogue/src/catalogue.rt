@@ -3,8 +3,8 @@ ghost use Rattle.std.specs.Prelude.{◌≡◌, true, map};
 ghost use Rattle.catalogue.specs.Entries.{plain_entry, is_catalogue};
 
 use crate::edits::{
-    append_to, copy_entries, digest_entries, exchange_in, put_entry, put_entry_runs, rename_entry,
-    take_entry,
+    append_to, copy_entries, digested_entries, exchange_in, put_entry, put_entry_runs,
+    rename_entry, take_entry,
 };
 use crate::limits::MAX_TABLES;
 use crate::places::place_of;
@@ -104,7 +104,7 @@ impl Catalogue {
         requires tables { length (with_entry (catalogue_of self.old) (plain_entry entry)) ≤ MAX_TABLES }
         requires most { segment_count (with_entry (catalogue_of self.old) (plain_entry entry)) ≤ MAX_SEGMENTS }
         ensures put { OnOk result (catalogue_of self.new ≡ with_entry (catalogue_of self.old) (plain_entry entry)) }
-        ensures stood { IfOk result (λ stood. option_map plain_entry stood ≡ entry_of (catalogue_of self.old) (string_bytes entry.name)) }
+        ensures stood { IfOk result (λ stood. option_map plain_entry stood ≡ entry_of (catalogue_of self.old) (plain_entry entry).name) }
         ensures err { OnErr result (catalogue_of self.new ≡ catalogue_of self.old) }
     {
         put_entry(&mut self.entries, entry)
@@ -118,12 +118,16 @@ impl Catalogue {
         take_entry(&mut self.entries, name)
     }
 
-    /// Gives the table of a name another name, and with it its place; its page stays. It takes no memory.
-    pub fn rename(&mut self, from: &str, to: String)
+    /// Gives the table of a name another name, and with it its place; its page stays.
+    ///
+    /// # Errors
+    /// `AllocError` where memory was refused. The catalogue is as it was then.
+    pub fn rename(&mut self, from: &str, to: String) -> Result<(), AllocError>
         requires name { is_name (string_bytes to) ≡ true }
-        ensures renamed { catalogue_of self.new ≡ renamed (catalogue_of self.old) from.now (string_bytes to) }
+        ensures renamed { OnOk result (catalogue_of self.new ≡ renamed (catalogue_of self.old) from.now (string_bytes to)) }
+        ensures err { OnErr result (catalogue_of self.new ≡ catalogue_of self.old) }
     {
-        rename_entry(&mut self.entries, from, to);
+        rename_entry(&mut self.entries, from, to)
     }
 
     /// Puts segments after those of a table, which is without a page then. Where there are none, or no table of the name,
@@ -160,13 +164,19 @@ impl Catalogue {
     }
 
     /// Gives each segment its digest, in the order of the tables and of their segments; a table that has some is without a
-    /// page then. It takes no memory.
-    pub fn set_digests(&mut self, digests: &[[u8; 32]])
+    /// page then.
+    ///
+    /// # Errors
+    /// `AllocError` where memory was refused. The catalogue is as it was then.
+    pub fn set_digests(&mut self, digests: &[[u8; 32]]) -> Result<(), AllocError>
         requires count { segment_count (catalogue_of self.old) ≡ length digests.now }
         requires digests { list_all (λ digest. is_digest (Some digest)) digests.now ≡ true }
-        ensures { catalogue_of self.new ≡ digested (catalogue_of self.old) digests.now }
+        ensures digested { OnOk result (catalogue_of self.new ≡ digested (catalogue_of self.old) digests.now) }
+        ensures err { OnErr result (catalogue_of self.new ≡ catalogue_of self.old) }
     {
-        digest_entries(&mut self.entries, digests);
+        let alloc = *self.entries.allocator();
+        self.entries = digested_entries(alloc, &self.entries, digests)?;
+        Ok(())
     }
 
     /// All segments of all tables.
@@ -175,7 +185,7 @@ impl Catalogue {
     {
         let mut count = 0;
         for entry in &self.entries {
-            count += entry.segments.len() as u64;
+            count += entry.segments().len() as u64;
         }
         count
     }
@@ -189,7 +199,8 @@ impl Catalogue {
     {
         let mut tables = Vec::with_capacity(alloc, self.entries.len())?;
         for entry in &self.entries {
-            tables.push((entry.name.clone()?, entry.rows()))?;
+            let name = String::from_str(alloc, entry.name())?;
+            tables.push((name, entry.rows()))?;
         }
         Ok(tables)
     }
@@ -208,7 +219,7 @@ impl Catalogue {
         Ok(runs)
     }
 
-    /// The same catalogue in memory of its own.
+    /// The same catalogue: a list of its own, whose entries it shares.
     ///
     /// # Errors
     /// `AllocError` where memory was refused.

@@ -188,12 +188,7 @@ fn entry_at(
 {
     let (name, rest) = name_at(alloc, bytes)?;
     let (schema, segments, rest) = body_at(alloc, form, rest)?;
-    let entry = TableEntry {
-        name,
-        schema,
-        segments,
-        page: None,
-    };
+    let entry = TableEntry::new(alloc, name, schema, segments, None)?;
     Ok((entry, rest))
 }
 

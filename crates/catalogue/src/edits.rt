@@ -18,11 +18,11 @@ pub(crate) fn put_entry(
 ) -> Result<Option<TableEntry>, AllocError>
     requires { ascends (names_of (map plain_entry entries.old.items)) ≡ true }
     ensures put { OnOk result (map plain_entry entries.new.items ≡ with_entry (map plain_entry entries.old.items) (plain_entry entry)) }
-    ensures stood { IfOk result (λ stood. option_map plain_entry stood ≡ entry_of (map plain_entry entries.old.items) (string_bytes entry.name)) }
+    ensures stood { IfOk result (λ stood. option_map plain_entry stood ≡ entry_of (map plain_entry entries.old.items) (plain_entry entry).name) }
     ensures err { OnErr result (map plain_entry entries.new.items ≡ map plain_entry entries.old.items) }
     ensures room { vec_len entries.old < vec_capacity entries.old → IsOk result }
 {
-    match seat_of(entries, &entry.name) {
+    match seat_of(entries, entry.name()) {
         Ok(place) => Ok(Some(std::mem::replace(&mut entries[place], entry))),
         Err(place) => {
             entries.insert(place, entry)?;
@@ -44,22 +44,31 @@ pub(crate) fn take_entry(entries: &mut Vec<TableEntry>, name: &str) -> Option<Ta
 }
 
 // Gives the entry of a name another one.
-pub(crate) fn rename_entry(entries: &mut Vec<TableEntry>, from: &str, to: String)
+pub(crate) fn rename_entry(
+    entries: &mut Vec<TableEntry>,
+    from: &str,
+    to: String,
+) -> Result<(), AllocError>
     requires { ascends (names_of (map plain_entry entries.old.items)) ≡ true }
-    ensures { map plain_entry entries.new.items ≡ renamed (map plain_entry entries.old.items) from.now (string_bytes to) }
+    ensures renamed { OnOk result (map plain_entry entries.new.items ≡ renamed (map plain_entry entries.old.items) from.now (string_bytes to)) }
+    ensures err { OnErr result (map plain_entry entries.new.items ≡ map plain_entry entries.old.items) }
 {
-    match take_entry(entries, from) {
-        Some(entry) => {
-            let renamed = TableEntry {
-                name: to,
-                schema: entry.schema,
-                segments: entry.segments,
-                page: entry.page,
-            };
+    match place_of(entries, from) {
+        Some(place) => {
+            let renamed = entries[place].named(to)?;
+            entries.remove(place);
             put_entry(entries, renamed).unwrap();
+            Ok(())
         }
-        None => {}
+        None => Ok(()),
     }
+}
+
+// These segments, and more after them.
+fn joined(alloc: Global, segments: &[Segment], more: &[Segment]) -> Result<Vec<Segment>, AllocError>
+    ensures { IfOk result (λ all. all.items ≡ segments.now ++ more.now) }
+{
+    segments.iter().chain(more.iter()).copied().collect(alloc)
 }
 
 // Puts segments after those of an entry, whose page doesn't say them.
@@ -67,8 +76,8 @@ fn append_more(entry: &mut TableEntry, more: &[Segment]) -> Result<(), AllocErro
     ensures more { OnOk result (plain_entry entry.new ≡ refilled (plain_entry entry.old) ((plain_entry entry.old).segments ++ more.now)) }
     ensures err { OnErr result (plain_entry entry.new ≡ plain_entry entry.old) }
 {
-    entry.segments.extend_from_slice(more)?;
-    entry.page = None;
+    let all = joined(entry.alloc(), entry.segments(), more)?;
+    *entry = entry.refilled(all)?;
     Ok(())
 }
 
@@ -121,9 +130,8 @@ fn exchange(
         (plain_entry entry.new ≡ refilled (plain_entry entry.old) (with_others (plain_entry entry.old).segments place count others.now)) }
     ensures err { OnErr result (plain_entry entry.new ≡ plain_entry entry.old) }
 {
-    let alloc = *entry.segments.allocator();
-    entry.segments = exchanged(alloc, &entry.segments, place, count, others)?;
-    entry.page = None;
+    let all = exchanged(entry.alloc(), entry.segments(), place, count, others)?;
+    *entry = entry.refilled(all)?;
     Ok(())
 }
 
@@ -154,28 +162,36 @@ fn digest_segments(segments: &mut Vec<Segment>, digests: &[[u8; 32]])
     }
 }
 
-// Gives the segments of an entry their digests. Its page, which says none, stays only where it has no segments.
-fn digest_entry(entry: &mut TableEntry, digests: &[[u8; 32]])
-    requires { vec_len entry.old.segments ≡ length digests.now }
-    ensures { plain_entry entry.new ≡ entry_digested (plain_entry entry.old) digests.now }
+// The same entry, its segments with their digests. Its page, which says none, stays only where it has no segments.
+fn digested_entry(entry: &TableEntry, digests: &[[u8; 32]]) -> Result<TableEntry, AllocError>
+    requires { length (plain_entry entry.now).segments ≡ length digests.now }
+    ensures { IfOk result (λ e. plain_entry e ≡ entry_digested (plain_entry entry.now) digests.now) }
 {
-    if !entry.segments.is_empty() {
-        digest_segments(&mut entry.segments, digests);
-        entry.page = None;
+    if entry.segments().is_empty() {
+        return entry.copy();
     }
+    let mut segments = Vec::from_slice(entry.alloc(), entry.segments())?;
+    digest_segments(&mut segments, digests);
+    entry.refilled(segments)
 }
 
-// Gives the segments of each entry the next digests.
-pub(crate) fn digest_entries(entries: &mut Vec<TableEntry>, digests: &[[u8; 32]])
-    requires { segment_count (map plain_entry entries.old.items) ≡ length digests.now }
-    ensures { map plain_entry entries.new.items ≡ digested (map plain_entry entries.old.items) digests.now }
+// The same entries, the segments of each with the next digests.
+pub(crate) fn digested_entries(
+    alloc: Global,
+    entries: &[TableEntry],
+    digests: &[[u8; 32]],
+) -> Result<Vec<TableEntry>, AllocError>
+    requires { segment_count (map plain_entry entries.now) ≡ length digests.now }
+    ensures { IfOk result (λ all. map plain_entry all.items ≡ digested (map plain_entry entries.now) digests.now) }
 {
+    let mut all = Vec::with_capacity(alloc, entries.len())?;
     let mut rest = digests;
-    for entry in entries.iter_mut() {
-        let (own, others) = rest.split_at(entry.segments.len());
-        digest_entry(entry, own);
+    for entry in entries {
+        let (own, others) = rest.split_at(entry.segments().len());
+        all.push(digested_entry(entry, own)?)?;
         rest = others;
     }
+    Ok(all)
 }
 
 // Appends the runs that an entry names.
@@ -185,7 +201,7 @@ pub(crate) fn put_entry_runs(runs: &mut Vec<Run>, entry: &TableEntry) -> Result<
     if let Some(page) = entry.page {
         runs.push(page.run)?;
     }
-    put_runs(runs, &entry.segments)
+    put_runs(runs, entry.segments())
 }
 
 // Appends the runs of these segments.
@@ -206,7 +222,7 @@ pub(crate) fn copy_entries(
 {
     let mut copies = Vec::with_capacity(alloc, entries.len())?;
     for entry in entries {
-        copies.push(entry.copy(alloc)?)?;
+        copies.push(entry.copy()?)?;
     }
     Ok(copies)
 }

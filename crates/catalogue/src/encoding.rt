@@ -88,20 +88,20 @@ pub(crate) fn message_of(alloc: Global, schema: &Schema) -> Result<Vec<u8>, Allo
 #[tactic(auto, unfolding(crate::specs::Text::table_text))]
 fn put_table(alloc: Global, out: &mut Vec<u8>, entry: &TableEntry) -> Result<(), AllocError>
     requires sound { is_entry (plain_entry entry.now) ≡ true }
-    requires segments { length entry.now.segments.items < 2 ^ 32 }
+    requires segments { length (plain_entry entry.now).segments < 2 ^ 32 }
     ensures { OnOk result (out.new.items ≡ out.old.items ++ table_text (plain_entry entry.now)) }
 {
-    let message = message_of(alloc, &entry.schema)?;
+    let message = message_of(alloc, entry.schema())?;
     put_sized(out, &message)?;
-    put_segments(out, &entry.segments)
+    put_segments(out, entry.segments())
 }
 
 fn put_entry(alloc: Global, out: &mut Vec<u8>, entry: &TableEntry) -> Result<(), AllocError>
     requires sound { is_entry (plain_entry entry.now) ≡ true }
-    requires segments { length entry.now.segments.items < 2 ^ 32 }
+    requires segments { length (plain_entry entry.now).segments < 2 ^ 32 }
     ensures { OnOk result (out.new.items ≡ out.old.items ++ entry_text (plain_entry entry.now)) }
 {
-    put_sized(out, entry.name.as_bytes())?;
+    put_sized(out, entry.name().as_bytes())?;
     put_table(alloc, out, entry)
 }
 
@@ -127,7 +127,7 @@ pub fn encode(alloc: Global, catalogue: &Catalogue) -> Result<Vec<u8>, AllocErro
 /// `AllocError` where memory was refused.
 pub fn encode_page(alloc: Global, entry: &TableEntry) -> Result<Vec<u8>, AllocError>
     requires sound { is_entry (plain_entry entry.now) ≡ true }
-    requires segments { length entry.now.segments.items < 2 ^ 32 }
+    requires segments { length (plain_entry entry.now).segments < 2 ^ 32 }
     ensures text { IfOk result (λ text. text.items ≡ table_text (plain_entry entry.now)) }
 {
     let mut out = Vec::new(alloc);
@@ -165,10 +165,10 @@ fn segments_size(segments: &[Segment]) -> u64
 /// `AllocError` where memory was refused.
 pub fn page_size(alloc: Global, entry: &TableEntry) -> Result<u64, AllocError>
     requires sound { is_entry (plain_entry entry.now) ≡ true }
-    requires segments { length entry.now.segments.items < 2 ^ 32 }
+    requires segments { length (plain_entry entry.now).segments < 2 ^ 32 }
     ensures size { IfOk result (λ size. size ≡ table_size (plain_entry entry.now)) }
     ensures short { IfOk result (λ size. size < 2 ^ 40) }
 {
-    let message = message_of(alloc, &entry.schema)?;
-    Ok(8 + message.len() as u64 + segments_size(&entry.segments))
+    let message = message_of(alloc, entry.schema())?;
+    Ok(8 + message.len() as u64 + segments_size(entry.segments()))
 }

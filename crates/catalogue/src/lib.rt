@@ -10,7 +10,7 @@
 //! ```
 //! let mut catalogue = decode(alloc, SegmentForm::Bare, &text)?;
 //! catalogue.remove("old");
-//! catalogue.put(TableEntry { name, schema, segments, page: None })?;
+//! catalogue.put(TableEntry::new(alloc, name, schema, segments, None)?)?;
 //! let text = encode(alloc, &catalogue)?;
 //! ```
 #![tactic(auto)]

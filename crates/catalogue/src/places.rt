@@ -11,7 +11,7 @@ pub(crate) fn place_of(entries: &[TableEntry], name: &str) -> Option<usize>
     ensures { result ≡ place_of name.now 0 (map plain_entry entries.now) }
 {
     for (place, entry) in entries.iter().enumerate() {
-        if entry.name.as_str() == name {
+        if entry.name() == name {
             return Some(place);
         }
     }
@@ -23,7 +23,7 @@ pub(crate) fn seat_of(entries: &[TableEntry], name: &str) -> Result<usize, usize
     ensures { result ≡ seat_of name.now 0 (map plain_entry entries.now) }
 {
     for (place, entry) in entries.iter().enumerate() {
-        match entry.name.as_str().cmp(name) {
+        match entry.name().cmp(name) {
             Ordering::Less => {}
             Ordering::Equal => return Ok(place),
             Ordering::Greater => return Err(place),

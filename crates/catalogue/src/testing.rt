@@ -24,7 +24,7 @@ fn comes_before(name: &str, entries: &[TableEntry]) -> bool
 {
     match entries {
         [] => true,
-        [first, ..] => name.cmp(first.name.as_str()) == Ordering::Less,
+        [first, ..] => name.cmp(first.name()) == Ordering::Less,
     }
 }
 
@@ -33,7 +33,7 @@ pub(crate) fn are_in_order(entries: &[TableEntry]) -> bool
     ensures { result ≡ ascends (names_of (map plain_entry entries.now)) }
 {
     for (place, entry) in entries.iter().enumerate() {
-        if !comes_before(&entry.name, &entries[place + 1..]) {
+        if !comes_before(entry.name(), &entries[place + 1..]) {
             return false;
         }
     }
@@ -45,7 +45,7 @@ pub(crate) fn have_few_segments(entries: &[TableEntry]) -> bool
 {
     let mut left = MAX_SEGMENTS;
     for entry in entries {
-        let count = entry.segments.len() as u64;
+        let count = entry.segments().len() as u64;
         if count > left {
             return false;
         }

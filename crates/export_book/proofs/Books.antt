@@ -8,10 +8,9 @@ use Rattle.std.proofs.lemmas.List.{length-append, length-map, map-append}
 use Rattle.segments.specs.declared.run.Run.{Run}
 use Rattle.segments.specs.Usages.{times_among}
 use Rattle.arrow_schema.specs.Column.{PlainSchema}
-use Rattle.arrow_schema.specs.View.{schema_of}
 use Rattle.catalogue.specs.declared.limits.TheConstants.{MAX_SEGMENTS}
 use Rattle.catalogue.specs.declared.entry.Segment.{Segment}
-use Rattle.catalogue.specs.Entries.{runs_in_segments}
+use Rattle.catalogue.specs.Entries.{plain_entry, runs_in_segments}
 use Rattle.export_book.specs.declared.book.TheConstants.{MAX_EXPORTS}
 use Rattle.export_book.specs.declared.export.OpenExport.{OpenExport}
 use Rattle.export_book.specs.Book.{PlainExport, PlainBook, IsBook, AreRising, no_exports, is_of, is_full, gave, with_open, with_given, without}
@@ -153,11 +152,11 @@ next_is id None none lower = by_most (cases_lt (id + 1) (2 ^ 64))
 next_is id (Some next) is lower = is.1
 
 pub opened_is : (es new : List OpenExport) (next after : Option ℕ) (e : OpenExport) → next ≡ Some e.id → new ≡ es ++ e ∷ [] → e.given ≡ 0 → SomeIff after (e.id + 1 < 2 ^ 64) (e.id + 1) → e.id < 2 ^ 64
-    → book_in new after ≡ with_open (schema_of e.schema) e.segments.items (book_in es next)
+    → book_in new after ≡ with_open (plain_entry e.entry).schema (plain_entry e.entry).segments (book_in es next)
 opened_is es new next after e is more none counted lower =
     let id : next_id next ≡ e.id = ap next_id is in
-    let own : plain_export e ≡ record { id = next_id next; schema = schema_of e.schema; segments = e.segments.items; given = 0 } =
-    λ i. record { id = sym id i; schema = schema_of e.schema; segments = e.segments.items; given = none i } in
+    let own : plain_export e ≡ record { id = next_id next; schema = (plain_entry e.entry).schema; segments = (plain_entry e.entry).segments; given = 0 } =
+    λ i. record { id = sym id i; schema = (plain_entry e.entry).schema; segments = (plain_entry e.entry).segments; given = none i } in
     let exports = ap (map plain_export) more ∙ map-append plain_export es (e ∷ []) ∙ ap (λ (p : PlainExport). map plain_export es ++ p ∷ []) own in
     let later = next_is e.id after counted lower ∙ ap (λ (n : ℕ). n + 1) (sym id) in
     λ i. record { exports = exports i; next = later i }

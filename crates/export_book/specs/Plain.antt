@@ -1,11 +1,11 @@
 -- What the parts of a book of the code are.
 use Rattle.std.specs.Prelude.{◌^◌, ℕ, Bool, true, nat_lt, List, map, Option, Some, None}
-use Rattle.arrow_schema.specs.View.{schema_of}
+use Rattle.catalogue.specs.Entries.{plain_entry}
 use Rattle.export_book.specs.declared.export.OpenExport.{OpenExport}
 use Rattle.export_book.specs.Book.{PlainExport, PlainBook}
 
 abbrev pub plain_export : OpenExport → PlainExport
-plain_export e = record { id = e.id; schema = schema_of e.schema; segments = e.segments.items; given = e.given }
+plain_export e = record { id = e.id; schema = (plain_entry e.entry).schema; segments = (plain_entry e.entry).segments; given = e.given }
 
 -- the id of the next export
 abbrev pub next_id : Option ℕ → ℕ

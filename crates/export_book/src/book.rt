@@ -3,15 +3,13 @@ ghost use Rattle.std.specs.Prelude.{◌≡◌, ◌≤◌, ◌==◌, true, false,
 ghost use Rattle.std.specs.List.{position};
 ghost use Rattle.segments.specs.declared.run.Run.{Run};
 ghost use Rattle.segments.specs.Usages.{times_among};
-ghost use Rattle.arrow_schema.specs.View.{schema_of};
-ghost use Rattle.catalogue.specs.Entries.{runs_in_segments};
+ghost use Rattle.catalogue.specs.Entries.{plain_entry, runs_in_segments};
 ghost use Rattle.export_book.specs.Book.{IsBook, MayGive, no_exports, is_full, open_at, with_open, with_given, without};
 ghost use Rattle.export_book.specs.Plain.{book_in, is_counted, plain_export};
 ghost use Rattle.export_book.specs.inner.Props.{book_prop};
 
 use crate::OpenExport;
-use arrow_schema::Schema;
-use catalogue::Segment;
+use catalogue::TableEntry;
 use std::alloc::{AllocError, Global};
 
 /// How many exports may be open at once.
@@ -68,23 +66,22 @@ impl ExportBook {
         }
     }
 
-    /// Opens an export of these segments, which are of this schema, and gives its id.
+    /// Opens an export of the table of this entry, and gives its id.
     ///
     /// # Errors
     /// `AllocError` where memory was refused: the book is as it was.
-    pub fn open(&mut self, schema: Schema, segments: Vec<Segment>) -> Result<u64, AllocError>
+    pub fn open(&mut self, entry: TableEntry) -> Result<u64, AllocError>
         requires room { is_full (book_of self.old) ≡ false }
-        requires short { length segments.items ≤ MAX_SEGMENTS }
-        requires once { (run : Run) → times_among (runs_in_segments segments.items) run ≤ 1 }
+        requires short { length (plain_entry entry).segments ≤ MAX_SEGMENTS }
+        requires once { (run : Run) → times_among (runs_in_segments (plain_entry entry).segments) run ≤ 1 }
         ensures id { IfOk result (λ id. id ≡ (book_of self.old).next) }
-        ensures opened { OnOk result (book_of self.new ≡ with_open (schema_of schema) segments.items (book_of self.old)) }
+        ensures opened { OnOk result (book_of self.new ≡ with_open (plain_entry entry).schema (plain_entry entry).segments (book_of self.old)) }
         ensures err { OnErr result (book_of self.new ≡ book_of self.old) }
     {
         let id = self.next.unwrap();
         let export = OpenExport {
             id,
-            schema,
-            segments,
+            entry,
             given: 0,
         };
         self.exports.push(export)?;

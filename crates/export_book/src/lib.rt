@@ -4,7 +4,7 @@
 //! they were. An id is given once.
 //!
 //! ```
-//! let id = book.open(schema, segments)?;
+//! let id = book.open(entry)?;
 //! let export = book.get(id)?;
 //! book.give(id);
 //! let closed = book.close(id);

@@ -54,10 +54,10 @@ module _ (form : SegmentForm) (size : ℕ) (image : Image) where
       → page_in form size image most x.page ≡ Ok ((plain_entry e).schema, (plain_entry e).segments)
       → plain_entry e ≡ entry_from (string_bytes x.name) (Some x.page) ((plain_entry e).schema, (plain_entry e).segments) → fs ≡ es ++ e ∷ []
       → behind (map plain_entry es) (pages_at form size image most (map plain_root (drop i rs)))
-      ≡ behind (map plain_entry fs) (pages_at form size image (most - length e.segments.items) (map plain_root (drop (i + 1) rs)))
+      ≡ behind (map plain_entry fs) (pages_at form size image (most - length (plain_entry e).segments) (map plain_root (drop (i + 1) rs)))
   unfolding rest_at
   next_read most rs i x es fs e lt is page entry more =
-      let rest = pages_at form size image (most - length e.segments.items) (map plain_root (drop (i + 1) rs)) in
+      let rest = pages_at form size image (most - length (plain_entry e).segments) (map plain_root (drop (i + 1) rs)) in
       ap (behind (map plain_entry es)) (first_left most rs i x lt is ∙ ap (λ (r : Result Body Cause). then_read r (rest_at most rs i x)) page)
       ∙ ap (λ (y : PlainEntry). behind (map plain_entry es) (then_read rest (λ others. Ok (y ∷ others)))) (sym entry)
       ∙ one_behind (map plain_entry es) (plain_entry e) rest

@@ -28,14 +28,14 @@ pub one_named : (rs : List RootEntry) (i : ℕ) (x : RootEntry) (es fs : List Ta
     → plain_entry e ≡ entry_from (string_bytes x.name) (Some x.page) ((plain_entry e).schema, (plain_entry e).segments) → names_of (map plain_entry es) ≡ root_names (map plain_root (take i rs))
     → names_of (map plain_entry fs) ≡ root_names (map plain_root (take (i + 1) rs))
 one_named rs i x es fs e lt is more entry so_far =
-    let name : string_bytes e.name ≡ string_bytes x.name = ap (λ (y : PlainEntry). y.name) entry in
+    let name : (plain_entry e).name ≡ string_bytes x.name = ap (λ (y : PlainEntry). y.name) entry in
     ap (λ (xs : List TableEntry). names_of (map plain_entry xs)) more ∙ ap names_of (map-append plain_entry es (e ∷ [])) ∙ map-append (λ (y : PlainEntry). y.name) (map plain_entry es) (plain_entry e ∷ [])
     ∙ (λ k. so_far k ++ name k ∷ [])
     ∙ sym (ap (λ (ys : List RootEntry). root_names (map plain_root ys)) (take_more rs i x lt) ∙ ap root_names (map-append plain_root (take i rs) (get_or rs i x ∷ []))
     ∙ map-append (λ (r : PlainRoot). r.name) (map plain_root (take i rs)) (plain_root (get_or rs i x) ∷ [])
     ∙ ap (λ (y : RootEntry). root_names (map plain_root (take i rs)) ++ string_bytes y.name ∷ []) (sym is))
 
-pub one_counted : (es fs : List TableEntry) (e : TableEntry) (left count : ℕ) → fs ≡ es ++ e ∷ [] → length e.segments.items ≡ count → length e.segments.items ≤ left → segment_count (map plain_entry es) + left ≡ MAX_SEGMENTS
+pub one_counted : (es fs : List TableEntry) (e : TableEntry) (left count : ℕ) → fs ≡ es ++ e ∷ [] → length (plain_entry e).segments ≡ count → length (plain_entry e).segments ≤ left → segment_count (map plain_entry es) + left ≡ MAX_SEGMENTS
     → segment_count (map plain_entry fs) + (left - count) ≡ MAX_SEGMENTS
 one_counted es fs e left count more len few so_far =
     let size : PlainEntry → ℕ = λ x. length x.segments in

@@ -14,7 +14,7 @@ use Rattle.catalogue.specs.laws.Kept.{entry_is}
 -- what is known of each
 pub record StandsAt (x : TableEntry) : Type 0 where
   pub sound : is_entry (plain_entry x) ≡ true
-  pub few : length x.segments.items ≤ 65536
+  pub few : length (plain_entry x).segments ≤ 65536
   pub short : length (plain_entry x).name ≤ 64
 
 entry_at : (es : List TableEntry) (i : ℕ) (x : TableEntry) → list_all is_entry (map plain_entry es) ≡ true → segment_count (map plain_entry es) ≤ 65536 → i < length es → x ≡ get_or es i x → StandsAt x

@@ -36,7 +36,7 @@ fn is_whole(alloc: Global, list: &Catalogue) -> Result<bool, AllocError>
     let entries = list.entries();
     let mut size = 4;
     for entry in entries {
-        size += 4 + entry.name.len() as u64 + page_size(alloc, entry)?;
+        size += 4 + entry.name().len() as u64 + page_size(alloc, entry)?;
         if size > MOST_LIST_BYTES {
             return Ok(false);
         }
@@ -65,7 +65,7 @@ fn root_bytes(list: &Catalogue) -> usize
     let entries = list.entries();
     let mut bytes = 4;
     for entry in entries {
-        bytes += 28 + entry.name.len();
+        bytes += 28 + entry.name().len();
     }
     bytes
 }
@@ -128,7 +128,7 @@ fn with_page(
     texts: &mut Vec<Vec<Part<'_>>>,
 ) -> Result<TableEntry, AllocError>
     requires sound { is_entry (plain_entry entry) ≡ true }
-    requires few { length entry.segments.items < 2 ^ 32 }
+    requires few { length (plain_entry entry).segments < 2 ^ 32 }
     requires run { entry.page ≡ None → vec_len texts.old < length runs.now }
     ensures entry { IfOk result (λ made. plain_entry made ∷ [] ≡ with_pages (plain_entry entry ∷ []) (drop (vec_len texts.old) runs.now)) }
     ensures texts { OnOk result (plain_contents texts.new.items ≡ plain_contents texts.old.items ++ map table_text (pageless (plain_entry entry ∷ []))) }
@@ -143,12 +143,9 @@ fn with_page(
         bytes: text.len() as u64,
     };
     put_text(alloc, texts, text)?;
-    Ok(TableEntry {
-        name: entry.name,
-        schema: entry.schema,
-        segments: entry.segments,
-        page: Some(page),
-    })
+    let mut paged = entry;
+    paged.page = Some(page);
+    Ok(paged)
 }
 
 // The tables with their pages, and the texts of those that are to be written.
@@ -175,12 +172,9 @@ fn without_pages(alloc: Global, list: Catalogue) -> Result<Catalogue, AllocError
 {
     let mut entries = Vec::with_capacity(alloc, list.len())?;
     for entry in list.into_entries() {
-        entries.push(TableEntry {
-            name: entry.name,
-            schema: entry.schema,
-            segments: entry.segments,
-            page: None,
-        })?;
+        let mut pageless = entry;
+        pageless.page = None;
+        entries.push(pageless)?;
     }
     Ok(Catalogue::of_entries(entries))
 }
@@ -192,7 +186,7 @@ fn root_of(alloc: Global, entries: &[TableEntry]) -> Result<Vec<RootEntry>, Allo
     let mut root = Vec::with_capacity(alloc, entries.len())?;
     for entry in entries {
         if let Some(page) = entry.page {
-            let name = entry.name.clone()?;
+            let name = String::from_str(alloc, entry.name())?;
             root.push(RootEntry { name, page })?;
         }
     }

@@ -19,7 +19,7 @@ use catalogue::{
 use commit::{Cause, OpenError, read_extent};
 use sector_dev::SectorDevice;
 use segments::Extent;
-use std::alloc::Global;
+use std::alloc::{AllocError, Global};
 
 // What a page of this form says that lies there, with at most so many segments.
 fn read_page<D: SectorDevice>(
@@ -55,6 +55,18 @@ fn read_page<D: SectorDevice>(
 }
 
 // The table of a root, with what its page says.
+fn table_of(
+    alloc: Global,
+    root: &RootEntry,
+    schema: Schema,
+    segments: Vec<Segment>,
+) -> Result<TableEntry, AllocError>
+    ensures { IfOk result (λ e. plain_entry e ≡ entry_from (string_bytes root.now.name) (Some root.now.page) (schema_of schema, segments.items)) }
+{
+    TableEntry::new(alloc, root.name.clone()?, schema, segments, Some(root.page))
+}
+
+// Reads the table of a root.
 fn read_table<D: SectorDevice>(
     alloc: Global,
     device: &mut D,
@@ -77,15 +89,12 @@ fn read_table<D: SectorDevice>(
     ensures sound { IfOk result (λ e. is_name (string_bytes root.now.name) ≡ true → is_entry (plain_entry e) ≡ true) }
 {
     match read_page(alloc, device, form, most, root.page) {
-        Ok((schema, segments)) => match root.name.clone() {
-            Ok(name) => Ok(TableEntry {
-                name,
-                schema,
-                segments,
-                page: Some(root.page),
-            }),
-            Err(_) => Err(OpenError::OutOfMemory),
-        },
+        Ok((schema, segments)) => {
+            match table_of(alloc, root, schema, segments) {
+                Ok(entry) => Ok(entry),
+                Err(_) => Err(OpenError::OutOfMemory),
+            }
+        }
         Err(error) => Err(error),
     }
 }
@@ -114,7 +123,7 @@ pub(crate) fn read_pages<D: SectorDevice>(
     for root in roots {
         match read_table(alloc, device, form, left, root) {
             Ok(entry) => {
-                left -= entry.segments.len() as u64;
+                left -= entry.segments().len() as u64;
                 match entries.push(entry) {
                     Ok(()) => {}
                     Err(_) => return Err(OpenError::OutOfMemory),

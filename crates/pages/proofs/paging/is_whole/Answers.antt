@@ -1,4 +1,4 @@
-use Rattle.std.proofs.Common.{◌≡◌, ◌+◌, ◌∙◌, length, map, sym, ap, arith}
+use Rattle.std.proofs.Common.{◌≡◌, ◌+◌, ℕ, List, length, map, sym, ap, arith}
 use Rattle.std.proofs.lemmas.Bool.{lt-leb}
 use Rattle.catalogue.specs.Entries.{plain_entry}
 use Rattle.catalogue.specs.Text.{entry_size, list_size}
@@ -23,5 +23,5 @@ returns-then-size-gt-MOST_LIST_BYTES c =
     let next = next_sum entry_size es i x c.loop-entry-test.true c.entry-item.is in
     let part = part_sum entry_size es (i + 1) in
     let all : list_size (map plain_entry es) ≡ list_size (catalogue_of c.args.list.now) = ap list_size c.entries-entries.ensures.entries in
-    let named : c.len.result ≡ length (plain_entry x).name = c.len.ensures ∙ x.name.bytes.ok.0 in
+    let named = ap (λ (bytes : List ℕ). length bytes) c.name.ensures in
     sym (lt-leb (list_size (catalogue_of c.args.list.now)) 512 (omega (arith, next, part, all, named, c.in_ok-size.ensures.size, c.loop-entry.invariant.size, c.if-size-gt-MOST_LIST_BYTES.true)))

@@ -1,6 +1,7 @@
-use Rattle.std.proofs.Common.{◌≡◌, ◌+◌, ◌-◌, ◌∙◌, ℕ, ap, sym, map, drop, length, arith}
+use Rattle.std.proofs.Common.{◌+◌, ◌-◌, ◌∙◌, ℕ, List, ap, sym, map, drop, length, arith}
 use Rattle.sector_dev.specs.Disk.{now, shown_image}
 use Rattle.sector_dev.specs.laws.Time.{read_on}
+use Rattle.catalogue.specs.declared.entry.Segment.{Segment}
 use Rattle.catalogue.specs.declared.limits.TheConstants.{MAX_SEGMENTS}
 use Rattle.catalogue.specs.Entries.{plain_entry, plain_root}
 use Rattle.pages.specs.Stored.{pages_shown}
@@ -39,7 +40,7 @@ loop-root-preserved g c =
     let old = D.story c.args.device.now in
     let i = c.loop-root.root-index in
     let x = c.root-item.result in
-    let count : length c.in-Ok.entry.segments.items ≡ c.len.result = omega (arith, c.len.ensures, c.in-Ok.entry.segments.ok.0) in
+    let count = sym (ap (λ (ss : List Segment). length ss) c.segments.ensures) in
     record {
       same = c.read_table.ensures.size ∙ c.loop-root.invariant.same;
       count = c.in-Ok.ensures.count ∙ c.loop-root.invariant.count;
@@ -52,7 +53,7 @@ loop-root-preserved g c =
       entries = one_sound c.loop-root.entries.items c.push.new.self.items c.in-Ok.entry c.in-Ok-push.ensures.items c.loop-root.invariant.entries
           (c.in-Ok.ensures.sound (named_at c.args.roots.now i x c.requires.root.named c.loop-root-test.true c.root-item.is));
       names = one_named c.args.roots.now i x c.loop-root.entries.items c.push.new.self.items c.in-Ok.entry c.loop-root-test.true c.root-item.is c.in-Ok-push.ensures.items c.in-Ok.ensures.entry c.loop-root.invariant.names;
-      few = one_counted c.loop-root.entries.items c.push.new.self.items c.in-Ok.entry c.loop-root.left c.len.result c.in-Ok-push.ensures.items count c.in-Ok.ensures.few c.loop-root.invariant.few;
+      few = one_counted c.loop-root.entries.items c.push.new.self.items c.in-Ok.entry c.loop-root.left (length c.segments.result.now) c.in-Ok-push.ensures.items count c.in-Ok.ensures.few c.loop-root.invariant.few;
     }
 
 pub returns-clause-sound : goal.returns-clause-sound

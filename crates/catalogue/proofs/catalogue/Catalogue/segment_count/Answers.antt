@@ -1,4 +1,5 @@
-use Rattle.std.proofs.Common.{◌≡◌, ◌<◌, List, length, get_or, subst, arith}
+use Rattle.std.proofs.Common.{◌≡◌, ◌<◌, List, length, get_or, subst, ap, arith}
+use Rattle.catalogue.specs.declared.entry.Segment.{Segment}
 use Rattle.catalogue.specs.declared.entry.TableEntry.{TableEntry}
 use Rattle.catalogue.proofs.Rows.{counted_within, few_segments}
 use Rattle.catalogue.proofs.catalogue.Catalogue.segment_count.Goals as goal
@@ -12,4 +13,5 @@ overflow_add-count c =
     let within = counted_within es c.loop-entry.entry-index c.entry-item.result lt is in
     let most = few_segments es c.args.self.now.kept in
     let so_far = c.loop-entry.invariant in
-    omega (arith, within, most, so_far, c.len.ensures)
+    let count = ap (λ (ss : List Segment). length ss) c.segments.ensures in
+    omega (arith, within, most, so_far, count)

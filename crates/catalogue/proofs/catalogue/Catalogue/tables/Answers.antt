@@ -25,8 +25,9 @@ loop-entry-preserved c =
     let lt = subst (λ (xs : List TableEntry). c.loop-entry.entry-index < length xs) same c.loop-entry-test.true in
     let is = subst (λ (xs : List TableEntry). c.entry-item.result ≡ get_or xs c.loop-entry.entry-index c.entry-item.result) same c.entry-item.is in
     let row : PlainEntry → List ℕ × ℕ = λ e. (e.name, row_count e) in
-    let made : (string_bytes c.in_ok-clone.field-0, c.rows.result) ≡ row (plain_entry x) = λ k. (c.in_ok-clone.ensures.cases k, c.rows.ensures k) in
-    next_made (λ (e : TableEntry). row (plain_entry e)) _ es i x _ _ (c.in_ok-clone.field-0, c.rows.result) lt is c.in_ok-push.ensures.items made (c.loop-entry.invariant ∙ map_map row plain_entry (take i es))
+    let named = c.in_ok-name.ensures.ok ∙ c.name.ensures in
+    let made : (string_bytes c.in_ok-name.name, c.rows.result) ≡ row (plain_entry x) = λ k. (named k, c.rows.ensures k) in
+    next_made (λ (e : TableEntry). row (plain_entry e)) _ es i x _ _ (c.in_ok-name.name, c.rows.result) lt is c.in_ok-push.ensures.items made (c.loop-entry.invariant ∙ map_map row plain_entry (take i es))
     ∙ sym (map_map row plain_entry (take (i + 1) es))
 
 pub returns : goal.returns

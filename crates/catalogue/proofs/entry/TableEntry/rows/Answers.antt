@@ -2,6 +2,7 @@ use Rattle.std.proofs.Common.{◌≡◌, ◌<◌, ◌+◌, ◌∙◌, ℕ, List,
 use Rattle.std.specs.List.{sum_by}
 use Rattle.std.proofs.lemmas.List.Sums.{sum_by_more}
 use Rattle.catalogue.specs.declared.entry.Segment.{Segment}
+use Rattle.catalogue.specs.Entries.{plain_entry}
 use Rattle.catalogue.proofs.entry.TableEntry.rows.Goals as goal
 
 -- the rows so far, and those of the next segment
@@ -11,4 +12,4 @@ more_rows ss seen i rows d same lt so_far =
 
 pub loop-segment-preserved : goal.loop-segment-preserved
 loop-segment-preserved c =
-    more_rows c.args.self.now.segments.items c.deref-segment-items.result.now c.loop-segment.segment-index c.loop-segment.rows _ c.deref-segment-items.ensures.value c.loop-segment-test.true c.loop-segment.invariant
+    more_rows (plain_entry c.args.self.now).segments c.segments-segment-items.result.now c.loop-segment.segment-index c.loop-segment.rows _ c.segments-segment-items.ensures c.loop-segment-test.true c.loop-segment.invariant

@@ -2,6 +2,7 @@ use Rattle.std.proofs.Common.{◌≡◌, ◌∙◌, ◌≤◌, ◌<◌, ◌+◌,
 use Rattle.std.specs.List.{position}
 use Rattle.catalogue.specs.declared.limits.TheConstants.{MAX_SEGMENTS}
 use Rattle.export_book.specs.declared.export.OpenExport.{OpenExport}
+use Rattle.catalogue.specs.Entries.{plain_entry}
 use Rattle.export_book.specs.Book.{PlainExport, IsBook, MayGive, with_given}
 use Rattle.export_book.specs.Plain.{book_in, plain_export, next_id}
 use Rattle.export_book.proofs.Places.{has_id, placed, absent}
@@ -21,8 +22,8 @@ overflow_add-export c =
     let p = placed c.args.id es c.in-Some.place found in
     let x = c.index_mut-export.result.now in
     let at = get_or es c.in-Some.place x in
-    let may : at.given < length at.segments.items + 2 = subst MayGive (p.stood x) c.requires in
-    let short : length at.segments.items ≤ MAX_SEGMENTS = each_at (λ (e : PlainExport). length e.segments ≤ MAX_SEGMENTS) es c.in-Some.place x c.args.self.now.sound.short p.within in
+    let may : at.given < length (plain_entry at.entry).segments + 2 = subst MayGive (p.stood x) c.requires in
+    let short : length (plain_entry at.entry).segments ≤ MAX_SEGMENTS = each_at (λ (e : PlainExport). length e.segments ≤ MAX_SEGMENTS) es c.in-Some.place x c.args.self.now.sound.short p.within in
     let same : x.given ≡ at.given = ap (λ (e : OpenExport). e.given) c.index_mut-export.ensures.value in
     omega (arith, may, short, same)
 
@@ -32,7 +33,7 @@ invariant_of-self c =
     let found = ap (position (has_id c.args.id)) (sym c.deref.ensures.value) ∙ sym c.place_of.ensures ∙ c.in-Some.is in
     let p = placed c.args.id s.exports.items c.in-Some.place found in
     let x = c.index_mut-export.result.now in
-    let new : OpenExport = record { id = x.id; schema = x.schema; segments = x.segments; given = x.given + 1 } in
+    let new : OpenExport = record { id = x.id; entry = x.entry; given = x.given + 1 } in
     let exports = p.given s.sound.rising x new (ap (λ (e : OpenExport). record (plain_export e) { given = e.given + 1 }) c.index_mut-export.ensures.value) in
     let is : book_in (set s.exports.items c.in-Some.place new) s.next ≡ with_given c.args.id (book_in s.exports.items s.next) = λ i. record { exports = exports i; next = next_id s.next } in
     record { counted = s.counted; sound = subst IsBook (sym is) (given_book (book_in s.exports.items s.next) c.args.id s.sound) }
@@ -43,7 +44,7 @@ returns-in-Some c =
     let found = ap (position (has_id c.args.id)) (sym c.deref.ensures.value) ∙ sym c.place_of.ensures ∙ c.in-Some.is in
     let p = placed c.args.id s.exports.items c.in-Some.place found in
     let x = c.index_mut-export.result.now in
-    let new : OpenExport = record { id = x.id; schema = x.schema; segments = x.segments; given = x.given + 1 } in
+    let new : OpenExport = record { id = x.id; entry = x.entry; given = x.given + 1 } in
     let exports = p.given s.sound.rising x new (ap (λ (e : OpenExport). record (plain_export e) { given = e.given + 1 }) c.index_mut-export.ensures.value) in
     λ i. record { exports = exports i; next = next_id s.next }
 

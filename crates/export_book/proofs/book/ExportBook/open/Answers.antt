@@ -1,5 +1,5 @@
 use Rattle.std.proofs.Common.{◌≡◌, ◌<◌, ◌^◌, ℕ, List, Result, Ok, Err, OnErr, refl, sym, ap, subst}
-use Rattle.arrow_schema.specs.View.{schema_of}
+use Rattle.catalogue.specs.Entries.{plain_entry}
 use Rattle.export_book.specs.declared.export.OpenExport.{OpenExport}
 use Rattle.export_book.specs.Book.{IsBook}
 use Rattle.export_book.specs.Plain.{book_in, next_id}
@@ -16,12 +16,12 @@ invariant_of-self c =
 pub invariant_of-self-2 : goal.invariant_of-self-2
 invariant_of-self-2 c =
     let s = c.args.self.now in
-    let e : OpenExport = record { id = c.unwrap-id.result; schema = c.args.schema; segments = c.args.segments; given = 0 } in
+    let e : OpenExport = record { id = c.unwrap-id.result; entry = c.args.entry; given = 0 } in
     let lower : e.id < 2 ^ 64 = subst (λ (n : ℕ). n < 2 ^ 64) (ap next_id c.unwrap-id.ensures) (has_room (book_in s.exports.items s.next) c.requires.room).1 in
     let is = opened_is s.exports.items c.push.new.self.items s.next c.checked_add-next.result e c.unwrap-id.ensures c.in_ok-push.ensures.items refl c.checked_add-next.ensures lower in
     record {
       counted = counted_next e.id c.checked_add-next.result c.checked_add-next.ensures;
-      sound = subst IsBook (sym is) (open_book (book_in s.exports.items s.next) (schema_of c.args.schema) c.args.segments.items s.sound c.requires.room c.requires.short c.requires.once);
+      sound = subst IsBook (sym is) (open_book (book_in s.exports.items s.next) (plain_entry c.args.entry).schema (plain_entry c.args.entry).segments s.sound c.requires.room c.requires.short c.requires.once);
     }
 
 pub returns-clause-id : goal.returns-clause-id
@@ -30,7 +30,7 @@ returns-clause-id c = sym (ap next_id c.unwrap-id.ensures)
 pub returns-clause-opened : goal.returns-clause-opened
 returns-clause-opened c =
     let s = c.args.self.now in
-    let e : OpenExport = record { id = c.unwrap-id.result; schema = c.args.schema; segments = c.args.segments; given = 0 } in
+    let e : OpenExport = record { id = c.unwrap-id.result; entry = c.args.entry; given = 0 } in
     let lower : e.id < 2 ^ 64 = subst (λ (n : ℕ). n < 2 ^ 64) (ap next_id c.unwrap-id.ensures) (has_room (book_in s.exports.items s.next) c.requires.room).1 in
     opened_is s.exports.items c.push.new.self.items s.next c.checked_add-next.result e c.unwrap-id.ensures c.in_ok-push.ensures.items refl c.checked_add-next.ensures lower
 
