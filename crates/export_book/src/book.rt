@@ -4,12 +4,13 @@ ghost use Rattle.std.specs.List.{position};
 ghost use Rattle.segments.specs.declared.run.Run.{Run};
 ghost use Rattle.segments.specs.Usages.{times_among};
 ghost use Rattle.catalogue.specs.Entries.{plain_entry, runs_in_segments};
-ghost use Rattle.export_book.specs.Book.{IsBook, MayGive, no_exports, is_full, open_at, with_open, with_given, without};
+ghost use Rattle.export_book.specs.Book.{IsBook, MayGive, no_exports, runs_kept, is_full, open_at, with_open, with_given, without};
 ghost use Rattle.export_book.specs.Plain.{book_in, is_counted, plain_export};
 ghost use Rattle.export_book.specs.inner.Props.{book_prop};
 
 use crate::OpenExport;
 use catalogue::TableEntry;
+use segments::Run;
 use std::alloc::{AllocError, Global};
 
 /// How many exports may be open at once.
@@ -64,6 +65,20 @@ impl ExportBook {
             Some(place) => Some(&self.exports[place]),
             None => None,
         }
+    }
+
+    /// The runs that the exports keep from being written, each as often as they have it.
+    ///
+    /// # Errors
+    /// `AllocError` where memory was refused.
+    pub fn runs(&self, alloc: Global) -> Result<Vec<Run>, AllocError>
+        ensures { IfOk result (λ runs. runs.items ≡ runs_kept (book_of self.now).exports) }
+    {
+        let mut runs = Vec::new(alloc);
+        for export in &self.exports {
+            runs.extend_from_slice(&export.entry.runs(alloc)?)?;
+        }
+        Ok(runs)
     }
 
     /// Opens an export of the table of this entry, and gives its id.
