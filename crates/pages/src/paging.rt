@@ -85,6 +85,9 @@ fn runs_of_pages(alloc: Global, list: &Catalogue) -> Result<Vec<Run>, AllocError
 }
 
 /// How this catalogue is to be kept. Where its segments lie makes no difference.
+///
+/// # Errors
+/// `AllocError` where memory was refused.
 pub fn layout_of(alloc: Global, list: &Catalogue) -> Result<Layout, AllocError>
     ensures kind { IfOk result (λ layout. layout.kind ≡ kind_of (catalogue_of list.now)) }
     ensures pages { IfOk result (λ layout. layout.pages.items ≡ page_sizes (catalogue_of list.now)) }
@@ -195,6 +198,9 @@ fn root_of(alloc: Global, entries: &[TableEntry]) -> Result<Vec<RootEntry>, Allo
 
 /// The catalogue as it is kept, its new pages in these runs, in order, and the texts that are to be written for it: those of
 /// the pages, and then its list or its root.
+///
+/// # Errors
+/// `AllocError` where memory was refused.
 pub fn settle<'a>(
     alloc: Global,
     list: Catalogue,
