@@ -1,5 +1,9 @@
 pub mod IntegerBytes
 pub mod Taken
+pub mod Keys
+pub mod Coded
+pub mod FewEntries
+pub mod BuiltArrays
 pub mod Rows
 pub mod PlacedBuffers
 pub mod Tables

@@ -22,10 +22,9 @@ use Rattle.arrow_schema.specs.Column.{Column, columns_of, PlainSchema}
 use Rattle.arrow_schema.specs.Parts.{name_of_column}
 use Rattle.text_import.specs.declared.refusal.Refusal.{Refusal}
 use Rattle.cells.specs.Cell.{Cell, Cells, null, cells_of}
-use Rattle.cells.specs.Dictionary.{dictionaries_fit, is_any_limited}
+use Rattle.cells.specs.Dictionary.{dictionaries_fit}
 use Rattle.cells.specs.Weight.{parts_weight, row_weight, table_weight, weight}
 use Rattle.cells.specs.laws.Cells.{cells_listed}
-use Rattle.cells.specs.laws.Unlimited.{unlimited_fit}
 use Rattle.facts.specs.Texts.{text_list}
 use Rattle.text_import.specs.Objects.{cells_by_name, cells_in, has_name, has_unknown, is_blank, keys_of, line_row, line_value, names_of, repeats}
 use Rattle.text_import.specs.Refusals.{numbered}
@@ -39,7 +38,8 @@ use Rattle.text_columns.specs.declared.records.RowsRead.{RowsRead}
 use Rattle.text_columns.specs.inner.Kept.{HasRows, KeepAll, Keeps, column_at}
 use Rattle.text_columns.specs.inner.Lines.{Completes, CompletesRow, HasKeptValue, HasNamedRow, HoldMembers, HoldsMember, KeepsLine, KeepsTokens, PushesMember, PushesMembers, below, token_data}
 use Rattle.text_columns.proofs.MemberGrammar.{member_read, members_over, object_read, text_read}
-use Rattle.text_columns.proofs.Rows.{at_end, at_front, at_other, at_set, column_more, dropped_all, dropped_here, length_put, length_taken, none_weigh, parts_weigh, taken_all, taken_here, there_within, unlimited}
+use Rattle.text_columns.proofs.FewEntries.{row_fits}
+use Rattle.text_columns.proofs.Rows.{at_end, at_front, at_other, at_set, column_more, dropped_all, dropped_here, length_put, length_taken, none_weigh, parts_weigh, taken_all, taken_here, there_within}
 
 some_same : {X : Type 0} {x y : X} → Some x ≡ Some y → x ≡ y
 some_same e = cc
@@ -349,10 +349,9 @@ lines_skipped s lines n i heavy line bs here blank h = record {
 
 -- a row that is not too heavy is accepted
 line_accepted : (s : PlainSchema) (line : List ℕ) (d : Data) (row : List Cell) (heavy : ℕ) → line_value line ≡ Ok d → cells_in (columns_of s.columns) d ≡ Ok (cells_of row)
-    → 1 + parts_weight (columns_of s.columns) (cells_of row) ≡ heavy → heavy ≤ 16777216 → is_any_limited (columns_of s.columns) ≡ false → line_row s line ≡ Ok row
-line_accepted s line d row heavy value cells weighs few free =
+    → 1 + parts_weight (columns_of s.columns) (cells_of row) ≡ heavy → heavy ≤ 16777216 → dictionaries_fit s (row ∷ []) ≡ true → line_row s line ≡ Ok row
+line_accepted s line d row heavy value cells weighs few full =
     let light : nat_lt 16777216 (row_weight s row) ≡ false = le-ltb _ _ (omega (arith, weighs, few)) in
-    let full : dictionaries_fit s (row ∷ []) ≡ true = unlimited_fit s (row ∷ []) free in
     rw (value, cells, cells_listed row, light, full) refl
 
 pub lines_more : (s : PlainSchema) (names : List (List ℕ)) (lines : List (Bor (List ℕ))) (n i heavy more : ℕ) (line : Bor (List ℕ)) (bs bs2 : List ColumnBuilder) → drop n lines ≡ line ∷ drop (n + 1) lines
@@ -360,8 +359,8 @@ pub lines_more : (s : PlainSchema) (names : List (List ℕ)) (lines : List (Bor 
     → LinesRead s lines (drop n lines) i heavy bs → LinesRead s lines (drop (n + 1) lines) (i + 1) (heavy + more) bs2
 lines_more s names lines n i heavy more line bs bs2 here blank named few keeps h =
     let v = keeps.keeps s.columns h.rows named h.keeps in
-    let free = unlimited s.columns h.rows bs h.keeps in
-    let row = line_accepted s line.now keeps.data_is v.row more keeps.read v.read v.weighs few free in
+    let full = row_fits s h.rows bs v.row h.keeps in
+    let row = line_accepted s line.now keeps.data_is v.row more keeps.read v.read v.weighs few full in
     let given : numbered (i + 1) (line_row s line.now) ≡ Ok v.row = rw row refl in
     let left = ap filled here ∙ filled_at line (drop (n + 1) lines) blank in
     let joined = sum_by-append (row_weight s) h.rows (v.row ∷ []) in

@@ -1,34 +1,31 @@
 -- Buffers that come after other bytes, and the arrays that they are.
-use Rattle.std.specs.Prelude.{◌&&◌, if◌then◌else◌, get_or, Some, None, slice_get}
+use Rattle.std.specs.Prelude.{◌&&◌, ◌⊎◌, Err, IfOk, Ok, Result, Some, nat_le, take}
 use Rattle.std.specs.Global.{Vec}
-use Rattle.std.specs.List.{flat_map, list_all}
-use Rattle.std.proofs.Common.{◌≡◌, ℕ, suc, ◌+◌, ◌/◌, ◌≤◌, Bool, true, List, [], ◌∷◌, ◌++◌, length, map, refl, arith, ap, sym, subst, ◌∙◌, append_assoc, append-nil, length-append}
-use Rattle.std.proofs.lemmas.Bool.{and_from, and_parts}
-use Rattle.std.proofs.lemmas.List.{length-map, map-append}
+use Rattle.std.specs.List.{list_all}
+use Rattle.std.proofs.Common.{◌≡◌, ℕ, zero, suc, ◌+◌, ◌≤◌, Bool, true, List, [], ◌∷◌, ◌++◌, length, map, refl, arith, ap, sym, subst, ◌∙◌, inl, inr, append_assoc, append-nil, length-append}
+use Rattle.std.proofs.lemmas.Bool.{and_from, and_parts, le-leb, leb-true}
+use Rattle.std.proofs.lemmas.List.{map-append}
+use Rattle.std.proofs.lemmas.List.Folds.{list_all-append}
 use Rattle.bitmap.specs.Bits.{packed}
-use Rattle.arrow_schema.specs.Column.{Kind, Column, booleans, integers, dates, timestamps, nulls, texts, large_texts, binaries, large_binaries, fixed_binaries, column, columns_of}
-use Rattle.cells.specs.Cell.{Cell, null}
-use Rattle.cells.specs.Nulls.{is_there}
-use Rattle.columns.specs.Array.{Array, Layout, array, arrays_of, and_array, null_layout, bit_layout, fixed_layout, binary_layout}
-use Rattle.columns.specs.Built.{built, built_kind, built_parts, first_cell, other_cells, validity_of, with_validity, integer_bytes, fixed_bytes, offsets_of, contents_of}
-use Rattle.columns.specs.Offsets.{width_of}
+use Rattle.columns.specs.Array.{Array, Layout, array, arrays_of, null_layout, bit_layout, fixed_layout, binary_layout, dictionary_layout}
 use Rattle.columns.specs.Places.{within}
-use Rattle.columns.specs.View.{array_in, array_step, layout_step, no_dictionary}
-use Rattle.columns.specs.Within.{array_within, ends_within, is_within_by, layout_within}
+use Rattle.columns.specs.View.{array_in, array_step, arrays_in, arrays_numbered, layout_step, no_dictionary}
+use Rattle.columns.specs.Within.{array_within, ends_within, is_placed_within, is_within_by, layout_within, stands_within}
+use Rattle.columns.specs.declared.array.Dictionary.{Dictionary}
+use Rattle.columns.specs.declared.array.DictionaryPart.{DictionaryPart}
 use Rattle.columns.specs.declared.array.PlacedArray.{PlacedArray, roll-PlacedArray}
 use Rattle.columns.specs.declared.array.PlacedLayout.{PlacedLayout}
 use Rattle.columns.specs.declared.array.PlacedLayout.TheFolds.{fold-roll-PlacedLayout, fold-roll-PlacedArray}
 use Rattle.columns.specs.declared.array.PlacedLayout.TheOpen as placed
 use Rattle.columns.specs.declared.array.PlacedLayout.TheVariants as layouts
 use Rattle.columns.specs.declared.span.Span.{Span}
-use Rattle.columns.specs.laws.Grown.{flat_stay}
+use Rattle.columns.specs.laws.Grown.{array_grown}
 use Rattle.columns.specs.laws.Longer.{within_more}
-use Rattle.columns.specs.FlatLayouts.{flat_layout}
+use Rattle.text_columns.specs.declared.coding.Coding.{Coding}
 use Rattle.text_columns.specs.declared.column_values.Values.{Values}
 use Rattle.text_columns.specs.declared.column_values.Values.TheVariants.{Nulls, Booleans, Integers, Texts, Binaries, FixedBinaries}
 use Rattle.text_columns.specs.declared.builder.ColumnBuilder.{ColumnBuilder}
-use Rattle.text_columns.specs.inner.Kept.{Holds, IsOf, Keeps, column_at}
-use Rattle.text_columns.specs.inner.Placed.{ArePlaced, IsAppended, IsLaid, IsPlaced, array_of, is_layout_within, layout_of, validity_in, validity_of_bits}
+use Rattle.text_columns.specs.inner.Placed.{AreEntriesPlaced, ArePlaced, IsAppended, IsLaid, IsPlaced, IsPlacedAs, array_of, column_layout, entries_array, has_validity, is_layout_within, layout_by, layout_of, validity_in}
 
 -- ---- buffers
 
@@ -40,43 +37,52 @@ ends_last : (old buffer new : List ℕ) (span : Span) → IsAppended old buffer 
 ends_last old buffer new span a = ap (λ (xs : List ℕ). ends_within (length xs) span) (sym (append-nil new)) ∙ a.ends []
 
 -- layouts without arrays below them, as places in bytes
-bits_are : (bytes : List ℕ) (span : Span) → flat_layout bytes (layouts.Bits span) ≡ bit_layout (within bytes span)
-bits_are bytes span = ap (flat_layout bytes) (sym (layouts.rolls-Bits span)) ∙ fold-roll-PlacedLayout Layout Array (layout_step bytes no_dictionary) (array_step bytes) (placed.Bits span)
+bits_are : (bytes : List ℕ) (known : DictionaryPart → List Array) (span : Span) → layout_by bytes known (layouts.Bits span) ≡ bit_layout (within bytes span)
+bits_are bytes known span = ap (layout_by bytes known) (sym (layouts.rolls-Bits span)) ∙ fold-roll-PlacedLayout Layout Array (layout_step bytes known) (array_step bytes) (placed.Bits span)
 
-nulls_are : (bytes : List ℕ) → flat_layout bytes layouts.Null ≡ null_layout
-nulls_are bytes = ap (flat_layout bytes) (sym layouts.rolls-Null) ∙ fold-roll-PlacedLayout Layout Array (layout_step bytes no_dictionary) (array_step bytes) placed.Null
+nulls_are : (bytes : List ℕ) (known : DictionaryPart → List Array) → layout_by bytes known layouts.Null ≡ null_layout
+nulls_are bytes known = ap (layout_by bytes known) (sym layouts.rolls-Null) ∙ fold-roll-PlacedLayout Layout Array (layout_step bytes known) (array_step bytes) placed.Null
 
-nulls_within : (size : ℕ) → is_layout_within size layouts.Null ≡ true
-nulls_within size = ap (is_layout_within size) (sym layouts.rolls-Null) ∙ fold-roll-PlacedLayout Bool Bool (layout_within size (λ part. true)) (array_within size) placed.Null
+nulls_within : (size : ℕ) (stands : DictionaryPart → Bool) → is_layout_within size stands layouts.Null ≡ true
+nulls_within size stands = ap (is_layout_within size stands) (sym layouts.rolls-Null) ∙ fold-roll-PlacedLayout Bool Bool (layout_within size stands) (array_within size) placed.Null
 
-bits_within : (size : ℕ) (span : Span) → is_layout_within size (layouts.Bits span) ≡ ends_within size span
-bits_within size span = ap (is_layout_within size) (sym (layouts.rolls-Bits span)) ∙ fold-roll-PlacedLayout Bool Bool (layout_within size (λ part. true)) (array_within size) (placed.Bits span)
+bits_within : (size : ℕ) (stands : DictionaryPart → Bool) (span : Span) → is_layout_within size stands (layouts.Bits span) ≡ ends_within size span
+bits_within size stands span = ap (is_layout_within size stands) (sym (layouts.rolls-Bits span)) ∙ fold-roll-PlacedLayout Bool Bool (layout_within size stands) (array_within size) (placed.Bits span)
 
-values_are : (bytes : List ℕ) (span : Span) → flat_layout bytes (layouts.Fixed span) ≡ fixed_layout (within bytes span)
-values_are bytes span = ap (flat_layout bytes) (sym (layouts.rolls-Fixed span)) ∙ fold-roll-PlacedLayout Layout Array (layout_step bytes no_dictionary) (array_step bytes) (placed.Fixed span)
+values_are : (bytes : List ℕ) (known : DictionaryPart → List Array) (span : Span) → layout_by bytes known (layouts.Fixed span) ≡ fixed_layout (within bytes span)
+values_are bytes known span = ap (layout_by bytes known) (sym (layouts.rolls-Fixed span)) ∙ fold-roll-PlacedLayout Layout Array (layout_step bytes known) (array_step bytes) (placed.Fixed span)
 
-values_within : (size : ℕ) (span : Span) → is_layout_within size (layouts.Fixed span) ≡ ends_within size span
-values_within size span = ap (is_layout_within size) (sym (layouts.rolls-Fixed span)) ∙ fold-roll-PlacedLayout Bool Bool (layout_within size (λ part. true)) (array_within size) (placed.Fixed span)
+values_within : (size : ℕ) (stands : DictionaryPart → Bool) (span : Span) → is_layout_within size stands (layouts.Fixed span) ≡ ends_within size span
+values_within size stands span = ap (is_layout_within size stands) (sym (layouts.rolls-Fixed span)) ∙ fold-roll-PlacedLayout Bool Bool (layout_within size stands) (array_within size) (placed.Fixed span)
 
-texts_are : (bytes : List ℕ) (first second : Span) → flat_layout bytes (layouts.Binary first second) ≡ binary_layout (within bytes first) (within bytes second)
-texts_are bytes first second =
-    ap (flat_layout bytes) (sym (layouts.rolls-Binary first second)) ∙ fold-roll-PlacedLayout Layout Array (layout_step bytes no_dictionary) (array_step bytes) (placed.Binary first second)
+texts_are : (bytes : List ℕ) (known : DictionaryPart → List Array) (first second : Span) → layout_by bytes known (layouts.Binary first second) ≡ binary_layout (within bytes first) (within bytes second)
+texts_are bytes known first second =
+    ap (layout_by bytes known) (sym (layouts.rolls-Binary first second)) ∙ fold-roll-PlacedLayout Layout Array (layout_step bytes known) (array_step bytes) (placed.Binary first second)
 
-texts_within : (size : ℕ) (first second : Span) → is_layout_within size (layouts.Binary first second) ≡ (ends_within size first && ends_within size second)
-texts_within size first second =
-    ap (is_layout_within size) (sym (layouts.rolls-Binary first second)) ∙ fold-roll-PlacedLayout Bool Bool (layout_within size (λ part. true)) (array_within size) (placed.Binary first second)
+texts_within : (size : ℕ) (stands : DictionaryPart → Bool) (first second : Span) → is_layout_within size stands (layouts.Binary first second) ≡ (ends_within size first && ends_within size second)
+texts_within size stands first second =
+    ap (is_layout_within size stands) (sym (layouts.rolls-Binary first second)) ∙ fold-roll-PlacedLayout Bool Bool (layout_within size stands) (array_within size) (placed.Binary first second)
+
+codes_are : (bytes : List ℕ) (known : DictionaryPart → List Array) (span : Span) (part : DictionaryPart)
+    → layout_by bytes known (layouts.Dictionary span part) ≡ dictionary_layout (within bytes span) (arrays_of (known part))
+codes_are bytes known span part =
+    ap (layout_by bytes known) (sym (layouts.rolls-Dictionary span part)) ∙ fold-roll-PlacedLayout Layout Array (layout_step bytes known) (array_step bytes) (placed.Dictionary span part)
+
+codes_within : (size : ℕ) (stands : DictionaryPart → Bool) (span : Span) (part : DictionaryPart) → is_layout_within size stands (layouts.Dictionary span part) ≡ (ends_within size span && stands part)
+codes_within size stands span part =
+    ap (is_layout_within size stands) (sym (layouts.rolls-Dictionary span part)) ∙ fold-roll-PlacedLayout Bool Bool (layout_within size stands) (array_within size) (placed.Dictionary span part)
 
 pub nulls_laid : (old : List ℕ) → IsLaid Nulls old old layouts.Null
 nulls_laid old = record { more = []; whole = sym (append-nil old); laid = nulls_are old; ends = nulls_within (length old) }
 
 pub bits_laid : (bits : Vec Bool) (old new : List ℕ) (span : Span) → IsAppended old (packed bits.items) new span → IsLaid (Booleans bits) old new (layouts.Bits span)
-bits_laid bits old new span a = record { more = packed bits.items; whole = a.whole; laid = bits_are new span ∙ ap bit_layout (stands_last old _ new span a); ends = bits_within (length new) span ∙ ends_last old _ new span a }
+bits_laid bits old new span a = record { more = packed bits.items; whole = a.whole; laid = λ known. bits_are new known span ∙ ap bit_layout (stands_last old _ new span a); ends = λ stands. bits_within (length new) stands span ∙ ends_last old _ new span a }
 
 pub values_laid : (i : _) (values : Vec ℕ) (old new : List ℕ) (span : Span) → IsAppended old values.items new span → IsLaid (Integers i values) old new (layouts.Fixed span)
-values_laid i values old new span a = record { more = values.items; whole = a.whole; laid = values_are new span ∙ ap fixed_layout (stands_last old _ new span a); ends = values_within (length new) span ∙ ends_last old _ new span a }
+values_laid i values old new span a = record { more = values.items; whole = a.whole; laid = λ known. values_are new known span ∙ ap fixed_layout (stands_last old _ new span a); ends = λ stands. values_within (length new) stands span ∙ ends_last old _ new span a }
 
 pub fixed_laid : (width : ℕ) (values : Vec ℕ) (old new : List ℕ) (span : Span) → IsAppended old values.items new span → IsLaid (FixedBinaries width values) old new (layouts.Fixed span)
-fixed_laid width values old new span a = record { more = values.items; whole = a.whole; laid = values_are new span ∙ ap fixed_layout (stands_last old _ new span a); ends = values_within (length new) span ∙ ends_last old _ new span a }
+fixed_laid width values old new span a = record { more = values.items; whole = a.whole; laid = λ known. values_are new known span ∙ ap fixed_layout (stands_last old _ new span a); ends = λ stands. values_within (length new) stands span ∙ ends_last old _ new span a }
 
 pub texts_laid : (width : _) (offsets contents : Vec ℕ) (old mid new : List ℕ) (first second : Span) → IsAppended old offsets.items mid first → IsAppended mid contents.items new second
     → IsLaid (Texts width offsets contents) old new (layouts.Binary first second)
@@ -86,8 +92,8 @@ texts_laid width offsets contents old mid new first second a b =
     record {
       more = offsets.items ++ contents.items;
       whole = b.whole ∙ ap (λ (xs : List ℕ). xs ++ contents.items) a.whole ∙ append_assoc old offsets.items contents.items;
-      laid = texts_are new first second ∙ (λ j. binary_layout (front j) (stands_last mid _ new second b j));
-      ends = texts_within (length new) first second ∙ and_from _ _ inner (ends_last mid _ new second b);
+      laid = λ known. texts_are new known first second ∙ (λ j. binary_layout (front j) (stands_last mid _ new second b j));
+      ends = λ stands. texts_within (length new) stands first second ∙ and_from _ _ inner (ends_last mid _ new second b);
     }
 
 pub binaries_laid : (width : _) (offsets contents : Vec ℕ) (old mid new : List ℕ) (first second : Span) → IsAppended old offsets.items mid first → IsAppended mid contents.items new second
@@ -96,27 +102,36 @@ binaries_laid width offsets contents old mid new first second a b =
     let t = texts_laid width offsets contents old mid new first second a b in
     record { more = t.more; whole = t.whole; laid = t.laid; ends = t.ends }
 
--- the buffers of a column
-pub column_placed : (b : ColumnBuilder) (slots : ℕ) (old mid new : List ℕ) (span : Span) (layout : PlacedLayout) → slots ≡ length b.valid.items
-    → IsAppended old (validity_in b.values b.valid.items) mid span → IsLaid b.values mid new layout → IsPlaced b old new (roll-PlacedArray (record { slots = slots; validity = span; layout = layout }))
-column_placed b slots old mid new span layout count a l =
-    let valid = validity_in b.values b.valid.items in
-    let front : within new span ≡ valid = ap (λ (xs : List ℕ). within xs span) l.whole ∙ a.stands l.more in
-    let inner : ends_within (length new) span ≡ true = ap (λ (xs : List ℕ). ends_within (length xs) span) l.whole ∙ a.ends l.more in
-    record {
-      more = valid ++ l.more;
-      whole = l.whole ∙ ap (λ (xs : List ℕ). xs ++ l.more) a.whole ∙ append_assoc old valid l.more;
-      placed = fold-roll-PlacedArray Layout Array (layout_step new no_dictionary) (array_step new) (record { slots = slots; validity = span; layout = layout })
-          ∙ (λ j. array (count j) (front j) (l.laid j));
-      ends = fold-roll-PlacedArray Bool Bool (layout_within (length new) (λ part. true)) (array_within (length new)) (record { slots = slots; validity = span; layout = layout })
-          ∙ and_from _ _ inner l.ends;
-    }
+-- ---- dictionaries
 
--- ---- arrays, one after another
+numbered_last : (before : List Dictionary) (d : Dictionary) → arrays_numbered (before ++ d ∷ []) (length before) ≡ d.arrays.items
+numbered_last [] d = refl
+numbered_last (x ∷ before) d = numbered_last before d
 
-pub record SoFar (bs : List ColumnBuilder) (bytes : List ℕ) (arrays : List PlacedArray) : Type 0 where
-  pub placed : ArePlaced bs bytes arrays
-  pub ends : list_all (is_within_by (length bytes) (λ part. true)) arrays ≡ true
+known_last : (bytes : List ℕ) (before : List Dictionary) (d : Dictionary) (part : DictionaryPart) → arrays_in bytes (before ++ d ∷ []) part
+    ≡ map (array_in bytes no_dictionary) (take part.count (arrays_numbered (before ++ d ∷ []) part.number))
+known_last bytes [] d part = refl
+known_last bytes (x ∷ before) d part = refl
+
+-- the arrays of other dictionaries stay, or there is none
+numbered_more : (before own : List Dictionary) (n : ℕ) → (arrays_numbered (before ++ own) n ≡ arrays_numbered before n) ⊎ (arrays_numbered before n ≡ [])
+numbered_more [] own zero = inr refl
+numbered_more [] own (suc n) = inr refl
+numbered_more (x ∷ before) own zero = inl refl
+numbered_more (x ∷ before) own (suc n) = numbered_more before own n
+
+nothing_taken : (n : ℕ) (xs : List PlacedArray) → n ≤ 0 → take n xs ≡ []
+nothing_taken zero xs le = refl
+nothing_taken (suc n) xs le = absurd (omega arith)
+
+part_stays : (before own : List Dictionary) (part : DictionaryPart) → part.count ≤ length (arrays_numbered before part.number)
+    → take part.count (arrays_numbered (before ++ own) part.number) ≡ take part.count (arrays_numbered before part.number)
+part_stays before own part le = elim (numbered_more before own part.number) [
+  | inl same ↦ ap (take part.count) same
+  | inr none ↦
+      let few : part.count ≤ 0 = rw none at le in
+      nothing_taken part.count (arrays_numbered (before ++ own) part.number) few ∙ sym (nothing_taken part.count (arrays_numbered before part.number) few)
+]
 
 stay_within : (size more : ℕ) (arrays : List PlacedArray) → size ≤ more → list_all (is_within_by size (λ part. true)) arrays ≡ true → list_all (is_within_by more (λ part. true)) arrays ≡ true
 stay_within size more [] le h = refl
@@ -124,88 +139,128 @@ stay_within size more (a ∷ arrays) le h =
     let parts = and_parts (is_within_by size (λ part. true) a) (list_all (is_within_by size (λ part. true)) arrays) h in
     and_from _ _ (within_more size more le (λ part. true) (λ part. true) (λ part e. e) a parts.0) (stay_within size more arrays le parts.1)
 
-one_within : (size : ℕ) (arrays : List PlacedArray) (a : PlacedArray) → list_all (is_within_by size (λ part. true)) arrays ≡ true → is_within_by size (λ part. true) a ≡ true
-    → list_all (is_within_by size (λ part. true)) (arrays ++ a ∷ []) ≡ true
-one_within size [] a h k = and_from _ _ k refl
-one_within size (b ∷ arrays) a h k =
-    let parts = and_parts (is_within_by size (λ part. true) b) (list_all (is_within_by size (λ part. true)) arrays) h in
-    and_from _ _ parts.0 (one_within size arrays a parts.1 k)
+part_stands : (size more : ℕ) (before own : List Dictionary) → size ≤ more → (part : DictionaryPart) → stands_within size before part ≡ true → stands_within more (before ++ own) part ≡ true
+part_stands size more before own le part h =
+    let p = and_parts (nat_le part.count (length (arrays_numbered before part.number))) _ h in
+    let there : part.count ≤ length (arrays_numbered before part.number) = leb-true _ _ p.0 in
+    let same = part_stays before own part there in
+    let many : part.count ≤ length (arrays_numbered (before ++ own) part.number) = elim (numbered_more before own part.number) [
+      | inl kept ↦ (let e = ap length kept in omega (arith, there, e))
+      | inr none ↦ (let e = ap length none in omega (arith, there, e))
+    ] in
+    and_from _ _ (le-leb part.count (length (arrays_numbered (before ++ own) part.number)) many)
+    (ap (list_all (is_within_by more (λ part. true))) same ∙ stay_within size more (take part.count (arrays_numbered before part.number)) le p.1)
 
-placed_more : (bs : List ColumnBuilder) (b : ColumnBuilder) (old new : List ℕ) (arrays : List PlacedArray) (a : PlacedArray) → SoFar bs old arrays → IsPlaced b old new a
-    → SoFar (bs ++ b ∷ []) new (arrays ++ a ∷ [])
-placed_more bs b old new arrays a so p =
-    let longer : length new ≡ length old + length p.more = ap length p.whole ∙ length-append old p.more in
-    let before : map (array_in new no_dictionary) arrays ≡ map array_of bs = ap (λ (xs : List ℕ). map (array_in xs no_dictionary) arrays) p.whole ∙ flat_stay old p.more arrays so.ends ∙ so.placed in
+-- the array of entries in a dictionary of its own
+pub entries_placed : (values : Values) (count : ℕ) (old new : List ℕ) (before behind : List Dictionary) (layout : PlacedLayout) (d : Dictionary) (part : DictionaryPart) → IsLaid values old new layout
+    → d.arrays.items ≡ roll-PlacedArray (record { slots = count; validity = record { start = 0; len = 0 }; layout = layout }) ∷ [] → behind ≡ before ++ d ∷ [] → part.number ≡ length before
+    → part.count ≡ 1 → AreEntriesPlaced values count old new before behind part
+entries_placed values count old new before behind layout d part l one longer number size =
+    let a : PlacedArray = roll-PlacedArray (record { slots = count; validity = record { start = 0; len = 0 }; layout = layout }) in
+    let numbered : arrays_numbered (before ++ d ∷ []) part.number ≡ a ∷ [] = ap (arrays_numbered (before ++ d ∷ [])) number ∙ numbered_last before d ∙ one in
+    let all : take part.count (arrays_numbered (before ++ d ∷ []) part.number) ≡ a ∷ [] = (λ j. take (size j) (numbered j)) in
+    let is : array_in new no_dictionary a ≡ entries_array values count =
+    fold-roll-PlacedArray Layout Array (layout_step new no_dictionary) (array_step new) (record { slots = count; validity = record { start = 0; len = 0 }; layout = layout })
+    ∙ ap (array count []) (l.laid no_dictionary) in
+    let ends : is_within_by (length new) (λ p. true) a ≡ true =
+    fold-roll-PlacedArray Bool Bool (layout_within (length new) (λ p. true)) (array_within (length new)) (record { slots = count; validity = record { start = 0; len = 0 }; layout = layout })
+    ∙ and_from _ _ (le-leb 0 (length new) (omega arith)) (l.ends (λ p. true)) in
+    let stands : stands_within (length new) (before ++ d ∷ []) part ≡ true =
+    (λ j. nat_le (size j) (length (numbered j)) && list_all (is_within_by (length new) (λ p. true)) (all j)) ∙ and_from _ _ ends refl in
     record {
-      placed = map-append (array_in new no_dictionary) arrays (a ∷ []) ∙ (λ j. before j ++ p.placed j ∷ []) ∙ sym (map-append array_of bs (b ∷ []));
-      ends = one_within (length new) arrays a (stay_within (length old) (length new) arrays (omega (arith, longer)) so.ends) p.ends;
+      more = l.more;
+      whole = l.whole;
+      own = d ∷ [];
+      longer = longer;
+      known = ap (λ (ds : List Dictionary). arrays_in new ds part) longer ∙ known_last new before d part ∙ ap (map (array_in new no_dictionary)) all ∙ ap (λ (x : Array). x ∷ []) is;
+      stands = ap (λ (ds : List Dictionary). stands_within (length new) ds part) longer ∙ stands;
     }
 
-pub placed_pushed : (bs : List ColumnBuilder) (b : ColumnBuilder) (old new : List ℕ) (arrays longer : List PlacedArray) (a : PlacedArray) → SoFar bs old arrays → IsPlaced b old new a
-    → longer ≡ arrays ++ a ∷ [] → SoFar (bs ++ b ∷ []) new longer
-placed_pushed bs b old new arrays longer a so p pushed = subst (λ (xs : List PlacedArray). SoFar (bs ++ b ∷ []) new xs) (sym pushed) (placed_more bs b old new arrays a so p)
+-- indices, and the entries that they name
+pub coded_laid : (values : Values) (d : Coding) (old mid new : List ℕ) (before behind : List Dictionary) (span : Span) (part : DictionaryPart) → IsAppended old d.indices.items mid span
+    → AreEntriesPlaced values (length d.keys.keys) mid new before behind part → IsPlacedAs (column_layout (Some d) values) old new before behind (layouts.Dictionary span part)
+coded_laid values d old mid new before behind span part a e =
+    let front : within new span ≡ d.indices.items = ap (λ (xs : List ℕ). within xs span) e.whole ∙ a.stands e.more in
+    let inner : ends_within (length new) span ≡ true = ap (λ (xs : List ℕ). ends_within (length xs) span) e.whole ∙ a.ends e.more in
+    record {
+      more = d.indices.items ++ e.more;
+      whole = e.whole ∙ ap (λ (xs : List ℕ). xs ++ e.more) a.whole ∙ append_assoc old d.indices.items e.more;
+      own = e.own;
+      longer = e.longer;
+      laid = codes_are new (arrays_in new behind) span part ∙ (λ j. dictionary_layout (front j) (arrays_of (e.known j)));
+      ends = codes_within (length new) (stands_within (length new) behind) span part ∙ and_from _ _ inner e.stands;
+    }
 
--- ---- the arrays that cells are written as
+pub plain_laid : (values : Values) (old new : List ℕ) (before : List Dictionary) (layout : PlacedLayout) → IsLaid values old new layout → IsPlacedAs (layout_of values) old new before before layout
+plain_laid values old new before layout l = record {
+  more = l.more;
+  whole = l.whole;
+  own = [];
+  longer = sym (append-nil before);
+  laid = l.laid (arrays_in new before);
+  ends = l.ends (stands_within (length new) before);
+}
 
-there_all : (cells : List Cell) → list_all (λ b. b) (map is_there cells) ≡ list_all is_there cells
-there_all [] = refl
-there_all (c ∷ cells) = ap (λ (b : Bool). is_there c && b) (there_all cells)
+pub plain_step : {E : Type 0} (values : Values) (old new : List ℕ) (before : List Dictionary) (r : Result PlacedLayout E) → IfOk r (λ layout. IsLaid values old new layout)
+    → IfOk r (λ layout. IsPlacedAs (layout_of values) old new before before layout)
+plain_step values old new before (Err e) h = tt
+plain_step values old new before (Ok layout) h = plain_laid values old new before layout h
 
-validity_is : (cells : List Cell) → validity_of_bits (map is_there cells) ≡ validity_of cells
-validity_is cells = ap (λ (b : Bool). if b then [] else packed (map is_there cells)) (there_all cells)
+-- the buffers of a column
+pub column_placed : (b : ColumnBuilder) (slots : ℕ) (old mid new : List ℕ) (before behind : List Dictionary) (span : Span) (layout : PlacedLayout) → slots ≡ length b.valid.items
+    → IsAppended old (validity_in (has_validity b.coding b.values) b.valid.items) mid span → IsPlacedAs (column_layout b.coding b.values) mid new before behind layout
+    → IsPlaced b old new before behind (roll-PlacedArray (record { slots = slots; validity = span; layout = layout }))
+column_placed b slots old mid new before behind span layout count a l =
+    let valid = validity_in (has_validity b.coding b.values) b.valid.items in
+    let front : within new span ≡ valid = ap (λ (xs : List ℕ). within xs span) l.whole ∙ a.stands l.more in
+    let inner : ends_within (length new) span ≡ true = ap (λ (xs : List ℕ). ends_within (length xs) span) l.whole ∙ a.ends l.more in
+    record {
+      more = valid ++ l.more;
+      whole = l.whole ∙ ap (λ (xs : List ℕ). xs ++ l.more) a.whole ∙ append_assoc old valid l.more;
+      own = l.own;
+      longer = l.longer;
+      placed = fold-roll-PlacedArray Layout Array (layout_step new (arrays_in new behind)) (array_step new) (record { slots = slots; validity = span; layout = layout })
+          ∙ (λ j. array (count j) (front j) (l.laid j));
+      ends = fold-roll-PlacedArray Bool Bool (layout_within (length new) (stands_within (length new) behind)) (array_within (length new)) (record { slots = slots; validity = span; layout = layout })
+          ∙ and_from _ _ inner l.ends;
+    }
 
-with_is : (cells : List Cell) (valid : List Bool) (layout own : Layout) → valid ≡ map is_there cells → layout ≡ own → array (length valid) (validity_of_bits valid) layout ≡ with_validity cells own
-with_is cells valid layout own is same =
-    (λ j. array (length (is j)) (validity_of_bits (is j)) (same j)) ∙ (λ j. array (length-map cells is_there j) (validity_is cells j) own)
+-- ---- arrays, one after another
 
-pub built_is : (c : Column) (cells : List Cell) (b : ColumnBuilder) → Keeps c cells b → array_of b ≡ built c cells
-unfolding built built_kind
-built_is (column name nullable kind (Some index) pairs) cells b k = absurd k
-built_is (column name nullable kind None pairs) cells b k = by kind b.values k.2.kind_is k.2.holds
-  where
-    by : (kind : Kind) (values : Values) → IsOf kind values → Holds values cells → array (length b.valid.items) (validity_in values b.valid.items) (layout_of values) ≡ built_kind kind cells
-    by nulls Nulls h holds = ap (λ (n : ℕ). array n [] null_layout) (ap length k.1 ∙ length-map cells is_there)
-    by booleans (Booleans bits) h holds = with_is cells b.valid.items (bit_layout (packed bits.items)) _ k.1 (ap (λ (xs : List Bool). bit_layout (packed xs)) holds)
-    by (integers bits signed) (Integers i bytes) h holds =
-        with_is cells b.valid.items (fixed_layout bytes.items) _ k.1 (ap fixed_layout (holds ∙ ap (λ (n : ℕ). flat_map (integer_bytes (n / 8)) cells) h.0))
-    by (dates unit) (Integers i bytes) h holds =
-        with_is cells b.valid.items (fixed_layout bytes.items) _ k.1 (ap fixed_layout (holds ∙ ap (λ (n : ℕ). flat_map (integer_bytes (n / 8)) cells) h.0))
-    by (timestamps unit timezone) (Integers i bytes) h holds =
-        with_is cells b.valid.items (fixed_layout bytes.items) _ k.1 (ap fixed_layout (holds ∙ ap (λ (n : ℕ). flat_map (integer_bytes (n / 8)) cells) h.0))
-    by texts (Texts width offsets contents) h holds =
-        with_is cells b.valid.items (binary_layout offsets.items contents.items) _ k.1
-        (λ j. binary_layout ((holds.0 ∙ ap (λ w. offsets_of (width_of w) (map (λ c. length (contents_of c)) cells)) h) j) (holds.1 j))
-    by large_texts (Texts width offsets contents) h holds =
-        with_is cells b.valid.items (binary_layout offsets.items contents.items) _ k.1
-        (λ j. binary_layout ((holds.0 ∙ ap (λ w. offsets_of (width_of w) (map (λ c. length (contents_of c)) cells)) h) j) (holds.1 j))
-    by binaries (Binaries width offsets contents) h holds =
-        with_is cells b.valid.items (binary_layout offsets.items contents.items) _ k.1
-        (λ j. binary_layout ((holds.0 ∙ ap (λ w. offsets_of (width_of w) (map (λ c. length (contents_of c)) cells)) h) j) (holds.1 j))
-    by large_binaries (Binaries width offsets contents) h holds =
-        with_is cells b.valid.items (binary_layout offsets.items contents.items) _ k.1
-        (λ j. binary_layout ((holds.0 ∙ ap (λ w. offsets_of (width_of w) (map (λ c. length (contents_of c)) cells)) h) j) (holds.1 j))
-    by (fixed_binaries size) (FixedBinaries width bytes) h holds =
-        with_is cells b.valid.items (fixed_layout bytes.items) _ k.1 (ap fixed_layout (holds ∙ ap (λ (n : ℕ). flat_map (fixed_bytes n) cells) h))
-    by _ values h holds = absurd h
+pub record SoFar (bs : List ColumnBuilder) (bytes : List ℕ) (dictionaries : List Dictionary) (arrays : List PlacedArray) : Type 0 where
+  pub placed : ArePlaced bs bytes dictionaries arrays
+  pub ends : list_all (is_placed_within (length bytes) dictionaries) arrays ≡ true
 
-first_column : (rows : List (List Cell)) → column_at 0 rows ≡ map first_cell rows
-first_column [] = refl
-first_column ([] ∷ rows) = ap (λ (xs : List Cell). null ∷ xs) (first_column rows)
-first_column ((c ∷ row) ∷ rows) = ap (λ (xs : List Cell). c ∷ xs) (first_column rows)
+all_stay : (old more : List ℕ) (before own : List Dictionary) (arrays : List PlacedArray) → list_all (is_placed_within (length old) before) arrays ≡ true
+    → map (array_in (old ++ more) (arrays_in (old ++ more) (before ++ own))) arrays ≡ map (array_in old (arrays_in old before)) arrays
+all_stay old more before own [] h = refl
+all_stay old more before own (a ∷ arrays) h =
+    let p = and_parts (is_placed_within (length old) before a) (list_all (is_placed_within (length old) before) arrays) h in
+    let here = array_grown old more before (before ++ own) a (part_stays before own) p.0 in
+    let rest = all_stay old more before own arrays p.1 in
+    λ j. here j ∷ rest j
 
-other_column : (j : ℕ) (rows : List (List Cell)) → column_at (suc j) rows ≡ column_at j (map other_cells rows)
-other_column j [] = refl
-other_column j ([] ∷ rows) = ap (λ (xs : List Cell). null ∷ xs) (other_column j rows)
-other_column j ((c ∷ row) ∷ rows) = ap (λ (xs : List Cell). get_or row j null ∷ xs) (other_column j rows)
+all_within : (size more : ℕ) (before own : List Dictionary) (arrays : List PlacedArray) → size ≤ more → list_all (is_placed_within size before) arrays ≡ true
+    → list_all (is_placed_within more (before ++ own)) arrays ≡ true
+all_within size more before own [] le h = refl
+all_within size more before own (a ∷ arrays) le h =
+    let p = and_parts (is_placed_within size before a) (list_all (is_placed_within size before) arrays) h in
+    and_from _ _ (within_more size more le (stands_within size before) (stands_within more (before ++ own)) (part_stands size more before own le) a p.0) (all_within size more before own arrays le p.1)
 
-pub all_built : (cs : List Column) (rows : List (List Cell)) (bs : List ColumnBuilder) → length bs ≡ length cs
-    → ((j : ℕ) (c : Column) (b : ColumnBuilder) → slice_get cs j ≡ Some c → slice_get bs j ≡ Some b → Keeps c (column_at j rows) b)
-    → arrays_of (map array_of bs) ≡ built_parts (columns_of cs) rows
-unfolding built_parts
-all_built [] rows [] count each = refl
-all_built [] rows (b ∷ bs) count each = absurd (omega arith)
-all_built (c ∷ cs) rows [] count each = absurd (omega arith)
-all_built (c ∷ cs) rows (b ∷ bs) count each =
-    let here = built_is c (column_at 0 rows) b (each 0 c b refl refl) ∙ ap (built c) (first_column rows) in
-    let others = all_built cs (map other_cells rows) bs (omega arith) (λ j d e dc db. subst (λ (xs : List Cell). Keeps d xs e) (other_column j rows) (each (suc j) d e dc db)) in
-    λ j. and_array (here j) (others j)
+placed_more : (bs : List ColumnBuilder) (b : ColumnBuilder) (old new : List ℕ) (before behind : List Dictionary) (arrays : List PlacedArray) (a : PlacedArray) → SoFar bs old before arrays
+    → IsPlaced b old new before behind a → SoFar (bs ++ b ∷ []) new behind (arrays ++ a ∷ [])
+placed_more bs b old new before behind arrays a so p =
+    let longer : length new ≡ length old + length p.more = ap length p.whole ∙ length-append old p.more in
+    let front : map (array_in new (arrays_in new behind)) arrays ≡ map array_of bs =
+    (λ j. map (array_in (p.whole j) (arrays_in (p.whole j) (p.longer j))) arrays) ∙ all_stay old p.more before p.own arrays so.ends ∙ so.placed in
+    let within : list_all (is_placed_within (length new) behind) arrays ≡ true =
+    ap (λ (ds : List Dictionary). list_all (is_placed_within (length new) ds) arrays) p.longer ∙ all_within (length old) (length new) before p.own arrays (omega (arith, longer)) so.ends in
+    record {
+      placed = map-append (array_in new (arrays_in new behind)) arrays (a ∷ []) ∙ (λ j. front j ++ p.placed j ∷ []) ∙ sym (map-append array_of bs (b ∷ []));
+      ends = list_all-append (is_placed_within (length new) behind) arrays (a ∷ []) ∙ and_from _ _ within (and_from _ _ p.ends refl);
+    }
+
+pub placed_pushed : (bs : List ColumnBuilder) (b : ColumnBuilder) (old new : List ℕ) (before behind : List Dictionary) (arrays longer : List PlacedArray) (a : PlacedArray) → SoFar bs old before arrays
+    → IsPlaced b old new before behind a → longer ≡ arrays ++ a ∷ [] → SoFar (bs ++ b ∷ []) new behind longer
+placed_pushed bs b old new before behind arrays longer a so p pushed =
+    subst (λ (xs : List PlacedArray). SoFar (bs ++ b ∷ []) new behind xs) (sym pushed) (placed_more bs b old new before behind arrays a so p)

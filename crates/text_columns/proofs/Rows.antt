@@ -2,16 +2,14 @@
 use Rattle.std.specs.Borrow.{Bor}
 use Rattle.std.specs.Prelude.{Option, Some, None, Ok, Err, Result, slice_get, get_or, ◌==◌, nat_lt, ◌⊎◌, MatchResult}
 use Rattle.std.proofs.Common.{◌≡◌, ℕ, zero, suc, ◌+◌, ◌-◌, ◌≤◌, ◌<◌, true, false, List, [], ◌∷◌, ◌++◌, length, take, drop, set, refl, arith, ap, sym, subst, ◌∙◌, inl, inr, length-append}
-use Rattle.std.proofs.lemmas.Bool.{cases_lt, eq-eqb, le-ltb, or_from}
+use Rattle.std.proofs.lemmas.Bool.{cases_lt, eq-eqb, le-ltb}
 use Rattle.std.proofs.lemmas.List.{map-append}
 use Rattle.std.proofs.lemmas.List.Sums.{sum_by-append}
 use Rattle.std.proofs.lemmas.Option.{slice_get_within}
-use Rattle.arrow_schema.specs.Column.{Kind, Column, nulls, booleans, integers, dates, timestamps, texts, large_texts, binaries, large_binaries, fixed_binaries, column, columns_of, PlainSchema}
+use Rattle.arrow_schema.specs.Column.{Column, columns_of, PlainSchema}
 use Rattle.cells.specs.Cell.{Cell, null, cells_of}
-use Rattle.cells.specs.Dictionary.{is_limited, is_kind_limited, is_any_limited}
 use Rattle.cells.specs.Dictionary.{dictionaries_fit}
 use Rattle.cells.specs.Weight.{parts_weight, row_weight, table_weight, weight}
-use Rattle.cells.specs.laws.Unlimited.{unlimited_fit}
 use Rattle.csv.specs.declared.reader.Reader.{Reader}
 use Rattle.facts.specs.Outcomes.{Reports}
 use Rattle.text_import.specs.Records.{field_cells, record_row}
@@ -22,10 +20,9 @@ use Rattle.text_import.specs.declared.refusal.Refused.{Refused}
 use Rattle.text_import.specs.declared.refusal.TextError.{TextError}
 use Rattle.text_import.specs.laws.Behind.{behind, behind_none, field_more, fields_end, row_more, row_refused, rows_end, told}
 use Rattle.text_columns.specs.declared.builder.ColumnBuilder.{ColumnBuilder}
-use Rattle.text_columns.specs.declared.column_values.Values.{Values}
-use Rattle.text_columns.specs.declared.column_values.Values.TheVariants.{Nulls, Booleans, Integers, Texts, Binaries, FixedBinaries}
 use Rattle.text_columns.specs.declared.records.RowsRead.{RowsRead}
-use Rattle.text_columns.specs.inner.Kept.{HasRow, HasRows, IsOf, KeepAll, Keeps, KeepsField, KeepsRecord, ReadsRows, column_at}
+use Rattle.text_columns.proofs.FewEntries.{row_fits}
+use Rattle.text_columns.specs.inner.Kept.{HasRow, HasRows, KeepAll, Keeps, KeepsField, KeepsRecord, ReadsRows, column_at}
 
 -- ---- the item at a place
 
@@ -207,41 +204,6 @@ keep_more cs bs c b k kept = record {
   ];
 }
 
--- ---- no dictionary
-
-kept_unlimited : (c : Column) (cells : List Cell) (b : ColumnBuilder) → Keeps c cells b → is_limited c ≡ false
-unfolding is_limited is_kind_limited
-kept_unlimited (column name nullable kind (Some index) pairs) cells b k = absurd k
-kept_unlimited (column name nullable kind None pairs) cells b k = by kind b.values k.2.kind_is
-  where
-    by : (kind : Kind) (values : Values) → IsOf kind values → is_kind_limited kind ≡ false
-    by nulls values h = refl
-    by booleans values h = refl
-    by (integers bits signed) values h = refl
-    by (dates unit) values h = refl
-    by (timestamps unit timezone) values h = refl
-    by texts values h = refl
-    by large_texts values h = refl
-    by binaries values h = refl
-    by large_binaries values h = refl
-    by (fixed_binaries width) values h = refl
-    by _ Nulls h = absurd h
-    by _ (Booleans bits) h = absurd h
-    by _ (Integers i bytes) h = absurd h
-    by _ (Texts width offsets contents) h = absurd h
-    by _ (Binaries width offsets contents) h = absurd h
-    by _ (FixedBinaries width bytes) h = absurd h
-
-unlimited_by : (cs : List Column) (bs : List ColumnBuilder) → length bs ≡ length cs → ((j : ℕ) (c : Column) (b : ColumnBuilder) → slice_get cs j ≡ Some c → slice_get bs j ≡ Some b → is_limited c ≡ false)
-    → is_any_limited (columns_of cs) ≡ false
-unfolding is_any_limited
-unlimited_by [] bs count each = refl
-unlimited_by (c ∷ cs) [] count each = absurd (omega arith)
-unlimited_by (c ∷ cs) (b ∷ bs) count each = or_from _ _ (each 0 c b refl refl) (unlimited_by cs bs (omega arith) (λ j d e dc db. each (suc j) d e dc db))
-
-pub unlimited : (cs : List Column) (rows : List (List Cell)) (bs : List ColumnBuilder) → KeepAll cs rows bs → is_any_limited (columns_of cs) ≡ false
-unlimited cs rows bs k = unlimited_by cs bs k.count (λ j c b dc db. kept_unlimited c (column_at j rows) b (k.each j c b dc db))
-
 -- ---- the records of a text
 
 -- some records have come as rows, and the others are left, which are read by a reader or stand in the text
@@ -260,11 +222,10 @@ read_none IsLeft s null_text records bs has k = record { rows = []; left = recor
 
 -- a row that is not too heavy is accepted
 accepted_row : (s : PlainSchema) (null_text : List ℕ) (ts : List (List ℕ)) (rows : List (List Cell)) (heavy : ℕ) (old new : List ColumnBuilder) (h : HasRow s.columns null_text ts heavy rows new)
-    → length ts ≡ length s.columns → heavy ≤ 16777216 → is_any_limited (columns_of s.columns) ≡ false → record_row s null_text ts ≡ Ok h.row
-accepted_row s null_text ts rows heavy old new h count few free =
+    → length ts ≡ length s.columns → heavy ≤ 16777216 → dictionaries_fit s (h.row ∷ []) ≡ true → record_row s null_text ts ≡ Ok h.row
+accepted_row s null_text ts rows heavy old new h count few full =
     let width : (length ts == length s.columns) ≡ true = eq-eqb _ _ count in
     let light : nat_lt 16777216 (row_weight s h.row) ≡ false = le-ltb _ _ (omega (arith, h.weighs, few)) in
-    let full : dictionaries_fit s (h.row ∷ []) ≡ true = unlimited_fit s (h.row ∷ []) free in
     rw (width, h.read, light, full) refl
 
 pub read_more : (IsLeft WillBeLeft : List (List (List ℕ)) → Type 0) (s : PlainSchema) (null_text : List ℕ) (records others : List (List (List ℕ))) (i heavy more : ℕ) (old new : List ColumnBuilder)
@@ -272,8 +233,8 @@ pub read_more : (IsLeft WillBeLeft : List (List (List ℕ)) → Type 0) (s : Pla
     → Read WillBeLeft s null_text records (i + 1) (heavy + more) new
 read_more IsLeft WillBeLeft s null_text records others i heavy more old new fields h whole has few keeps =
     let row = keeps.1 s.columns h.rows h.keeps in
-    let free = unlimited s.columns h.rows old h.keeps in
-    let accepted = accepted_row s null_text fields h.rows more old new row (keeps.0 ∙ h.keeps.count) few free in
+    let full = row_fits s h.rows old row.row h.keeps in
+    let accepted = accepted_row s null_text fields h.rows more old new row (keeps.0 ∙ h.keeps.count) few full in
     let joined = sum_by-append (row_weight s) h.rows (row.row ∷ []) in
     let given : numbered (i + 1) (record_row s null_text fields) ≡ Ok row.row = rw accepted refl in
     record {

@@ -1,92 +1,37 @@
 -- The one record batch that the buffers of columns are.
-use Rattle.std.specs.Prelude.{◌==◌, not, nat_lt, Some, None, Result, Ok, slice_get}
-use Rattle.std.specs.List.{AllPass, flat_map, list_all, list_any}
-use Rattle.std.proofs.Common.{◌≡◌, ℕ, zero, suc, true, false, List, [], ◌∷◌, ◌++◌, length, map, refl, arith, ap, sym, subst, ◌∙◌, append-nil}
-use Rattle.std.proofs.lemmas.Bool.{and_from}
-use Rattle.arrow_schema.specs.Column.{Column, Columns, Kind, booleans, integers, dates, timestamps, nulls, texts, large_texts, binaries, large_binaries, fixed_binaries, column, columns_of, PlainSchema}
+use Rattle.std.specs.Prelude.{◌==◌, not, nat_le, nat_lt, Result, Ok}
+use Rattle.std.specs.List.{AllByRecursion, AllPass, flat_map, list_all, list_any}
+use Rattle.std.proofs.Common.{◌≡◌, ℕ, true, false, List, [], ◌∷◌, length, map, refl, arith, ap, sym, subst, ◌∙◌, append-nil}
+use Rattle.std.proofs.lemmas.Bool.{and_from, and_parts}
+use Rattle.arrow_schema.specs.Column.{Columns, columns_of, PlainSchema}
 use Rattle.arrow_schema.specs.Limits.{IsWithinLimits}
 use Rattle.cells.specs.Cell.{Cell, PlainTable}
 use Rattle.cells.specs.Row.{is_row}
 use Rattle.cells.specs.Weight.{table_weight}
 use Rattle.text_import.specs.declared.refusal.Refused.{Refused}
+use Rattle.columns.specs.Alone.{IsBuiltAlone, own_array, own_column}
 use Rattle.columns.specs.Array.{Arrays, arrays_of, array_list, slots_in}
-use Rattle.columns.specs.Buffers.{buffers_of, nodes_of, typed_dictionaries}
-use Rattle.columns.specs.Built.{built, built_kind, built_parts, first_cell, other_cells}
+use Rattle.columns.specs.Buildable.{can_build_rows}
+use Rattle.columns.specs.Buffers.{buffers_of, dictionaries_of, nodes_of}
+use Rattle.columns.specs.Built.{built_parts}
 use Rattle.columns.specs.CellAt.{rows_in}
 use Rattle.columns.specs.FromBuffers.{arrays_from}
 use Rattle.columns.specs.Layouts.{dictionary_arrays}
-use Rattle.columns.specs.Sound.{are_sound}
-use Rattle.columns.specs.Tests.{arrays_at, arrays_below, every_array, has_short_child, is_short, is_unordered, typed}
+use Rattle.columns.specs.Sound.{are_sound, is_sound}
+use Rattle.columns.specs.Tests.{Typed, every_array, has_short_child, is_short, is_unordered}
 use Rattle.columns.specs.View.{placed_arrays}
-use Rattle.columns.specs.laws.Sounds.{AreClean, all_sound}
+use Rattle.columns.specs.laws.Sounds.{AreClean, all_sound, is_typed_sound}
 use Rattle.columns.specs.laws.Rows.{none_shorter}
 use Rattle.values.specs.Parts.{are_parts_sound, parts_table}
 use Rattle.values.specs.Table.{IsTable}
 use Rattle.values.specs.declared.part.Batch.{Batch}
 use Rattle.values.specs.declared.part.Part.{Part}
 use Rattle.text_columns.specs.declared.builder.ColumnBuilder.{ColumnBuilder}
-use Rattle.text_columns.specs.declared.column_values.Values.{Values}
-use Rattle.text_columns.specs.declared.column_values.Values.TheVariants.{Nulls, Booleans, Integers, Texts, Binaries, FixedBinaries}
 use Rattle.text_columns.specs.declared.records.RowsRead.{RowsRead}
-use Rattle.text_columns.specs.inner.Kept.{HasRows, IsOf, KeepAll, Keeps, column_at}
+use Rattle.text_columns.specs.inner.Kept.{HasRows, KeepAll}
 use Rattle.text_columns.specs.inner.Tables.{HasTable, MakesRows}
 use Rattle.text_columns.specs.inner.Placed.{ArePlaced}
-use Rattle.text_columns.proofs.PlacedBuffers.{all_built}
-
--- ---- no column has a dictionary
-
-own_dictionaries : (c : Column) (own : List Cell) (b : ColumnBuilder) → Keeps c own b → (cells : List Cell) → flat_map typed_dictionaries (arrays_at c (built c cells)) ≡ []
-unfolding arrays_at arrays_below built built_kind
-own_dictionaries (column name nullable kind (Some index) pairs) own b k cells = absurd k
-own_dictionaries (column name nullable kind None pairs) own b k cells = by kind b.values k.2.kind_is
-  where
-    by : (kind : Kind) (values : Values) → IsOf kind values → flat_map typed_dictionaries (typed (column name nullable kind None pairs) (built_kind kind cells) ∷ arrays_below kind (built_kind kind cells)) ≡ []
-    by nulls values h = refl
-    by booleans values h = refl
-    by (integers bits signed) values h = refl
-    by (dates unit) values h = refl
-    by (timestamps unit timezone) values h = refl
-    by texts values h = refl
-    by large_texts values h = refl
-    by binaries values h = refl
-    by large_binaries values h = refl
-    by (fixed_binaries width) values h = refl
-    by _ Nulls h = absurd h
-    by _ (Booleans bits) h = absurd h
-    by _ (Integers i bytes) h = absurd h
-    by _ (Texts width offsets contents) h = absurd h
-    by _ (Binaries width offsets contents) h = absurd h
-    by _ (FixedBinaries width bytes) h = absurd h
-
-none_before : {Y : Type 0} (zs rest more : List Y) → zs ++ rest ≡ [] → (rest ≡ [] → more ≡ []) → zs ++ more ≡ []
-none_before [] rest more e f = f e
-none_before (z ∷ zs) rest more e f = absurd cc
-
-flat_both : {X Y : Type 0} (f : X → List Y) (xs ys : List X) → flat_map f xs ≡ [] → flat_map f ys ≡ [] → flat_map f (xs ++ ys) ≡ []
-flat_both f [] ys e h = h
-flat_both f (x ∷ xs) ys e h = none_before (f x) (flat_map f xs) (flat_map f (xs ++ ys)) e (λ k. flat_both f xs ys k h)
-
-abbrev IsKept : Column → Type 0
-IsKept c = (own : List Cell) × (b : ColumnBuilder) × Keeps c own b
-
-no_dictionaries : (cs : List Column) → ((j : ℕ) (c : Column) → slice_get cs j ≡ Some c → IsKept c) → (rows : List (List Cell))
-    → flat_map typed_dictionaries (every_array (columns_of cs) (built_parts (columns_of cs) rows)) ≡ []
-unfolding built_parts every_array
-no_dictionaries [] each rows = refl
-no_dictionaries (c ∷ cs) each rows =
-    let (own, b, k) = each 0 c refl in
-    flat_both typed_dictionaries (arrays_at c (built c (map first_cell rows))) (every_array (columns_of cs) (built_parts (columns_of cs) (map other_cells rows)))
-    (own_dictionaries c own b k (map first_cell rows))
-    (no_dictionaries cs (λ j d e. each (suc j) d e) (map other_cells rows))
-
-there_too : {X Y : Type 0} (xs : List X) (ys : List Y) (j : ℕ) (x : X) → length ys ≡ length xs → slice_get xs j ≡ Some x → (y : Y) × (slice_get ys j ≡ Some y)
-there_too [] ys j x e h = absurd cc
-there_too (z ∷ xs) [] j x e h = absurd (omega arith)
-there_too (z ∷ xs) (y ∷ ys) zero x e h = (y, refl)
-there_too (z ∷ xs) (y ∷ ys) (suc j) x e h = there_too xs ys j x (omega arith) h
-
-all_kept : (cs : List Column) (rows : List (List Cell)) (bs : List ColumnBuilder) → KeepAll cs rows bs → (j : ℕ) (c : Column) → slice_get cs j ≡ Some c → IsKept c
-all_kept cs rows bs k j c dc = let (b, db) = there_too cs bs j c k.count dc in (column_at j rows, b, k.each j c b dc db)
+use Rattle.text_columns.proofs.BuiltArrays.{all_built}
 
 -- ---- the batch
 
@@ -99,27 +44,61 @@ pub record AreBuilt (cs : Columns) (rows : List (List Cell)) : Type 0 where
   pub children : list_any (λ t. has_short_child t.column t.array) (every_array cs (built_parts cs rows)) ≡ false
   pub slots : list_any (λ a. not (slots_in a == length rows)) (array_list (built_parts cs rows)) ≡ false
 
-built_sound : (cs : Columns) (rows : List (List Cell)) → AreBuilt cs rows → flat_map typed_dictionaries (every_array cs (built_parts cs rows)) ≡ [] → are_sound cs (length rows) (built_parts cs rows) ≡ true
-built_sound cs rows h none =
+built_sound : (cs : Columns) (rows : List (List Cell)) → AreBuilt cs rows → list_all is_typed_sound (dictionaries_of cs (built_parts cs rows)) ≡ true
+    → are_sound cs (length rows) (built_parts cs rows) ≡ true
+built_sound cs rows h entries =
     let a : Arrays = built_parts cs rows in
-    let clean : AreClean (every_array cs a) = record { long = h.long; ordered = h.ordered; children = h.children; dictionaries = rw none refl } in
+    let clean : AreClean (every_array cs a) = record { long = h.long; ordered = h.ordered; children = h.children; dictionaries = entries } in
     subst (λ (x : Arrays). are_sound cs (length rows) x ≡ true) h.again
     (all_sound cs (length rows) (nodes_of cs a) (buffers_of cs a) (dictionary_arrays cs a)
     (subst (λ (x : Arrays). AreClean (every_array cs x)) (sym h.again) clean)
     (subst (λ (x : Arrays). list_any (λ child. nat_lt (slots_in child) (length rows)) (array_list x) ≡ false) (sym h.again) (none_shorter (length rows) (array_list a) h.slots)))
 
+-- what is known of the dictionaries of arrays that rows are written as
+pub record AreDictionaries (cs : Columns) (rows : List (List Cell)) : Type 0 where
+  pub alone : AllByRecursion (IsBuiltAlone 268435456) (dictionaries_of cs (built_parts cs rows))
+  pub flat : AllByRecursion (λ t. dictionary_arrays (own_column t) (own_array t) ≡ []) (dictionaries_of cs (built_parts cs rows))
+
+abbrev BuiltLaw : Type 0
+BuiltLaw = (cs : Columns) (rows : List (List Cell)) → can_build_rows cs rows ≡ true → AreBuilt cs rows
+
+abbrev KnownLaw : Type 0
+KnownLaw = (cs : Columns) (rows : List (List Cell)) → can_build_rows cs rows ≡ true
+    → dictionary_arrays cs (built_parts cs rows) ≡ map (λ t. t.array ∷ []) (dictionaries_of cs (built_parts cs rows))
+
+none_listed : (ts : List Typed) → map (λ (t : Typed). t.array ∷ []) ts ≡ [] → ts ≡ []
+none_listed [] h = refl
+none_listed (t ∷ ts) h = absurd cc
+
+-- a dictionary by itself
+entry_sound : BuiltLaw → KnownLaw → (t : Typed) → IsBuiltAlone 268435456 t → dictionary_arrays (own_column t) (own_array t) ≡ [] → is_typed_sound t ≡ true
+unfolding are_sound
+entry_sound law lists t h flat =
+    let cs : Columns = own_column t in
+    let none : dictionaries_of cs (built_parts cs h.rows) ≡ [] =
+    none_listed _ (sym (lists cs h.rows h.can) ∙ ap (dictionary_arrays cs) (sym h.array) ∙ flat) in
+    let sound : are_sound cs (length h.rows) (built_parts cs h.rows) ≡ true = built_sound cs h.rows (law cs h.rows h.can) (ap (list_all is_typed_sound) none) in
+    let own : are_sound cs (length h.rows) (own_array t) ≡ true = ap (are_sound cs (length h.rows)) h.array ∙ sound in
+    (and_parts (is_sound t.column t.array) true (and_parts (nat_le (length h.rows) (slots_in t.array)) _ own).1).0
+
+entries_sound : BuiltLaw → KnownLaw → (ts : List Typed) → AllByRecursion (IsBuiltAlone 268435456) ts → AllByRecursion (λ t. dictionary_arrays (own_column t) (own_array t) ≡ []) ts
+    → list_all is_typed_sound ts ≡ true
+entries_sound law lists [] alone flat = refl
+entries_sound law lists (t ∷ ts) alone flat = and_from _ _ (entry_sound law lists t alone.0 flat.0) (entries_sound law lists ts alone.1 flat.1)
+
 -- its rows are those that the columns hold, and its slots can be looked up
 pub part_made : (s : PlainSchema) (rows : List (List Cell)) (bs : List ColumnBuilder) (n : ℕ) (part : Part) (batch : Batch) → KeepAll s.columns rows bs → length rows ≡ n
-    → AreBuilt (columns_of s.columns) rows → part.dictionaries.items ≡ [] → part.batches.items ≡ batch ∷ [] → batch.rows ≡ n → ArePlaced bs part.bytes.items batch.arrays.items
+    → BuiltLaw → KnownLaw → can_build_rows (columns_of s.columns) rows ≡ true → AreDictionaries (columns_of s.columns) rows → part.batches.items ≡ batch ∷ [] → batch.rows ≡ n
+    → ArePlaced bs part.bytes.items part.dictionaries.items batch.arrays.items
     → (parts_table s (part ∷ []) ≡ record { schema = s; rows = rows }) × (are_parts_sound (columns_of s.columns) (part ∷ []) ≡ true)
-part_made s rows bs n part batch k count built none one size placed =
+part_made s rows bs n part batch k count law lists can entries one size placed =
     let cs : Columns = columns_of s.columns in
-    let arrays : placed_arrays part.bytes.items part.dictionaries.items batch.arrays.items ≡ built_parts cs rows =
-    ap (λ ds. placed_arrays part.bytes.items ds batch.arrays.items) none ∙ ap arrays_of placed ∙ all_built s.columns rows bs k.count k.each in
+    let built : AreBuilt cs rows = law cs rows can in
+    let arrays : placed_arrays part.bytes.items part.dictionaries.items batch.arrays.items ≡ built_parts cs rows = ap arrays_of placed ∙ all_built s.columns rows bs k.count k.each in
     let many : batch.rows ≡ length rows = size ∙ sym count in
     let back : rows_in cs (placed_arrays part.bytes.items part.dictionaries.items batch.arrays.items) batch.rows ≡ rows = (λ j. rows_in cs (arrays j) (many j)) ∙ built.back in
     let sound : are_sound cs batch.rows (placed_arrays part.bytes.items part.dictionaries.items batch.arrays.items) ≡ true =
-    (λ j. are_sound cs (many j) (arrays j)) ∙ built_sound cs rows built (no_dictionaries s.columns (all_kept s.columns rows bs k) rows) in (
+    (λ j. are_sound cs (many j) (arrays j)) ∙ built_sound cs rows built (entries_sound law lists (dictionaries_of cs (built_parts cs rows)) entries.alone entries.flat) in (
       ap (λ (r : List (List Cell)). record { schema = s; rows = r }) (append-nil _ ∙ ap (flat_map _) one ∙ append-nil _ ∙ back),
       and_from _ _ (ap (list_all _) one ∙ and_from _ _ sound refl) refl,
     )

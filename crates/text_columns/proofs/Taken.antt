@@ -23,7 +23,7 @@ use Rattle.text_import.specs.Flat.{bytes_cell, cell_of_text, field_cell, number_
 use Rattle.text_columns.specs.declared.column_values.Values.{Values}
 use Rattle.text_columns.specs.declared.column_values.Values.TheVariants.{Nulls, Booleans, Integers, Texts, Binaries, FixedBinaries}
 use Rattle.text_columns.specs.declared.builder.ColumnBuilder.{ColumnBuilder}
-use Rattle.text_columns.specs.inner.Kept.{AppendsBoolean, AppendsBytes, AppendsFixed, AppendsSpelled, HoldContents, Holds, IsOf, KeepsField, TakesNull, TakesText, null_heavy}
+use Rattle.text_columns.specs.inner.Kept.{AppendsBoolean, AppendsBytes, AppendsFixed, AppendsSpelled, HoldContents, Holds, IsOf, KeepsField, TakesField, TakesNull, TakesText, null_heavy}
 use Rattle.text_columns.specs.inner.Lines.{KeepsNull}
 use Rattle.text_import.specs.declared.refusal.Refusal.TheVariants.{FixedWidth}
 
@@ -230,11 +230,10 @@ fixed_taken width t heavy old new a _ cells k = absurd k.kind_is
 null_kept : (null_text t : List ℕ) (heavy : ℕ) (old new : ColumnBuilder) → (old.nullable && bytes_eq t null_text) ≡ true → heavy ≡ null_heavy old.values → KeepsNull old new
     → KeepsField null_text t heavy old new
 unfolding field_cell
-null_kept null_text t heavy old new is heavier keeps (column name nullable kind None pairs) cells k =
+null_kept null_text t heavy old new is heavier keeps (column name nullable kind dictionary pairs) cells k =
     let test : (nullable && bytes_eq t null_text) ≡ true = rw k.0 at is in
-    let h = keeps (column name nullable kind None pairs) cells k in
+    let h = keeps (column name nullable kind dictionary pairs) cells k in
     record { kept = null; read = rw test refl; weighs = h.1 ∙ sym heavier; keeps = h.2 }
-null_kept null_text t heavy old new is heavier keeps (column name nullable kind (Some index) pairs) cells k = absurd k
 
 pub null_field : {E : Type 0} (null_text t : List ℕ) (old new : ColumnBuilder) (r : Result (Option ℕ) E) → (old.nullable && bytes_eq t null_text) ≡ true
     → IfOk r (λ taken. IfSome taken (λ heavy. (heavy ≡ null_heavy old.values) × KeepsNull old new)) → IfOk r (λ taken. IfSome taken (λ heavy. KeepsField null_text t heavy old new))
@@ -243,19 +242,18 @@ null_field null_text t old new (Ok None) is h = tt
 null_field null_text t old new (Ok (Some heavy)) is h = null_kept null_text t heavy old new is h.0 h.1
 
 pub field_kept : (null_text t : List ℕ) (heavy : ℕ) (old new : ColumnBuilder) → (old.nullable && bytes_eq t null_text) ≡ false → new.nullable ≡ old.nullable → new.valid.items ≡ old.valid.items ++ true ∷ []
-    → TakesText t heavy old.values new.values → KeepsField null_text t heavy old new
+    → TakesField t heavy old.values old.coding new.values new.coding → KeepsField null_text t heavy old new
 unfolding field_cell weight
-field_kept null_text t heavy old new is same valid takes (column name nullable kind None pairs) cells k =
+field_kept null_text t heavy old new is same valid takes (column name nullable kind dictionary pairs) cells k =
     let test : (nullable && bytes_eq t null_text) ≡ false = rw k.0 at is in
-    let h = takes kind cells k.2 in
+    let h = takes dictionary kind cells k.2 in
     let there : old.valid.items ++ true ∷ [] ≡ old.valid.items ++ is_there h.taken ∷ [] = ap (λ (b : Bool). old.valid.items ++ b ∷ []) (sym h.there) in
     record {
       kept = h.taken;
       read = rw test h.read;
       weighs = h.weighs;
-      keeps = (same ∙ k.0, one_mapped is_there cells h.taken old.valid.items new.valid.items k.1 (valid ∙ there), h.takes);
+      keeps = (same ∙ k.0, one_mapped is_there cells h.taken old.valid.items new.valid.items k.1 (valid ∙ there), h.holds);
     }
-field_kept null_text t heavy old new is same valid takes (column name nullable kind (Some index) pairs) cells k = absurd k
 
 -- ---- what a call tells, where it appended the cell
 

@@ -5,13 +5,15 @@ use Rattle.std.specs.Str.{is_utf8}
 use Rattle.byteorder.specs.Endian.{little_bytes}
 use Rattle.columns.specs.Offsets.{width_of}
 use Rattle.std.proofs.Common.{◌≡◌, ℕ, ◌+◌, ◌/◌, Bool, true, false, List, [], ◌∷◌, ◌++◌, length, refl, ap, sym, ◌∙◌}
+use Rattle.hex.specs.Hex.{decode_of}
 use Rattle.json.specs.Token.{Token}
 use Rattle.json.specs.Token as tokens
 use Rattle.serde_json.specs.Data.{Data, Num}
 use Rattle.serde_json.specs.Data as json
 use Rattle.serde_json.specs.Find.{as_integer}
 use Rattle.serde_json.specs.Read.{number_of}
-use Rattle.arrow_schema.specs.Column.{Column, booleans, integers, dates, timestamps, texts, large_texts, binaries, large_binaries, fixed_binaries, column}
+use Rattle.arrow_schema.specs.Column.{Column, Index, Kind, nulls, lists, large_lists, fixed_lists, structs, booleans, integers, dates, timestamps, texts, large_texts, binaries, large_binaries, fixed_binaries, column}
+use Rattle.arrow_schema.specs.Limits.{is_nested}
 use Rattle.arrow_schema.specs.Parts.{is_nullable_column}
 use Rattle.arrow_schema.specs.View.{bits_of}
 use Rattle.arrow_schema.specs.declared.types.IntegerType.{IntegerType}
@@ -22,12 +24,16 @@ use Rattle.cells.specs.Weight.{kind_weight, weight}
 use Rattle.columns.specs.Built.{fixed_bytes, integer_bytes, is_set}
 use Rattle.columns.specs.declared.numbers.OffsetWidth.{OffsetWidth}
 use Rattle.text_import.specs.Flat.{bytes_cell}
-use Rattle.text_import.specs.Objects.{cell_in, kind_in, null_or_in}
+use Rattle.text_import.specs.Objects.{boolean_in, bytes_in, cell_in, kind_in, null_or_in, number_in, text_in}
 use Rattle.text_import.specs.declared.refusal.Refusal.{Refusal}
+use Rattle.text_import.specs.declared.refusal.Refusal.TheVariants.{NotUtf8}
+use Rattle.text_columns.specs.declared.coding.Coding.{Coding}
+use Rattle.text_columns.specs.declared.column_values.Values.{Values}
 use Rattle.text_columns.specs.declared.column_values.Values.TheVariants.{Booleans, Integers, Texts, Binaries, FixedBinaries}
 use Rattle.text_columns.specs.declared.builder.ColumnBuilder.{ColumnBuilder}
-use Rattle.text_columns.specs.inner.Kept.{AppendsBytes, AppendsFixed, AppendsInteger, Holds, TakesNull, null_heavy}
-use Rattle.text_columns.specs.inner.Lines.{AppendsBinary, AppendsBit, AppendsFixedBinary, AppendsNumber, AppendsString, Completes, KeepsNull, KeepsToken, KeepsValue, TakesNumber, TakesToken, TakesValue, integer_in, token_data}
+use Rattle.text_columns.specs.inner.Kept.{AppendsBytes, AppendsFixed, AppendsInteger, Clears, Codes, HasCell, Holds, HoldsCells, IsCoded, TakesNullCell, null_heavy}
+use Rattle.text_columns.specs.inner.Lines.{AppendsBinary, AppendsBit, AppendsFixedBinary, AppendsNumber, AppendsString, Completes, KeepsNull, KeepsToken, KeepsValue, TakesCellToken, TakesCodedToken, TakesNumber, TakesToken, TakesValue, integer_in, token_data}
+use Rattle.text_columns.proofs.Coded.{bytes_fit_kind, number_fits_kind, fitting_fits, own_flat, own_kind, with_one}
 use Rattle.text_columns.proofs.Taken.{contents_hold, dates_read, null_weighs, one_joined, one_mapped, times_read, width_fits}
 
 -- ---- values of a type
@@ -194,14 +200,14 @@ fixed_binary_step width t old new (Ok (Some heavy)) h = record { data_is = json.
 
 -- ---- cells of a column
 
-pub null_behind : (old new : ColumnBuilder) → old.nullable ≡ true → new.nullable ≡ old.nullable → new.valid.items ≡ old.valid.items ++ false ∷ [] → TakesNull old.values new.values → KeepsNull old new
+pub null_behind : (old new : ColumnBuilder) → old.nullable ≡ true → new.nullable ≡ old.nullable → new.valid.items ≡ old.valid.items ++ false ∷ []
+    → TakesNullCell old.values old.coding new.values new.coding → KeepsNull old new
 unfolding weight
-null_behind old new is same valid takes (column name nullable kind None pairs) so k = (
+null_behind old new is same valid takes (column name nullable kind dictionary pairs) so k = (
   sym k.0 ∙ is,
-  null_weighs kind old.values k.2.kind_is,
-  (same ∙ k.0, one_mapped is_there so null old.valid.items new.valid.items k.1 valid, takes kind so k.2),
+  null_weighs kind old.values (own_kind dictionary kind so old.values old.coding k.2),
+  (same ∙ k.0, one_mapped is_there so null old.valid.items new.valid.items k.1 valid, takes dictionary kind so k.2),
 )
-null_behind old new is same valid takes (column name nullable kind (Some index) pairs) so k = absurd k
 
 -- a value that is no null has the cell of its type
 not_null : (nullable : Bool) (f : Data → Result Cell Refusal) (d : Data) → (d ≡ json.null → ⊥) → null_or_in nullable f d ≡ f d
@@ -213,22 +219,111 @@ not_null nullable f (json.array ds) other = refl
 not_null nullable f (json.object ms) other = refl
 
 value_behind : (d : Data) (heavy : ℕ) (old new : ColumnBuilder) → (d ≡ json.null → ⊥) → new.nullable ≡ old.nullable → new.valid.items ≡ old.valid.items ++ true ∷ []
-    → TakesValue d heavy old.values new.values → KeepsValue d heavy old new
+    → ((dictionary : Option Index) (kind : Kind) (so : List Cell) → HoldsCells dictionary kind so old.values old.coding → HasCell dictionary kind (kind_in kind d) heavy so new.values new.coding)
+    → KeepsValue d heavy old new
 unfolding cell_in weight
-value_behind d heavy old new other same valid takes (column name nullable kind None pairs) so k =
-    let h = takes kind so k.2 in
+value_behind d heavy old new other same valid takes (column name nullable kind dictionary pairs) so k =
+    let h = takes dictionary kind so k.2 in
     let there : old.valid.items ++ true ∷ [] ≡ old.valid.items ++ is_there h.taken ∷ [] = ap (λ (b : Bool). old.valid.items ++ b ∷ []) (sym h.there) in
     record {
       kept = h.taken;
       read = not_null nullable (kind_in kind) d other ∙ h.read;
       weighs = h.weighs;
-      keeps = (same ∙ k.0, one_mapped is_there so h.taken old.valid.items new.valid.items k.1 (valid ∙ there), h.takes);
+      keeps = (same ∙ k.0, one_mapped is_there so h.taken old.valid.items new.valid.items k.1 (valid ∙ there), h.holds);
     }
-value_behind d heavy old new other same valid takes (column name nullable kind (Some index) pairs) so k = absurd k
 
 pub there_behind : (t : Token) (heavy : ℕ) (old new : ColumnBuilder) → new.nullable ≡ old.nullable → new.valid.items ≡ old.valid.items ++ true ∷ []
-    → TakesToken t heavy old.values new.values → KeepsToken t heavy old new
+    → TakesCellToken t heavy old.values old.coding new.values new.coding → KeepsToken t heavy old new
 there_behind t heavy old new same valid takes = record { data_is = takes.data_is; read = takes.read; keeps = value_behind takes.data_is heavy old new takes.there same valid takes.takes }
+
+-- ---- values of a dictionary
+
+boolean_fits_in : (d : Data) (x : Cell) → boolean_in d ≡ Ok x → fits_kind booleans x ≡ true
+unfolding fits_kind
+boolean_fits_in (json.boolean b) x h = (let same : boolean b ≡ x = cc in rw (← same) refl)
+boolean_fits_in _ x h = absurd cc
+
+number_fits_in : (kind : Kind) (d : Data) (x : Cell) → number_in kind d ≡ Ok x → fits_kind kind x ≡ true
+number_fits_in kind (json.number n) x h = number_fits_kind kind (as_integer n) x h
+number_fits_in kind _ x h = absurd cc
+
+bytes_fit_in : (kind : Kind) (d : Data) (x : Cell) → bytes_in kind d ≡ Ok x → fits_kind kind x ≡ true
+bytes_fit_in kind (json.string t) x h = bytes_fit_kind kind (decode_of t) x h
+bytes_fit_in kind _ x h = absurd cc
+
+text_fits_in : (d : Data) (x : Cell) → text_in d ≡ Ok x → fits_kind texts x ≡ true
+text_fits_in (json.string t) x h = fitting_fits texts NotUtf8 (text t) x h
+text_fits_in _ x h = absurd cc
+
+large_fits : (x : Cell) → fits_kind texts x ≡ true → fits_kind large_texts x ≡ true
+unfolding fits_kind
+large_fits x h = h
+
+value_fits : (kind : Kind) (d : Data) (x : Cell) → is_nested kind ≡ false → kind_in kind d ≡ Ok x → fits_kind kind x ≡ true
+unfolding kind_in
+value_fits nulls d x flat h = absurd cc
+value_fits booleans d x flat h = boolean_fits_in d x h
+value_fits (integers bits signed) d x flat h = number_fits_in (integers bits signed) d x h
+value_fits (dates unit) d x flat h = number_fits_in (dates unit) d x h
+value_fits (timestamps unit timezone) d x flat h = number_fits_in (timestamps unit timezone) d x h
+value_fits texts d x flat h = text_fits_in d x h
+value_fits large_texts d x flat h = large_fits x (text_fits_in d x h)
+value_fits binaries d x flat h = bytes_fit_in binaries d x h
+value_fits large_binaries d x flat h = bytes_fit_in large_binaries d x h
+value_fits (fixed_binaries size) d x flat h = bytes_fit_in (fixed_binaries size) d x h
+value_fits (lists item) d x flat h = absurd cc
+value_fits (large_lists item) d x flat h = absurd cc
+value_fits (fixed_lists size item) d x flat h = absurd cc
+value_fits (structs columns) d x flat h = absurd cc
+
+-- the buffers of the one value were cleared and then have the value that is coded
+pub token_coded : (t : Token) (heavy : ℕ) (old new : Coding) (values values2 : Values) (cleared one : Values) → Clears old.one cleared → TakesToken t heavy cleared one
+    → Codes (record { index = old.index; indices = old.indices; keys = old.keys; one = one }) values new values2 → TakesCodedToken t heavy old values new values2
+token_coded t heavy old new values values2 cleared one clears taken codes = record {
+  data_is = taken.data_is;
+  read = taken.read;
+  there = taken.there;
+  takes = λ index kind so h.
+      let own = taken.takes kind [] (clears kind h.one) in
+      let fits = value_fits kind taken.data_is own.taken (own_flat kind old.one h.one) own.read in
+      record {
+        taken = own.taken;
+        read = own.read;
+        there = own.there;
+        weighs = own.weighs;
+        holds = codes index kind so own.taken (with_one index kind so values old one h own.takes.kind_is) own.takes fits;
+      };
+}
+
+plain_taken : (d : Data) (heavy : ℕ) (old new : Values) → TakesValue d heavy old new → (dictionary : Option Index) (kind : Kind) (so : List Cell) → HoldsCells dictionary kind so old None
+    → HasCell dictionary kind (kind_in kind d) heavy so new None
+plain_taken d heavy old new takes None kind so h = (let own = takes kind so h in record { taken = own.taken; read = own.read; there = own.there; weighs = own.weighs; holds = own.takes })
+plain_taken d heavy old new takes (Some index) kind so h = absurd h
+
+pub plain_token : (t : Token) (heavy : ℕ) (old new : Values) → TakesToken t heavy old new → TakesCellToken t heavy old None new None
+plain_token t heavy old new taken = record { data_is = taken.data_is; read = taken.read; there = taken.there; takes = plain_taken taken.data_is heavy old new taken.takes }
+
+coded_taken : (d : Data) (heavy : ℕ) (old new : Coding) (values values2 : Values)
+    → ((index : Index) (kind : Kind) (so : List Cell) → IsCoded index kind so values old → HasCell (Some index) kind (kind_in kind d) heavy so values2 (Some new))
+    → (dictionary : Option Index) (kind : Kind) (so : List Cell) → HoldsCells dictionary kind so values (Some old) → HasCell dictionary kind (kind_in kind d) heavy so values2 (Some new)
+coded_taken d heavy old new values values2 takes None kind so h = absurd h
+coded_taken d heavy old new values values2 takes (Some index) kind so h = takes index kind so h
+
+pub coded_token : (t : Token) (heavy : ℕ) (old new : Coding) (values values2 : Values) → TakesCodedToken t heavy old values new values2 → TakesCellToken t heavy values (Some old) values2 (Some new)
+coded_token t heavy old new values values2 taken =
+    record { data_is = taken.data_is; read = taken.read; there = taken.there; takes = coded_taken taken.data_is heavy old new values values2 taken.takes }
+
+pub plain_token_step : {E : Type 0} (t : Token) (old new : Values) (r : Result (Option ℕ) E) → IfOk r (λ taken. IfSome taken (λ heavy. TakesToken t heavy old new))
+    → IfOk r (λ taken. IfSome taken (λ heavy. TakesCellToken t heavy old None new None))
+plain_token_step t old new (Err e) h = tt
+plain_token_step t old new (Ok None) h = tt
+plain_token_step t old new (Ok (Some heavy)) h = plain_token t heavy old new h
+
+pub coded_token_step : {E : Type 0} (t : Token) (old new : Coding) (values values2 : Values) (r : Result (Option ℕ) E)
+    → IfOk r (λ taken. IfSome taken (λ heavy. TakesCodedToken t heavy old values new values2)) → IfOk r (λ taken. IfSome taken (λ heavy. TakesCellToken t heavy values (Some old) values2 (Some new)))
+coded_token_step t old new values values2 (Err e) h = tt
+coded_token_step t old new values values2 (Ok None) h = tt
+coded_token_step t old new values values2 (Ok (Some heavy)) h = coded_token t heavy old new values values2 h
 
 null_read : (c : Column) → is_nullable_column c ≡ true → cell_in c json.null ≡ Ok null
 unfolding cell_in

@@ -3,16 +3,18 @@ ghost use Rattle.std.specs.Prelude.{IfOk, IfSome};
 ghost use Rattle.text_columns.specs.inner.Kept.{KeepsField, null_heavy};
 ghost use Rattle.text_columns.specs.inner.Lines.{KeepsNull};
 
+use crate::coding::{self, Coding};
 use crate::column_values::Values;
 use cells::MAX_ROW_WEIGHT;
 use std::alloc::AllocError;
 
-/// The cells of a column so far: which of them are there, and their values.
+/// The cells of a column so far: which of them are there, and their values, or the entries of a dictionary and what else it has.
 #[derive(Drop)]
 pub(crate) struct ColumnBuilder {
     pub(crate) nullable: bool,
     pub(crate) valid: Vec<bool>,
     pub(crate) values: Values,
+    pub(crate) coding: Option<Coding>,
 }
 
 impl ColumnBuilder {
@@ -36,7 +38,7 @@ impl ColumnBuilder {
         if heavy > MAX_ROW_WEIGHT {
             return Ok(None);
         }
-        self.values.push_null()?;
+        coding::push_null(&mut self.values, &mut self.coding)?;
         self.valid.push(false)?;
         Ok(Some(heavy))
     }
@@ -52,7 +54,7 @@ impl ColumnBuilder {
         if self.is_null(null_text, text) {
             return self.push_null();
         }
-        let taken = self.values.push_text(text)?;
+        let taken = coding::push_text(&mut self.values, &mut self.coding, text)?;
         self.valid.push(true)?;
         Ok(taken)
     }

@@ -2,11 +2,11 @@
 ghost use Rattle.std.specs.Prelude.{◌≡◌, ◌++◌, ◌/◌, ◌∷◌, [], IfOk, IfSome, OnOk, Some, replicate};
 ghost use Rattle.arrow_schema.specs.View.{bits_of};
 ghost use Rattle.cells.specs.Typed.{typed_boolean};
-ghost use Rattle.text_columns.specs.inner.Kept.{AppendsBoolean, TakesNull, TakesText, null_heavy};
+ghost use Rattle.text_columns.specs.inner.Kept.{AppendsBoolean, Clears, HoldContents, TakesKey, TakesNull, TakesText, first_key, null_heavy, value_bytes};
 
 use crate::bytes::{push_bytes, push_fixed};
 use crate::integers::push_integer;
-use crate::texts::push_contents;
+use crate::texts::{extend, push_contents};
 use arrow_schema::{BitWidth, IntegerType};
 use columns::{OffsetWidth, push_offset};
 use std::alloc::AllocError;
@@ -59,6 +59,30 @@ fn push_boolean(bits: &mut Vec<bool>, text: &[u8]) -> Result<Option<u64>, AllocE
     }
 }
 
+// No string or binary: before the first stands the offset 0.
+fn clear_contents(
+    offsets: &mut Vec<u8>,
+    contents: &mut Vec<u8>,
+    width: OffsetWidth,
+) -> Result<(), AllocError>
+    ensures { OnOk result (HoldContents width [] offsets.new.items contents.new.items) }
+{
+    contents.clear();
+    offsets.clear();
+    push_offset(offsets, width, 0)
+}
+
+// A byte for the first of some booleans.
+fn bit_key(bits: &[bool]) -> &[u8]
+    ensures { result.now ≡ first_key bits.now }
+{
+    if !bits.is_empty() && bits[0] {
+        &[1]
+    } else {
+        &[0]
+    }
+}
+
 impl Values {
     /// What a null weighs: a binary of one width weighs the same where it is null.
     pub(crate) fn null_weight(&self) -> u64
@@ -85,6 +109,54 @@ impl Values {
                 push_offset(offsets, *width, contents.len() as u64)?;
             }
             Values::FixedBinaries(width, values) => push_empty(values, *width)?,
+        }
+        Ok(())
+    }
+
+    /// No cell: the type stays.
+    pub(crate) fn clear(&mut self) -> Result<(), AllocError>
+        ensures { OnOk result (Clears self.old self.new) }
+    {
+        match self {
+            Values::Nulls => {}
+            Values::Booleans(bits) => bits.clear(),
+            Values::Integers(_, values) => values.clear(),
+            Values::Texts(width, offsets, contents) => {
+                clear_contents(offsets, contents, *width)?;
+            }
+            Values::Binaries(width, offsets, contents) => {
+                clear_contents(offsets, contents, *width)?;
+            }
+            Values::FixedBinaries(_, values) => values.clear(),
+        }
+        Ok(())
+    }
+
+    /// The bytes of the one cell, by which it is looked up.
+    pub(crate) fn key(&self) -> &[u8]
+        ensures { result.now ≡ value_bytes self.now }
+    {
+        match self {
+            Values::Nulls => &[],
+            Values::Booleans(bits) => bit_key(bits),
+            Values::Integers(_, values) => values,
+            Values::Texts(_, _, contents) => contents,
+            Values::Binaries(_, _, contents) => contents,
+            Values::FixedBinaries(_, values) => values,
+        }
+    }
+
+    /// Appends the cell that has such bytes.
+    pub(crate) fn push_key(&mut self, key: &[u8]) -> Result<(), AllocError>
+        ensures { OnOk result (TakesKey key.now self.old self.new) }
+    {
+        match self {
+            Values::Nulls => {}
+            Values::Booleans(bits) => bits.push(key == [1].as_slice())?,
+            Values::Integers(_, values) => values.extend_from_slice(key)?,
+            Values::Texts(width, offsets, contents) => extend(offsets, contents, *width, key)?,
+            Values::Binaries(width, offsets, contents) => extend(offsets, contents, *width, key)?,
+            Values::FixedBinaries(_, values) => values.extend_from_slice(key)?,
         }
         Ok(())
     }

@@ -18,6 +18,7 @@
 
 mod builder;
 mod bytes;
+mod coding;
 mod column_values;
 mod integers;
 mod items;

@@ -2,11 +2,12 @@
 ghost use Rattle.std.specs.Prelude.{◌≡◌, ◌≤◌, ◌++◌, true, [], ◌∷◌, List, length, IfOk};
 ghost use Rattle.std.specs.List.{list_all};
 ghost use Rattle.bitmap.specs.Bits.{packed};
-ghost use Rattle.text_columns.specs.inner.Placed.{ArePlaced, IsAppended, IsLaid, IsPlaced, has_validity, validity_in};
+ghost use Rattle.text_columns.specs.inner.Placed.{AreEntriesPlaced, ArePlaced, IsAppended, IsCodedLaid, IsLaid, IsLayoutPlaced, IsPlaced, has_bitmap, has_validity, validity_in};
 
 use crate::builder::ColumnBuilder;
+use crate::coding::Coding;
 use crate::column_values::Values;
-use columns::{PlacedArray, PlacedLayout, Span};
+use columns::{Dictionary, DictionaryPart, PlacedArray, PlacedLayout, Span};
 use std::alloc::{AllocError, Global};
 
 // Appends a buffer, and says where it stands.
@@ -41,9 +42,18 @@ fn append_bits(alloc: Global, bytes: &mut Vec<u8>, bits: &[bool]) -> Result<Span
     append(bytes, &buffer)
 }
 
-// Whether slots have a validity bitmap: those of the type of nulls have none.
-fn has_validity(values: &Values) -> bool
-    ensures { result ≡ has_validity values.now }
+// Whether slots have a validity bitmap: those of the type of nulls have none, without a dictionary.
+fn has_validity(column: &ColumnBuilder) -> bool
+    ensures { result ≡ has_validity column.now.coding column.now.values }
+{
+    match &column.coding {
+        Some(_) => true,
+        None => has_bitmap(&column.values),
+    }
+}
+
+fn has_bitmap(values: &Values) -> bool
+    ensures { result ≡ has_bitmap values.now }
 {
     match values {
         Values::Nulls => false,
@@ -55,12 +65,12 @@ fn has_validity(values: &Values) -> bool
 fn append_validity(
     alloc: Global,
     bytes: &mut Vec<u8>,
-    values: &Values,
+    has_validity: bool,
     valid: &[bool],
 ) -> Result<Span, AllocError>
-    ensures { IfOk result (λ span. IsAppended bytes.old.items (validity_in values.now valid.now) bytes.new.items span) }
+    ensures { IfOk result (λ span. IsAppended bytes.old.items (validity_in has_validity valid.now) bytes.new.items span) }
 {
-    if !has_validity(values) || are_set(valid) {
+    if !has_validity || are_set(valid) {
         append(bytes, &[])
     } else {
         append_bits(alloc, bytes, valid)
@@ -93,16 +103,69 @@ fn place_values(
     }
 }
 
+// Appends the array of a dictionary's entries, which is that of a dictionary of its own.
+fn place_entries(
+    alloc: Global,
+    bytes: &mut Vec<u8>,
+    dictionaries: &mut Vec<Dictionary>,
+    entries: &Values,
+    count: usize,
+) -> Result<DictionaryPart, AllocError>
+    ensures { IfOk result (λ part. AreEntriesPlaced entries.now count bytes.old.items bytes.new.items dictionaries.old.items dictionaries.new.items part) }
+{
+    let layout = place_values(alloc, bytes, entries)?;
+    let mut dictionary = Dictionary::new(alloc);
+    dictionary.push(PlacedArray {
+        slots: count,
+        validity: Span { start: 0, len: 0 },
+        layout,
+    })?;
+    let number = dictionaries.len();
+    dictionaries.push(dictionary)?;
+    Ok(DictionaryPart { number, count: 1 })
+}
+
+// Appends the indices of a column, and the entries that they name.
+fn place_coded(
+    alloc: Global,
+    bytes: &mut Vec<u8>,
+    dictionaries: &mut Vec<Dictionary>,
+    entries: &Values,
+    coding: &Coding,
+) -> Result<PlacedLayout, AllocError>
+    ensures { IfOk result (λ layout. IsCodedLaid entries.now coding.now bytes.old.items bytes.new.items dictionaries.old.items dictionaries.new.items layout) }
+{
+    let indices = append(bytes, &coding.indices)?;
+    let part = place_entries(alloc, bytes, dictionaries, entries, coding.keys.len())?;
+    Ok(PlacedLayout::Dictionary(indices, part))
+}
+
+// Appends the values of a column, or its indices and entries, and says where they stand.
+fn place_layout(
+    alloc: Global,
+    bytes: &mut Vec<u8>,
+    dictionaries: &mut Vec<Dictionary>,
+    column: &ColumnBuilder,
+) -> Result<PlacedLayout, AllocError>
+    ensures { IfOk result (λ layout. IsLayoutPlaced column.now bytes.old.items bytes.new.items dictionaries.old.items dictionaries.new.items layout) }
+{
+    match &column.coding {
+        None => place_values(alloc, bytes, &column.values),
+        Some(coding) => place_coded(alloc, bytes, dictionaries, &column.values, coding),
+    }
+}
+
 // Appends the buffers of a column, and says where they stand.
 fn place(
     alloc: Global,
     bytes: &mut Vec<u8>,
+    dictionaries: &mut Vec<Dictionary>,
     column: &ColumnBuilder,
 ) -> Result<PlacedArray, AllocError>
-    ensures { IfOk result (λ array. IsPlaced column.now bytes.old.items bytes.new.items array) }
+    ensures { IfOk result (λ array. IsPlaced column.now bytes.old.items bytes.new.items dictionaries.old.items dictionaries.new.items array) }
 {
-    let validity = append_validity(alloc, bytes, &column.values, &column.valid)?;
-    let layout = place_values(alloc, bytes, &column.values)?;
+    let validity = append_validity(alloc, bytes, has_validity(column), &column.valid)?;
+    let layout = place_layout(alloc, bytes, dictionaries, column)?;
     Ok(PlacedArray {
         slots: column.valid.len(),
         validity,
@@ -110,19 +173,29 @@ fn place(
     })
 }
 
-/// The arrays of columns, and the bytes that they stand in. The buffers of a column are freed once they are copied.
-pub(crate) fn place_all(
-    alloc: Global,
-    columns: Vec<ColumnBuilder>,
-) -> Result<(Vec<u8>, Vec<PlacedArray>), AllocError>
-    ensures { IfOk result (λ placed. ArePlaced columns.items placed.0.items placed.1.items) }
+/// The arrays of columns, and the bytes and the dictionaries that they stand in.
+#[derive(Drop)]
+pub(crate) struct Placed {
+    pub(crate) bytes: Vec<u8>,
+    pub(crate) dictionaries: Vec<Dictionary>,
+    pub(crate) arrays: Vec<PlacedArray>,
+}
+
+/// The arrays of columns. The buffers of a column are freed once they are copied.
+pub(crate) fn place_all(alloc: Global, columns: Vec<ColumnBuilder>) -> Result<Placed, AllocError>
+    ensures { IfOk result (λ placed. ArePlaced columns.items placed.bytes.items placed.dictionaries.items placed.arrays.items) }
 {
     let mut bytes = Vec::new(alloc);
+    let mut dictionaries = Vec::new(alloc);
     let mut arrays = Vec::with_capacity(alloc, columns.len())?;
     for column in columns {
-        let array = place(alloc, &mut bytes, &column)?;
+        let array = place(alloc, &mut bytes, &mut dictionaries, &column)?;
         arrays.push(array)?;
         drop(column);
     }
-    Ok((bytes, arrays))
+    Ok(Placed {
+        bytes,
+        dictionaries,
+        arrays,
+    })
 }

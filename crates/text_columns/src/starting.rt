@@ -1,13 +1,15 @@
 // The buffers of the columns of a schema, before there is a row.
-ghost use Rattle.std.specs.Prelude.{◌≡◌, ◌++◌, true, [], ◌∷◌, map, IfOk, IfSome};
+ghost use Rattle.std.specs.Prelude.{◌≡◌, ◌++◌, true, None, Some, [], ◌∷◌, map, IfOk, IfSome};
 ghost use Rattle.byteorder.specs.Endian.{little_bytes};
 ghost use Rattle.arrow_schema.specs.View.{column_of, kind_of};
 ghost use Rattle.text_columns.specs.inner.Kept.{HoldContents, KeepAll, Keeps, StartsBinaries, StartsTexts, Takes};
 
 use crate::builder::ColumnBuilder;
+use crate::coding::Coding;
 use crate::column_values::Values;
-use arrow_schema::{DataType, Field};
+use arrow_schema::{DataType, DictSpec, Field};
 use columns::{OffsetWidth, date_integer, push_offset, timestamp_integer};
+use indexmap::IndexSet;
 use std::alloc::{AllocError, Global};
 
 // Before the first string or binary stands the offset 0.
@@ -53,12 +55,10 @@ fn no_values(alloc: Global, data_type: &DataType) -> Result<Option<Values>, Allo
     Ok(Some(values))
 }
 
-fn no_cells(alloc: Global, field: &Field) -> Result<Option<ColumnBuilder>, AllocError>
+fn no_plain_cells(alloc: Global, field: &Field) -> Result<Option<ColumnBuilder>, AllocError>
+    requires { field.now.dictionary ≡ None }
     ensures { IfOk result (λ started. IfSome started (Keeps (column_of field.now) [])) }
 {
-    if field.dictionary.is_some() {
-        return Ok(None);
-    }
     let Some(values) = no_values(alloc, &field.data_type)? else {
         return Ok(None);
     };
@@ -66,10 +66,48 @@ fn no_cells(alloc: Global, field: &Field) -> Result<Option<ColumnBuilder>, Alloc
         nullable: field.nullable,
         valid: Vec::new(alloc),
         values,
+        coding: None,
     }))
 }
 
-/// The buffers of columns that have no cell yet, where each column has a type that is read into arrays, and no dictionary.
+fn no_coded_cells(
+    alloc: Global,
+    field: &Field,
+    spec: DictSpec,
+) -> Result<Option<ColumnBuilder>, AllocError>
+    requires { field.now.dictionary ≡ Some spec }
+    ensures { IfOk result (λ started. IfSome started (Keeps (column_of field.now) [])) }
+{
+    let Some(values) = no_values(alloc, &field.data_type)? else {
+        return Ok(None);
+    };
+    let Some(one) = no_values(alloc, &field.data_type)? else {
+        return Ok(None);
+    };
+    let coding = Coding {
+        index: spec.index,
+        indices: Vec::new(alloc),
+        keys: IndexSet::new(alloc),
+        one,
+    };
+    Ok(Some(ColumnBuilder {
+        nullable: field.nullable,
+        valid: Vec::new(alloc),
+        values,
+        coding: Some(coding),
+    }))
+}
+
+fn no_cells(alloc: Global, field: &Field) -> Result<Option<ColumnBuilder>, AllocError>
+    ensures { IfOk result (λ started. IfSome started (Keeps (column_of field.now) [])) }
+{
+    match field.dictionary {
+        None => no_plain_cells(alloc, field),
+        Some(spec) => no_coded_cells(alloc, field, spec),
+    }
+}
+
+/// The buffers of columns that have no cell yet, where each column has a type that is read into arrays.
 pub(crate) fn no_rows(
     alloc: Global,
     fields: &[Field],

@@ -14,12 +14,12 @@ ghost use Rattle.values.specs.TableView.{table_of, is_in_parts};
 ghost use Rattle.text_columns.specs.inner.Tables.{HasTable, IsPartOf, MakesRows};
 
 use crate::builder::ColumnBuilder;
-use crate::placing::place_all;
+use crate::placing::{Placed, place_all};
 use crate::reading::{Columns, read_columns, read_lines};
 use arrow_schema::Schema;
 use columns::{
-    built_reads_back, listed_reads_back, rows_can_be_built, written_arrays_have_their_shape,
-    written_arrays_pass,
+    built_reads_back, dictionaries_are_written_alone, listed_reads_back, rows_can_be_built,
+    written_arrays_have_their_shape, written_arrays_pass,
 };
 use std::alloc::{AllocError, Global};
 use text_import::{TextError, rows_of_texts_are_rows};
@@ -34,12 +34,18 @@ fn build_part(alloc: Global, columns: Vec<ColumnBuilder>, rows: usize) -> Result
     rows_can_be_built();
     written_arrays_pass();
     written_arrays_have_their_shape();
-    let (bytes, arrays) = place_all(alloc, columns)?;
+    dictionaries_are_written_alone();
+    let placed = place_all(alloc, columns)?;
+    let Placed {
+        bytes,
+        dictionaries,
+        arrays,
+    } = placed;
     let mut batches = Vec::with_capacity(alloc, 1)?;
     batches.push_reserved(Batch { arrays, rows });
     Ok(Part {
         bytes,
-        dictionaries: Vec::new(alloc),
+        dictionaries,
         batches,
     })
 }

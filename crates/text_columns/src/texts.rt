@@ -1,5 +1,5 @@
 // Texts: where they end, and their bytes.
-ghost use Rattle.std.specs.Prelude.{◌≡◌, ◌+◌, ◌++◌, true, length, IfOk, IfSome};
+ghost use Rattle.std.specs.Prelude.{◌≡◌, ◌+◌, ◌++◌, true, length, IfOk, IfSome, OnOk};
 ghost use Rattle.std.specs.Str.{is_utf8};
 ghost use Rattle.byteorder.specs.Endian.{little_bytes};
 ghost use Rattle.columns.specs.Offsets.{width_of};
@@ -7,6 +7,21 @@ ghost use Rattle.columns.specs.Offsets.{width_of};
 use columns::{OffsetWidth, push_offset};
 use std::alloc::AllocError;
 use text_import::text_of;
+
+/// Appends a string or a binary, and where it ends.
+pub(crate) fn extend(
+    offsets: &mut Vec<u8>,
+    contents: &mut Vec<u8>,
+    width: OffsetWidth,
+    bytes: &[u8],
+) -> Result<(), AllocError>
+    ensures more { OnOk result (contents.new.items ≡ contents.old.items ++ bytes.now) }
+    ensures end { OnOk result (offsets.new.items
+        ≡ offsets.old.items ++ little_bytes (width_of width) (length contents.old.items + length bytes.now)) }
+{
+    contents.extend_from_slice(bytes)?;
+    push_offset(offsets, width, contents.len() as u64)
+}
 
 /// Appends a string that is UTF-8 and where it ends, and answers what it weighs.
 pub(crate) fn push_contents(
@@ -22,7 +37,6 @@ pub(crate) fn push_contents(
     if text_of(text).is_none() {
         return Ok(None);
     }
-    contents.extend_from_slice(text)?;
-    push_offset(offsets, width, contents.len() as u64)?;
+    extend(offsets, contents, width, text)?;
     Ok(Some(1 + text.len() as u64))
 }

@@ -2,10 +2,11 @@
 ghost use Rattle.std.specs.Prelude.{◌≡◌, ◌==◌, ◌++◌, ◌∷◌, [], true, false, slice_index, IfOk, IfSome, Some};
 ghost use Rattle.fast_float.specs.Text.{Parts};
 ghost use Rattle.json.specs.Reads.{token_of};
-ghost use Rattle.text_columns.specs.inner.Lines.{AppendsBinary, AppendsBit, AppendsFixedBinary, AppendsNumber, AppendsString, TakesNumber, TakesToken, integer_after, integer_in};
+ghost use Rattle.text_columns.specs.inner.Lines.{AppendsBinary, AppendsBit, AppendsFixedBinary, AppendsNumber, AppendsString, TakesCellToken, TakesCodedToken, TakesNumber, TakesToken, integer_after, integer_in};
 
 use crate::builder::ColumnBuilder;
 use crate::bytes::{push_bytes, push_fixed};
+use crate::coding::Coding;
 use crate::column_values::Values;
 use crate::integers::push_number;
 use crate::texts::push_contents;
@@ -165,6 +166,42 @@ impl Values {
     }
 }
 
+impl Coding {
+    // Appends the index of the value that a token is, where it is one of the type and no null, and answers what it weighs.
+    fn push_token(
+        &mut self,
+        entries: &mut Values,
+        token: Token<'_>,
+    ) -> Result<Option<u64>, AllocError>
+        ensures { IfOk result (λ taken. IfSome taken (λ heavy. TakesCodedToken (token_of token.entry) heavy self.old entries.old self.new entries.new)) }
+    {
+        self.one.clear()?;
+        let Some(heavy) = self.one.push_token(token)? else {
+            return Ok(None);
+        };
+        if self.code(entries)? {
+            Ok(Some(heavy))
+        } else {
+            Ok(None)
+        }
+    }
+}
+
+// Appends the cell that a token is, or its index, where it is one of the type and no null, and answers what it weighs.
+fn push_token(
+    values: &mut Values,
+    coding: &mut Option<Coding>,
+    token: Token<'_>,
+) -> Result<Option<u64>, AllocError>
+    ensures { IfOk result (λ taken. IfSome taken (λ heavy.
+        TakesCellToken (token_of token.entry) heavy values.old coding.old values.new coding.new)) }
+{
+    match coding {
+        None => values.push_token(token),
+        Some(coding) => coding.push_token(values, token),
+    }
+}
+
 impl ColumnBuilder {
     ghost use Rattle.text_columns.specs.inner.Lines.{KeepsToken};
 
@@ -172,7 +209,7 @@ impl ColumnBuilder {
     fn push_there(&mut self, token: Token<'_>) -> Result<Option<u64>, AllocError>
         ensures { IfOk result (λ taken. IfSome taken (λ heavy. KeepsToken (token_of token.entry) heavy self.old self.new)) }
     {
-        let taken = self.values.push_token(token)?;
+        let taken = push_token(&mut self.values, &mut self.coding, token)?;
         self.valid.push(true)?;
         Ok(taken)
     }

@@ -1,18 +1,20 @@
 -- What the buffers of columns hold once some rows were read.
-use Rattle.std.specs.Prelude.{◌≡◌, ◌≤◌, ◌+◌, ◌/◌, ◌++◌, ℕ, ℤ, true, Bool, List, [], ◌∷◌, length, map, get_or, Option, Some, None, IfSome, Result, Ok, Err, slice_get}
+use Rattle.std.specs.Prelude.{◌≡◌, ◌⊎◌, ◌≤◌, ◌+◌, ◌/◌, ◌++◌, ℕ, ℤ, true, false, Bool, bytes_eq, List, [], ◌∷◌, length, map, get_or, Option, Some, None, IfSome, position, Result, Ok, Err, slice_get}
 use Rattle.std.specs.Global.{Vec}
 use Rattle.byteorder.specs.Endian.{little_bytes}
 use Rattle.hex.specs.Hex.{decode_of}
-use Rattle.std.specs.List.{flat_map}
-use Rattle.arrow_schema.specs.Column.{Kind, Column, booleans, integers, dates, timestamps, nulls, texts, large_texts, binaries, large_binaries, fixed_binaries, column, columns_of, PlainSchema}
+use Rattle.std.specs.List.{flat_map, list_all}
+use Rattle.arrow_schema.specs.Column.{Index, Kind, Column, booleans, integers, dates, timestamps, nulls, texts, large_texts, binaries, large_binaries, fixed_binaries, column, columns_of, PlainSchema}
 use Rattle.arrow_schema.specs.View.{bits_of}
+use Rattle.arrow_schema.specs.declared.types.IntegerType.{IntegerType}
 use Rattle.cells.specs.declared.limits.TheConstants.{MAX_TABLE_WEIGHT}
 use Rattle.cells.specs.Cell.{Cell, null, number, cells_of}
-use Rattle.cells.specs.Fit.{date_bits, in_range}
+use Rattle.cells.specs.Dictionary.{entries_of, entry_limit, is_within}
+use Rattle.cells.specs.Fit.{date_bits, fits_kind, in_range}
 use Rattle.cells.specs.Nulls.{is_there}
 use Rattle.cells.specs.Typed.{typed_boolean, typed_integer}
 use Rattle.cells.specs.Weight.{kind_weight, parts_weight, table_weight, weight}
-use Rattle.columns.specs.Built.{contents_of, fixed_bytes, integer_bytes, is_set, offsets_of}
+use Rattle.columns.specs.Built.{contents_of, fixed_bytes, index_bytes, integer_bytes, is_set, offsets_of}
 use Rattle.columns.specs.Offsets.{width_of}
 use Rattle.columns.specs.declared.numbers.OffsetWidth.{OffsetWidth}
 use Rattle.columns.specs.declared.numbers.OffsetWidth.TheVariants.{Four, Eight}
@@ -20,8 +22,10 @@ use Rattle.facts.specs.Outcomes.{Reports}
 use Rattle.text_import.specs.Flat.{cell_of_text, field_cell, number_cell}
 use Rattle.text_import.specs.Records.{field_cells}
 use Rattle.text_import.specs.Refusals.{refused_by}
+use Rattle.text_import.specs.declared.refusal.Refusal.{Refusal}
 use Rattle.text_import.specs.declared.refusal.Refused.{Refused}
 use Rattle.text_import.specs.declared.refusal.TextError.{TextError}
+use Rattle.text_columns.specs.declared.coding.Coding.{Coding}
 use Rattle.text_columns.specs.declared.column_values.Values.{Values}
 use Rattle.text_columns.specs.declared.column_values.Values.TheVariants.{Nulls, Booleans, Integers, Texts, Binaries, FixedBinaries}
 use Rattle.text_columns.specs.declared.builder.ColumnBuilder.{ColumnBuilder}
@@ -118,10 +122,115 @@ pub record HasTaken (kind : Kind) (text : List ℕ) (heavy : ℕ) (cells : List 
 abbrev pub TakesText : List ℕ → ℕ → Values → Values → Type 0
 TakesText text heavy old new = (kind : Kind) (cells : List Cell) → Takes kind cells old → HasTaken kind text heavy cells new
 
+-- ---- columns with a dictionary: entries are looked up by their bytes
+
+-- the byte of a boolean
+abbrev pub bit_key : Bool → List ℕ
+bit_key true = 1 ∷ []
+bit_key false = 0 ∷ []
+
+abbrev pub first_key : List Bool → List ℕ
+first_key [] = bit_key false
+first_key (b ∷ bits) = bit_key b
+
+-- the bytes of the one cell that these values are
+abbrev pub value_bytes : Values → List ℕ
+value_bytes Nulls = []
+value_bytes (Booleans bits) = first_key bits.items
+value_bytes (Integers integer bytes) = bytes.items
+value_bytes (Texts width offsets contents) = contents.items
+value_bytes (Binaries width offsets contents) = contents.items
+value_bytes (FixedBinaries width bytes) = bytes.items
+
+-- the bytes of a cell of a type
+abbrev pub key_of : Kind → Cell → List ℕ
+key_of booleans c = bit_key (is_set c)
+key_of (integers bits signed) c = integer_bytes (bits / 8) c
+key_of (dates unit) c = integer_bytes (date_bits unit / 8) c
+key_of (timestamps unit timezone) c = integer_bytes 8 c
+key_of (fixed_binaries size) c = fixed_bytes size c
+key_of _ c = contents_of c
+
+abbrev pub key_list : List (Vec ℕ) → List (List ℕ)
+key_list keys = map (λ k. k.items) keys
+
+-- no cell of the same type
+abbrev pub Clears : Values → Values → Type 0
+Clears old new = (kind : Kind) → IsOf kind old → Takes kind [] new
+
+-- the cell that has such bytes comes after the cells
+abbrev pub TakesKey : List ℕ → Values → Values → Type 0
+TakesKey key old new = (kind : Kind) (cells : List Cell) (c : Cell) → Takes kind cells old → key ≡ key_of kind c → Takes kind (cells ++ c ∷ []) new
+
+-- the cells of a column with a dictionary: its entries, the bytes of each, and their indices
+pub record IsCoded (index : Index) (kind : Kind) (cells : List Cell) (values : Values) (d : Coding) : Type 0 where
+  pub bits : bits_of d.index.width ≡ index.bits
+  pub signed : d.index.signed ≡ index.signed
+  pub indices : d.indices.items ≡ flat_map (index_bytes index (entries_of cells)) cells
+  pub entries : Takes kind (entries_of cells) values
+  pub fit : list_all (fits_kind kind) (entries_of cells) ≡ true
+  pub keys : key_list d.keys.keys ≡ map (key_of kind) (entries_of cells)
+  pub few : is_within (entry_limit index) (length (entries_of cells)) ≡ true
+  pub one : IsOf kind d.one
+
+-- the entry of some bytes stood at a place
+pub record StoodAt (key : List ℕ) (place : ℕ) (keys keys2 : List (Vec ℕ)) (old new : Values) : Type 0 where
+  pub found : position (bytes_eq key) (key_list keys) ≡ Some place
+  pub same : keys2 ≡ keys
+  pub still : new ≡ old
+
+abbrev pub index_type : IntegerType → Index
+index_type integer = record { bits = bits_of integer.width; signed = integer.signed }
+
+-- or it comes after all entries, where an index can name it
+pub record ComesLast (integer : IntegerType) (key : List ℕ) (place : ℕ) (keys keys2 : List (Vec ℕ)) (old new : Values) : Type 0 where
+  pub missing : position (bytes_eq key) (key_list keys) ≡ None
+  pub last : place ≡ length keys
+  pub room : is_within (entry_limit (index_type integer)) (place + 1) ≡ true
+  pub more : key_list keys2 ≡ key_list keys ++ key ∷ []
+  pub takes : TakesKey key old new
+
+abbrev pub Places : IntegerType → List ℕ → ℕ → List (Vec ℕ) → List (Vec ℕ) → Values → Values → Type 0
+Places integer key place keys keys2 old new = StoodAt key place keys keys2 old new ⊎ ComesLast integer key place keys keys2 old new
+
+-- the one value comes after the cells
+abbrev pub Codes : Coding → Values → Coding → Values → Type 0
+Codes old values new values2 =
+    (index : Index) (kind : Kind) (cells : List Cell) (c : Cell) → IsCoded index kind cells values old → Takes kind (c ∷ []) old.one → fits_kind kind c ≡ true
+    → IsCoded index kind (cells ++ c ∷ []) values2 new
+
+-- ---- with a dictionary or without
+
+abbrev pub HoldsCells : Option Index → Kind → List Cell → Values → Option Coding → Type 0
+HoldsCells None kind cells values None = Takes kind cells values
+HoldsCells (Some index) kind cells values (Some d) = IsCoded index kind cells values d
+HoldsCells None kind cells values (Some d) = ⊥
+HoldsCells (Some index) kind cells values None = ⊥
+
+-- a cell that was read and weighs so much comes after the cells
+pub record HasCell (dictionary : Option Index) (kind : Kind) (stated : Result Cell Refusal) (heavy : ℕ) (cells : List Cell) (values : Values) (coding : Option Coding) : Type 0 where
+  pub taken : Cell
+  pub read : stated ≡ Ok taken
+  pub there : is_there taken ≡ true
+  pub weighs : kind_weight kind taken ≡ heavy
+  pub holds : HoldsCells dictionary kind (cells ++ taken ∷ []) values coding
+
+abbrev pub TakesNullCell : Values → Option Coding → Values → Option Coding → Type 0
+TakesNullCell old o new o2 =
+    (dictionary : Option Index) (kind : Kind) (cells : List Cell) → HoldsCells dictionary kind cells old o → HoldsCells dictionary kind (cells ++ null ∷ []) new o2
+
+abbrev pub TakesCodedText : List ℕ → ℕ → Coding → Values → Coding → Values → Type 0
+TakesCodedText text heavy old values new values2 =
+    (index : Index) (kind : Kind) (cells : List Cell) → IsCoded index kind cells values old → HasCell (Some index) kind (cell_of_text kind text) heavy cells values2 (Some new)
+
+abbrev pub TakesField : List ℕ → ℕ → Values → Option Coding → Values → Option Coding → Type 0
+TakesField text heavy old o new o2 =
+    (dictionary : Option Index) (kind : Kind) (cells : List Cell) → HoldsCells dictionary kind cells old o → HasCell dictionary kind (cell_of_text kind text) heavy cells new o2
+
 -- the buffers of a column that hold these cells
 abbrev pub Keeps : Column → List Cell → ColumnBuilder → Type 0
-Keeps (column name nullable kind None pairs) cells b = (b.nullable ≡ nullable) × (b.valid.items ≡ map is_there cells) × Takes kind cells b.values
-Keeps (column name nullable kind (Some index) pairs) cells b = ⊥
+Keeps (column name nullable kind dictionary pairs) cells b =
+    (b.nullable ≡ nullable) × (b.valid.items ≡ map is_there cells) × HoldsCells dictionary kind cells b.values b.coding
 
 -- no text yet, of offsets of this width
 abbrev pub StartsTexts : OffsetWidth → Values → Type 0

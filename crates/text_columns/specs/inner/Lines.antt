@@ -9,7 +9,7 @@ use Rattle.json.specs.Json.{items, members, value}
 use Rattle.serde_json.specs.Data.{Data, null, boolean, number, string, Items, Members, no_members}
 use Rattle.serde_json.specs.Find.{as_integer, get_member}
 use Rattle.serde_json.specs.Read.{converted, number_from, number_of, of_items, of_json, of_members}
-use Rattle.arrow_schema.specs.Column.{Kind, Column, columns_of, integers}
+use Rattle.arrow_schema.specs.Column.{Index, Kind, Column, columns_of, integers}
 use Rattle.arrow_schema.specs.Parts.{is_nullable_column, name_of_column}
 use Rattle.arrow_schema.specs.View.{bits_of}
 use Rattle.arrow_schema.specs.declared.types.IntegerType.{IntegerType}
@@ -22,9 +22,10 @@ use Rattle.columns.specs.Offsets.{width_of}
 use Rattle.columns.specs.declared.numbers.OffsetWidth.{OffsetWidth}
 use Rattle.text_import.specs.Flat.{number_cell}
 use Rattle.text_import.specs.Objects.{cell_in, cells_by_name, cells_by_place, cells_in, item_count, has_unknown, keys_of, kind_in, line_value, member_in, names_of}
+use Rattle.text_columns.specs.declared.coding.Coding.{Coding}
 use Rattle.text_columns.specs.declared.column_values.Values.{Values}
 use Rattle.text_columns.specs.declared.builder.ColumnBuilder.{ColumnBuilder}
-use Rattle.text_columns.specs.inner.Kept.{AppendsBytes, AppendsFixed, KeepAll, Keeps, Takes, column_at, null_heavy}
+use Rattle.text_columns.specs.inner.Kept.{AppendsBytes, AppendsFixed, HasCell, HoldsCells, IsCoded, KeepAll, Keeps, Takes, column_at, null_heavy}
 
 -- ---- one value
 
@@ -105,6 +106,19 @@ pub record TakesToken (t : Token) (heavy : ℕ) (old new : Values) : Type 0 wher
   pub read : token_data t ≡ Some data_is
   pub there : data_is ≡ null → ⊥
   pub takes : TakesValue data_is heavy old new
+
+-- the same of a column, or of its dictionary
+pub record TakesCellToken (t : Token) (heavy : ℕ) (old : Values) (o : Option Coding) (new : Values) (o2 : Option Coding) : Type 0 where
+  pub data_is : Data
+  pub read : token_data t ≡ Some data_is
+  pub there : data_is ≡ null → ⊥
+  pub takes : (dictionary : Option Index) (kind : Kind) (so : List Cell) → HoldsCells dictionary kind so old o → HasCell dictionary kind (kind_in kind data_is) heavy so new o2
+
+pub record TakesCodedToken (t : Token) (heavy : ℕ) (old : Coding) (values : Values) (new : Coding) (values2 : Values) : Type 0 where
+  pub data_is : Data
+  pub read : token_data t ≡ Some data_is
+  pub there : data_is ≡ null → ⊥
+  pub takes : (index : Index) (kind : Kind) (so : List Cell) → IsCoded index kind so values old → HasCell (Some index) kind (kind_in kind data_is) heavy so values2 (Some new)
 
 -- the cell of a value that weighs so much comes after the cells of a column
 pub record HasKeptValue (c : Column) (d : Data) (heavy : ℕ) (so : List Cell) (new : ColumnBuilder) : Type 0 where

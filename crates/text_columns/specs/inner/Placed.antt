@@ -1,16 +1,18 @@
 -- The arrays that the buffers of columns are, and where they are placed.
-use Rattle.std.specs.Prelude.{◌≡◌, ◌++◌, ℕ, Bool, true, false, List, [], length, map, if◌then◌else◌}
+use Rattle.std.specs.Prelude.{◌≡◌, ◌++◌, ℕ, Bool, true, false, List, [], ◌∷◌, Option, Some, None, length, map, if◌then◌else◌}
 use Rattle.std.specs.List.{list_all}
 use Rattle.bitmap.specs.Bits.{packed}
-use Rattle.columns.specs.Array.{Array, Layout, array, null_layout, bit_layout, fixed_layout, binary_layout}
+use Rattle.columns.specs.Array.{Array, Layout, array, no_array, and_array, null_layout, bit_layout, fixed_layout, binary_layout, dictionary_layout}
 use Rattle.columns.specs.Places.{within}
-use Rattle.columns.specs.View.{array_in, no_dictionary}
-use Rattle.columns.specs.Within.{array_within, ends_within, is_within_by, layout_within}
+use Rattle.columns.specs.View.{array_in, array_step, arrays_in, layout_step}
+use Rattle.columns.specs.Within.{array_within, ends_within, is_placed_within, layout_within, stands_within}
+use Rattle.columns.specs.declared.array.Dictionary.{Dictionary}
+use Rattle.columns.specs.declared.array.DictionaryPart.{DictionaryPart}
 use Rattle.columns.specs.declared.array.PlacedArray.{PlacedArray}
 use Rattle.columns.specs.declared.array.PlacedLayout.{PlacedLayout}
 use Rattle.columns.specs.declared.array.PlacedLayout.TheFolds.{fold-PlacedLayout}
 use Rattle.columns.specs.declared.span.Span.{Span}
-use Rattle.columns.specs.FlatLayouts.{flat_layout}
+use Rattle.text_columns.specs.declared.coding.Coding.{Coding}
 use Rattle.text_columns.specs.declared.column_values.Values.{Values}
 use Rattle.text_columns.specs.declared.column_values.Values.TheVariants.{Nulls, Booleans, Integers, Texts, Binaries, FixedBinaries}
 use Rattle.text_columns.specs.declared.builder.ColumnBuilder.{ColumnBuilder}
@@ -20,12 +22,16 @@ abbrev pub validity_of_bits : List Bool → List ℕ
 validity_of_bits valid = if list_all (λ b. b) valid then [] else packed valid
 
 -- slots of the type of nulls have none
-abbrev pub has_validity : Values → Bool
-has_validity Nulls = false
-has_validity _ = true
+abbrev pub has_bitmap : Values → Bool
+has_bitmap Nulls = false
+has_bitmap _ = true
 
-abbrev pub validity_in : Values → List Bool → List ℕ
-validity_in values valid = if has_validity values then validity_of_bits valid else []
+abbrev pub has_validity : Option Coding → Values → Bool
+has_validity None values = has_bitmap values
+has_validity (Some d) values = true
+
+abbrev pub validity_in : Bool → List Bool → List ℕ
+validity_in has valid = if has then validity_of_bits valid else []
 
 abbrev pub layout_of : Values → Layout
 layout_of Nulls = null_layout
@@ -35,8 +41,16 @@ layout_of (Texts width offsets contents) = binary_layout offsets.items contents.
 layout_of (Binaries width offsets contents) = binary_layout offsets.items contents.items
 layout_of (FixedBinaries width bytes) = fixed_layout bytes.items
 
+-- the array of a dictionary's entries, none of which is a null
+abbrev pub entries_array : Values → ℕ → Array
+entries_array values count = array count [] (layout_of values)
+
+abbrev pub column_layout : Option Coding → Values → Layout
+column_layout None values = layout_of values
+column_layout (Some d) values = dictionary_layout d.indices.items (and_array (entries_array values (length d.keys.keys)) no_array)
+
 abbrev pub array_of : ColumnBuilder → Array
-array_of b = array (length b.valid.items) (validity_in b.values b.valid.items) (layout_of b.values)
+array_of b = array (length b.valid.items) (validity_in (has_validity b.coding b.values) b.valid.items) (column_layout b.coding b.values)
 
 -- a buffer comes behind other bytes, and stands there whatever comes behind it
 pub record IsAppended (old buffer new : List ℕ) (span : Span) : Type 0 where
@@ -44,23 +58,53 @@ pub record IsAppended (old buffer new : List ℕ) (span : Span) : Type 0 where
   pub stands : (more : List ℕ) → within (new ++ more) span ≡ buffer
   pub ends : (more : List ℕ) → ends_within (length (new ++ more)) span ≡ true
 
-abbrev pub is_layout_within : (size : ℕ) → PlacedLayout → Bool
-is_layout_within size = fold-PlacedLayout Bool Bool (layout_within size (λ part. true)) (array_within size)
+-- places as a layout, where so much is known of dictionaries
+abbrev pub layout_by : (bytes : List ℕ) → (DictionaryPart → List Array) → PlacedLayout → Layout
+layout_by bytes known = fold-PlacedLayout Layout Array (layout_step bytes known) (array_step bytes)
 
--- the buffers of values come after other bytes
+abbrev pub is_layout_within : (size : ℕ) → (DictionaryPart → Bool) → PlacedLayout → Bool
+is_layout_within size stands = fold-PlacedLayout Bool Bool (layout_within size stands) (array_within size)
+
+-- the buffers of values come after other bytes: they name no dictionary
 pub record IsLaid (values : Values) (old new : List ℕ) (layout : PlacedLayout) : Type 0 where
   pub more : List ℕ
   pub whole : new ≡ old ++ more
-  pub laid : flat_layout new layout ≡ layout_of values
-  pub ends : is_layout_within (length new) layout ≡ true
+  pub laid : (known : DictionaryPart → List Array) → layout_by new known layout ≡ layout_of values
+  pub ends : (stands : DictionaryPart → Bool) → is_layout_within (length new) stands layout ≡ true
 
--- those of a column
-pub record IsPlaced (b : ColumnBuilder) (old new : List ℕ) (a : PlacedArray) : Type 0 where
+-- the array of entries is a dictionary that comes after others
+pub record AreEntriesPlaced (values : Values) (count : ℕ) (old new : List ℕ) (before behind : List Dictionary) (part : DictionaryPart) : Type 0 where
   pub more : List ℕ
   pub whole : new ≡ old ++ more
-  pub placed : array_in new no_dictionary a ≡ array_of b
-  pub ends : is_within_by (length new) (λ part. true) a ≡ true
+  pub own : List Dictionary
+  pub longer : behind ≡ before ++ own
+  pub known : arrays_in new behind part ≡ entries_array values count ∷ []
+  pub stands : stands_within (length new) behind part ≡ true
+
+-- a layout that is placed after other bytes, with what it names after other dictionaries
+pub record IsPlacedAs (stated : Layout) (old new : List ℕ) (before behind : List Dictionary) (layout : PlacedLayout) : Type 0 where
+  pub more : List ℕ
+  pub whole : new ≡ old ++ more
+  pub own : List Dictionary
+  pub longer : behind ≡ before ++ own
+  pub laid : layout_by new (arrays_in new behind) layout ≡ stated
+  pub ends : is_layout_within (length new) (stands_within (length new) behind) layout ≡ true
+
+abbrev pub IsCodedLaid : Values → Coding → List ℕ → List ℕ → List Dictionary → List Dictionary → PlacedLayout → Type 0
+IsCodedLaid values d = IsPlacedAs (column_layout (Some d) values)
+
+abbrev pub IsLayoutPlaced : ColumnBuilder → List ℕ → List ℕ → List Dictionary → List Dictionary → PlacedLayout → Type 0
+IsLayoutPlaced b = IsPlacedAs (column_layout b.coding b.values)
+
+-- the buffers of a column
+pub record IsPlaced (b : ColumnBuilder) (old new : List ℕ) (before behind : List Dictionary) (a : PlacedArray) : Type 0 where
+  pub more : List ℕ
+  pub whole : new ≡ old ++ more
+  pub own : List Dictionary
+  pub longer : behind ≡ before ++ own
+  pub placed : array_in new (arrays_in new behind) a ≡ array_of b
+  pub ends : is_placed_within (length new) behind a ≡ true
 
 -- and those of all
-abbrev pub ArePlaced : List ColumnBuilder → List ℕ → List PlacedArray → Type 0
-ArePlaced bs bytes arrays = map (array_in bytes no_dictionary) arrays ≡ map array_of bs
+abbrev pub ArePlaced : List ColumnBuilder → List ℕ → List Dictionary → List PlacedArray → Type 0
+ArePlaced bs bytes dictionaries arrays = map (array_in bytes (arrays_in bytes dictionaries)) arrays ≡ map array_of bs

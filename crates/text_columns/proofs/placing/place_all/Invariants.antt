@@ -5,5 +5,5 @@ abbrev pub invariant-loop-column : goal.invariant-loop-column
 invariant-loop-column l = record {
   next : goal.iterator-loop-column.can_next l.column-iterator;
   ends : goal.iterator-loop-column.is_finite l.column-iterator;
-  so_far : SoFar l.yielded l.bytes.items l.arrays.items;
+  so_far : SoFar l.yielded l.bytes.items l.dictionaries.items l.arrays.items;
 }

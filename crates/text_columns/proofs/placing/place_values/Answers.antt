@@ -1,4 +1,4 @@
-use Rattle.text_columns.proofs.PlacedBuffers.{binaries_laid, bits_laid, fixed_laid, texts_laid, values_laid}
+use Rattle.text_columns.proofs.PlacedBuffers.{binaries_laid, bits_laid, fixed_laid, nulls_laid, texts_laid, values_laid}
 use Rattle.text_columns.proofs.placing.place_values.Goals as goal
 
 pub returns-in_ok-append_bits-in-Booleans : goal.returns-in_ok-append_bits-in-Booleans
@@ -32,3 +32,6 @@ returns-in_ok-append-in-FixedBinaries c =
     rw c.in-FixedBinaries.is
     (fixed_laid c.in-FixedBinaries.field-0 c.in-FixedBinaries.values c.args.bytes.now.items c.append-in-FixedBinaries.new.bytes.items c.in_ok-append-in-FixedBinaries.field-0
     (rw c.deref-in-FixedBinaries.ensures.value at c.in_ok-append-in-FixedBinaries.ensures))
+
+pub returns-in-Nulls : goal.returns-in-Nulls
+returns-in-Nulls c = rw c.in-Nulls.is (nulls_laid c.args.bytes.now.items)

@@ -10,7 +10,7 @@ returns-then-is_null c =
 
 pub returns : goal.returns
 returns c =
-    let new : ColumnBuilder = record { nullable = c.args.self.now.nullable; valid = c.push.new.self; values = c.push_text.new.self } in
+    let new : ColumnBuilder = record { nullable = c.args.self.now.nullable; valid = c.push.new.self; values = c.push_text.new.values; coding = c.push_text.new.coding } in
     IfSome_then c.in_ok-taken.taken c.in_ok-taken.ensures
     (λ heavy takes.
     field_kept c.args.null_text.now c.args.text.now heavy c.args.self.now new (sym c.is_null.ensures ∙ c.if-is_null.false) refl c.in_ok-push.ensures.items takes)

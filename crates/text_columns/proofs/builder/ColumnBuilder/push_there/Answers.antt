@@ -7,5 +7,5 @@ use Rattle.text_columns.proofs.builder.ColumnBuilder.push_there.Goals as goal
 
 pub returns : goal.returns
 returns c =
-    let new : ColumnBuilder = record { nullable = c.args.self.now.nullable; valid = c.push.new.self; values = c.push_token.new.self } in
+    let new : ColumnBuilder = record { nullable = c.args.self.now.nullable; valid = c.push.new.self; values = c.push_token.new.values; coding = c.push_token.new.coding } in
     IfSome_then c.in_ok-taken.taken c.in_ok-taken.ensures (λ heavy takes. there_behind (token_of c.args.token) heavy c.args.self.now new refl c.in_ok-push.ensures.items takes)

@@ -1,0 +1,117 @@
+-- The arrays that the cells of columns are written as.
+use Rattle.std.specs.Prelude.{◌&&◌, if◌then◌else◌, get_or, Option, Some, None, slice_get}
+use Rattle.std.specs.List.{flat_map, list_all}
+use Rattle.std.proofs.Common.{◌≡◌, ℕ, suc, ◌/◌, Bool, true, false, List, [], ◌∷◌, length, map, refl, arith, ap, sym, subst, ◌∙◌}
+use Rattle.std.proofs.lemmas.List.{length-map}
+use Rattle.bitmap.specs.Bits.{packed}
+use Rattle.arrow_schema.specs.Column.{Index, Kind, Column, booleans, integers, dates, timestamps, nulls, texts, large_texts, binaries, large_binaries, fixed_binaries, column, columns_of}
+use Rattle.cells.specs.Cell.{Cell, null}
+use Rattle.cells.specs.Dictionary.{entries_of}
+use Rattle.cells.specs.Fit.{fits_kind}
+use Rattle.cells.specs.Nulls.{is_there}
+use Rattle.columns.specs.Array.{Layout, array, arrays_of, no_array, and_array, null_layout, bit_layout, fixed_layout, binary_layout, dictionary_layout}
+use Rattle.columns.specs.Built.{built, built_kind, built_parts, first_cell, other_cells, validity_of, with_validity, index_bytes, integer_bytes, fixed_bytes, offsets_of, contents_of}
+use Rattle.columns.specs.Offsets.{width_of}
+use Rattle.text_columns.specs.declared.coding.Coding.{Coding}
+use Rattle.text_columns.specs.declared.column_values.Values.{Values}
+use Rattle.text_columns.specs.declared.column_values.Values.TheVariants.{Nulls, Booleans, Integers, Texts, Binaries, FixedBinaries}
+use Rattle.text_columns.specs.declared.builder.ColumnBuilder.{ColumnBuilder}
+use Rattle.text_columns.specs.inner.Kept.{Holds, HoldsCells, IsCoded, IsOf, Keeps, Takes, column_at, key_of}
+use Rattle.text_columns.specs.inner.Placed.{array_of, column_layout, entries_array, has_bitmap, has_validity, layout_of, validity_in, validity_of_bits}
+use Rattle.text_columns.proofs.Coded.{all_there, own_flat}
+
+there_all : (cells : List Cell) → list_all (λ b. b) (map is_there cells) ≡ list_all is_there cells
+there_all [] = refl
+there_all (c ∷ cells) = ap (λ (b : Bool). is_there c && b) (there_all cells)
+
+validity_is : (cells : List Cell) → validity_of_bits (map is_there cells) ≡ validity_of cells
+validity_is cells = ap (λ (b : Bool). if b then [] else packed (map is_there cells)) (there_all cells)
+
+with_is : (cells : List Cell) (valid : List Bool) (layout own : Layout) → valid ≡ map is_there cells → layout ≡ own → array (length valid) (validity_of_bits valid) layout ≡ with_validity cells own
+with_is cells valid layout own is same =
+    (λ j. array (length (is j)) (validity_of_bits (is j)) (same j)) ∙ (λ j. array (length-map cells is_there j) (validity_is cells j) own)
+
+kind_built : (kind : Kind) (values : Values) (cells : List Cell) (valid : List Bool) → IsOf kind values → Holds values cells → valid ≡ map is_there cells
+    → array (length valid) (validity_in (has_bitmap values) valid) (layout_of values) ≡ built_kind kind cells
+unfolding built_kind
+kind_built kind values cells valid h holds is = by kind values h holds
+  where
+    by : (kind : Kind) (values : Values) → IsOf kind values → Holds values cells → array (length valid) (validity_in (has_bitmap values) valid) (layout_of values) ≡ built_kind kind cells
+    by nulls Nulls h holds = ap (λ (n : ℕ). array n [] null_layout) (ap length is ∙ length-map cells is_there)
+    by booleans (Booleans bits) h holds = with_is cells valid (bit_layout (packed bits.items)) _ is (ap (λ (xs : List Bool). bit_layout (packed xs)) holds)
+    by (integers bits signed) (Integers i bytes) h holds =
+        with_is cells valid (fixed_layout bytes.items) _ is (ap fixed_layout (holds ∙ ap (λ (n : ℕ). flat_map (integer_bytes (n / 8)) cells) h.0))
+    by (dates unit) (Integers i bytes) h holds =
+        with_is cells valid (fixed_layout bytes.items) _ is (ap fixed_layout (holds ∙ ap (λ (n : ℕ). flat_map (integer_bytes (n / 8)) cells) h.0))
+    by (timestamps unit timezone) (Integers i bytes) h holds =
+        with_is cells valid (fixed_layout bytes.items) _ is (ap fixed_layout (holds ∙ ap (λ (n : ℕ). flat_map (integer_bytes (n / 8)) cells) h.0))
+    by texts (Texts width offsets contents) h holds =
+        with_is cells valid (binary_layout offsets.items contents.items) _ is
+        (λ j. binary_layout ((holds.0 ∙ ap (λ w. offsets_of (width_of w) (map (λ c. length (contents_of c)) cells)) h) j) (holds.1 j))
+    by large_texts (Texts width offsets contents) h holds =
+        with_is cells valid (binary_layout offsets.items contents.items) _ is
+        (λ j. binary_layout ((holds.0 ∙ ap (λ w. offsets_of (width_of w) (map (λ c. length (contents_of c)) cells)) h) j) (holds.1 j))
+    by binaries (Binaries width offsets contents) h holds =
+        with_is cells valid (binary_layout offsets.items contents.items) _ is
+        (λ j. binary_layout ((holds.0 ∙ ap (λ w. offsets_of (width_of w) (map (λ c. length (contents_of c)) cells)) h) j) (holds.1 j))
+    by large_binaries (Binaries width offsets contents) h holds =
+        with_is cells valid (binary_layout offsets.items contents.items) _ is
+        (λ j. binary_layout ((holds.0 ∙ ap (λ w. offsets_of (width_of w) (map (λ c. length (contents_of c)) cells)) h) j) (holds.1 j))
+    by (fixed_binaries size) (FixedBinaries width bytes) h holds =
+        with_is cells valid (fixed_layout bytes.items) _ is (ap fixed_layout (holds ∙ ap (λ (n : ℕ). flat_map (fixed_bytes n) cells) h))
+    by _ values h holds = absurd h
+
+-- the entries of a dictionary are all there
+all_valid : (es : List Cell) → list_all is_there es ≡ true → list_all (λ b. b) (map is_there es) ≡ true
+all_valid es h = there_all es ∙ h
+
+no_bitmap : (has : Bool) (valid : List Bool) → list_all (λ b. b) valid ≡ true → validity_in has valid ≡ []
+no_bitmap false valid h = refl
+no_bitmap true valid h = ap (λ (b : Bool). if b then [] else packed valid) h
+
+entries_built : (kind : Kind) (values : Values) (es : List Cell) (count : ℕ) → Takes kind es values → list_all (fits_kind kind) es ≡ true → count ≡ length es → entries_array values count ≡ built_kind kind es
+entries_built kind values es count t fit size =
+    let valid : List Bool = map is_there es in
+    let there = all_valid es (all_there kind es (own_flat kind values t.kind_is) fit) in
+    (λ j. array ((size ∙ sym (length-map es is_there)) j) (sym (no_bitmap (has_bitmap values) valid there) j) (layout_of values)) ∙ kind_built kind values es valid t.kind_is t.holds refl
+
+coded_built : (index : Index) (kind : Kind) (cells : List Cell) (values : Values) (d : Coding) (valid : List Bool) → IsCoded index kind cells values d → valid ≡ map is_there cells
+    → array (length valid) (validity_of_bits valid) (column_layout (Some d) values)
+    ≡ with_validity cells (dictionary_layout (flat_map (index_bytes index (entries_of cells)) cells) (and_array (built_kind kind (entries_of cells)) no_array))
+coded_built index kind cells values d valid h is =
+    let count : length d.keys.keys ≡ length (entries_of cells) = sym (length-map d.keys.keys (λ k. k.items)) ∙ ap length h.keys ∙ length-map (entries_of cells) (key_of kind) in
+    let entries = entries_built kind values (entries_of cells) (length d.keys.keys) h.entries h.fit count in
+    with_is cells valid (column_layout (Some d) values) _ is (λ j. dictionary_layout (h.indices j) (and_array (entries j) no_array))
+
+pub built_is : (c : Column) (cells : List Cell) (b : ColumnBuilder) → Keeps c cells b → array_of b ≡ built c cells
+unfolding built
+built_is (column name nullable kind dictionary pairs) cells b k = by dictionary b.coding k.2
+  where
+    by : (dictionary : Option Index) (o : Option Coding) → HoldsCells dictionary kind cells b.values o
+        → array (length b.valid.items) (validity_in (has_validity o b.values) b.valid.items) (column_layout o b.values) ≡ built (column name nullable kind dictionary pairs) cells
+    by None None h = kind_built kind b.values cells b.valid.items h.kind_is h.holds k.1
+    by (Some index) (Some d) h = coded_built index kind cells b.values d b.valid.items h k.1
+    by None (Some d) h = absurd h
+    by (Some index) None h = absurd h
+
+first_column : (rows : List (List Cell)) → column_at 0 rows ≡ map first_cell rows
+first_column [] = refl
+first_column ([] ∷ rows) = ap (λ (xs : List Cell). null ∷ xs) (first_column rows)
+first_column ((c ∷ row) ∷ rows) = ap (λ (xs : List Cell). c ∷ xs) (first_column rows)
+
+other_column : (j : ℕ) (rows : List (List Cell)) → column_at (suc j) rows ≡ column_at j (map other_cells rows)
+other_column j [] = refl
+other_column j ([] ∷ rows) = ap (λ (xs : List Cell). null ∷ xs) (other_column j rows)
+other_column j ((c ∷ row) ∷ rows) = ap (λ (xs : List Cell). get_or row j null ∷ xs) (other_column j rows)
+
+pub all_built : (cs : List Column) (rows : List (List Cell)) (bs : List ColumnBuilder) → length bs ≡ length cs
+    → ((j : ℕ) (c : Column) (b : ColumnBuilder) → slice_get cs j ≡ Some c → slice_get bs j ≡ Some b → Keeps c (column_at j rows) b)
+    → arrays_of (map array_of bs) ≡ built_parts (columns_of cs) rows
+unfolding built_parts
+all_built [] rows [] count each = refl
+all_built [] rows (b ∷ bs) count each = absurd (omega arith)
+all_built (c ∷ cs) rows [] count each = absurd (omega arith)
+all_built (c ∷ cs) rows (b ∷ bs) count each =
+    let here = built_is c (column_at 0 rows) b (each 0 c b refl refl) ∙ ap (built c) (first_column rows) in
+    let others = all_built cs (map other_cells rows) bs (omega arith) (λ j d e dc db. subst (λ (xs : List Cell). Keeps d xs e) (other_column j rows) (each (suc j) d e dc db)) in
+    λ j. and_array (here j) (others j)

@@ -1,0 +1,121 @@
+-- The dictionaries of columns have room for the entries of their rows, and for those of any row.
+use Rattle.std.specs.Prelude.{Option, Some, None, slice_get, get_or, option_to_list, ◌⊎◌}
+use Rattle.std.specs.List.{list_all}
+use Rattle.std.proofs.Common.{◌≡◌, ℕ, zero, suc, ◌+◌, ◌≤◌, Bool, true, false, List, [], ◌∷◌, ◌++◌, length, refl, arith, ap, sym, ◌∙◌, inl, inr}
+use Rattle.std.proofs.lemmas.Bool.{and_from, le-leb}
+use Rattle.std.proofs.lemmas.List.Folds.{list_all-append}
+use Rattle.arrow_schema.specs.Column.{Index, Kind, Column, column, columns_of, PlainSchema}
+use Rattle.arrow_schema.specs.View.{bits_of}
+use Rattle.arrow_schema.specs.declared.types.BitWidth.{BitWidth}
+use Rattle.arrow_schema.specs.declared.types.BitWidth.TheVariants.{Eight, Sixteen, ThirtyTwo, SixtyFour}
+use Rattle.cells.specs.Cell.{Cell, null}
+use Rattle.cells.specs.Dictionary.{cells_at, dictionaries_fit, entries_of, entry_limit, has_few_entries, holdings, holdings_below, holdings_from, is_within, own_holding, with_entries, with_entry}
+use Rattle.cells.specs.laws.Entries.{entries_few, none_below}
+use Rattle.text_columns.specs.declared.builder.ColumnBuilder.{ColumnBuilder}
+use Rattle.text_columns.specs.declared.coding.Coding.{Coding}
+use Rattle.text_columns.specs.declared.column_values.Values.{Values}
+use Rattle.text_columns.specs.inner.Kept.{HoldsCells, KeepAll, Keeps, column_at}
+use Rattle.text_columns.proofs.Coded.{own_flat, own_kind}
+
+-- ---- one column
+
+few_in : (nullable : Bool) (index : Index) (kind : Kind) (cells : List Cell) → holdings_below kind cells ≡ [] → is_within (entry_limit index) (length (entries_of cells)) ≡ true
+    → list_all has_few_entries (own_holding (Some index) cells ++ holdings_below kind cells) ≡ true
+few_in nullable index kind cells none few = rw none (rw few refl)
+
+-- a dictionary has as many entries as it could name before
+same_few : (c : Column) (cells others : List Cell) (b : ColumnBuilder) → Keeps c cells b → entries_of others ≡ entries_of cells → list_all has_few_entries (holdings c others) ≡ true
+unfolding holdings
+same_few (column name nullable kind None pairs) cells others b k e =
+    let flat = own_flat kind b.values (own_kind None kind cells b.values b.coding k.2) in
+    rw (none_below kind others flat) refl
+same_few (column name nullable kind (Some index) pairs) cells others b k e =
+    let flat = own_flat kind b.values (own_kind (Some index) kind cells b.values b.coding k.2) in
+    few_in nullable index kind others (none_below kind others flat) (ap (λ (xs : List Cell). is_within (entry_limit index) (length xs)) e ∙ few_of index kind cells b.values b.coding k.2)
+  where
+    few_of : (index : Index) (kind : Kind) (cells : List Cell) (values : Values) (o : Option Coding) → HoldsCells (Some index) kind cells values o
+        → is_within (entry_limit index) (length (entries_of cells)) ≡ true
+    few_of index kind cells values None h = absurd h
+    few_of index kind cells values (Some d) h = h.few
+
+-- indices of any width name one entry
+one_within : (w : BitWidth) (signed : Bool) (n : ℕ) → n ≤ 1 → is_within (entry_limit (record { bits = bits_of w; signed = signed })) n ≡ true
+one_within Eight true n le = le-leb n 128 (omega arith)
+one_within Eight false n le = le-leb n 256 (omega arith)
+one_within Sixteen true n le = le-leb n 32768 (omega arith)
+one_within Sixteen false n le = le-leb n 65536 (omega arith)
+one_within ThirtyTwo signed n le = refl
+one_within SixtyFour signed n le = refl
+
+one_few : (c : Column) (cells others : List Cell) (b : ColumnBuilder) → Keeps c cells b → length (entries_of others) ≤ 1 → list_all has_few_entries (holdings c others) ≡ true
+unfolding holdings
+one_few (column name nullable kind None pairs) cells others b k le =
+    let flat = own_flat kind b.values (own_kind None kind cells b.values b.coding k.2) in
+    rw (none_below kind others flat) refl
+one_few (column name nullable kind (Some index) pairs) cells others b k le =
+    let flat = own_flat kind b.values (own_kind (Some index) kind cells b.values b.coding k.2) in
+    few_in nullable index kind others (none_below kind others flat) (few_of index kind cells b.values b.coding k.2)
+  where
+    few_of : (index : Index) (kind : Kind) (cells : List Cell) (values : Values) (o : Option Coding) → HoldsCells (Some index) kind cells values o
+        → is_within (entry_limit index) (length (entries_of others)) ≡ true
+    few_of index kind cells values None h = absurd h
+    few_of index kind cells values (Some d) h =
+        let type : record { bits = bits_of d.index.width; signed = d.index.signed } ≡ index = (λ j. record { bits = h.bits j; signed = h.signed j }) in
+        ap (λ (i : Index). is_within (entry_limit i) (length (entries_of others))) (sym type) ∙ one_within d.index.width d.index.signed (length (entries_of others)) le
+
+-- ---- the cells at a place of rows, of which an absent one is no entry
+
+one_at : (row : List Cell) (j : ℕ) → ((option_to_list (slice_get row j) ≡ []) × (get_or row j null ≡ null)) ⊎ (option_to_list (slice_get row j) ≡ get_or row j null ∷ [])
+one_at [] zero = inl (refl, refl)
+one_at [] (suc j) = inl (refl, refl)
+one_at (c ∷ row) zero = inr refl
+one_at (c ∷ row) (suc j) = one_at row j
+
+entries_at : (j : ℕ) (rows : List (List Cell)) (es : List Cell) → with_entries es (cells_at j rows) ≡ with_entries es (column_at j rows)
+unfolding with_entries
+entries_at j [] es = refl
+entries_at j (row ∷ rows) es = elim (one_at row j) [
+  | inl absent ↦
+      ap (λ (xs : List Cell). with_entries es (xs ++ cells_at j rows)) absent.0 ∙ entries_at j rows es ∙ ap (λ (c : Cell). with_entries (with_entry es c) (column_at j rows)) (sym absent.1)
+  | inr there ↦ ap (λ (xs : List Cell). with_entries es (xs ++ cells_at j rows)) there ∙ entries_at j rows (with_entry es (get_or row j null))
+]
+
+one_cell : (j : ℕ) (row : List Cell) → length (cells_at j (row ∷ [])) ≤ 1
+one_cell j row = elim (one_at row j) [
+  | inl absent ↦ (let e : length (cells_at j (row ∷ [])) ≡ 0 = ap (λ (xs : List Cell). length (xs ++ [])) absent.0 in omega (arith, e))
+  | inr there ↦ (let e : length (cells_at j (row ∷ [])) ≡ 1 = ap (λ (xs : List Cell). length (xs ++ [])) there in omega (arith, e))
+]
+
+-- ---- all columns
+
+all_few : (i : ℕ) (cs : List Column) (rows : List (List Cell)) → ((j : ℕ) (c : Column) → slice_get cs j ≡ Some c → list_all has_few_entries (holdings c (cells_at (i + j) rows)) ≡ true)
+    → list_all has_few_entries (holdings_from i (columns_of cs) rows) ≡ true
+unfolding holdings_from
+all_few i [] rows each = refl
+all_few i (c ∷ cs) rows each =
+    let here : i + 0 ≡ i = omega arith in
+    let first : list_all has_few_entries (holdings c (cells_at i rows)) ≡ true = rw here at (each 0 c refl) in
+    list_all-append has_few_entries (holdings c (cells_at i rows)) (holdings_from (i + 1) (columns_of cs) rows)
+    ∙ and_from _ _ first (all_few (i + 1) cs rows (λ j d e. let next : i + suc j ≡ i + 1 + j = omega arith in rw next at (each (suc j) d e)))
+
+there_too : {X Y : Type 0} (xs : List X) (ys : List Y) (j : ℕ) (x : X) → length ys ≡ length xs → slice_get xs j ≡ Some x → (y : Y) × (slice_get ys j ≡ Some y)
+there_too [] ys j x e h = absurd cc
+there_too (z ∷ xs) [] j x e h = absurd (omega arith)
+there_too (z ∷ xs) (y ∷ ys) zero x e h = (y, refl)
+there_too (z ∷ xs) (y ∷ ys) (suc j) x e h = there_too xs ys j x (omega arith) h
+
+pub rows_fit : (s : PlainSchema) (rows : List (List Cell)) (bs : List ColumnBuilder) → KeepAll s.columns rows bs → dictionaries_fit s rows ≡ true
+rows_fit s rows bs k = all_few 0 s.columns rows (λ j c dc.
+    let (b, db) = there_too s.columns bs j c k.count dc in
+    let same : 0 + j ≡ j = omega arith in
+    rw same (same_few c (column_at j rows) (cells_at j rows) b (k.each j c b dc db) (entries_at j rows [])))
+
+-- a row by itself
+pub row_fits : (s : PlainSchema) (rows : List (List Cell)) (bs : List ColumnBuilder) (row : List Cell) → KeepAll s.columns rows bs → dictionaries_fit s (row ∷ []) ≡ true
+row_fits s rows bs row k = all_few 0 s.columns (row ∷ []) (λ j c dc.
+    let (b, db) = there_too s.columns bs j c k.count dc in
+    let same : 0 + j ≡ j = omega arith in
+    let few = entries_few [] (cells_at j (row ∷ [])) in
+    let one = one_cell j row in
+    let le : length (entries_of (cells_at j (row ∷ []))) ≤ 1 = omega (arith, few, one) in
+    rw same (one_few c (column_at j rows) (cells_at j (row ∷ [])) b (k.each j c b dc db) le))

@@ -1,0 +1,10 @@
+use Rattle.std.proofs.Common.{refl}
+use Rattle.text_columns.specs.declared.coding.Coding.{Coding}
+use Rattle.text_columns.proofs.Coded.{value_coded}
+use Rattle.text_columns.proofs.coding.Coding.code.Goals as goal
+
+pub returns : goal.returns
+returns c =
+    let old = c.args.self.now in
+    let new : Coding = record { index = old.index; indices = c.push_index.new.indices; keys = c.place_of.new.keys; one = old.one } in
+    λ done. value_coded old new c.args.entries.now c.place_of.new.entries c.in-Some.place (rw (c.in-Some.is, c.key-key.ensures) at c.in_ok-place.ensures) refl refl c.in_ok-push_index.ensures

@@ -1,0 +1,139 @@
+// Columns with a dictionary: each value is looked up among the entries that were seen, and its index is written.
+ghost use Rattle.std.specs.Prelude.{◌≡◌, ◌+◌, ◌++◌, ◌/◌, ◌∷◌, [], true, position, bytes_eq, IfOk, IfSome, OnOk};
+ghost use Rattle.arrow_schema.specs.View.{bits_of};
+ghost use Rattle.byteorder.specs.Endian.{little_bytes};
+ghost use Rattle.cells.specs.Dictionary.{entry_limit, is_within};
+ghost use Rattle.text_columns.specs.inner.Kept.{Codes, Places, TakesField, TakesNullCell, index_type, key_list};
+
+use crate::column_values::Values;
+use arrow_schema::{BitWidth, IntegerType};
+use cells::entry_limit;
+use indexmap::IndexSet;
+use std::alloc::AllocError;
+
+/// What a column with a dictionary has beside its entries: the indices of its cells, the bytes of each entry, in order, and the buffers of the one
+/// value that is looked up.
+#[derive(Drop)]
+pub(crate) struct Coding {
+    pub(crate) index: IntegerType,
+    pub(crate) indices: Vec<u8>,
+    pub(crate) keys: IndexSet<Vec<u8>>,
+    pub(crate) one: Values,
+}
+
+fn push_index(indices: &mut Vec<u8>, width: BitWidth, index: u64) -> Result<(), AllocError>
+    ensures { OnOk result (indices.new.items ≡ indices.old.items ++ little_bytes (bits_of width / 8) index) }
+{
+    let bytes = index.to_le_bytes();
+    match width {
+        BitWidth::Eight => indices.extend_from_slice(&bytes[..1]),
+        BitWidth::Sixteen => indices.extend_from_slice(&bytes[..2]),
+        BitWidth::ThirtyTwo => indices.extend_from_slice(&bytes[..4]),
+        BitWidth::SixtyFour => indices.extend_from_slice(&bytes),
+    }
+}
+
+// Whether indices of a type can name one more entry than these.
+fn has_room(index: IntegerType, count: usize) -> bool
+    ensures { result ≡ is_within (entry_limit (index_type index)) (count + 1) }
+{
+    match entry_limit(index) {
+        Some(most) => count < most,
+        None => true,
+    }
+}
+
+// Where the entry stands that has these bytes.
+fn find(keys: &IndexSet<Vec<u8>>, key: &[u8]) -> Option<usize>
+    ensures { result ≡ position (bytes_eq key.now) (key_list keys.now.keys) }
+{
+    keys.get_index_of(key)
+}
+
+// Adds the bytes of an entry, and answers whether they were not among the others.
+fn add_key(keys: &mut IndexSet<Vec<u8>>, key: &[u8]) -> Result<bool, AllocError>
+    ensures { IfOk result (λ added. added ≡ true → key_list keys.new.keys ≡ key_list keys.old.keys ++ key.now ∷ []) }
+{
+    let mut owned = Vec::new(*keys.allocator());
+    owned.extend_from_slice(key)?;
+    let (_, added) = keys.insert_full(owned)?;
+    Ok(added)
+}
+
+// Where the entry stands that has these bytes, which is one then; none where no index can name it.
+fn place_of(
+    index: IntegerType,
+    keys: &mut IndexSet<Vec<u8>>,
+    entries: &mut Values,
+    key: &[u8],
+) -> Result<Option<usize>, AllocError>
+    ensures { IfOk result (λ found. IfSome found (λ place. Places index key.now place keys.old.keys keys.new.keys entries.old entries.new)) }
+{
+    if let Some(place) = find(keys, key) {
+        return Ok(Some(place));
+    }
+    let place = keys.len();
+    if !has_room(index, place) {
+        return Ok(None);
+    }
+    if !add_key(keys, key)? {
+        return Ok(None);
+    }
+    entries.push_key(key)?;
+    Ok(Some(place))
+}
+
+impl Coding {
+    ghost use Rattle.text_columns.specs.inner.Kept.{TakesCodedText};
+
+    // Appends the index of the one value, which is an entry then; false where no index can name it.
+    pub(crate) fn code(&mut self, entries: &mut Values) -> Result<bool, AllocError>
+        ensures { IfOk result (λ done. done ≡ true → Codes self.old entries.old self.new entries.new) }
+    {
+        let key = self.one.key();
+        let Some(place) = place_of(self.index, &mut self.keys, entries, key)? else {
+            return Ok(false);
+        };
+        push_index(&mut self.indices, self.index.width, place as u64)?;
+        Ok(true)
+    }
+
+    // Appends the index of the value that a field is, where it is one of the type, and answers what it weighs.
+    fn push_text(&mut self, entries: &mut Values, text: &[u8]) -> Result<Option<u64>, AllocError>
+        ensures { IfOk result (λ taken. IfSome taken (λ heavy. TakesCodedText text.now heavy self.old entries.old self.new entries.new)) }
+    {
+        self.one.clear()?;
+        let Some(heavy) = self.one.push_text(text)? else {
+            return Ok(None);
+        };
+        if self.code(entries)? {
+            Ok(Some(heavy))
+        } else {
+            Ok(None)
+        }
+    }
+}
+
+/// Appends a null to the values, or to the indices.
+pub(crate) fn push_null(values: &mut Values, coding: &mut Option<Coding>) -> Result<(), AllocError>
+    ensures { OnOk result (TakesNullCell values.old coding.old values.new coding.new) }
+{
+    match coding {
+        None => values.push_null(),
+        Some(coding) => push_index(&mut coding.indices, coding.index.width, 0),
+    }
+}
+
+/// Appends the cell that a field is, or its index, where it is one of the type, and answers what it weighs.
+pub(crate) fn push_text(
+    values: &mut Values,
+    coding: &mut Option<Coding>,
+    text: &[u8],
+) -> Result<Option<u64>, AllocError>
+    ensures { IfOk result (λ taken. IfSome taken (λ heavy. TakesField text.now heavy values.old coding.old values.new coding.new)) }
+{
+    match coding {
+        None => values.push_text(text),
+        Some(coding) => coding.push_text(values, text),
+    }
+}
