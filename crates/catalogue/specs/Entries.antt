@@ -39,7 +39,7 @@ pub record PlainRoot : Type 0 where
 
 -- what one of the code is
 abbrev pub plain_root : RootEntry → PlainRoot
-plain_root r = record { name = string_bytes r.name; page = r.page }
+plain_root r = record { name = r.name.now; page = r.page }
 
 -- a number from this one to that one
 abbrev pub is_between : ℕ → ℕ → ℕ → Bool

@@ -1,5 +1,5 @@
 // A text is read.
-ghost use Rattle.std.specs.Prelude.{◌≡◌, ◌≤◌, map, length, string_bytes, IfOk};
+ghost use Rattle.std.specs.Prelude.{◌≡◌, ◌≤◌, map, length, IfOk};
 ghost use Rattle.catalogue.specs.Entries.{plain_entry};
 ghost use Rattle.catalogue.specs.Reading.{Gives, front_number, sized_at, name_at, many_at, extent_in, digest_in, segment_at, raw_schema_in, schema_in, body_at, entry_at, catalogue_at, page_at};
 ghost use Rattle.arrow_schema.specs.View.{schema_of};
@@ -58,8 +58,8 @@ fn sized_at(bytes: &[u8]) -> Result<(&[u8], &[u8]), DecodeError>
 
 // A name of a table.
 #[tactic(auto, unfolding(crate::specs::Reading::name_at))]
-pub(crate) fn name_at(alloc: Global, bytes: &[u8]) -> Result<(String, &[u8]), DecodeError>
-    ensures { Gives (λ x. (string_bytes x.0, x.1.now)) result (name_at bytes.now) }
+pub(crate) fn name_at(bytes: &[u8]) -> Result<(&str, &[u8]), DecodeError>
+    ensures { Gives (λ x. (x.0.now, x.1.now)) result (name_at bytes.now) }
 {
     let (name, rest) = sized_at(bytes)?;
     let Ok(name) = std::str::from_utf8(name) else {
@@ -68,7 +68,6 @@ pub(crate) fn name_at(alloc: Global, bytes: &[u8]) -> Result<(String, &[u8]), De
     if !is_name(name) {
         return Err(DecodeError::NoText);
     }
-    let name = String::from_str(alloc, name)?;
     Ok((name, rest))
 }
 
@@ -186,7 +185,8 @@ fn entry_at(
 ) -> Result<(TableEntry, &[u8]), DecodeError>
     ensures { Gives (λ x. (plain_entry x.0, x.1.now)) result (entry_at form bytes.now) }
 {
-    let (name, rest) = name_at(alloc, bytes)?;
+    let (name, rest) = name_at(bytes)?;
+    let name = String::from_str(alloc, name)?;
     let (schema, segments, rest) = body_at(alloc, form, rest)?;
     let entry = TableEntry::new(alloc, name, schema, segments, None)?;
     Ok((entry, rest))

@@ -52,8 +52,8 @@ pub struct TableEntry {
 
 /// A table of a root: its name, and where its page lies.
 #[derive(Drop)]
-pub struct RootEntry {
-    pub name: String,
+pub struct RootEntry<'a> {
+    pub name: &'a str,
     pub page: Extent,
 }
 

@@ -12,10 +12,10 @@ use std::alloc::{AllocError, Global};
 use std::cmp::Ordering;
 
 #[tactic(auto, unfolding(crate::specs::Reading::root_entry_at))]
-fn root_entry_at(alloc: Global, bytes: &[u8]) -> Result<(RootEntry, &[u8]), DecodeError>
+fn root_entry_at(bytes: &[u8]) -> Result<(RootEntry<'_>, &[u8]), DecodeError>
     ensures { Gives (λ x. (plain_root x.0, x.1.now)) result (root_entry_at bytes.now) }
 {
-    let (name, rest) = name_at(alloc, bytes)?;
+    let (name, rest) = name_at(bytes)?;
     let (page, rest) = extent_in(rest)?;
     Ok((RootEntry { name, page }, rest))
 }
@@ -24,13 +24,13 @@ fn root_entries_at(
     alloc: Global,
     count: u32,
     bytes: &[u8],
-) -> Result<(Vec<RootEntry>, &[u8]), DecodeError>
+) -> Result<(Vec<RootEntry<'_>>, &[u8]), DecodeError>
     ensures { Gives (λ x. (map plain_root x.0.items, x.1.now)) result (many_at root_entry_at count bytes.now) }
 {
     let mut entries = Vec::new(alloc);
     let mut rest = bytes;
     for _ in 0..count {
-        let (entry, after) = root_entry_at(alloc, rest)?;
+        let (entry, after) = root_entry_at(rest)?;
         entries.push(entry)?;
         rest = after;
     }
@@ -38,21 +38,21 @@ fn root_entries_at(
 }
 
 // Whether the name comes before that of the first entry.
-fn comes_before(name: &str, entries: &[RootEntry]) -> bool
+fn comes_before(name: &str, entries: &[RootEntry<'_>]) -> bool
     ensures { result ≡ comes_before name.now (root_names (map plain_root entries.now)) }
 {
     match entries {
         [] => true,
-        [first, ..] => name.cmp(first.name.as_str()) == Ordering::Less,
+        [first, ..] => name.cmp(first.name) == Ordering::Less,
     }
 }
 
 // Whether the name of each comes before that of the next.
-fn are_in_order(entries: &[RootEntry]) -> bool
+fn are_in_order(entries: &[RootEntry<'_>]) -> bool
     ensures { result ≡ ascends (root_names (map plain_root entries.now)) }
 {
     for (place, entry) in entries.iter().enumerate() {
-        if !comes_before(&entry.name, &entries[place + 1..]) {
+        if !comes_before(entry.name, &entries[place + 1..]) {
             return false;
         }
     }
@@ -64,7 +64,7 @@ fn are_in_order(entries: &[RootEntry]) -> bool
 /// # Errors
 /// `NoText` where they are the text of none.
 #[tactic(auto, unfolding(crate::specs::Reading::root_at))]
-pub fn decode_root(alloc: Global, bytes: &[u8]) -> Result<Vec<RootEntry>, DecodeError>
+pub fn decode_root(alloc: Global, bytes: &[u8]) -> Result<Vec<RootEntry<'_>>, DecodeError>
     ensures exact { Gives (λ x. map plain_root x.items) result (root_at bytes.now) }
 {
     let (count, rest) = u32_at(bytes)?;
@@ -76,7 +76,7 @@ pub fn decode_root(alloc: Global, bytes: &[u8]) -> Result<Vec<RootEntry>, Decode
     }
 }
 
-fn put_root_entry(out: &mut Vec<u8>, entry: &RootEntry) -> Result<(), AllocError>
+fn put_root_entry(out: &mut Vec<u8>, entry: &RootEntry<'_>) -> Result<(), AllocError>
     requires { length (plain_root entry.now).name < 2 ^ 32 }
     ensures { OnOk result (out.new.items ≡ out.old.items ++ root_entry_text (plain_root entry.now)) }
 {
@@ -88,7 +88,7 @@ fn put_root_entry(out: &mut Vec<u8>, entry: &RootEntry) -> Result<(), AllocError
 ///
 /// # Errors
 /// `AllocError` where memory was refused.
-pub fn encode_root(alloc: Global, entries: &[RootEntry]) -> Result<Vec<u8>, AllocError>
+pub fn encode_root(alloc: Global, entries: &[RootEntry<'_>]) -> Result<Vec<u8>, AllocError>
     requires { IsRoot (map plain_root entries.now) }
     ensures text { IfOk result (λ text. text.items ≡ root_text (map plain_root entries.now)) }
 {

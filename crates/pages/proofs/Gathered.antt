@@ -1,6 +1,5 @@
 -- Tables that are read one after another stand as a catalogue.
-use Rattle.std.proofs.Common.{◌≡◌, ◌≤◌, ◌<◌, ◌+◌, ◌-◌, ◌++◌, ℕ, zero, suc, true, List, [], ◌∷◌, length, map, take, get_or, Some, refl, sym, ap, subst, ◌∙◌, arith}
-use Rattle.std.specs.Prelude.{string_bytes}
+use Rattle.std.proofs.Common.{◌≡◌, ◌≤◌, ◌<◌, ◌+◌, ◌-◌, ◌++◌, ℕ, zero, suc, true, List, [], ◌∷◌, length, map, take, get_or, Some, refl, sym, ap, ◌∙◌, arith}
 use Rattle.std.specs.List.{list_all, sum_by}
 use Rattle.std.proofs.lemmas.Bool.{and_parts, and_from}
 use Rattle.std.proofs.lemmas.List.{map-append, length-map, take_all, take_more}
@@ -14,26 +13,25 @@ use Rattle.catalogue.specs.Reading.{entry_from}
 use Rattle.catalogue.specs.laws.Kept.{passes_catalogue}
 use Rattle.pages.specs.Stored.{AreTables}
 
-pub named_at : (rs : List RootEntry) (i : ℕ) (x : RootEntry) → list_all (λ (r : PlainRoot). is_name r.name) (map plain_root rs) ≡ true → i < length rs → x ≡ get_or rs i x → is_name (string_bytes x.name) ≡ true
-named_at [] i x all lt is = absurd (omega arith)
-named_at (r ∷ rs) zero x all lt is = subst (λ (y : RootEntry). is_name (string_bytes y.name) ≡ true) (sym is) (and_parts (is_name (string_bytes r.name)) (list_all (λ (s : PlainRoot). is_name s.name) (map plain_root rs)) all).0
-named_at (r ∷ rs) (suc i) x all lt is = named_at rs i x (and_parts (is_name (string_bytes r.name)) (list_all (λ (s : PlainRoot). is_name s.name) (map plain_root rs)) all).1 (omega arith) is
+pub named_at : (rs : List RootEntry) (i : ℕ) (d : RootEntry) → list_all (λ (r : PlainRoot). is_name r.name) (map plain_root rs) ≡ true → i < length rs → is_name (plain_root (get_or rs i d)).name ≡ true
+named_at [] i d all lt = absurd (omega (arith, lt))
+named_at (r ∷ rs) zero d all lt = (and_parts (is_name (plain_root r).name) (list_all (λ (s : PlainRoot). is_name s.name) (map plain_root rs)) all).0
+named_at (r ∷ rs) (suc i) d all lt = named_at rs i d (and_parts (is_name (plain_root r).name) (list_all (λ (s : PlainRoot). is_name s.name) (map plain_root rs)) all).1 (omega (arith, lt))
 
 pub one_sound : (es fs : List TableEntry) (e : TableEntry) → fs ≡ es ++ e ∷ [] → list_all is_entry (map plain_entry es) ≡ true → is_entry (plain_entry e) ≡ true → list_all is_entry (map plain_entry fs) ≡ true
 one_sound es fs e more all here =
     ap (λ (xs : List TableEntry). list_all is_entry (map plain_entry xs)) more ∙ ap (list_all is_entry) (map-append plain_entry es (e ∷ [])) ∙ list_all-append is_entry (map plain_entry es) (plain_entry e ∷ [])
     ∙ and_from (list_all is_entry (map plain_entry es)) (list_all is_entry (plain_entry e ∷ [])) all (and_from (is_entry (plain_entry e)) true here refl)
 
-pub one_named : (rs : List RootEntry) (i : ℕ) (x : RootEntry) (es fs : List TableEntry) (e : TableEntry) → i < length rs → x ≡ get_or rs i x → fs ≡ es ++ e ∷ []
-    → plain_entry e ≡ entry_from (string_bytes x.name) (Some x.page) ((plain_entry e).schema, (plain_entry e).segments) → names_of (map plain_entry es) ≡ root_names (map plain_root (take i rs))
+pub one_named : (rs : List RootEntry) (i : ℕ) (d : RootEntry) (es fs : List TableEntry) (e : TableEntry) → i < length rs → fs ≡ es ++ e ∷ []
+    → plain_entry e ≡ entry_from (plain_root (get_or rs i d)).name (Some (get_or rs i d).page) ((plain_entry e).schema, (plain_entry e).segments) → names_of (map plain_entry es) ≡ root_names (map plain_root (take i rs))
     → names_of (map plain_entry fs) ≡ root_names (map plain_root (take (i + 1) rs))
-one_named rs i x es fs e lt is more entry so_far =
-    let name : (plain_entry e).name ≡ string_bytes x.name = ap (λ (y : PlainEntry). y.name) entry in
+one_named rs i d es fs e lt more entry so_far =
+    let name : (plain_entry e).name ≡ (plain_root (get_or rs i d)).name = ap (λ (y : PlainEntry). y.name) entry in
     ap (λ (xs : List TableEntry). names_of (map plain_entry xs)) more ∙ ap names_of (map-append plain_entry es (e ∷ [])) ∙ map-append (λ (y : PlainEntry). y.name) (map plain_entry es) (plain_entry e ∷ [])
     ∙ (λ k. so_far k ++ name k ∷ [])
-    ∙ sym (ap (λ (ys : List RootEntry). root_names (map plain_root ys)) (take_more rs i x lt) ∙ ap root_names (map-append plain_root (take i rs) (get_or rs i x ∷ []))
-    ∙ map-append (λ (r : PlainRoot). r.name) (map plain_root (take i rs)) (plain_root (get_or rs i x) ∷ [])
-    ∙ ap (λ (y : RootEntry). root_names (map plain_root (take i rs)) ++ string_bytes y.name ∷ []) (sym is))
+    ∙ sym (ap (λ (ys : List RootEntry). root_names (map plain_root ys)) (take_more rs i d lt) ∙ ap root_names (map-append plain_root (take i rs) (get_or rs i d ∷ []))
+    ∙ map-append (λ (r : PlainRoot). r.name) (map plain_root (take i rs)) (plain_root (get_or rs i d) ∷ []))
 
 pub one_counted : (es fs : List TableEntry) (e : TableEntry) (left count : ℕ) → fs ≡ es ++ e ∷ [] → length (plain_entry e).segments ≡ count → length (plain_entry e).segments ≤ left → segment_count (map plain_entry es) + left ≡ MAX_SEGMENTS
     → segment_count (map plain_entry fs) + (left - count) ≡ MAX_SEGMENTS

@@ -2,8 +2,8 @@
 ghost use Rattle.std.specs.Prelude.{◌≡◌, ◌<◌, ◌+◌, ◌^◌, ◌++◌, ◌∷◌, [], None, true, map, flat_map, length, drop, vec_len, OnOk, IfOk};
 ghost use Rattle.segments.specs.Pieces.{bytes_of_parts};
 ghost use Rattle.commit.specs.Placing.{plain_contents};
-ghost use Rattle.catalogue.specs.Entries.{PlainEntry, plain_entry, plain_root, is_entry, page_runs, bare};
-ghost use Rattle.catalogue.specs.Text.{table_text, table_size, list_size};
+ghost use Rattle.catalogue.specs.Entries.{PlainEntry, plain_entry, plain_root, is_entry, page_runs, bare, IsRoot};
+ghost use Rattle.catalogue.specs.Text.{table_text, table_size, list_size, root_text};
 ghost use Rattle.catalogue.specs.View.{catalogue_of};
 ghost use Rattle.pages.specs.Paging.{is_whole, kind_of, pageless, page_sizes, root_bytes, text_size, with_pages, AreFilled, ArePageRuns, settled, dropped_pages, page_texts, root_of, settled_text};
 
@@ -183,17 +183,26 @@ fn without_pages(alloc: Global, list: Catalogue) -> Result<Catalogue, AllocError
 }
 
 // The root of tables that have pages.
-fn root_of(alloc: Global, entries: &[TableEntry]) -> Result<Vec<RootEntry>, AllocError>
+fn root_of(alloc: Global, entries: &[TableEntry]) -> Result<Vec<RootEntry<'_>>, AllocError>
     ensures { IfOk result (λ root. map plain_root root.items ≡ root_of (map plain_entry entries.now)) }
 {
     let mut root = Vec::with_capacity(alloc, entries.len())?;
     for entry in entries {
         if let Some(page) = entry.page {
-            let name = String::from_str(alloc, entry.name())?;
+            let name = entry.name();
             root.push(RootEntry { name, page })?;
         }
     }
     Ok(root)
+}
+
+// The text of the root of tables that have pages.
+fn root_text(alloc: Global, list: &Catalogue) -> Result<Vec<u8>, AllocError>
+    requires { IsRoot (root_of (catalogue_of list.now)) }
+    ensures { IfOk result (λ text. text.items ≡ root_text (root_of (catalogue_of list.now))) }
+{
+    let root = root_of(alloc, list.entries())?;
+    encode_root(alloc, &root)
 }
 
 /// The catalogue as it is kept, its new pages in these runs, in order, and the texts that are to be written for it: those of
@@ -222,8 +231,7 @@ pub fn settle<'a>(
         }
         CatalogueKind::Pages => {
             let (list, mut texts) = with_pages(alloc, list, runs)?;
-            let root = root_of(alloc, list.entries())?;
-            let text = encode_root(alloc, &root)?;
+            let text = root_text(alloc, &list)?;
             put_text(alloc, &mut texts, text)?;
             Ok((list, texts))
         }

@@ -1,5 +1,5 @@
 // Pages are read from a device.
-ghost use Rattle.std.specs.Prelude.{◌≡◌, ◌≢◌, ◌≤◌, true, Some, Ok, length, map, string_bytes, OnOk, IfOk, IfErr};
+ghost use Rattle.std.specs.Prelude.{◌≡◌, ◌≢◌, ◌≤◌, true, Some, Ok, length, map, OnOk, IfOk, IfErr};
 ghost use Rattle.std.specs.List.{list_all};
 ghost use Rattle.sector_dev.specs.Time.{OnlyReads};
 ghost use Rattle.arrow_schema.specs.View.{schema_of};
@@ -57,13 +57,14 @@ fn read_page<D: SectorDevice>(
 // The table of a root, with what its page says.
 fn table_of(
     alloc: Global,
-    root: &RootEntry,
+    root: &RootEntry<'_>,
     schema: Schema,
     segments: Vec<Segment>,
 ) -> Result<TableEntry, AllocError>
-    ensures { IfOk result (λ e. plain_entry e ≡ entry_from (string_bytes root.now.name) (Some root.now.page) (schema_of schema, segments.items)) }
+    ensures { IfOk result (λ e. plain_entry e ≡ entry_from ((plain_root root.now).name) (Some root.now.page) (schema_of schema, segments.items)) }
 {
-    TableEntry::new(alloc, root.name.clone()?, schema, segments, Some(root.page))
+    let name = String::from_str(alloc, root.name)?;
+    TableEntry::new(alloc, name, schema, segments, Some(root.page))
 }
 
 // Reads the table of a root.
@@ -72,7 +73,7 @@ fn read_table<D: SectorDevice>(
     device: &mut D,
     form: SegmentForm,
     most: u64,
-    root: &RootEntry,
+    root: &RootEntry<'_>,
 ) -> Result<TableEntry, OpenError>
     requires { is_size (D.size device.old) ≡ true }
     ensures size { D.size device.new ≡ D.size device.old }
@@ -85,8 +86,8 @@ fn read_table<D: SectorDevice>(
     ensures a_store { IfErr result (λ e. e ≢ OpenError.NotAStore) }
     ensures few { IfOk result (λ e. length (plain_entry e).segments ≤ most) }
     ensures entry { IfOk result (λ e. plain_entry e
-        ≡ entry_from (string_bytes root.now.name) (Some root.now.page) ((plain_entry e).schema, (plain_entry e).segments)) }
-    ensures sound { IfOk result (λ e. is_name (string_bytes root.now.name) ≡ true → is_entry (plain_entry e) ≡ true) }
+        ≡ entry_from ((plain_root root.now).name) (Some root.now.page) ((plain_entry e).schema, (plain_entry e).segments)) }
+    ensures sound { IfOk result (λ e. is_name ((plain_root root.now).name) ≡ true → is_entry (plain_entry e) ≡ true) }
 {
     match read_page(alloc, device, form, most, root.page) {
         Ok((schema, segments)) => {
@@ -104,7 +105,7 @@ pub(crate) fn read_pages<D: SectorDevice>(
     alloc: Global,
     device: &mut D,
     form: SegmentForm,
-    roots: &[RootEntry],
+    roots: &[RootEntry<'_>],
 ) -> Result<Vec<TableEntry>, OpenError>
     requires size { is_size (D.size device.old) ≡ true }
     requires root { AreTables (map plain_root roots.now) }

@@ -25,5 +25,4 @@ pub returns : goal.returns
 returns c =
     let same = c.in-Ok.ensures.cases.0 in
     let is = ap is_name (sym same) ∙ sym c.is_name.ensures ∙ c.if-not-is_name.false in
-    let text = c.in_ok-name-2.ensures.ok ∙ same in
-    named c.args.bytes.now c.in_ok-name.name.now c.in_ok-name.rest.now c.in_ok-name.ensures is ∙ ap (λ (name : List ℕ). Some (name, c.in_ok-name.rest.now)) (sym text)
+    named c.args.bytes.now c.in_ok-name.name.now c.in_ok-name.rest.now c.in_ok-name.ensures is ∙ ap (λ (name : List ℕ). Some (name, c.in_ok-name.rest.now)) (sym same)

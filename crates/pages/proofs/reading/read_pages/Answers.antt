@@ -5,7 +5,7 @@ use Rattle.catalogue.specs.declared.entry.Segment.{Segment}
 use Rattle.catalogue.specs.declared.limits.TheConstants.{MAX_SEGMENTS}
 use Rattle.catalogue.specs.Entries.{plain_entry, plain_root}
 use Rattle.pages.specs.Stored.{pages_shown}
-use Rattle.pages.proofs.Behind.{behind, next_read, not_read, all_read, page_then, told_of_all}
+use Rattle.pages.proofs.Behind.{behind, told_at, read_at, all_read}
 use Rattle.pages.proofs.Gathered.{named_at, one_sound, one_named, one_counted, all_sound}
 use Rattle.pages.proofs.reading.read_pages.Goals as goal
 
@@ -17,12 +17,8 @@ returns-in-Err-clause-damaged g c = λ told.
     let D = g.D.SectorDevice in
     let size = D.size c.args.device.now in
     let old = D.story c.args.device.now in
-    let x = c.root-item.result in
-    told_of_all _ (pages_shown c.args.form size old MAX_SEGMENTS (map plain_root c.args.roots.now)) c.in-Err.error
-    (λ cause is. c.loop-root.invariant.found told
-    ∙ not_read c.args.form size (shown_image (now old)) c.loop-root.left c.args.roots.now c.loop-root.root-index x c.loop-root.entries.items cause c.loop-root-test.true c.root-item.is
-    (sym (page_then c.args.form size (D.size c.loop-root.device) old (D.story c.loop-root.device) c.loop-root.left x.page c.loop-root.invariant.same (c.loop-root.invariant.moments told)) ∙ is))
-    (c.in-Err.ensures.damaged told)
+    told_at c.args.form size (D.size c.loop-root.device) old (D.story c.loop-root.device) c.loop-root.left c.args.roots.now c.loop-root.root-index _ c.loop-root.entries.items c.loop-root-test.true c.loop-root.invariant.same (c.loop-root.invariant.moments told)
+    (pages_shown c.args.form size old MAX_SEGMENTS (map plain_root c.args.roots.now)) c.in-Err.error (c.loop-root.invariant.found told) (c.in-Err.ensures.damaged told)
 
 pub returns-clause-found : goal.returns-clause-found
 returns-clause-found g c = λ told.
@@ -39,20 +35,18 @@ loop-root-preserved g c =
     let size = D.size c.args.device.now in
     let old = D.story c.args.device.now in
     let i = c.loop-root.root-index in
-    let x = c.root-item.result in
     let count = sym (ap (λ (ss : List Segment). length ss) c.segments.ensures) in
     record {
       same = c.read_table.ensures.size ∙ c.loop-root.invariant.same;
       count = c.in-Ok.ensures.count ∙ c.loop-root.invariant.count;
       moments = λ told. read_on _ _ _ (c.loop-root.invariant.moments told) (c.read_table.ensures.moments told);
       found = λ told. c.loop-root.invariant.found told
-          ∙ next_read c.args.form size (shown_image (now old)) c.loop-root.left c.args.roots.now i x c.loop-root.entries.items c.push.new.self.items c.in-Ok.entry c.loop-root-test.true c.root-item.is
-          (sym (page_then c.args.form size (D.size c.loop-root.device) old (D.story c.loop-root.device) c.loop-root.left x.page c.loop-root.invariant.same (c.loop-root.invariant.moments told)) ∙ c.in-Ok.ensures.found told)
-          c.in-Ok.ensures.entry c.in-Ok-push.ensures.items
+          ∙ read_at c.args.form size (D.size c.loop-root.device) old (D.story c.loop-root.device) c.loop-root.left c.args.roots.now i _ c.loop-root.entries.items c.loop-root-test.true c.loop-root.invariant.same (c.loop-root.invariant.moments told)
+          c.push.new.self.items c.in-Ok.entry c.in-Ok.ensures.entry (c.in-Ok.ensures.found told) c.in-Ok-push.ensures.items
           ∙ ap (λ (n : ℕ). behind (map plain_entry c.push.new.self.items) (pages_shown c.args.form size old (c.loop-root.left - n) (map plain_root (drop (i + 1) c.args.roots.now)))) count;
       entries = one_sound c.loop-root.entries.items c.push.new.self.items c.in-Ok.entry c.in-Ok-push.ensures.items c.loop-root.invariant.entries
-          (c.in-Ok.ensures.sound (named_at c.args.roots.now i x c.requires.root.named c.loop-root-test.true c.root-item.is));
-      names = one_named c.args.roots.now i x c.loop-root.entries.items c.push.new.self.items c.in-Ok.entry c.loop-root-test.true c.root-item.is c.in-Ok-push.ensures.items c.in-Ok.ensures.entry c.loop-root.invariant.names;
+          (c.in-Ok.ensures.sound (named_at c.args.roots.now i _ c.requires.root.named c.loop-root-test.true));
+      names = one_named c.args.roots.now i _ c.loop-root.entries.items c.push.new.self.items c.in-Ok.entry c.loop-root-test.true c.in-Ok-push.ensures.items c.in-Ok.ensures.entry c.loop-root.invariant.names;
       few = one_counted c.loop-root.entries.items c.push.new.self.items c.in-Ok.entry c.loop-root.left (length c.segments.result.now) c.in-Ok-push.ensures.items count c.in-Ok.ensures.few c.loop-root.invariant.few;
     }
 
