@@ -59,7 +59,7 @@ fn decide_behind(
 {
     pieces_are_tables();
     test_weight(weight)?;
-    let schema = entry.schema.copy(alloc)?;
+    let schema = entry.schema().copy(alloc)?;
     let rows = SegmentRows {
         table: new,
         schema: Some(schema),

@@ -64,8 +64,8 @@ fn page_over(
     requires schema { IsWithinLimits (schema_of schema.now) }
     ensures { IfOk result (λ page. page ≡ page_over (plain_entry old.now) (schema_of schema.now) segments.now) }
 {
-    if segments.is_empty() && have_one_message(alloc, &old.schema, schema)? {
-        Ok(page_behind(&old.segments, old.page))
+    if segments.is_empty() && have_one_message(alloc, old.schema(), schema)? {
+        Ok(page_behind(old.segments(), old.page))
     } else {
         Ok(None)
     }
@@ -98,12 +98,10 @@ fn new_entry(
 ) -> Result<TableEntry, AllocError>
     ensures { IfOk result (λ e. plain_entry e ≡ new_entry (string_bytes name.now) (schema_of schema.now) segments.now page) }
 {
-    Ok(TableEntry {
-        name: name.clone()?,
-        schema: schema.copy(alloc)?,
-        segments: Vec::from_slice(alloc, segments)?,
-        page,
-    })
+    let name = name.clone()?;
+    let schema = schema.copy(alloc)?;
+    let segments = Vec::from_slice(alloc, segments)?;
+    TableEntry::new(alloc, name, schema, segments, page)
 }
 
 // The catalogue after an edit with these new segments.
@@ -125,14 +123,14 @@ pub(crate) fn edited(
             changed.put(new_entry(alloc, name, schema, segments, page)?)?;
         }
         Edit::Extend { name } => changed.append_segments(name, segments)?,
-        Edit::Move { from, to } => changed.rename(from, to.clone()?),
+        Edit::Move { from, to } => changed.rename(from, to.clone()?)?,
         Edit::Remove { name } => {
             changed.remove(name);
         }
         Edit::Exchange { name, place, count } => {
             changed.exchange_segments(name, *place, *count, segments)?;
         }
-        Edit::Digest { digests } => changed.set_digests(digests),
+        Edit::Digest { digests } => changed.set_digests(digests)?,
     }
     Ok(changed)
 }
@@ -151,7 +149,7 @@ fn segments_from(entry: &TableEntry, place: usize, count: usize) -> &[Segment]
     requires { place + count ≤ length (plain_entry entry.now).segments }
     ensures { result.now ≡ from_place (plain_entry entry.now).segments place count }
 {
-    &entry.segments[place..place + count]
+    &entry.segments()[place..place + count]
 }
 
 // Appends the run of a page, where another one, or none, takes its place.
@@ -198,7 +196,7 @@ fn given_by(
         Edit::Put { name: _, schema } => {
             let page = page_over(alloc, entry, schema, segments)?;
             put_lost(&mut runs, entry.page, page)?;
-            put_runs(&mut runs, &entry.segments)?;
+            put_runs(&mut runs, entry.segments())?;
         }
         Edit::Extend { name: _ } => {
             put_lost(&mut runs, entry.page, page_behind(segments, entry.page))?;
@@ -206,7 +204,7 @@ fn given_by(
         Edit::Move { from: _, to: _ } => {}
         Edit::Remove { name: _ } => {
             put_lost(&mut runs, entry.page, None)?;
-            put_runs(&mut runs, &entry.segments)?;
+            put_runs(&mut runs, entry.segments())?;
         }
         Edit::Exchange {
             name: _,
@@ -220,7 +218,7 @@ fn given_by(
             put_lost(
                 &mut runs,
                 entry.page,
-                page_behind(&entry.segments, entry.page),
+                page_behind(entry.segments(), entry.page),
             )?;
         }
     }
@@ -236,7 +234,7 @@ fn lost_pages(alloc: Global, entries: &[TableEntry]) -> Result<Vec<Run>, AllocEr
         put_lost(
             &mut runs,
             entry.page,
-            page_behind(&entry.segments, entry.page),
+            page_behind(entry.segments(), entry.page),
         )?;
     }
     Ok(runs)
@@ -267,7 +265,7 @@ fn segments_at(catalogue: &Catalogue, name: &str) -> u64
     ensures kept { IsCatalogue (catalogue_of catalogue.now) }
 {
     match catalogue.get(name) {
-        Some(entry) => entry.segments.len() as u64,
+        Some(entry) => entry.segments().len() as u64,
         None => 0,
     }
 }

@@ -131,30 +131,28 @@ fn next_piece<D: SectorDevice>(
     ensures told { IfErr result (RefusesNumber D.tells (shown_image (now (D.story device.old))) (plain_export export.now) export.now.given) }
 {
     if export.given == 0 {
-        return first_piece(alloc, &export.schema);
+        return first_piece(alloc, export.entry.schema());
     }
     let place = (export.given - 1) as usize;
-    match export.segments.get(place) {
-        Some(segment) => segment_piece(alloc, device, &export.schema, place, *segment),
-        None => last_piece(alloc, place == export.segments.len()),
+    match export.entry.segments().get(place) {
+        Some(segment) => segment_piece(alloc, device, export.entry.schema(), place, *segment),
+        None => last_piece(alloc, place == export.entry.segments().len()),
     }
 }
 
 // What an export of a table has.
 #[derive(Drop)]
 struct Snapshot {
-    schema: Schema,
-    segments: Vec<Segment>,
+    entry: TableEntry,
     runs: Vec<Run>,
 }
 
-// What an export of the table of an entry has, in memory of its own.
+// What an export of the table of an entry has.
 fn copy_entry(alloc: Global, entry: &TableEntry) -> Result<Snapshot, AllocError>
     ensures { IfOk result (IsSnapshot (plain_entry entry.now)) }
 {
     Ok(Snapshot {
-        schema: entry.schema.copy(alloc)?,
-        segments: Vec::from_slice(alloc, &entry.segments)?,
+        entry: entry.copy()?,
         runs: entry.runs(alloc)?,
     })
 }
@@ -213,12 +211,8 @@ impl<D: SectorDevice> Store<D> {
     {
         match self.find_snapshot(alloc, name) {
             Ok(snapshot) => {
-                let Snapshot {
-                    schema,
-                    segments,
-                    runs,
-                } = snapshot;
-                match self.book.open(schema, segments) {
+                let Snapshot { entry, runs } = snapshot;
+                match self.book.open(entry) {
                     Ok(id) => {
                         self.opened.map.pin_each(&runs);
                         Ok(id)
@@ -326,7 +320,7 @@ impl<D: SectorDevice> Store<D> {
         }
         match self.book.close(id) {
             Some(export) => {
-                unpin_segments(&mut self.opened.map, &export.segments);
+                unpin_segments(&mut self.opened.map, export.entry.segments());
                 Ok(())
             }
             None => Err(Refusal::NoExport),

@@ -67,7 +67,7 @@ impl<D: SectorDevice> Store<D> {
     {
         let list = self.listed()?;
         match list.get(name) {
-            Some(entry) => Ok(entry.schema.copy(alloc)?),
+            Some(entry) => Ok(entry.schema().copy(alloc)?),
             None => Err(Refusal::NoTable),
         }
     }

@@ -63,7 +63,7 @@ fn last_in(table: usize, segments: &[Segment]) -> Option<Last>
 fn later_in(last: Option<Last>, table: usize, entry: &TableEntry) -> Option<Last>
     ensures { (c : PlainCatalogue) → slice_get c table ≡ Some (plain_entry entry.now) → IsLastOf c table last → IsLastOf c (table + 1) result }
 {
-    match last_in(table, &entry.segments) {
+    match last_in(table, entry.segments()) {
         Some(other) => Some(later(last, other)),
         None => last,
     }
@@ -101,7 +101,7 @@ fn copy_of(
       counts = last.segment.rows ∷ [];
     }) }
 {
-    let name = entry.name.clone()?;
+    let name = String::from_str(alloc, entry.name())?;
     let rows = last.segment.rows;
     Ok(Change {
         edit: Edit::Exchange {

@@ -58,8 +58,9 @@ fn pass_stream(alloc: Global, entry: &TableEntry, stream: Vec<u8>) -> Result<Wei
     one_shape_is_decided();
     test_bytes(&stream)?;
     let new = decode_weighed(alloc, stream)?;
-    test_shape(&entry.schema, new.table.schema())?;
-    test_rows(alloc, &entry.schema, &new.table)?;
+    let own = entry.schema();
+    test_shape(own, new.table.schema())?;
+    test_rows(alloc, own, &new.table)?;
     Ok(new)
 }
 
@@ -70,7 +71,7 @@ fn pass_rows(alloc: Global, entry: &TableEntry, rows: Vec<Row>) -> Result<Option
     ensures refused { IfErr result (λ e. (e ≡ Refusal.OutOfMemory) ⊎ (given_rows (map row_of rows.items) (plain_entry entry.now) ≡ Err e)) }
 {
     accepted_rows_are_a_table();
-    match Table::weighed(alloc, entry.schema.copy(alloc)?, rows) {
+    match Table::weighed(alloc, entry.schema().copy(alloc)?, rows) {
         Ok((table, weight)) => Ok(Some(Weighed { table, weight })),
         Err(TableError::Unfit(row)) => Err(Refusal::RowUnfit(row)),
         Err(TableError::Weight) => Ok(None),
@@ -96,7 +97,8 @@ fn pass_table(alloc: Global, entry: &TableEntry, new: Weighed) -> Result<Option<
     ensures refused { IfErr result (λ e. (e ≡ Refusal.OutOfMemory) ⊎ (given_rows (table_of new.table).rows (plain_entry entry.now) ≡ Err e)) }
 {
     accepted_rows_are_a_table();
-    if new.table.schema().equals(&entry.schema) {
+    let own = entry.schema();
+    if new.table.schema().equals(own) {
         return Ok(Some(new));
     }
     let rows = own_rows(alloc, &new.table)?;

@@ -28,8 +28,9 @@ fn may_be_one(entry: &TableEntry, place: usize) -> bool
     requires within { place + 2 ≤ length (plain_entry entry.now).segments }
     ensures { result ≡ nat_le (row_count (pair_of (plain_entry entry.now) place)) MAX_PIECE_ROWS }
 {
-    let first = entry.segments[place].rows;
-    let second = entry.segments[place + 1].rows;
+    let segments = entry.segments();
+    let first = segments[place].rows;
+    let second = segments[place + 1].rows;
     first + second <= MAX_PIECE_ROWS as u64
 }
 
@@ -47,12 +48,10 @@ fn pair_of(alloc: Global, entry: &TableEntry, place: usize) -> Result<TableEntry
     requires within { place + 2 ≤ length (plain_entry entry.now).segments }
     ensures { IfOk result (λ pair. plain_entry pair ≡ pair_of (plain_entry entry.now) place) }
 {
-    Ok(TableEntry {
-        name: entry.name.clone()?,
-        schema: entry.schema.copy(alloc)?,
-        segments: Vec::from_slice(alloc, &entry.segments[place..place + 2])?,
-        page: None,
-    })
+    let name = String::from_str(alloc, entry.name())?;
+    let schema = entry.schema().copy(alloc)?;
+    let segments = Vec::from_slice(alloc, &entry.segments()[place..place + 2])?;
+    TableEntry::new(alloc, name, schema, segments, None)
 }
 
 // The rows of a pair as a table.
@@ -118,7 +117,7 @@ fn merge(
 ) -> Result<Change, AllocError>
     ensures { IfOk result (λ change. change_of change ≡ pieces_put (exchange (plain_entry entry.now).name place 2) (table_of table)) }
 {
-    let name = entry.name.clone()?;
+    let name = String::from_str(alloc, entry.name())?;
     let rows = SegmentRows {
         table,
         schema: None,
@@ -146,7 +145,7 @@ fn first_pair_of<D: SectorDevice>(
     ensures found { IfOk result (FindsIn D.tells (shown_image (now (D.story device.old))) (plain_entry entry.now)) }
     ensures unread { IfErr result (UnreadsIn D.tells (shown_image (now (D.story device.old))) (plain_entry entry.now)) }
 {
-    for place in 0..entry.segments.len().saturating_sub(1) {
+    for place in 0..entry.segments().len().saturating_sub(1) {
         match joined_at(alloc, device, entry, place) {
             Ok(Some(table)) => {
                 return match merge(alloc, entry, place, table) {

@@ -260,9 +260,9 @@ pub(crate) fn gather_entry<D: SectorDevice>(
     ensures unread { IfErr result (Unreads D.tells (shown_image (now (D.story device.old))) (plain_entry entry.now)) }
 {
     table_laws();
-    match start_table(alloc, &entry.schema) {
+    match start_table(alloc, entry.schema()) {
         Ok((front, empty)) => {
-            match read_segments(alloc, device, &front, empty, &entry.segments) {
+            match read_segments(alloc, device, &front, empty, entry.segments()) {
                 Ok(gathered) => Ok(gathered),
                 Err(refusal) => Err(refusal),
             }

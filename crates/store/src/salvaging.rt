@@ -189,8 +189,9 @@ fn salvage_entry<D: SectorDevice, W: Write>(
         (W.contents writer.old) (W.contents writer.new) (plain_left left.items)) }
     ensures fails { IfErr result BreaksOff }
 {
-    match write_front(alloc, &entry.schema, writer) {
-        Ok(()) => match salvage_segments(alloc, device, &entry.schema, &entry.segments, writer) {
+    let own = entry.schema();
+    match write_front(alloc, own, writer) {
+        Ok(()) => match salvage_segments(alloc, device, own, entry.segments(), writer) {
             Ok(left_out) => match write_last(alloc, writer) {
                 Ok(()) => Ok(left_out),
                 Err(refusal) => Err(refusal),

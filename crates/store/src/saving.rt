@@ -121,7 +121,7 @@ fn save_from_entry<D: SectorDevice>(
 {
     counts_after_changes();
     pieces_are_tables();
-    match test_save(alloc, catalogue, &entry.schema, &to, query) {
+    match test_save(alloc, catalogue, entry.schema(), &to, query) {
         Ok(()) => match read_entry(alloc, device, entry) {
             Ok(standing) => put_selection(alloc, to, &standing, query),
             Err(refusal) => Err(refusal),

@@ -81,7 +81,7 @@ fn entry_digests<D: SectorDevice>(
     match gather_entry(alloc, device, entry) {
         Ok(gathered) => {
             drop(gathered);
-            match segment_digests(alloc, device, &entry.segments) {
+            match segment_digests(alloc, device, entry.segments()) {
                 Ok(digests) => Ok(digests),
                 Err(refusal) => Err(refusal),
             }

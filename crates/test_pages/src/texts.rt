@@ -65,16 +65,16 @@ enum Seen {
     Refused,
 }
 
-fn is_entry(entry: &RootEntry, place: usize) -> bool {
+fn is_entry(entry: &RootEntry<'_>, place: usize) -> bool {
     let (name, start) = (NAMES.get(place), STARTS.get(place));
     let page = entry.page;
-    name.is_some_and(|name| entry.name.as_str() == *name)
+    name.is_some_and(|name| entry.name == *name)
         && start == Some(&page.run.start)
         && page.run.count == 1
         && page.bytes == 160
 }
 
-fn are_four(entries: &[RootEntry]) -> bool {
+fn are_four(entries: &[RootEntry<'_>]) -> bool {
     for (place, entry) in entries.iter().enumerate() {
         if !is_entry(entry, place) {
             return false;
@@ -258,9 +258,7 @@ const FORMS: &[FormCase] = &[
 
 fn is_table_t(entries: &[TableEntry], form: SegmentForm) -> bool {
     match entries {
-        [entry] => {
-            entry.name.as_str() == "t" && is_one_table(&entry.schema, &entry.segments, form)
-        }
+        [entry] => { entry.name() == "t" && is_one_table(entry.schema(), entry.segments(), form) }
         _ => false,
     }
 }

@@ -29,7 +29,7 @@ fn table_at(alloc: Global, device: &mut ModelDevice, segment: Segment) -> Result
 
 // Whether a segment's table is the part of a table that the catalogue says.
 fn is_part(entry: &TableEntry, segment: Segment, table: &Table) -> bool {
-    table.len() as u64 == segment.rows && same_shape(&entry.schema, table.schema())
+    table.len() as u64 == segment.rows && same_shape(entry.schema(), table.schema())
 }
 
 // Adds the values of a segment of a table.
@@ -55,9 +55,9 @@ fn add_values_of(
     device: &mut ModelDevice,
     entry: &TableEntry,
 ) -> Result<(), NotMade> {
-    let name = entry.name.as_str();
+    let name = entry.name();
     write!(text, "{name}:")?;
-    for segment in &entry.segments {
+    for segment in entry.segments() {
         add_segment(alloc, text, device, entry, *segment)?;
     }
     Ok(())
@@ -95,13 +95,13 @@ pub fn contents(alloc: Global, device: &mut ModelDevice) -> Result<String, NotMa
 // As `t: 3+1 5+2`: the first sector of each segment, and how many there are. Where the table has a page, also its first sector and its
 // bytes, as `t page 4 of 192: 3+1`.
 fn add_places_of(text: &mut String, entry: &TableEntry) -> Result<(), NotMade> {
-    text.push_str(&entry.name)?;
+    text.push_str(entry.name())?;
     if let Some(page) = entry.page {
         let (start, bytes) = (page.run.start, page.bytes);
         write!(text, " page {start} of {bytes}")?;
     }
     text.push_str(":")?;
-    for segment in &entry.segments {
+    for segment in entry.segments() {
         let (start, count) = (segment.place.run.start, segment.place.run.count);
         write!(text, " {start}+{count}")?;
     }

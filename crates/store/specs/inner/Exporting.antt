@@ -1,14 +1,13 @@
 -- What an export of a table has.
 use Rattle.std.specs.Prelude.{◌≡◌, Bool, true, false, Option, Some, None}
-use Rattle.arrow_schema.specs.View.{schema_of}
-use Rattle.catalogue.specs.Entries.{PlainEntry, runs_in_segments}
+use Rattle.catalogue.specs.Entries.{PlainEntry, plain_entry, runs_in_segments}
 use Rattle.export_book.specs.Book.{PlainBook, is_full}
 use Rattle.store.specs.declared.exports.Snapshot.{Snapshot}
 
 -- what the entry has
 pub record IsSnapshot (e : PlainEntry) (s : Snapshot) : Type 0 where
-  pub schema : schema_of s.schema ≡ e.schema
-  pub segments : s.segments.items ≡ e.segments
+  pub schema : (plain_entry s.entry).schema ≡ e.schema
+  pub segments : (plain_entry s.entry).segments ≡ e.segments
   pub runs : s.runs.items ≡ runs_in_segments e.segments
 
 -- what the entry of a name has, where there is one and another export can be opened

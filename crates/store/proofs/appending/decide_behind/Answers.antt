@@ -19,7 +19,7 @@ returns-clause-ok c = λ listed there short.
     let behind : PlainSchema → PlainChange = λ s. pieces_put (extend (string_bytes c.args.name)) (rows_under s (table_of c.args.new).rows) in
     let table : PlainTable = rows_under e.schema (table_of c.args.new).rows in
     let each = c.pieces_are_tables.ensures.each table c.requires.table in
-    let same : behind (schema_of c.in_ok-schema.schema) ≡ behind e.schema = ap behind c.in_ok-schema.ensures in
+    let same : behind (schema_of c.in_ok-schema.schema) ≡ behind e.schema = ap behind (c.in_ok-schema.ensures ∙ c.schema.ensures) in
     subst (IsChange listed) (sym same)
     (record {
       edit = (e, there);
@@ -56,4 +56,4 @@ returns-clause-answers c =
     let e : PlainEntry = plain_entry c.args.entry.now in
     let added : Addition = record { entry = e; rows = (table_of c.args.new).rows } in
     let behind : PlainSchema → PlainChange = λ s. pieces_put (extend (string_bytes c.args.name)) (rows_under s added.rows) in
-    inr (λ standing is. ap (λ (s : PlainSchema). Ok (behind s)) c.in_ok-schema.ensures ∙ sym (behind_by (string_bytes c.args.name) added standing c.args.weight _ is c.in_ok-test_weight.ensures))
+    inr (λ standing is. ap (λ (s : PlainSchema). Ok (behind s)) (c.in_ok-schema.ensures ∙ c.schema.ensures) ∙ sym (behind_by (string_bytes c.args.name) added standing c.args.weight _ is c.in_ok-test_weight.ensures))

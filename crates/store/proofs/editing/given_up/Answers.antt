@@ -1,9 +1,8 @@
-use Rattle.std.proofs.Common.{◌≡◌, ◌∙◌, ℕ, List, Option, Some, sym, ap}
-use Rattle.catalogue.specs.Edits.{entry_of}
+use Rattle.std.proofs.Common.{sym}
 use Rattle.catalogue.specs.Entries.{plain_entry, is_entry}
 use Rattle.catalogue.specs.View.{catalogue_of}
 use Rattle.catalogue.specs.laws.Changed.{found_passes}
-use Rattle.store.specs.Changes.{edit_of, name_edited, given_of}
+use Rattle.store.specs.Changes.{edit_of}
 use Rattle.store.proofs.EditedCounts.{can_give}
 use Rattle.store.proofs.editing.given_up.Goals as goal
 

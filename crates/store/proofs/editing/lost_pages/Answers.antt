@@ -5,7 +5,7 @@ use Rattle.segments.specs.declared.run.Run.{Run}
 use Rattle.segments.specs.declared.extent.Extent.{Extent}
 use Rattle.catalogue.specs.declared.entry.Segment.{Segment}
 use Rattle.catalogue.specs.declared.entry.TableEntry.{TableEntry}
-use Rattle.catalogue.specs.Entries.{PlainEntry, PlainCatalogue, plain_entry}
+use Rattle.catalogue.specs.Entries.{plain_entry}
 use Rattle.catalogue.specs.Edits.{page_behind}
 use Rattle.store.specs.Changes.{page_lost, lost_page}
 use Rattle.store.proofs.editing.lost_pages.Goals as goal
@@ -22,7 +22,7 @@ loop-entry-preserved c =
     record {
       all = c.in_ok-put_lost.ensures ∙ ap (λ (rs : List Run). rs ++ page_lost e.page c.page_behind.result) c.loop-entry.invariant.all
           ∙ ap (λ (p : Option Extent). flat_map lost_page (map plain_entry (take c.loop-entry.entry-index c.args.entries.now)) ++ page_lost e.page p)
-          (c.page_behind.ensures ∙ ap (λ (gs : List Segment). page_behind gs e.page) c.deref.ensures.value)
+          (c.page_behind.ensures ∙ ap (λ (gs : List Segment). page_behind gs e.page) c.segments.ensures)
           ∙ sym (more_pages c.args.entries.now c.loop-entry.entry-index c.entry-item.result c.loop-entry-test.true c.entry-item.is);
     }
 

@@ -1,7 +1,7 @@
-use Rattle.std.specs.Prelude.{◌==◌, slice_get, get_or, if◌then◌else◌}
-use Rattle.std.proofs.Common.{◌≡◌, ◌≢◌, ◌≤◌, ◌<◌, ◌-◌, length, ℕ, suc, false, List, Some, None, refl, sym, ap, ◌∙◌, arith}
+use Rattle.std.specs.Prelude.{◌==◌, option_map, slice_get, get_or, if◌then◌else◌}
+use Rattle.std.proofs.Common.{◌≡◌, ◌≢◌, ◌≤◌, ◌<◌, ◌-◌, length, ℕ, suc, false, List, Some, None, refl, sym, ap, ◌∙◌, subst, arith}
 use Rattle.std.proofs.lemmas.Option.{slice_get_read, slice_get_past, slice_get_within, get_or_from_slice_get}
-use Rattle.ipc_write.specs.Written.{end_of_stream}
+use Rattle.ipc_write.specs.Written.{schema_message, end_of_stream}
 use Rattle.std.proofs.lemmas.Result.{IfOk-weaker, IfErr-weaker}
 use Rattle.sector_dev.specs.Disk.{now, shown_image}
 use Rattle.catalogue.specs.declared.entry.Segment.{Segment}
@@ -9,9 +9,12 @@ use Rattle.export_book.specs.Book.{PlainExport}
 use Rattle.export_book.specs.Plain.{plain_export}
 use Rattle.tables.specs.declared.refusal.Refusal.TheVariants.{OutOfMemory}
 use Rattle.store.specs.Calls.{is_failure, done}
+use Rattle.store.specs.Exporting.{HasRows}
+use Rattle.store.specs.Reading.{LacksRows}
 use Rattle.store.proofs.ReadTables.{reads_quiet, reads_ended, run_at}
 use Rattle.store.proofs.ExportAnswers.{piece_first, refused_first, piece_behind, refused_behind}
-use Rattle.arrow_schema.specs.View.{schema_of}
+use Rattle.arrow_schema.specs.Column.{PlainSchema}
+use Rattle.arrow_schema.specs.Limits.{IsWithinLimits}
 use Rattle.catalogue.specs.laws.Kept.{is_within}
 use Rattle.store.proofs.exports.next_piece.Goals as goal
 
@@ -26,7 +29,7 @@ pub returns-then-export-eq0-clause-piece : goal.returns-then-export-eq0-clause-p
 returns-then-export-eq0-clause-piece g c =
     let D = g.D.SectorDevice in
     let b : PlainExport = plain_export c.args.export.now in
-    IfOk-weaker c.first_piece.result _ _ (λ piece is. piece_first D.tells (shown_image (now (D.story c.args.device.now))) b b.given _ c.if-export-eq0.true is) c.first_piece.ensures.message
+    IfOk-weaker c.first_piece.result _ _ (λ piece is. piece_first D.tells (shown_image (now (D.story c.args.device.now))) b b.given _ c.if-export-eq0.true (is ∙ ap (λ (s : PlainSchema). Some (schema_message s)) c.schema.ensures)) c.first_piece.ensures.message
 
 pub returns-then-export-eq0-clause-told : goal.returns-then-export-eq0-clause-told
 returns-then-export-eq0-clause-told g c =
@@ -35,10 +38,10 @@ returns-then-export-eq0-clause-told g c =
     IfErr-weaker c.first_piece.result _ _ (λ e is. refused_first D.tells (shown_image (now (D.story c.args.device.now))) b b.given e c.if-export-eq0.true is) c.first_piece.ensures.memory
 
 pub first_piece-requires : goal.first_piece-requires
-first_piece-requires g c = is_within (schema_of c.args.export.now.schema) c.requires.sound.within
+first_piece-requires g c = subst IsWithinLimits (sym c.schema.ensures) (is_within (plain_export c.args.export.now).schema c.requires.sound.within)
 
 pub segment_piece-requires-clause-limits : goal.segment_piece-requires-clause-limits
-segment_piece-requires-clause-limits g c = is_within (schema_of c.args.export.now.schema) c.requires.sound.within
+segment_piece-requires-clause-limits g c = subst IsWithinLimits (sym c.schema-in-Some.ensures) (is_within (plain_export c.args.export.now).schema c.requires.sound.within)
 
 -- ---- the segment at a place
 
@@ -54,10 +57,10 @@ past_place segments given place same past = ap (λ (gs : List Segment). slice_ge
 
 pub segment_piece-requires-clause-placed : goal.segment_piece-requires-clause-placed
 segment_piece-requires-clause-placed g c =
-    let segments = c.args.export.now.segments.items in
+    let segments = (plain_export c.args.export.now).segments in
     let place = c.args.export.now.given - 1 in
     let segment = c.in-Some.segment.now in
-    let at = at_place segments c.deref.result.now place segment c.deref.ensures.value c.in-Some.ensures.lookup.3.0 (c.in-Some.ensures.lookup.3.1 _) in
+    let at = at_place segments c.segments.result.now place segment c.segments.ensures c.in-Some.ensures.lookup.3.0 (c.in-Some.ensures.lookup.3.1 _) in
     run_at (g.D.SectorDevice.size c.args.device.now) segments place segment c.requires.sound.placed (slice_get_within segments place segment at) (sym (get_or_from_slice_get segments place segment segment at))
 
 pub returns-in-Some-clause-piece : goal.returns-in-Some-clause-piece
@@ -66,8 +69,8 @@ returns-in-Some-clause-piece g c =
     let b : PlainExport = plain_export c.args.export.now in
     let place = b.given - 1 in
     let segment = c.in-Some.segment.now in
-    let at = at_place b.segments c.deref.result.now place segment c.deref.ensures.value c.in-Some.ensures.lookup.3.0 (c.in-Some.ensures.lookup.3.1 _) in
-    IfOk-weaker c.segment_piece.result _ _ (λ piece of. piece_behind D.tells (shown_image (now (D.story c.args.device.now))) b b.given place (Some segment) _ (behind b.given c.if-export-eq0.false) at of) c.segment_piece.ensures.piece
+    let at = at_place b.segments c.segments.result.now place segment c.segments.ensures c.in-Some.ensures.lookup.3.0 (c.in-Some.ensures.lookup.3.1 _) in
+    IfOk-weaker c.segment_piece.result _ _ (λ piece of. piece_behind D.tells (shown_image (now (D.story c.args.device.now))) b b.given place (Some segment) _ (behind b.given c.if-export-eq0.false) at (subst (λ (s : PlainSchema). HasRows D.tells (shown_image (now (D.story c.args.device.now))) s segment (option_map (λ v. v.items) piece)) c.schema-in-Some.ensures of)) c.segment_piece.ensures.piece
 
 pub returns-in-Some-clause-told : goal.returns-in-Some-clause-told
 returns-in-Some-clause-told g c =
@@ -75,16 +78,16 @@ returns-in-Some-clause-told g c =
     let b : PlainExport = plain_export c.args.export.now in
     let place = b.given - 1 in
     let segment = c.in-Some.segment.now in
-    let at = at_place b.segments c.deref.result.now place segment c.deref.ensures.value c.in-Some.ensures.lookup.3.0 (c.in-Some.ensures.lookup.3.1 _) in
-    IfErr-weaker c.segment_piece.result _ _ (λ e of. refused_behind D.tells (shown_image (now (D.story c.args.device.now))) b b.given place (Some segment) e (behind b.given c.if-export-eq0.false) at of) c.segment_piece.ensures.told
+    let at = at_place b.segments c.segments.result.now place segment c.segments.ensures c.in-Some.ensures.lookup.3.0 (c.in-Some.ensures.lookup.3.1 _) in
+    IfErr-weaker c.segment_piece.result _ _ (λ e of. refused_behind D.tells (shown_image (now (D.story c.args.device.now))) b b.given place (Some segment) e (behind b.given c.if-export-eq0.false) at (subst (λ (s : PlainSchema). LacksRows D.tells (shown_image (now (D.story c.args.device.now))) s segment place e) c.schema-in-Some.ensures of)) c.segment_piece.ensures.told
 
 pub returns-in-None-clause-piece : goal.returns-in-None-clause-piece
 returns-in-None-clause-piece g c =
     let D = g.D.SectorDevice in
     let b : PlainExport = plain_export c.args.export.now in
     let place = b.given - 1 in
-    let none = past_place b.segments c.deref.result.now place c.deref.ensures.value c.in-None.ensures.lookup.3 in
-    let count : c.len.result ≡ length b.segments = omega (arith, c.len.ensures, c.args.export.now.segments.ok.0) in
+    let none = past_place b.segments c.segments.result.now place c.segments.ensures c.in-None.ensures.lookup.3 in
+    let count = ap (λ (gs : List Segment). length gs) c.segments-in-None.ensures in
     IfOk-weaker c.last_piece.result _ _
     (λ piece end. piece_behind D.tells (shown_image (now (D.story c.args.device.now))) b b.given place None _ (behind b.given c.if-export-eq0.false) none (end ∙ ap (λ (n : ℕ). if place == n then Some end_of_stream else None) count))
     c.last_piece.ensures.end

@@ -11,4 +11,4 @@ returns-in-Some c = λ listed at so_far.
     let number = c.args.table in
     let e = plain_entry c.args.entry.now in
     subst (λ (l : Last). IsLastOf listed (number + 1) (Some l)) (sym c.later.ensures)
-    (some_more listed number e c.args.last c.in-Some.other at (subst (λ (ss : List Segment). IsLastIn number ss (length ss) (Some c.in-Some.other)) c.deref.ensures.value c.in-Some.ensures) so_far)
+    (some_more listed number e c.args.last c.in-Some.other at (subst (λ (ss : List Segment). IsLastIn number ss (length ss) (Some c.in-Some.other)) c.segments.ensures c.in-Some.ensures) so_far)

@@ -17,8 +17,8 @@ returns-in-Ok-clause-passed c =
     let rows : List (List Cell) = map row_of c.args.rows.items in
     let t : PlainTable = table_of c.in-Ok.table in
     let own : t.rows ≡ rows = ap (λ (x : PlainTable). x.rows) c.in-Ok.ensures.made in
-    let taken : table_from e.schema rows ≡ Ok t = ap (λ (s : PlainSchema). table_from s rows) (sym c.in_ok-copy.ensures) ∙ c.in-Ok.ensures.taken in
-    let weighed : c.in-Ok.weight ≡ table_weight e.schema rows = c.in-Ok.ensures.weight ∙ ap (λ (s : PlainSchema). table_weight s rows) c.in_ok-copy.ensures in
+    let taken : table_from e.schema rows ≡ Ok t = ap (λ (s : PlainSchema). table_from s rows) (sym (c.in_ok-copy.ensures ∙ c.schema.ensures)) ∙ c.in-Ok.ensures.taken in
+    let weighed : c.in-Ok.weight ≡ table_weight e.schema rows = c.in-Ok.ensures.weight ∙ ap (λ (s : PlainSchema). table_weight s rows) (c.in_ok-copy.ensures ∙ c.schema.ensures) in
     let kept = c.accepted_rows_are_a_table.ensures.kept e.schema rows t c.requires taken in (
       given_fit e rows (made_by e.schema rows t taken) ∙ ap (λ (x : List (List Cell)). Ok (record { entry = e; rows = x })) (sym own),
       weighed ∙ ap (table_weight e.schema) (sym own),
@@ -29,7 +29,7 @@ pub returns-in-Err-Unfit-clause-refused : goal.returns-in-Err-Unfit-clause-refus
 returns-in-Err-Unfit-clause-refused c =
     let e : PlainEntry = plain_entry c.args.entry.now in
     let rows : List (List Cell) = map row_of c.args.rows.items in
-    let told : Reports c.in-Err-Unfit.field-0 (table_from e.schema rows) = subst (λ (s : PlainSchema). Reports c.in-Err-Unfit.field-0 (table_from s rows)) c.in_ok-copy.ensures c.in-Err-Unfit.ensures.refused in
+    let told : Reports c.in-Err-Unfit.field-0 (table_from e.schema rows) = subst (λ (s : PlainSchema). Reports c.in-Err-Unfit.field-0 (table_from s rows)) (c.in_ok-copy.ensures ∙ c.schema.ensures) c.in-Err-Unfit.ensures.refused in
     let is : table_from e.schema rows ≡ Err (unfit c.in-Err-Unfit.row) = subst (λ (x : TableError). Reports x (table_from e.schema rows)) c.in-Err-Unfit.field-0-is told in
     inr (given_unfit e rows c.in-Err-Unfit.row (unfit_by e.schema rows c.in-Err-Unfit.row is))
 
@@ -37,7 +37,7 @@ pub returns-in-Err-Weight-clause-passed : goal.returns-in-Err-Weight-clause-pass
 returns-in-Err-Weight-clause-passed c =
     let e : PlainEntry = plain_entry c.args.entry.now in
     let rows : List (List Cell) = map row_of c.args.rows.items in
-    let told : Reports c.in-Err-Weight.field-0 (table_from e.schema rows) = subst (λ (s : PlainSchema). Reports c.in-Err-Weight.field-0 (table_from s rows)) c.in_ok-copy.ensures c.in-Err-Weight.ensures.refused in
+    let told : Reports c.in-Err-Weight.field-0 (table_from e.schema rows) = subst (λ (s : PlainSchema). Reports c.in-Err-Weight.field-0 (table_from s rows)) (c.in_ok-copy.ensures ∙ c.schema.ensures) c.in-Err-Weight.ensures.refused in
     let is : table_from e.schema rows ≡ Err too_heavy = subst (λ (x : TableError). Reports x (table_from e.schema rows)) c.in-Err-Weight.field-0-is told in
     let heavy = heavy_by e.schema rows is in
     (rows, given_fit e rows heavy.fit, heavy.heavy)

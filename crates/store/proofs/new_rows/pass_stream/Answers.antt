@@ -11,7 +11,7 @@ use Rattle.cells.specs.declared.limits.TheConstants.{MAX_TABLE_WEIGHT}
 use Rattle.cells.specs.laws.Shapes.{one_shape_table_weighs}
 use Rattle.values.specs.TableView.{table_of}
 use Rattle.catalogue.specs.Entries.{PlainEntry, plain_entry}
-use Rattle.tables.specs.Verdict.{too_many_bytes, other_shape}
+use Rattle.tables.specs.Verdict.{too_many_bytes, other_shape, unfit_row}
 use Rattle.store.specs.Changes.{rows_under}
 use Rattle.store.proofs.Appended.{one_shape, none_unfit, accepted}
 use Rattle.store.proofs.Streamed.{stream_long, stream_faulty, stream_shaped, stream_unfit, stream_fits}
@@ -19,21 +19,23 @@ use Rattle.store.proofs.new_rows.pass_stream.Goals as goal
 
 pub returns-clause-weight : goal.returns-clause-weight
 returns-clause-weight c =
-    let own : PlainSchema = schema_of c.args.entry.now.schema in
+    let own : PlainSchema = (plain_entry c.args.entry.now).schema in
+    let tested = ap (λ (s : PlainSchema). other_shape s (schema_of c.schema.result.now)) (sym c.schema-own.ensures) ∙ c.in_ok-test_shape.ensures in
     let new : PlainTable = table_of c.in_ok-new.new.table in
-    let shape : HaveOneShape own (schema_of c.schema.result.now) = (c.one_shape_is_decided.ensures own (schema_of c.schema.result.now)).0 (one_shape own (schema_of c.schema.result.now) c.in_ok-test_shape.ensures) in
+    let shape : HaveOneShape own (schema_of c.schema.result.now) = (c.one_shape_is_decided.ensures own (schema_of c.schema.result.now)).0 (one_shape own (schema_of c.schema.result.now) tested) in
     let same : HaveOneShape own new.schema = subst (HaveOneShape own) c.schema.ensures.schema shape in
     c.in_ok-new.ensures.weight ∙ sym (one_shape_table_weighs own new.schema same new.rows)
 
 pub returns-clause-table : goal.returns-clause-table
 returns-clause-table c =
-    let own : PlainSchema = schema_of c.args.entry.now.schema in
+    let own : PlainSchema = (plain_entry c.args.entry.now).schema in
+    let tested = ap (λ (s : PlainSchema). other_shape s (schema_of c.schema.result.now)) (sym c.schema-own.ensures) ∙ c.in_ok-test_shape.ensures in
     let new : PlainTable = table_of c.in_ok-new.new.table in
-    let shape : HaveOneShape own (schema_of c.schema.result.now) = (c.one_shape_is_decided.ensures own (schema_of c.schema.result.now)).0 (one_shape own (schema_of c.schema.result.now) c.in_ok-test_shape.ensures) in
+    let shape : HaveOneShape own (schema_of c.schema.result.now) = (c.one_shape_is_decided.ensures own (schema_of c.schema.result.now)).0 (one_shape own (schema_of c.schema.result.now) tested) in
     let same : HaveOneShape own new.schema = subst (HaveOneShape own) c.schema.ensures.schema shape in
     let light : nat_le (table_weight own new.rows) MAX_TABLE_WEIGHT ≡ true =
     ap (λ (n : ℕ). nat_le n MAX_TABLE_WEIGHT) (one_shape_table_weighs own new.schema same new.rows) ∙ le-leb (table_weight new.schema new.rows) MAX_TABLE_WEIGHT c.schema.ensures.kept.weight in
-    (c.accepted_rows_are_a_table.ensures.kept own new.rows (rows_under own new.rows) c.requires (accepted own new.rows (none_unfit own new.rows c.in_ok-test_rows.ensures.ok) light)).1
+    (c.accepted_rows_are_a_table.ensures.kept own new.rows (rows_under own new.rows) c.requires (accepted own new.rows (none_unfit own new.rows (ap (λ (s : PlainSchema). unfit_row s new.rows) (sym c.schema-own.ensures) ∙ c.in_ok-test_rows.ensures.ok)) light)).1
 
 pub returns-in_err-test_bytes-clause-refused : goal.returns-in_err-test_bytes-clause-refused
 returns-in_err-test_bytes-clause-refused c =
@@ -51,7 +53,7 @@ returns-in_err-test_shape-clause-refused c =
     let p = err_from_is_err_and c.from_residual-in_err-test_shape.result c.from_residual-in_err-test_shape.ensures.1 in
     let e : PlainEntry = plain_entry c.args.entry.now in
     let few : too_many_bytes c.args.stream.items ≡ None = ap too_many_bytes (sym c.deref.ensures.value) ∙ c.in_ok-test_bytes.ensures in
-    let other : other_shape e.schema (table_of c.in_ok-new.new.table).schema ≡ Some c.in_err-test_shape.field-0.0 = ap (other_shape e.schema) (sym c.schema.ensures.schema) ∙ c.in_err-test_shape.ensures in
+    let other : other_shape e.schema (table_of c.in_ok-new.new.table).schema ≡ Some c.in_err-test_shape.field-0.0 = (λ i. other_shape (sym c.schema-own.ensures i) (sym c.schema.ensures.schema i)) ∙ c.in_err-test_shape.ensures in
     rw (p.1, p.2) (inr (stream_shaped c.args.stream.items e (table_of c.in_ok-new.new.table) few c.in_ok-new.ensures.exact c.in_err-test_shape.field-0.0 other))
 
 -- ---- a stream of one shape
@@ -60,8 +62,8 @@ pub returns-clause-tested : goal.returns-clause-tested
 returns-clause-tested c =
     let e : PlainEntry = plain_entry c.args.entry.now in
     let few : too_many_bytes c.args.stream.items ≡ None = ap too_many_bytes (sym c.deref.ensures.value) ∙ c.in_ok-test_bytes.ensures in
-    let shaped : other_shape e.schema (table_of c.in_ok-new.new.table).schema ≡ None = ap (other_shape e.schema) (sym c.schema.ensures.schema) ∙ c.in_ok-test_shape.ensures in
-    stream_fits c.args.stream.items e (table_of c.in_ok-new.new.table) few c.in_ok-new.ensures.exact shaped c.in_ok-test_rows.ensures.ok
+    let shaped : other_shape e.schema (table_of c.in_ok-new.new.table).schema ≡ None = (λ i. other_shape (sym c.schema-own.ensures i) (sym c.schema.ensures.schema i)) ∙ c.in_ok-test_shape.ensures in
+    stream_fits c.args.stream.items e (table_of c.in_ok-new.new.table) few c.in_ok-new.ensures.exact shaped (ap (λ (s : PlainSchema). unfit_row s (table_of c.in_ok-new.new.table).rows) (sym c.schema-own.ensures) ∙ c.in_ok-test_rows.ensures.ok)
 
 pub returns-in_err-test_rows-clause-refused : goal.returns-in_err-test_rows-clause-refused
 returns-in_err-test_rows-clause-refused c =
@@ -69,6 +71,6 @@ returns-in_err-test_rows-clause-refused c =
     let e : PlainEntry = plain_entry c.args.entry.now in
     let t : PlainTable = table_of c.in_ok-new.new.table in
     let few : too_many_bytes c.args.stream.items ≡ None = ap too_many_bytes (sym c.deref.ensures.value) ∙ c.in_ok-test_bytes.ensures in
-    let shaped : other_shape e.schema t.schema ≡ None = ap (other_shape e.schema) (sym c.schema.ensures.schema) ∙ c.in_ok-test_shape.ensures in
+    let shaped : other_shape e.schema t.schema ≡ None = (λ i. other_shape (sym c.schema-own.ensures i) (sym c.schema.ensures.schema i)) ∙ c.in_ok-test_shape.ensures in
     rw (p.1, p.2)
-    (elim c.in_err-test_rows.ensures.err [ inl memory ↦ inl memory | inr unfit ↦ inr (stream_unfit c.args.stream.items e t few c.in_ok-new.ensures.exact shaped c.in_err-test_rows.field-0.0 unfit) ])
+    (elim c.in_err-test_rows.ensures.err [ inl memory ↦ inl memory | inr unfit ↦ inr (stream_unfit c.args.stream.items e t few c.in_ok-new.ensures.exact shaped c.in_err-test_rows.field-0.0 (ap (λ (s : PlainSchema). unfit_row s t.rows) (sym c.schema-own.ensures) ∙ unfit)) ])

@@ -18,7 +18,7 @@ pub returns-then-equals-clause-passed : goal.returns-then-equals-clause-passed
 returns-then-equals-clause-passed c =
     let e : PlainEntry = plain_entry c.args.entry.now in
     let t : PlainTable = table_of c.args.new.table in
-    let same : t.schema ≡ e.schema = sym c.schema.ensures.schema ∙ c.equals.ensures.0 c.if-equals.true in (
+    let same : t.schema ≡ e.schema = sym c.schema.ensures.schema ∙ c.equals.ensures.0 c.if-equals.true ∙ c.schema-own.ensures in (
       given_fit e t.rows (made_by e.schema t.rows t (subst (λ (s : PlainSchema). table_from s t.rows ≡ Ok t) same (c.accepted_rows_are_a_table.ensures.accepted t c.schema.ensures.kept))),
       c.args.new.weighs ∙ ap (λ (s : PlainSchema). table_weight s t.rows) same,
       subst (λ (s : PlainSchema). IsTable (rows_under s t.rows)) same c.schema.ensures.kept,

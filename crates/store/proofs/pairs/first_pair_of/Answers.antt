@@ -1,6 +1,7 @@
-use Rattle.std.proofs.Common.{◌≤◌, ◌+◌, length, arith}
+use Rattle.std.proofs.Common.{◌≤◌, ◌+◌, List, length, ap, arith}
 use Rattle.sector_dev.specs.Disk.{now, shown_image}
 use Rattle.values.specs.TableView.{table_of}
+use Rattle.catalogue.specs.declared.entry.Segment.{Segment}
 use Rattle.catalogue.specs.Entries.{plain_entry}
 use Rattle.tables.specs.declared.refusal.Refusal.TheVariants.{OutOfMemory}
 use Rattle.store.specs.Calls.{done, refused}
@@ -24,7 +25,7 @@ returns-in-Ok-clause-found g c =
     let pair = rw c.in-Ok-Some.field-0-is at c.in-Ok-Some.ensures.pair in
     record {
       place = place;
-      within = omega arith;
+      within = omega (arith, ap (λ (gs : List Segment). length gs) c.segments.ensures);
       before = c.loop-place.invariant.stay;
       table = table_of c.in-Ok-Some.table;
       read = read_then D.tells (shown_image (now before)) (shown_image (now mid)) (λ told. image_then before mid (c.loop-place.invariant.reads.moments told)) (pair_of e place) (table_of c.in-Ok-Some.table) pair.1;
@@ -42,7 +43,7 @@ pub returns-in-Err-merge-clause-unread : goal.returns-in-Err-merge-clause-unread
 returns-in-Err-merge-clause-unread g c =
     let e = plain_entry c.args.entry.now in
     let place = c.loop-place.place in
-    let within : place + 2 ≤ length e.segments = omega arith in
+    let within : place + 2 ≤ length e.segments = omega (arith, ap (λ (gs : List Segment). length gs) c.segments.ensures) in
     let pair = rw c.in-Ok-Some.field-0-is at c.in-Ok-Some.ensures.pair in
     (place, within, c.loop-place.invariant.stay, (pair.0, tt))
 
@@ -58,7 +59,7 @@ returns-in-Err-clause-unread g c =
     let mid = D.story c.loop-place.device in
     let e = plain_entry c.args.entry.now in
     let place = c.loop-place.place in
-    let within : place + 2 ≤ length e.segments = omega arith in
+    let within : place + 2 ≤ length e.segments = omega (arith, ap (λ (gs : List Segment). length gs) c.segments.ensures) in
     let unread = c.in-Err.ensures.unread in (
       place,
       within,

@@ -19,15 +19,15 @@ use Rattle.store.proofs.ReadTables.{rows_of, read_is_held, reads_quiet}
 use Rattle.store.proofs.reading.gather_entry.Goals as goal
 
 pub start_table-requires : goal.start_table-requires
-start_table-requires g c = record { limits = (entry_is (plain_entry c.args.entry.now) c.requires.sound).schema }
+start_table-requires g c = record { limits = subst IsWithinLimits (sym c.schema.ensures) (entry_is (plain_entry c.args.entry.now) c.requires.sound).schema }
 
 pub returns-in-Ok-read_segments-clause-table : goal.returns-in-Ok-read_segments-clause-table
 returns-in-Ok-read_segments-clause-table g c =
     let D = g.D.SectorDevice in
     let image = shown_image (now (D.story c.args.device.now)) in
     let e = plain_entry c.args.entry.now in
-    let start : (gathered_table c.in-Ok.empty).schema ≡ e.schema = ap (λ (t : PlainTable). t.schema) c.in-Ok.ensures.empty in
-    let segments : c.deref-in-Ok.result.now ≡ e.segments = c.deref-in-Ok.ensures.value in
+    let start : (gathered_table c.in-Ok.empty).schema ≡ e.schema = ap (λ (t : PlainTable). t.schema) c.in-Ok.ensures.empty ∙ c.schema.ensures in
+    let segments : c.segments.result.now ≡ e.segments = c.segments.ensures in
     let gathered = c.in-Ok-read_segments.gathered in
     let schema : (gathered_table gathered).schema ≡ e.schema = c.in-Ok-read_segments.ensures.schema ∙ start in
     record {
@@ -36,7 +36,7 @@ returns-in-Ok-read_segments-clause-table g c =
       count = c.in-Ok-read_segments.ensures.count ∙ ap (sum_by rows_of) segments;
       read =
           subst (λ (gs : List Segment). HaveRead D.tells image e.schema gs (gathered_table gathered).rows) segments
-          (subst (λ (s : PlainSchema). HaveRead D.tells image s c.deref-in-Ok.result.now (gathered_table gathered).rows) start c.in-Ok-read_segments.ensures.read);
+          (subst (λ (s : PlainSchema). HaveRead D.tells image s c.segments.result.now (gathered_table gathered).rows) start c.in-Ok-read_segments.ensures.read);
       held = λ told. read_is_held c.table_laws.ensures image e (gathered_table gathered) gathered.kept schema ((λ i. rows_held (sym start i) (sym segments i) image) ∙ c.in-Ok-read_segments.ensures.rows told);
     }
 
@@ -45,19 +45,19 @@ returns-in-Ok-clause-unread g c =
     let D = g.D.SectorDevice in
     let image = shown_image (now (D.story c.args.device.now)) in
     let e = plain_entry c.args.entry.now in
-    let start : (gathered_table c.in-Ok.empty).schema ≡ e.schema = ap (λ (t : PlainTable). t.schema) c.in-Ok.ensures.empty in
-    let segments : c.deref-in-Ok.result.now ≡ e.segments = c.deref-in-Ok.ensures.value in
-    let same : record { name = e.name; schema = (gathered_table c.in-Ok.empty).schema; segments = c.deref-in-Ok.result.now; page = e.page } ≡ e = λ i. record { name = e.name; schema = start i; segments = segments i; page = e.page } in
+    let start : (gathered_table c.in-Ok.empty).schema ≡ e.schema = ap (λ (t : PlainTable). t.schema) c.in-Ok.ensures.empty ∙ c.schema.ensures in
+    let segments : c.segments.result.now ≡ e.segments = c.segments.ensures in
+    let same : record { name = e.name; schema = (gathered_table c.in-Ok.empty).schema; segments = c.segments.result.now; page = e.page } ≡ e = λ i. record { name = e.name; schema = start i; segments = segments i; page = e.page } in
     subst (λ (x : PlainEntry). Unreads D.tells image x c.in-Err-read_segments.refusal) same (c.in-Err-read_segments.ensures.unread e.name e.page)
 
 -- ---- what is asked of the reading of its segments
 
 pub read_segments-requires-clause-placed : goal.read_segments-requires-clause-placed
 read_segments-requires-clause-placed g c =
-    let size = g.D.SectorDevice.size c.args.device.now in subst (λ (gs : List Segment). all_on_device size (runs_in gs) ≡ true) (sym c.deref-in-Ok.ensures.value) c.requires.placed
+    let size = g.D.SectorDevice.size c.args.device.now in subst (λ (gs : List Segment). all_on_device size (runs_in gs) ≡ true) (sym c.segments.ensures) c.requires.placed
 
 pub read_segments-requires-clause-limits : goal.read_segments-requires-clause-limits
-read_segments-requires-clause-limits g c = subst IsWithinLimits (sym (ap (λ (t : PlainTable). t.schema) c.in-Ok.ensures.empty)) (entry_is (plain_entry c.args.entry.now) c.requires.sound).schema
+read_segments-requires-clause-limits g c = subst IsWithinLimits (sym (ap (λ (t : PlainTable). t.schema) c.in-Ok.ensures.empty ∙ c.schema.ensures)) (entry_is (plain_entry c.args.entry.now) c.requires.sound).schema
 
 pub read_segments-requires-clause-message : goal.read_segments-requires-clause-message
 read_segments-requires-clause-message g c = c.deref.ensures.value ∙ c.in-Ok.ensures.message ∙ ap schema_message (sym (ap (λ (t : PlainTable). t.schema) c.in-Ok.ensures.empty))

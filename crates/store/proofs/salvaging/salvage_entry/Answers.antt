@@ -1,5 +1,6 @@
-use Rattle.std.proofs.Common.{refl}
+use Rattle.std.proofs.Common.{sym, subst}
 use Rattle.sector_dev.specs.Disk.{now, shown_image}
+use Rattle.arrow_schema.specs.Limits.{IsWithinLimits}
 use Rattle.arrow_schema.specs.View.{schema_of}
 use Rattle.catalogue.specs.Entries.{plain_entry}
 use Rattle.catalogue.specs.laws.Kept.{entry_is}
@@ -10,16 +11,16 @@ use Rattle.store.proofs.Salvaged.{salvages_all, output_quiet, breaks_output, rea
 use Rattle.store.proofs.salvaging.salvage_entry.Goals as goal
 
 pub write_front-requires : goal.write_front-requires
-write_front-requires g c = (entry_is (plain_entry c.args.entry.now) c.requires.sound).schema
+write_front-requires g c = subst IsWithinLimits (sym c.schema-own.ensures) (entry_is (plain_entry c.args.entry.now) c.requires.sound).schema
 
 pub salvage_segments-requires-clause-limits : goal.salvage_segments-requires-clause-limits
-salvage_segments-requires-clause-limits g c = (entry_is (plain_entry c.args.entry.now) c.requires.sound).schema
+salvage_segments-requires-clause-limits g c = subst IsWithinLimits (sym c.schema-own.ensures) (entry_is (plain_entry c.args.entry.now) c.requires.sound).schema
 
 pub returns-in-Ok-write_last-clause-salvaged : goal.returns-in-Ok-write_last-clause-salvaged
 returns-in-Ok-write_last-clause-salvaged g c =
     let D = g.D.SectorDevice in
-    salvages_all D.tells (shown_image (now (D.story c.args.device.now))) (plain_entry c.args.entry.now) (schema_of c.args.entry.now.schema) c.deref.result.now _ _ _ _ (plain_left c.in-Ok-salvage_segments.left_out.items)
-    refl c.deref.ensures.value c.in-Ok.ensures.written c.in-Ok-salvage_segments.ensures.salvaged c.in-Ok-write_last.ensures.written
+    salvages_all D.tells (shown_image (now (D.story c.args.device.now))) (plain_entry c.args.entry.now) (schema_of c.schema-own.result.now) c.segments.result.now _ _ _ _ (plain_left c.in-Ok-salvage_segments.left_out.items)
+    c.schema-own.ensures c.segments.ensures c.in-Ok.ensures.written c.in-Ok-salvage_segments.ensures.salvaged c.in-Ok-write_last.ensures.written
 
 pub returns-in-Err-write_last-clause-reads : goal.returns-in-Err-write_last-clause-reads
 returns-in-Err-write_last-clause-reads g c =

@@ -4,6 +4,7 @@ use Rattle.tables.specs.declared.refusal.Refusal.TheVariants.{Halted, OutOfMemor
 use Rattle.std.proofs.lemmas.Result.{IfOk-weaker}
 use Rattle.facts.specs.Checks.{first_some}
 use Rattle.sector_dev.specs.Disk.{now, shown_image}
+use Rattle.arrow_schema.specs.Limits.{IsWithinLimits}
 use Rattle.arrow_schema.specs.View.{schema_of}
 use Rattle.catalogue.specs.Entries.{PlainCatalogue, PlainEntry, plain_entry}
 use Rattle.catalogue.specs.View.{catalogue_of}
@@ -26,7 +27,7 @@ memory_on : OutOfMemory ≢ Halted
 memory_on is = cc is
 
 pub test_save-requires : goal.test_save-requires
-test_save-requires g c = (entry_is (plain_entry c.args.entry.now) c.requires.sound).schema
+test_save-requires g c = subst IsWithinLimits (sym c.schema.ensures) (entry_is (plain_entry c.args.entry.now) c.requires.sound).schema
 
 pub returns-in-Err-clause-reads : goal.returns-in-Err-clause-reads
 returns-in-Err-clause-reads g c =
@@ -37,9 +38,9 @@ returns-in-Ok-read_entry-clause-ok g c =
     let listed : PlainCatalogue = catalogue_of c.args.catalogue.now in
     let to : List ℕ = string_bytes c.args.to in
     let counts : Counts listed = record { more = c.counts_after_changes.ensures.put listed; same = c.counts_after_changes.ensures.replaced listed } in
-    let schema = schema_of c.args.entry.now.schema in
+    let schema = (plain_entry c.args.entry.now).schema in
     let query = query_in c.args.query.now in
-    let tested : first_some (unselected schema query ∷ create_tests listed to ∷ []) ≡ None = sym (λ i. first_some (unselected schema query ∷ create_tests listed (c.deref.ensures i) ∷ [])) ∙ c.in-Ok.ensures.ok in
+    let tested : first_some (unselected schema query ∷ create_tests listed to ∷ []) ≡ None = sym (λ i. first_some (unselected (c.schema.ensures i) query ∷ create_tests listed (c.deref.ensures i) ∷ [])) ∙ c.in-Ok.ensures.ok in
     let one = first_none (unselected schema query) (create_tests listed to ∷ []) tested in
     let names = create_names listed to (first_none (create_tests listed to) [] one.1).0 in
     IfOk-weaker c.put_selection.result _ (λ change. CanChange listed (change_of change))
@@ -60,7 +61,7 @@ returns-in-Ok-read_entry-clause-answers g c =
     let to : List ℕ = string_bytes c.args.to in
     let e : PlainEntry = plain_entry c.args.entry.now in
     let query = query_in c.args.query.now in
-    let tested : first_some (unselected e.schema query ∷ create_tests listed to ∷ []) ≡ None = sym (λ i. first_some (unselected e.schema query ∷ create_tests listed (c.deref.ensures i) ∷ [])) ∙ c.in-Ok.ensures.ok in
+    let tested : first_some (unselected e.schema query ∷ create_tests listed to ∷ []) ≡ None = sym (λ i. first_some (unselected (c.schema.ensures i) query ∷ create_tests listed (c.deref.ensures i) ∷ [])) ∙ c.in-Ok.ensures.ok in
     selected listed to query e D.tells (shown_image (now (D.story c.args.device.now))) (table_of c.in-Ok-read_entry.standing) (decision_of c.put_selection.result) tested c.in-Ok-read_entry.ensures.table c.put_selection.ensures.answers
 
 pub returns-in-Ok-read_entry-clause-not_halted : goal.returns-in-Ok-read_entry-clause-not_halted
@@ -76,7 +77,7 @@ returns-in-Err-read_entry-clause-answers g c =
     let to : List ℕ = string_bytes c.args.to in
     let e : PlainEntry = plain_entry c.args.entry.now in
     let query = query_in c.args.query.now in
-    let tested : first_some (unselected e.schema query ∷ create_tests listed to ∷ []) ≡ None = sym (λ i. first_some (unselected e.schema query ∷ create_tests listed (c.deref.ensures i) ∷ [])) ∙ c.in-Ok.ensures.ok in
+    let tested : first_some (unselected e.schema query ∷ create_tests listed to ∷ []) ≡ None = sym (λ i. first_some (unselected (c.schema.ensures i) query ∷ create_tests listed (c.deref.ensures i) ∷ [])) ∙ c.in-Ok.ensures.ok in
     not_read listed to query e D.tells (shown_image (now (D.story c.args.device.now))) c.in-Err-read_entry.refusal tested c.in-Err-read_entry.ensures.unread
 
 pub returns-in-Err-read_entry-clause-not_halted : goal.returns-in-Err-read_entry-clause-not_halted
@@ -91,7 +92,7 @@ returns-in-Err-clause-answers g c =
     let to : List ℕ = string_bytes c.args.to in
     let e : PlainEntry = plain_entry c.args.entry.now in
     let query = query_in c.args.query.now in
-    let same : first_some (unselected e.schema query ∷ create_tests listed to ∷ []) ≡ first_some (unselected e.schema query ∷ create_tests listed c.deref.result.now ∷ []) = sym (λ i. first_some (unselected e.schema query ∷ create_tests listed (c.deref.ensures i) ∷ [])) in
+    let same : first_some (unselected e.schema query ∷ create_tests listed to ∷ []) ≡ first_some (unselected (schema_of c.schema.result.now) query ∷ create_tests listed c.deref.result.now ∷ []) = sym (λ i. first_some (unselected (c.schema.ensures i) query ∷ create_tests listed (c.deref.ensures i) ∷ [])) in
     elim c.in-Err.ensures.err [ inl memory ↦ inl (ap Err memory) | inr told ↦ refused_first listed to query e D.tells (shown_image (now (D.story c.args.device.now))) c.in-Err.refusal (same ∙ told) ]
 
 pub returns-in-Err-clause-not_halted : goal.returns-in-Err-clause-not_halted
@@ -100,5 +101,5 @@ returns-in-Err-clause-not_halted g c = λ is.
     let to : List ℕ = string_bytes c.args.to in
     let e : PlainEntry = plain_entry c.args.entry.now in
     let query = query_in c.args.query.now in
-    let same : first_some (unselected e.schema query ∷ create_tests listed to ∷ []) ≡ first_some (unselected e.schema query ∷ create_tests listed c.deref.result.now ∷ []) = sym (λ i. first_some (unselected e.schema query ∷ create_tests listed (c.deref.ensures i) ∷ [])) in
+    let same : first_some (unselected e.schema query ∷ create_tests listed to ∷ []) ≡ first_some (unselected (schema_of c.schema.result.now) query ∷ create_tests listed c.deref.result.now ∷ []) = sym (λ i. first_some (unselected (c.schema.ensures i) query ∷ create_tests listed (c.deref.ensures i) ∷ [])) in
     elim c.in-Err.ensures.err as (λ _. ⊥) [ inl memory ↦ memory_on (sym memory ∙ is) | inr told ↦ tested_on listed to query e c.in-Err.refusal (same ∙ told) is ]

@@ -1,16 +1,13 @@
-use Rattle.std.proofs.Common.{◌≡◌, ◌++◌, ◌∙◌, true, ℕ, List, Result, Err, length, map, take, take_all, refl, sym, ap, subst, arith}
-use Rattle.std.specs.Prelude.{◌<◌, slice_get, Some}
+use Rattle.std.proofs.Common.{◌≡◌, ◌++◌, ◌∙◌, true, ℕ, List, Result, Err, map, take, take_all, refl, sym, ap, subst, arith}
 use Rattle.sector_dev.specs.Disk.{now, shown_image}
-use Rattle.cells.specs.Cell.{PlainTable}
 use Rattle.catalogue.specs.declared.entry.Segment.{Segment}
 use Rattle.catalogue.specs.declared.entry.TableEntry.{TableEntry}
-use Rattle.catalogue.specs.Entries.{PlainEntry, plain_entry, is_entry, runs_in_segments}
+use Rattle.catalogue.specs.Entries.{plain_entry, is_entry, runs_in_segments}
 use Rattle.catalogue.specs.laws.Changed.{found_passes}
 use Rattle.commit.specs.Standing.{is_size, all_on_device}
 use Rattle.tables.specs.declared.refusal.Refusal.{Refusal}
 use Rattle.tables.specs.declared.refusal.Refusal.TheVariants as refusals
 use Rattle.store.specs.Calls.{done, refused}
-use Rattle.store.specs.Reading.{IsRead, Unreads}
 use Rattle.store.specs.Upgrading.{segments_of, AreDigests}
 use Rattle.store.proofs.ReadTables.{reads_none, reads_more, reads_ended, image_then, runs_on_device}
 use Rattle.store.proofs.StepParts.{at_name}

@@ -20,12 +20,12 @@ segment_digests-requires-clause-size g c = ap is_size c.in-Ok.ensures.reads.same
 pub segment_digests-requires-clause-placed : goal.segment_digests-requires-clause-placed
 segment_digests-requires-clause-placed g c =
     let D = g.D.SectorDevice in
-    subst (λ (gs : List Segment). all_on_device (D.size c.gather_entry.new.device) (runs_in gs) ≡ true) (sym c.deref.ensures.value)
+    subst (λ (gs : List Segment). all_on_device (D.size c.gather_entry.new.device) (runs_in gs) ≡ true) (sym c.segments.ensures)
     (subst (λ (n : ℕ). all_on_device n (runs_in (plain_entry c.args.entry.now).segments) ≡ true) (sym c.in-Ok.ensures.reads.same) c.requires.placed)
 
 pub segment_digests-requires-clause-sound : goal.segment_digests-requires-clause-sound
 segment_digests-requires-clause-sound g c =
-    subst (λ (gs : List Segment). list_all is_segment gs ≡ true) (sym c.deref.ensures.value) (entry_is (plain_entry c.args.entry.now) c.requires.sound).segments
+    subst (λ (gs : List Segment). list_all is_segment gs ≡ true) (sym c.segments.ensures) (entry_is (plain_entry c.args.entry.now) c.requires.sound).segments
 
 pub returns-in-Ok-segment_digests-clause-reads : goal.returns-in-Ok-segment_digests-clause-reads
 returns-in-Ok-segment_digests-clause-reads g c =
@@ -41,8 +41,8 @@ returns-in-Ok-segment_digests-clause-found g c =
     let before = D.story c.args.device.now in
     let mid = D.story c.gather_entry.new.device in
     let digests = c.in-Ok-segment_digests.digests.items in
-    subst (λ (gs : List Segment). AreDigests D.tells (shown_image (now before)) gs digests) c.deref.ensures.value
-    (digests_then D.tells (shown_image (now before)) (shown_image (now mid)) (λ told. image_then before mid (c.in-Ok.ensures.reads.moments told)) c.deref.result.now digests c.in-Ok-segment_digests.ensures.found)
+    subst (λ (gs : List Segment). AreDigests D.tells (shown_image (now before)) gs digests) c.segments.ensures
+    (digests_then D.tells (shown_image (now before)) (shown_image (now mid)) (λ told. image_then before mid (c.in-Ok.ensures.reads.moments told)) c.segments.result.now digests c.in-Ok-segment_digests.ensures.found)
 
 pub returns-in-Err-segment_digests-clause-reads : goal.returns-in-Err-segment_digests-clause-reads
 returns-in-Err-segment_digests-clause-reads g c =
@@ -57,5 +57,5 @@ returns-in-Err-segment_digests-clause-unread g c =
     let e = plain_entry c.args.entry.now in
     let r = c.in-Err-segment_digests.refusal in
     lacks_none D.tells (shown_image (now before)) e (gathered_table c.in-Ok.gathered) c.in-Ok.ensures.table r
-    (subst (λ (gs : List Segment). LacksCopy D.tells (shown_image (now before)) gs r) c.deref.ensures.value
-    (lacks_then D.tells (shown_image (now before)) (shown_image (now mid)) (λ told. image_then before mid (c.in-Ok.ensures.reads.moments told)) c.deref.result.now r c.in-Err-segment_digests.ensures.told))
+    (subst (λ (gs : List Segment). LacksCopy D.tells (shown_image (now before)) gs r) c.segments.ensures
+    (lacks_then D.tells (shown_image (now before)) (shown_image (now mid)) (λ told. image_then before mid (c.in-Ok.ensures.reads.moments told)) c.segments.result.now r c.in-Err-segment_digests.ensures.told))

@@ -39,7 +39,7 @@ returns-in-Some-clause-closed g c =
     closes_at s.halted (open_at (book_of s) c.args.id) s c.args.id (plain_export c.in-Some.export) _ c.if-self.false (sym c.in-Some.ensures.export)
     (record {
       closed = c.close.ensures.closed;
-      pins = subst (λ (gs : List Segment). UnpinsAll s.opened.map c.unpin_segments.new.map (runs_in_segments gs)) c.deref.ensures.value c.unpin_segments.ensures;
+      pins = subst (λ (gs : List Segment). UnpinsAll s.opened.map c.unpin_segments.new.map (runs_in_segments gs)) c.segments.ensures c.unpin_segments.ensures;
       commit = refl;
       listed = refl;
       on = c.if-self.false;
@@ -52,7 +52,7 @@ invariant_of-self g c =
     let text = s.opened.commit.catalogue.run in
     let listed = listed_in s in
     let new = c.unpin_segments.new.map in
-    let pins : UnpinsAll s.opened.map new (runs_in_segments c.in-Some.export.segments.items) = subst (λ (gs : List Segment). UnpinsAll s.opened.map new (runs_in_segments gs)) c.deref.ensures.value c.unpin_segments.ensures in
+    let pins : UnpinsAll s.opened.map new (runs_in_segments (plain_export c.in-Some.export).segments) = subst (λ (gs : List Segment). UnpinsAll s.opened.map new (runs_in_segments gs)) c.segments.ensures c.unpin_segments.ensures in
     record {
       in_limits = s.in_limits;
       same = c.unpin_segments.ensures.size ∙ s.same;

@@ -4,8 +4,7 @@ use Rattle.segments.specs.declared.run.Run.{Run}
 use Rattle.segments.specs.declared.entries.Usage.{Usage}
 use Rattle.segments.specs.Usages.{is_among, times_among, PinsAll}
 use Rattle.segments.specs.laws.Usages.{or_false}
-use Rattle.arrow_schema.specs.View.{schema_of}
-use Rattle.catalogue.specs.Entries.{runs_of, runs_in_segments}
+use Rattle.catalogue.specs.Entries.{plain_entry, runs_of, runs_in_segments}
 use Rattle.catalogue.specs.Edits.{entry_of}
 use Rattle.catalogue.specs.declared.entry.Segment.{Segment}
 use Rattle.catalogue.specs.laws.Kept.{catalogue_is}
@@ -69,7 +68,8 @@ invariant_of-self g c =
     let text = s.opened.commit.catalogue.run in
     let listed = listed_in s in
     let found = found_in s.halted (entry_of listed c.args.name.now) (book_of s) c.in-Ok.snapshot c.in-Ok.ensures.found in
-    let export : PlainExport = record { id = (book_of s).next; schema = schema_of c.in-Ok.snapshot.schema; segments = c.in-Ok.snapshot.segments.items; given = 0 } in
+    let e = plain_entry c.in-Ok.snapshot.entry in
+    let export : PlainExport = record { id = (book_of s).next; schema = e.schema; segments = e.segments; given = 0 } in
     let runs = c.deref.ensures.value ∙ found.is.runs ∙ ap runs_in_segments (sym found.is.segments) in
     let pins : PinsAll s.opened.map c.pin_each.new.self (runs_in_segments export.segments) = subst (λ (rs : List Run). PinsAll s.opened.map c.pin_each.new.self rs) runs c.pin_each.ensures in
     let is = entry_exportable size text listed c.args.name.now found.entry export (catalogue_is listed s.opened.catalogue.list.kept).entries s.fit found.at found.is.schema found.is.segments in

@@ -39,13 +39,13 @@ returns-in_ok-copy-in-Some-clause-goes g c = λ told base m fits.
     let own = entry_has image (listed_in store) (after base m.settled) (fits.sound on).tables c.args.name.now e found in
     let has = held_has image e own.0 own.1 in
     still D.size D.story D.failed base m (schema_call c.args.name.now) (schema_is _) store
-    (on, (own.0, own.2, c.in_ok-copy-in-Some.ensures ∙ sym (ap (λ (t : PlainTable). t.schema) has.2)), (refl, refl)) refl fits tt tt
+    (on, (own.0, own.2, (c.in_ok-copy-in-Some.ensures ∙ c.schema.ensures) ∙ sym (ap (λ (t : PlainTable). t.schema) has.2)), (refl, refl)) refl fits tt tt
 
 pub returns-in_ok-copy-in-Some-clause-within : goal.returns-in_ok-copy-in-Some-clause-within
 returns-in_ok-copy-in-Some-clause-within g c =
     let e : PlainEntry = plain_entry c.in-Some.entry.now in
     let own = found_passes is_entry _ c.args.name.now e c.in-Some.ensures.kept.entries (sym c.in-Some.ensures.entry) in
-    subst IsWithinLimits (sym c.in_ok-copy-in-Some.ensures) (entry_is e own).schema
+    subst IsWithinLimits (sym (c.in_ok-copy-in-Some.ensures ∙ c.schema.ensures)) (entry_is e own).schema
 
 pub returns-in_err-copy-in-Some-clause-refused : goal.returns-in_err-copy-in-Some-clause-refused
 unfolding Step
