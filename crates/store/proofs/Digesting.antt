@@ -1,11 +1,11 @@
 -- The digests of segments, one after another.
-use Rattle.std.specs.Prelude.{◌≡◌, ◌⊎◌, ◌<◌, ◌+◌, ◌++◌, ℕ, zero, suc, Bool, true, false, List, [], ◌∷◌, length, take, get_or, slice_get, flat_map, map, Option, Some, None, refl}
+use Rattle.std.specs.Prelude.{◌≡◌, ◌<◌, ◌+◌, ◌++◌, ℕ, zero, suc, Bool, true, false, List, [], ◌∷◌, length, take, get_or, slice_get, map, Some, None, refl}
 use Rattle.std.proofs.Common.{inl, inr, ⊎_elim, sym, ap, ◌∙◌, subst, arith}
 use Rattle.std.proofs.lemmas.List.{take_more, map-append}
 use Rattle.facts.specs.laws.Lists.{flat_map-push}
 use Rattle.sha2.specs.Sha256.{sha256}
 use Rattle.sector_dev.specs.Disk.{Image}
-use Rattle.cells.specs.Cell.{Cell, PlainTable}
+use Rattle.cells.specs.Cell.{PlainTable}
 use Rattle.catalogue.specs.declared.entry.Segment.{Segment}
 use Rattle.catalogue.specs.declared.entry.TableEntry.{TableEntry}
 use Rattle.catalogue.specs.Entries.{PlainEntry, PlainCatalogue, plain_entry}

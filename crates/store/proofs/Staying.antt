@@ -1,8 +1,8 @@
 -- A change of a store that leaves its tables as they are, in the words of the machine.
-use Rattle.std.specs.Prelude.{◌≡◌, ◌≢◌, ◌⊎◌, ◌≤◌, ◌+◌, ◌-◌, ◌^◌, ◌&&◌, ℕ, min, Bool, true, false, ◌↔◌, List, Option, Some, Ok, Err, refl, if◌then◌else◌}
+use Rattle.std.specs.Prelude.{◌≡◌, ◌≢◌, ◌⊎◌, ◌≤◌, ◌+◌, ◌-◌, ◌^◌, ◌&&◌, ℕ, min, Bool, true, false, List, Some, Ok, Err, refl, if◌then◌else◌}
 use Rattle.std.proofs.Common.{inl, inr, sym, ap, ◌∙◌, subst, arith}
-use Rattle.std.proofs.lemmas.Bool.{lt-ltb, true≢false, false_from_ne_true}
-use Rattle.sector_dev.specs.Disk.{Disk, Story, Image, now, synced_image, shown_image, MayLeave}
+use Rattle.std.proofs.lemmas.Bool.{lt-ltb, true≢false}
+use Rattle.sector_dev.specs.Disk.{Disk, Story, Image, now, synced_image, MayLeave}
 use Rattle.sector_dev.specs.declared.device.SectorDevice.{Ghosts}
 use Rattle.sector_dev.specs.Time.{Grows, LeavesOnly}
 use Rattle.sector_dev.specs.laws.Time.{weaken, now_has, stays, goes_on, now_read}

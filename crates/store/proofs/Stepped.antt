@@ -1,53 +1,42 @@
 -- A step of a compaction, in the words of the machine: whatever its change does, the tables stay as they are.
-use Rattle.std.specs.Prelude.{◌≡◌, ◌≢◌, ◌⊎◌, ◌≤◌, ◌+◌, ◌-◌, ◌^◌, ◌&&◌, ℕ, min, Bool, true, false, ◌↔◌, List, Option, Some, Ok, Err, refl, if◌then◌else◌}
-use Rattle.std.proofs.Common.{inl, inr, sym, ap, ◌∙◌, subst, arith}
-use Rattle.std.proofs.lemmas.Bool.{lt-ltb, true≢false, false_from_ne_true}
-use Rattle.sector_dev.specs.Disk.{Disk, Story, Image, now, synced_image, shown_image, MayLeave}
+use Rattle.std.specs.Prelude.{◌≡◌, ◌≢◌, ◌+◌, ◌-◌, ◌^◌, ℕ, min, Bool, true, false, ◌↔◌, List, Option, Some, Ok, Err, refl, if◌then◌else◌}
+use Rattle.std.proofs.Common.{sym, ap, ◌∙◌, subst}
+use Rattle.std.proofs.lemmas.Bool.{true≢false, false_from_ne_true}
+use Rattle.sector_dev.specs.Disk.{Disk, Story, Image, now, synced_image, shown_image}
 use Rattle.sector_dev.specs.declared.device.SectorDevice.{Ghosts}
-use Rattle.sector_dev.specs.Time.{Grows, LeavesOnly}
-use Rattle.sector_dev.specs.laws.Time.{weaken, now_has, stays, goes_on, now_read}
-use Rattle.sector_dev.specs.laws.Crash.{only_image}
+use Rattle.sector_dev.specs.laws.Time.{now_read}
 use Rattle.segments.specs.declared.run.Run.{Run}
 use Rattle.segments.specs.Usages.{IsUsedIn}
 use Rattle.catalogue.specs.declared.entry.Segment.{Segment}
-use Rattle.catalogue.specs.declared.limits.TheConstants.{MAX_SEGMENTS}
-use Rattle.catalogue.specs.Entries.{PlainCatalogue, IsCatalogue, runs_of, segment_count}
+use Rattle.catalogue.specs.Entries.{PlainCatalogue, runs_of}
 use Rattle.catalogue.specs.laws.Kept.{catalogue_is}
-use Rattle.export_book.specs.Book.{PlainBook}
-use Rattle.commit.specs.Standing.{is_size, rules, standing, used_runs, InSome, Stands}
-use Rattle.commit.specs.declared.sector.Commit.{Commit}
+use Rattle.commit.specs.Standing.{InSome}
 use Rattle.commit.specs.declared.recovery.Opened.{Opened}
 use Rattle.catalogue.specs.View.{catalogue_of}
 use Rattle.pages.specs.declared.stored.StoredCatalogue.{StoredCatalogue}
 use Rattle.tables.specs.declared.refusal.Refusal.{Refusal}
 use Rattle.tables.specs.declared.refusal.Refusal.TheVariants as refusals
-use Rattle.tables.specs.declared.refusal.Limit.TheVariants as limits
 use Rattle.tables.specs.Tables.{Tables}
 use Rattle.tables.specs.Verdict.{after}
 use Rattle.store.specs.declared.store.Store.{Store}
 use Rattle.store.specs.declared.compacting.Compaction.{Compaction}
 use Rattle.store.specs.declared.compacting.Compaction.TheVariants as compactions
-use Rattle.store.specs.Calls.{PlainReply, compact_call, done, nothing, refused, is_failure, counted, is_change, is_device_reply, may_be_done}
-use Rattle.store.specs.Machine.{holds, Setting, Machine, running, halted, Allows, AllowsEach, SparesKept, meanwhile, has_written, halt}
+use Rattle.store.specs.Calls.{PlainReply, compact_call, done, nothing, refused, is_failure, counted, is_change, is_device_reply}
+use Rattle.store.specs.Machine.{Setting, Machine, running}
 use Rattle.store.specs.Steps.{Step}
-use Rattle.store.specs.Runs.{Goes, TellsFound}
-use Rattle.store.specs.Held.{tables_held, held_tables, held_by}
-use Rattle.pages.specs.Stored.{stored_reading}
-use Rattle.store.specs.Fits.{book_of, setting_of, listed_in, ExportsFit, StoreFits, IsSound}
-use Rattle.store.specs.Changes.{PlainChange, edited, placed_segments, HoldsStreams}
+use Rattle.store.specs.Runs.{TellsFound}
+use Rattle.store.specs.Held.{tables_held}
+use Rattle.store.specs.Fits.{book_of, setting_of, listed_in, StoreFits}
+use Rattle.store.specs.Changes.{PlainChange, edited, HoldsStreams}
 use Rattle.store.specs.Exported.{AreExportable}
-use Rattle.store.specs.laws.Changed.{placed_held}
-use Rattle.store.specs.Carrying.{outline, placed, commit_placed}
 use Rattle.store.specs.Reading.{OnlyReadsStore}
-use Rattle.store.specs.Applying.{GoesOn, EndsAs, IsKept, HasCarried, IsOldOrCarried, IsCarrying, IsCarryingAtEachMoment, IsCarriedOnDisk}
+use Rattle.store.specs.Applying.{GoesOn, EndsAs, IsKept, IsCarryingAtEachMoment, IsCarriedOnDisk}
 use Rattle.store.specs.Compacting.{reply_of, IsStep, UnreadsStep}
 use Rattle.store.specs.inner.LawsBelow.{LawsBelow, TableLaws}
 use Rattle.store.specs.inner.Reading.{FailsReading}
-use Rattle.store.specs.laws.Frame.{held_is, same_tables}
-use Rattle.store.proofs.Asked.{not_less, not_running, still}
+use Rattle.store.proofs.Asked.{not_running, still}
 use Rattle.store.proofs.Applied.{is_device, refused_by}
-use Rattle.store.proofs.ReadsStore.{moments_read, spared_reading, shown_is_synced, stays_reading, halts_reading}
-use Rattle.store.proofs.Spares.{spares_in, exports_on}
+use Rattle.store.proofs.ReadsStore.{shown_is_synced, stays_reading, halts_reading}
 use Rattle.store.proofs.StepChanges.{step_keeps, step_few}
 use Rattle.store.proofs.StepReads.{step_fails}
 use Rattle.store.proofs.Staying.{compact_stays, changed_goes, refusal_goes, goes_behind}

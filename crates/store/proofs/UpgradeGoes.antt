@@ -1,5 +1,5 @@
 -- An upgrade, in the words of the machine: the tables stay as they are.
-use Rattle.std.specs.Prelude.{◌≡◌, ◌≢◌, ◌≤◌, ◌↔◌, ℕ, Bool, true, false, List, [], length, slice_get, Some, Ok, Err, refl}
+use Rattle.std.specs.Prelude.{◌≡◌, ◌≢◌, ◌≤◌, ◌↔◌, ℕ, Bool, true, false, List, length, Some, Ok, Err, refl}
 use Rattle.std.proofs.Common.{sym, ap, ◌∙◌, subst, arith}
 use Rattle.sector_dev.specs.Disk.{Disk, Story, Image, now, synced_image, shown_image}
 use Rattle.sector_dev.specs.declared.device.SectorDevice.{Ghosts}
@@ -7,7 +7,7 @@ use Rattle.sector_dev.specs.laws.Time.{now_read}
 use Rattle.catalogue.specs.declared.entry.Segment.{Segment}
 use Rattle.catalogue.specs.declared.limits.TheConstants.{MAX_SEGMENTS}
 use Rattle.catalogue.specs.Entries.{PlainEntry, PlainCatalogue, IsCatalogue, is_entry, runs_of, segment_count}
-use Rattle.catalogue.specs.Edits.{entry_of, digested}
+use Rattle.catalogue.specs.Edits.{entry_of}
 use Rattle.catalogue.specs.View.{catalogue_of}
 use Rattle.catalogue.specs.laws.Changed.{found_passes}
 use Rattle.catalogue.specs.laws.Digests.{digested_count}
@@ -26,9 +26,8 @@ use Rattle.store.specs.Machine.{Setting, Machine, running}
 use Rattle.store.specs.Steps.{Step}
 use Rattle.store.specs.Held.{tables_held}
 use Rattle.store.specs.Fits.{book_of, setting_of, listed_in, StoreFits}
-use Rattle.store.specs.Changes.{PlainChange, CanChange, IsChange, edited, digest, HoldsStreams}
+use Rattle.store.specs.Changes.{PlainChange, CanChange, IsChange, edited, HoldsStreams}
 use Rattle.store.specs.Carrying.{outline}
-use Rattle.store.specs.Deciding.{names_changed}
 use Rattle.store.specs.Exported.{AreExportable}
 use Rattle.store.specs.Reading.{Unreads, OnlyReadsStore}
 use Rattle.store.specs.Applying.{GoesOn, EndsAs, IsKept, IsCarryingAtEachMoment, IsCarriedOnDisk}

@@ -1,5 +1,5 @@
 -- Digests that segments get leave the rows of their tables as they are, where they are those of what lies there.
-use Rattle.std.specs.Prelude.{◌≡◌, ◌++◌, ◌+◌, ℕ, Bool, true, List, [], ◌∷◌, length, map, take, drop, flat_map, sum_by, Option, Some, refl}
+use Rattle.std.specs.Prelude.{◌≡◌, ◌++◌, ◌+◌, ℕ, Bool, true, List, [], ◌∷◌, length, map, take, drop, Some, refl}
 use Rattle.std.specs.List.{list_all}
 use Rattle.std.proofs.Common.{inl, inr, ⊎_elim, sym, ap, ◌∙◌, subst, arith}
 use Rattle.std.proofs.lemmas.Bool.{and_parts, and_from, eq-eqb}
@@ -11,8 +11,6 @@ use Rattle.sha2.specs.Sha256.{sha256}
 use Rattle.sha2.proofs.Facts256.{length-sha256}
 use Rattle.sector_dev.specs.Disk.{Image}
 use Rattle.arrow_schema.specs.Column.{PlainSchema}
-use Rattle.cells.specs.Cell.{Cell, PlainTable}
-use Rattle.tables.specs.Tables.{Tables}
 use Rattle.catalogue.specs.declared.entry.Segment.{Segment}
 use Rattle.segments.specs.declared.run.Run.{Run}
 use Rattle.segments.specs.laws.ReadBack.{same_bytes}
@@ -21,7 +19,6 @@ use Rattle.catalogue.specs.laws.Kept.{entry_is}
 use Rattle.commit.specs.Standing.{InSome}
 use Rattle.catalogue.specs.Edits.{with_digest, with_digests, entry_digested, digested}
 use Rattle.store.specs.Held.{is_undamaged, bytes_of, rows_in_segment, segment_rows, joined_rows, rows_held, table_of_rows, table_held, with_held, tables_held}
-use Rattle.store.specs.Reading.{IsCopy}
 use Rattle.store.specs.Upgrading.{segments_of, AreDigests}
 use Rattle.store.specs.laws.Digests.{rows_undamaged}
 use Rattle.store.specs.laws.ExchangedRuns.{run_of}
