@@ -42,7 +42,7 @@ lines_refused halted tells image found q table (OfStore refusal) reads why = abs
 
 -- the store was only read
 pub only_read : {D : Type 0} {g : Ghosts D} (story : D → Story) (size failed : D → ℕ) (tells : Bool) (old new : Store D g) (table : PlainTable) (q : PlainQuery) (e : Refusal) → RefusesLines table q e
-    → OnlyReadsStore size story failed tells done old new → OnlyReadsStore size story failed tells (store_ended (Err e)) old new
+    → OnlyReadsStore size story failed tells done old new → OnlyReadsStore size story failed tells (store_ended {T = Unit {0}} (Err e)) old new
 only_read story size failed tells old new table q (Query refusal) why reads = reads
 only_read story size failed tells old new table q OutOfMemory why reads = reads
 only_read story size failed tells old new table q (Fault fault) why reads = reads

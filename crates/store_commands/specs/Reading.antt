@@ -19,8 +19,8 @@ OfStore P there Io = there
 OfStore P there _ = ⊥
 
 -- how the store's own calls ended where the program answers so
-abbrev pub store_ended : Result (Unit {0}) Refusal → PlainReply
-store_ended (Ok unit) = done
+abbrev pub store_ended : {T : Type 0} → Result T Refusal → PlainReply
+store_ended (Ok x) = done
 store_ended (Err (Store r)) = refused r
 store_ended (Err _) = done
 

@@ -24,8 +24,8 @@ use Rattle.store_requests.specs.Apps.{HasFound, takes_number}
 use Rattle.store_requests.specs.Asked.{request_word}
 use Rattle.store_requests.specs.Operands.{number_of, version_named, operands, names_file, names_table, wanted, are_as_many, are_right, IsNamedBy, Names}
 use Rattle.store_requests.specs.StoreWords.{is_of_store, is_store_word, first_word}
-use Rattle.store_requests.specs.declared.store_command_line.Parameters.{Parameters}
-use Rattle.store_requests.specs.declared.store_command_line.Parameters.TheVariants as parameters
+use Rattle.store_requests.specs.declared.command_parameters.Parameters.{Parameters}
+use Rattle.store_requests.specs.declared.command_parameters.Parameters.TheVariants as parameters
 use Rattle.store_requests.specs.declared.store_words.StoreCommand.TheVariants as commands
 use Rattle.store_requests.specs.declared.store_words.StoreRequest.{StoreRequest}
 use Rattle.store_requests.specs.declared.store_words.StoreRequest.TheVariants as requests
@@ -555,6 +555,9 @@ module _ (word : Text) (words : List Text) (m : ArgMatches) (a : App) (own : IsO
             ∙ (λ i. sym found.0 i ∷ sym found.1 i ∷ value_of (found_of m) (codes "SECTORS") ∷ []),
         found.2,
       ))
+  names_command (requests.Salvage file name) is found =
+      named (requests.Salvage file name)
+      (λ ops e. names_one_table (of_word (codes "salvage") parameters.Table is refl) ops e ∙ (λ i. sym found.0 i ∷ sym found.1 i ∷ []))
   names_command (requests.Replay script) is found = named (requests.Replay script) (λ ops e. tt)
   names_command (requests.Command file commands.Tables) is found =
       named (requests.Command file commands.Tables)
@@ -646,15 +649,16 @@ file_number word false false true u t e f g is = named_as parameters.Nothing (co
 file_number word false false false true t e f g is = named_as parameters.Nothing (codes "upgrade") word g (refl, refl)
 file_number word false false false false t e f g is = let none : false ≡ true = rw (t, e, f, g) at is in absurd (true≢false (sym none))
 
-table_number : (word : Text) (import drops schema export : Bool) → bytes_eq (codes "import") word ≡ import → bytes_eq (codes "drop") word ≡ drops
+table_number : (word : Text) (import drops schema export salvage : Bool) → bytes_eq (codes "import") word ≡ import → bytes_eq (codes "drop") word ≡ drops
     → bytes_eq (codes "schema") word ≡ schema
-    → bytes_eq (codes "export") word ≡ export → names_table word ≡ true → IsOfNames parameters.Table word
+    → bytes_eq (codes "export") word ≡ export → bytes_eq (codes "salvage") word ≡ salvage → names_table word ≡ true → IsOfNames parameters.Table word
 unfolding names_file names_table other_parameters parameters_of
-table_number word true d s x ei ed es ex is = named_as parameters.Table (codes "import") word ei (refl, refl)
-table_number word false true s x ei ed es ex is = named_as parameters.Table (codes "drop") word ed (refl, refl)
-table_number word false false true x ei ed es ex is = named_as parameters.Table (codes "schema") word es (refl, refl)
-table_number word false false false true ei ed es ex is = named_as parameters.Table (codes "export") word ex (refl, refl)
-table_number word false false false false ei ed es ex is = let none : false ≡ true = rw (ei, ed, es, ex) at is in absurd (true≢false (sym none))
+table_number word true d s x v ei ed es ex ev is = named_as parameters.Table (codes "import") word ei (refl, refl)
+table_number word false true s x v ei ed es ex ev is = named_as parameters.Table (codes "drop") word ed (refl, refl)
+table_number word false false true x v ei ed es ex ev is = named_as parameters.Table (codes "schema") word es (refl, refl)
+table_number word false false false true v ei ed es ex ev is = named_as parameters.Table (codes "export") word ex (refl, refl)
+table_number word false false false false true ei ed es ex ev is = named_as parameters.Table (codes "salvage") word ev (refl, refl)
+table_number word false false false false false ei ed es ex ev is = let none : false ≡ true = rw (ei, ed, es, ex, ev) at is in absurd (true≢false (sym none))
 
 rename_number : (word : Text) → bytes_eq (codes "rename") word ≡ true → IsOfNames parameters.TableAndNewName word
 unfolding names_file names_table other_parameters parameters_of
@@ -670,7 +674,7 @@ which word words true t r ef et er right =
 which word words false true r ef et er right =
     let m = as_many 2 (operands words) (rw (ef, et) at right) in
     of_table (table_number word (bytes_eq (codes "import") word) (bytes_eq (codes "drop") word) (bytes_eq (codes "schema") word) (bytes_eq
-    (codes "export") word) refl refl refl refl et) m.0 m.1 m.2
+    (codes "export") word) (bytes_eq (codes "salvage") word) refl refl refl refl refl et) m.0 m.1 m.2
 which word words false false true ef et er right =
     let m = as_many 3 (operands words) (rw (ef, et, er) at right) in
     of_rename (rename_number word er) m.0 m.1 m.2

@@ -9,8 +9,8 @@ use Rattle.clap.specs.declared.builder.value_parser.ValueParser.{ValueParser}
 use Rattle.clap.specs.declared.builder.value_parser.ValueParser.TheVariants as parsers
 use Rattle.clap.specs.declared.parser.matches.Found.{Found}
 use Rattle.clap.specs.declared.error.kind.ErrorKind.TheVariants.{OutOfMemory}
-use Rattle.store_requests.specs.declared.store_command_line.Parameters.{Parameters}
-use Rattle.store_requests.specs.declared.store_command_line.Parameters.TheVariants as parameters
+use Rattle.store_requests.specs.declared.command_parameters.Parameters.{Parameters}
+use Rattle.store_requests.specs.declared.command_parameters.Parameters.TheVariants as parameters
 use Rattle.store_requests.specs.Choices.{IsChoice}
 use Rattle.store_requests.specs.Operands.{names_file, names_table, number_of, version_named}
 use Rattle.store_requests.specs.declared.store_command_line.Mistake.{Mistake}
@@ -165,6 +165,7 @@ HasFound found (requests.Format path sectors version) =
     × (version ≡ version_named (first_value found (codes "format-version")))
 HasFound found (requests.Copy path new sectors) =
     (path.now ≡ value_of found (codes "STORE")) × (new.now ≡ value_of found (codes "NEW")) × (sectors ≡ number_of (value_of found (codes "SECTORS")))
+HasFound found (requests.Salvage path name) = (path.now ≡ value_of found (codes "STORE")) × (name.now ≡ value_of found (codes "NAME"))
 HasFound found (requests.Replay words) =
     (words.script.now ≡ value_of found (codes "SCRIPT")) × (words.sectors ≡ number_of (value_of found (codes "sectors")))
     × (words.fail ≡ number_of (value_of found (codes "fail"))) × (words.stop ≡ number_of (value_of found (codes "stop")))

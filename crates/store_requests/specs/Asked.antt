@@ -27,5 +27,6 @@ command_word commands.Upgrade = codes "upgrade"
 abbrev pub request_word : StoreRequest → Text
 request_word (requests.Format path sectors version) = codes "format"
 request_word (requests.Copy path new sectors) = codes "copy"
+request_word (requests.Salvage path name) = codes "salvage"
 request_word (requests.Replay words) = codes "replay"
 request_word (requests.Command path command) = command_word command

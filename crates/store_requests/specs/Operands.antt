@@ -33,7 +33,9 @@ names_file word =
     bytes_eq (codes "tables") word || (bytes_eq (codes "check") word || (bytes_eq (codes "compact") word || bytes_eq (codes "upgrade") word))
 
 unfoldable pub names_table : Text → Bool
-names_table word = bytes_eq (codes "import") word || (bytes_eq (codes "drop") word || (bytes_eq (codes "schema") word || bytes_eq (codes "export") word))
+names_table word =
+    bytes_eq (codes "import") word || (bytes_eq (codes "drop") word || (bytes_eq (codes "schema") word || (bytes_eq (codes "export") word
+    || bytes_eq (codes "salvage") word)))
 
 -- how many operands these commands take, and the one that gives a table another name
 abbrev pub wanted : Text → Option ℕ
@@ -90,6 +92,7 @@ IsNamedBy (requests.Command path command) words = (words ≡ path.now ∷ names_
 IsNamedBy (requests.Format path sectors version) words =
     (number : Text) × (words ≡ path.now ∷ number ∷ []) × (sectors ≡ number_of number) × (version ≡ Two)
 IsNamedBy (requests.Copy path new sectors) words = (number : Text) × (words ≡ path.now ∷ new.now ∷ number ∷ []) × (sectors ≡ number_of number)
+IsNamedBy (requests.Salvage path name) words = words ≡ path.now ∷ name.now ∷ []
 -- a script is played with options, which are no operands
 IsNamedBy (requests.Replay script) words = Unit {0}
 

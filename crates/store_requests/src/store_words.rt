@@ -31,6 +31,11 @@ pub enum StoreRequest<'a> {
         new: &'a str,
         sectors: u64,
     },
+    /// The stream of the rows of a table that can be read, where some may be damaged.
+    Salvage {
+        path: &'a str,
+        name: &'a str,
+    },
     /// A script, played on a device in memory.
     Replay(ReplayWords<'a>),
     /// A command of the store that stands there.
@@ -146,7 +151,7 @@ fn makes_word(word: &str) -> bool
 fn reads_table_word(word: &str) -> bool
     ensures { result ≡ reads_table_word word.now }
 {
-    matches!(word, "schema" | "export" | "query")
+    matches!(word, "schema" | "export" | "salvage" | "query")
 }
 
 #[tactic(auto, unfolding(crate::specs::StoreWords::reads_word))]
