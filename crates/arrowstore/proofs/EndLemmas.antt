@@ -90,3 +90,9 @@ reported_of_word contents audience hint left word output output' errors errors' 
   quiet = if_refused ended.status (λ r. ¬ IsIo r → output' ≡ output) (λ r. ¬ WritesPart word r → output' ≡ output) (λ r quiet none. quiet (λ io. none (inl io))) has.quiet;
   line = has.line;
 }
+
+-- or whose command has another word, which is the same
+pub told_of_word : {W E : Type 0} (contents : E → Option (List ℕ)) (audience : Audience) (hint : Option Hint) (left : List (ℕ × ℕ)) (word other : List ℕ) (output output' : W) (errors errors' : E) (ended : Ended)
+    → word ≡ other → HasReported contents audience hint left (WritesPart word) output output' errors errors' ended → HasReported contents audience hint left (WritesPart other) output output' errors errors' ended
+told_of_word contents audience hint left word other output output' errors errors' ended same has =
+    subst (λ (w : List ℕ). HasReported contents audience hint left (WritesPart w) output output' errors errors' ended) same has

@@ -298,7 +298,11 @@ fn command<'a>(alloc: Global, name: &'a str) -> Result<Command<'a>, AllocError>
 }
 
 // A command by itself, as the program that was called by that name has it.
-pub(crate) fn own_command<'a>(alloc: Global, program: &str, word: &'a str) -> Result<Command<'a>, AllocError>
+pub(crate) fn own_command<'a>(
+    alloc: Global,
+    program: &str,
+    word: &'a str,
+) -> Result<Command<'a>, AllocError>
     ensures { IfOk result (λ c. IsOwnApp word.now (app_of c)) }
 {
     let name = format!(in alloc; "{program} {word}")?;
