@@ -192,7 +192,8 @@ appended. A refusal without a remedy of its own lies with that record.
 
 ## Q: a query
 
-- Q1 UnknownColumn: no column has a name of the query, or two have, or `--columns` lists one twice.
+- Q1 UnknownColumn: no column has a name of the query, or two have, or `--columns` lists one twice; or
+  rows are to be objects (`--objects`), and two of the chosen columns have one name.
   ",
     NAMES_OF_COLUMNS,
     "

@@ -2,7 +2,7 @@
 ghost use Rattle.std.specs.Prelude.{◌≡◌, false, codes, IfOk};
 ghost use Rattle.clap.specs.Words.{app_of, new_app, rule_of, with_rule};
 ghost use Rattle.clap.specs.declared.builder.value_parser.ValueParser.{ValueParser};
-ghost use Rattle.store_requests.specs.Apps.{required_rule, json_rule, sectors_rule, version_rule, repeated_rule, option_rule, form_rule, null_rule, limit_rule};
+ghost use Rattle.store_requests.specs.Apps.{required_rule, json_rule, sectors_rule, version_rule, repeated_rule, option_rule, form_rule, null_rule, limit_rule, objects_rule};
 ghost use Rattle.store_requests.specs.Apps.{store_app, info_app, format_app, new_file_app, copy_app, table_app, rename_app, create_app, append_app, conditions_app, query_app};
 ghost use Rattle.store_requests.specs.Apps.{other_parameters, parameters_of, IsOwnApp};
 ghost use Rattle.store_requests.specs.Operands.{names_file, names_table};
@@ -107,6 +107,15 @@ fn null_text<'a>(alloc: Global) -> Arg<'a>
     )
     .default_value("")
     .hide_default_value(true)
+}
+
+fn objects<'a>(alloc: Global) -> Arg<'a>
+    ensures { (rule_of result ≡ objects_rule) × (result.global ≡ false) }
+{
+    Arg::new(alloc, "objects")
+        .long("objects")
+        .action(ArgAction::SetTrue)
+        .help("Prints each row as an object by the names of the columns, which then have to differ")
 }
 
 fn limit<'a>(alloc: Global) -> Arg<'a>
@@ -257,8 +266,8 @@ fn with_conditions<'a>(alloc: Global, name: &'a str) -> Result<Command<'a>, Allo
     ))
 }
 
-// One that takes a query, and a name to save it under.
-fn with_query<'a>(alloc: Global, name: &'a str) -> Result<Command<'a>, AllocError>
+/// One that takes a query, and how it is printed or a name to save it under.
+pub(crate) fn with_query<'a>(alloc: Global, name: &'a str) -> Result<Command<'a>, AllocError>
     ensures { IfOk result (λ c. app_of c ≡ query_app name.now) }
 {
     let columns = option(
@@ -276,7 +285,8 @@ fn with_query<'a>(alloc: Global, name: &'a str) -> Result<Command<'a>, AllocErro
     with_conditions(alloc, name)?
         .arg(columns)?
         .arg(limit(alloc))?
-        .arg(save)
+        .arg(save)?
+        .arg(objects(alloc))
 }
 
 // A command of a store.

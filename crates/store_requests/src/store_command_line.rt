@@ -3,16 +3,18 @@ ghost use Rattle.std.specs.Prelude.{◌≡◌, true, false, codes, map, drop, If
 ghost use Rattle.std.specs.Str.{bytes_eq};
 ghost use Rattle.clap.specs.Words.{found_of};
 ghost use Rattle.store_requests.specs.declared.store_command_line.Mistake.TheVariants as mistakes;
-ghost use Rattle.store_requests.specs.Apps.{value_of, HasQuery, HasJson, HasNames, HasFound, IsOfMemory, takes_number};
+ghost use Rattle.store_requests.specs.Apps.{value_of, HasQuery, HasForm, HasJson, HasNames, HasFound, IsOfMemory, takes_number};
 ghost use Rattle.store_requests.specs.Asked.{command_word, request_word};
 ghost use Rattle.store_requests.specs.Operands.{are_right, Names};
 ghost use Rattle.store_requests.specs.StoreWords.{is_store_word, is_of_store, first_word};
 
-use crate::command_parameters::{own_command, store_commands};
+use crate::command_parameters::{own_command, store_commands, with_query};
 use crate::found_values::{limit_of, sectors_of, version_in, word, words_of};
 use crate::replaying::replay_request;
 use crate::{QueryWords, StoreCommand, StoreRequest};
+use clap::error::ErrorKind;
 use clap::{ArgMatches, Error};
+use query::RowForm;
 use std::alloc::{AllocError, Global};
 use std::convert::AsStr;
 use text_import::TextForm;
@@ -216,6 +218,25 @@ fn query_words<'a>(alloc: Global, words: &ArgMatches<'a>) -> Result<QueryWords<'
     })
 }
 
+fn row_form(words: &ArgMatches<'_>) -> RowForm
+    ensures { HasForm (found_of words.now) result }
+{
+    if words.get_flag("objects") {
+        RowForm::Object
+    } else {
+        RowForm::Array
+    }
+}
+
+fn saved_objects(alloc: Global) -> Result<Mistake, AllocError> {
+    let mut command = with_query(alloc, "query")?.bin_name("arrowstore query")?;
+    let error = command.error(
+        ErrorKind::ArgumentConflict,
+        "the argument '--objects' cannot be used with '--save <NEW>'",
+    )?;
+    Ok(Mistake::Words(error))
+}
+
 // What is selected is printed, or saved as a table.
 fn query_command<'a>(
     alloc: Global,
@@ -227,14 +248,17 @@ fn query_command<'a>(
     ensures named { IfOk result (HasNames (found_of words.now)) }
 {
     let query = query_words(alloc, words)?;
-    Ok(match words.get_str("save") {
-        Some(to) => StoreCommand::SaveAs {
+    let form = row_form(words);
+    match (words.get_str("save"), form) {
+        (None, _) => Ok(StoreCommand::Query { name, query, form }),
+        (Some(to), RowForm::Array) => Ok(StoreCommand::SaveAs {
             from: name,
             to,
             query,
-        },
-        None => StoreCommand::Query { name, query },
-    })
+        }),
+        // A table that is saved is not printed.
+        (Some(_), RowForm::Object) => Err(saved_objects(alloc)?),
+    }
 }
 
 fn create_command<'a>(

@@ -5,6 +5,7 @@ ghost use Rattle.store_requests.specs.StoreWords.{takes_input_word, changes_word
 
 use crate::ReplayWords;
 use commit::FormatVersion;
+use query::RowForm;
 use std::convert::AsStr;
 use text_import::TextForm;
 
@@ -66,10 +67,11 @@ pub enum StoreCommand<'a> {
         name: &'a str,
         form: TextForm<'a>,
     },
-    /// The rows that a query selects, as lines.
+    /// The rows that a query selects, as lines in a form.
     Query {
         name: &'a str,
         query: QueryWords<'a>,
+        form: RowForm,
     },
     /// The same, as a new table.
     SaveAs {
