@@ -30,7 +30,7 @@ use Rattle.command_refusals.specs.declared.refusal.Refusal.{Refusal}
 use Rattle.command_refusals.specs.declared.refusal.Refusal.TheVariants as refusals
 use Rattle.tables.specs.declared.refusal.Refusal as tables
 use Rattle.store_commands.specs.Copying.{Copies}
-use Rattle.store_commands.specs.Reading.{OfStore, store_ended}
+use Rattle.store_commands.specs.Reading.{OfStore, refusal_ended}
 use Rattle.store_commands.specs.Salvaging.{IsBrokenOff}
 use Rattle.command_refusals.specs.declared.hint.Hint.{Hint}
 use Rattle.command_refusals.specs.declared.hint.Hint.TheVariants as hints
@@ -186,7 +186,7 @@ pub record FailsToSalvage {D : Type 0} (g : Ghosts D) (is_opened : D → Type 0)
   pub opens : OpensStore g is_opened store
   pub refuses : OfStore (RefusesSalvage (is_halted store) (entry_of (listed_in store) name)) (IsSome (entry_of (listed_in store) name)) refusal
   pub after_it : Store D g
-  pub reads : OnlyReadsStore g.size g.story g.failed g.tells (store_ended {T = Unit {0}} (Err refusal)) store after_it
+  pub reads : OnlyReadsStore g.size g.story g.failed g.tells (refusal_ended refusal) store after_it
 
 -- what a salvage leaves out; where it is refused since no store is opened, nothing is written
 abbrev pub SalvagesFile : {D : Type 0} → (g : Ghosts D) → (is_opened : D → Type 0) → {W : Type 0} → (contents : W → Option (List ℕ)) → (name : List ℕ) → (output output' : W)

@@ -7,10 +7,10 @@ use Rattle.tables.specs.declared.refusal.Refusal.TheVariants.{Write}
 use Rattle.store.specs.Salvaging.{BreaksOff, RefusesSalvage}
 
 -- where a write failed there is a table
-pub table_of_write : (halted : Bool) (found : Option PlainEntry) → RefusesSalvage halted found Write → IsSome found
-table_of_write true found why = absurd (cc why)
-table_of_write false None why = absurd (cc why)
-table_of_write false (Some e) why = refl
+pub table_of_write : (halted : Bool) (found : Option PlainEntry) (r : Refusal) → r ≡ Write → RefusesSalvage halted found r → IsSome found
+table_of_write true found r is why = absurd (cc (is, why))
+table_of_write false None r is why = absurd (cc (is, why))
+table_of_write false (Some e) r is why = refl
 
 -- nothing was written where it was not broken off
 pub unwritten : {W : Type 0} (halted : Bool) (found : Option PlainEntry) (r : Refusal) (old new : W) → (halted ≡ true → new ≡ old) → (found ≡ None → new ≡ old) → RefusesSalvage halted found r

@@ -18,7 +18,7 @@ use Rattle.store.specs.Reading.{ReadsTable, OnlyReadsStore}
 use Rattle.command_refusals.specs.declared.refusal.Refusal.{Refusal}
 use Rattle.command_refusals.specs.declared.refusal.Refusal.TheVariants.{Fault, TooManyBytes, Io, BadSize, BadScript, Fields, Text, Query, Opening, Store as OfStore, OutOfMemory}
 use Rattle.command_refusals.specs.Refusals.{query_refusal}
-use Rattle.store_commands.specs.Reading.{store_ended}
+use Rattle.store_commands.specs.Reading.{refusal_ended}
 use Rattle.store_commands.specs.Selecting.{is_printable, printable, printed_selection, RefusesLines, RefusesQuery}
 
 pub query_refused : (form : RowForm) (table : PlainTable) (q : PlainQuery) (e : QueryError) → Reports e (printed_selection form table q) → RefusesLines form table q (query_refusal e)
@@ -60,7 +60,7 @@ lines_refused form halted tells image found q table (OfStore refusal) reads why 
 
 -- the store was only read
 pub only_read : {D : Type 0} {g : Ghosts D} (story : D → Story) (size failed : D → ℕ) (tells : Bool) (old new : Store D g) (form : RowForm) (table : PlainTable) (q : PlainQuery) (e : Refusal) → RefusesLines form table q e
-    → OnlyReadsStore size story failed tells done old new → OnlyReadsStore size story failed tells (store_ended {T = Unit {0}} (Err e)) old new
+    → OnlyReadsStore size story failed tells done old new → OnlyReadsStore size story failed tells (refusal_ended e) old new
 only_read story size failed tells old new form table q (Query refusal) why reads = reads
 only_read story size failed tells old new form table q OutOfMemory why reads = reads
 only_read story size failed tells old new form table q (Fault fault) why reads = reads
