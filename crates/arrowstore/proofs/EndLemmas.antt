@@ -1,15 +1,19 @@
 -- How a run ends, once its text is written or its arguments are reported.
-use Rattle.std.proofs.Common.{◌≡◌, ℕ, List, Option, refl, sym, subst}
+use Rattle.std.proofs.Common.{◌≡◌, ℕ, List, [], Option, refl, sym, subst, inl}
 use Rattle.std.specs.Prelude.{◌≢◌, Some, None, Result, Ok, Err, IsOk, IsTrue, IfErr, OnOk}
 use Rattle.std.specs.Io.KnownBytes.{Appends}
+use Rattle.command_refusals.specs.declared.hint.Hint.{Hint}
 use Rattle.command_refusals.specs.declared.refusal.Refusal.{Refusal}
 use Rattle.command_refusals.specs.declared.refusal.Refusal.TheVariants.{Io, OutOfMemory}
 use Rattle.program_texts.specs.declared.status.Ended.{Ended}
 use Rattle.program_texts.specs.declared.status.Status.{Status}
-use Rattle.program_texts.specs.declared.status.Status.TheVariants.{Done, Refused, WrongArguments}
-use Rattle.program_texts.specs.Ending.{IsOfOutput, GivesText, TellsRefusal, HasReported}
+use Rattle.program_texts.specs.declared.status.Status.TheVariants.{Done, PartlyDone, Refused, WrongArguments}
+use Rattle.program_texts.specs.Ending.{IsIo, IsOfOutput, GivesText, TellsRefusal, HasReported}
 use Rattle.program_texts.specs.Reported.{IfRefused}
+use Rattle.program_texts.specs.Told.{told}
+use Rattle.program_texts.specs.declared.telling.Audience.{Audience}
 use Rattle.store_commands.specs.Recode.{IsTrueFault}
+use Rattle.arrowstore.specs.OnFiles.{WritesPart}
 use Rattle.arrowstore.specs.Running.{Recodes}
 
 -- a text of the program's own is given
@@ -19,17 +23,19 @@ own_given (Ok x) status given quiet reported ok err written refused = subst (Giv
 own_given (Err e) status given quiet reported ok err written refused = subst (GivesText given) (sym err) refused
 
 -- what is done is reported so, and what is refused
-pub own_reported : {W E : Type 0} (contents : E → Option (List ℕ)) (tells : Refusal → List ℕ) (output output' : W) (errors errors' : E) (done : Result (Unit {0}) Refusal) (ended : Ended)
-    → (IsOk done → (ended.status ≡ Done) × (errors' ≡ errors) × IsTrue ended.is_reported) → IfErr done (λ r. ended.status ≡ Refused r) → IfErr done (λ r. r ≢ Io → output' ≡ output) → TellsRefusal tells ended (contents errors) (contents errors')
-    → HasReported contents tells output output' errors errors' ended
-own_reported contents tells output output' errors errors' (Ok x) ended ok err quiet line = let is = ok refl in record {
-  silent = λ _. (is.1, is.2);
+pub own_reported : {W E : Type 0} (contents : E → Option (List ℕ)) (audience : Audience) (output output' : W) (errors errors' : E) (done : Result (Unit {0}) Refusal) (ended : Ended)
+    → (IsOk done → (ended.status ≡ Done) × (errors' ≡ errors) × IsTrue ended.is_reported) → IfErr done (λ r. ended.status ≡ Refused r) → IfErr done (λ r. r ≢ Io → output' ≡ output)
+    → TellsRefusal (told audience None) ended (contents errors) (contents errors') → HasReported contents audience None [] IsIo output output' errors errors' ended
+own_reported contents audience output output' errors errors' (Ok x) ended ok err quiet line = let is = ok refl in record {
+  silent = λ _. (refl, is.1, is.2);
+  listed = λ partly. absurd (cc (is.0, partly));
   nothing_written = λ wrong. absurd (cc (is.0, wrong));
   quiet = subst (λ s. IfRefused s (λ r. r ≢ Io → output' ≡ output)) (sym is.0) tt;
   line = line;
 }
-own_reported contents tells output output' errors errors' (Err e) ended ok err quiet line = record {
+own_reported contents audience output output' errors errors' (Err e) ended ok err quiet line = record {
   silent = λ done. absurd (cc (err, done));
+  listed = λ partly. absurd (cc (err, partly));
   nothing_written = λ wrong. absurd (cc (err, wrong));
   quiet = subst (λ s. IfRefused s (λ r. r ≢ Io → output' ≡ output)) (sym err) quiet;
   line = line;
@@ -43,6 +49,7 @@ memory_recodes contents None output output' status is same = record {
   too_long = tt;
   fault = subst (λ s. IfRefused s (λ r. IsTrueFault r None)) (sym is) tt;
   too_many = λ _. tt;
+  whole = λ partly. absurd (cc (is, partly));
   right_arguments = λ wrong. absurd (cc (is, wrong));
 }
 memory_recodes contents (Some bytes) output output' status is same = record {
@@ -51,15 +58,41 @@ memory_recodes contents (Some bytes) output output' status is same = record {
   too_long = λ _. ((OutOfMemory, is), same);
   fault = subst (λ s. IfRefused s (λ r. IsTrueFault r (Some bytes))) (sym is) tt;
   too_many = λ many. absurd (cc (is, many));
+  whole = λ partly. absurd (cc (is, partly));
   right_arguments = λ wrong. absurd (cc (is, wrong));
 }
 
 -- what is wrong is no refusal
-pub wrong_told : {W E : Type 0} (contents : E → Option (List ℕ)) (tells : Refusal → List ℕ) (output : W) (errors errors' : E) (ended : Ended) → ended.status ≡ WrongArguments
-    → HasReported contents tells output output errors errors' ended
-wrong_told contents tells output errors errors' ended wrong = record {
+pub wrong_told : {W E : Type 0} (contents : E → Option (List ℕ)) (audience : Audience) (output : W) (errors errors' : E) (ended : Ended) → ended.status ≡ WrongArguments
+    → HasReported contents audience None [] IsIo output output errors errors' ended
+wrong_told contents audience output errors errors' ended wrong = record {
   silent = λ done. absurd (cc (wrong, done));
+  listed = λ partly. absurd (cc (wrong, partly));
   nothing_written = λ _. refl;
   quiet = subst (λ s. IfRefused s (λ r. r ≢ Io → output ≡ output)) (sym wrong) tt;
-  line = subst (λ s. IfRefused s (λ r. IsTrue ended.is_reported → Appends (contents errors) (contents errors') (tells r))) (sym wrong) tt;
+  line = subst (λ s. IfRefused s (λ r. IsTrue ended.is_reported → Appends (contents errors) (contents errors') (told audience None r))) (sym wrong) tt;
 }
+
+-- what holds of a refusal for one reason holds for another
+if_refused : (status : Status) (P Q : Refusal → Type 0) → ((r : Refusal) → P r → Q r) → IfRefused status P → IfRefused status Q
+if_refused Done P Q implied holds = tt
+if_refused PartlyDone P Q implied holds = tt
+if_refused (Refused refusal) P Q implied holds = implied refusal holds
+if_refused WrongArguments P Q implied holds = tt
+
+-- a run that writes a part of its output for no other reason
+pub reported_of_word : {W E : Type 0} (contents : E → Option (List ℕ)) (audience : Audience) (hint : Option Hint) (left : List (ℕ × ℕ)) (word : List ℕ) (output output' : W) (errors errors' : E) (ended : Ended)
+    → HasReported contents audience hint left IsIo output output' errors errors' ended → HasReported contents audience hint left (WritesPart word) output output' errors errors' ended
+reported_of_word contents audience hint left word output output' errors errors' ended has = record {
+  silent = has.silent;
+  listed = has.listed;
+  nothing_written = has.nothing_written;
+  quiet = if_refused ended.status (λ r. ¬ IsIo r → output' ≡ output) (λ r. ¬ WritesPart word r → output' ≡ output) (λ r quiet none. quiet (λ io. none (inl io))) has.quiet;
+  line = has.line;
+}
+
+-- or whose command has another word, which is the same
+pub told_of_word : {W E : Type 0} (contents : E → Option (List ℕ)) (audience : Audience) (hint : Option Hint) (left : List (ℕ × ℕ)) (word other : List ℕ) (output output' : W) (errors errors' : E) (ended : Ended)
+    → word ≡ other → HasReported contents audience hint left (WritesPart word) output output' errors errors' ended → HasReported contents audience hint left (WritesPart other) output output' errors errors' ended
+told_of_word contents audience hint left word other output output' errors errors' ended same has =
+    subst (λ (w : List ℕ). HasReported contents audience hint left (WritesPart w) output output' errors errors' ended) same has

@@ -1,6 +1,7 @@
 -- What requests of a store come to.
-use Rattle.std.proofs.Common.{◌≡◌, ◌≢◌, ◌↔◌, ◌≤◌, ℕ, Bool, true, false, List, [], ◌∷◌, refl, sym, subst, ap, ◌∙◌, true≢false}
-use Rattle.std.specs.Prelude.{Option, Result, Ok, Err, IfOk, IfErr, IsOk, IsTrue, IsErrOf}
+use Rattle.std.proofs.Common.{◌≡◌, ◌≢◌, ◌↔◌, ◌≤◌, ℕ, Bool, true, false, List, [], ◌∷◌, inl, inr, refl, sym, subst, ap, ◌∙◌, true≢false}
+use Rattle.std.specs.Prelude.{codes, Option, Result, Ok, Err, IfOk, IfErr, IsTrue, IsErrOf}
+use Rattle.std.specs.Io.KnownBytes.{Appends}
 use Rattle.std.proofs.lemmas.Bool.{and_from, le-leb}
 use Rattle.sector_dev.specs.declared.device.SectorDevice.{Ghosts}
 use Rattle.std.specs.declared.io.traits.Read.{Ghosts as ReadGhosts}
@@ -18,10 +19,15 @@ use Rattle.command_refusals.specs.declared.refusal.Refusal.{Refusal}
 use Rattle.command_refusals.specs.declared.refusal.Refusal.TheVariants.{Io, Opening}
 use Rattle.command_refusals.specs.Refusals.{file_refusal}
 use Rattle.program_texts.specs.declared.status.Status.{Status}
-use Rattle.program_texts.specs.declared.status.Status.TheVariants.{Done, Refused}
+use Rattle.program_texts.specs.declared.status.Status.TheVariants.{Done, PartlyDone, Refused}
 use Rattle.program_texts.specs.declared.status.Ended.{Ended}
 use Rattle.program_texts.specs.Ending.{HasReported, TellsRefusal}
+use Rattle.program_texts.specs.LeftOut.{left_out_text}
 use Rattle.program_texts.specs.Reported.{IfRefused}
+use Rattle.program_texts.specs.Told.{told}
+use Rattle.program_texts.specs.declared.telling.Audience.{Audience}
+use Rattle.command_refusals.specs.declared.hint.Hint.{Hint}
+use Rattle.store_commands.specs.Salvaging.{IsBrokenOff}
 use Rattle.clap.specs.Words.{Text, kind_of}
 use Rattle.clap.specs.declared.error.Error.{Error}
 use Rattle.clap.specs.declared.error.kind.ErrorKind.TheVariants.{OutOfMemory}
@@ -29,7 +35,7 @@ use Rattle.store_requests.specs.Apps.{IsOfMemory}
 use Rattle.store_requests.specs.declared.store_command_line.Mistake.{Mistake}
 use Rattle.store_requests.specs.declared.store_command_line.Mistake.TheVariants as mistakes
 use Rattle.store_requests.specs.StoreWords.{takes_input, takes_input_word, first_word}
-use Rattle.arrowstore.specs.OnFiles.{IsOpenedFile, IsOfFile, FailsToFormat, RefusesFormat, status_of}
+use Rattle.arrowstore.specs.OnFiles.{IsOpenedFile, IsOfFile, FailsToFormat, RefusesFormat, WritesPart, status_of}
 
 -- a file was not opened
 pub of_file : (e : FileError) → IsOfFile (file_refusal e)
@@ -74,27 +80,43 @@ of_formatting g size sectors version _ same limits why = absurd why
 pub in_version : {D : Type 0} (g : Ghosts D) (sectors : ℕ) (v w : FormatVersion) (refusal : Refusal) → v ≡ w → RefusesFormat g sectors v refusal → RefusesFormat g sectors w refusal
 in_version g sectors v w refusal same why = subst (λ (version : FormatVersion). RefusesFormat g sectors version refusal) same why
 
--- how a run ends whose request was done or refused
-pub ends_as : (done : Result (Unit {0}) Refusal) (status : Status) (kept reported : Type 0) → (IsOk done → (status ≡ Done) × kept × reported) → IfErr done (λ refusal. status ≡ Refused refusal) → status ≡ status_of done
-ends_as (Ok unit) status kept reported is refused = (is refl).0
-ends_as (Err e) status kept reported is refused = refused
+-- where nothing is written but after a failed read or write
+pub silent_but_io : {W : Type 0} (word : List ℕ) (output output' : W) (done : Result (Unit {0}) Refusal) → IfErr done (λ refusal. refusal ≢ Io → output' ≡ output)
+    → IfErr done (λ refusal. ¬ WritesPart word refusal → output' ≡ output)
+silent_but_io word output output' (Ok unit) silent = tt
+silent_but_io word output output' (Err e) silent = λ whole. silent (λ io. whole (inl io))
 
--- what is reported of it
-pub has_reported : {W E : Type 0} (contents : E → Option (List ℕ)) (tells : Refusal → List ℕ) (output output' : W) (errors errors' : E) (done : Result (Unit {0}) Refusal) (ended : Ended)
-    → IfErr done (λ refusal. refusal ≢ Io → output' ≡ output) → (IsOk done → (ended.status ≡ Done) × (errors' ≡ errors) × IsTrue ended.is_reported) → IfErr done (λ refusal. ended.status ≡ Refused refusal)
-    → TellsRefusal tells ended (contents errors) (contents errors') → HasReported contents tells output output' errors errors' ended
-has_reported contents tells output output' errors errors' (Ok unit) ended silent is refused line =
-    let done : ended.status ≡ Done = (is refl).0 in
-    record {
-      silent = λ _. ((is refl).1, (is refl).2);
-      nothing_written = λ wrong. absurd (cc (done, wrong));
-      quiet = subst (λ s. IfRefused s (λ refusal. refusal ≢ Io → output' ≡ output)) (sym done) tt;
-      line = line;
-    }
-has_reported contents tells output output' errors errors' (Err e) ended silent is refused line = record {
-  silent = λ done. absurd (cc (refused, done));
-  nothing_written = λ wrong. absurd (cc (refused, wrong));
-  quiet = subst (λ s. IfRefused s (λ refusal. refusal ≢ Io → output' ≡ output)) (sym refused) silent;
+-- nor where a salvage was broken off
+pub silent_but_broken_off : {W : Type 0} (output output' : W) (done : Result (Unit {0}) Refusal) → IfErr done (λ refusal. ¬ IsBrokenOff refusal → output' ≡ output)
+    → IfErr done (λ refusal. ¬ WritesPart (codes "salvage") refusal → output' ≡ output)
+silent_but_broken_off output output' (Ok unit) silent = tt
+silent_but_broken_off output output' (Err e) silent = λ whole. silent (λ broken. whole (inr (refl, broken)))
+
+-- what is reported of a request that was done, in part or whole, or refused
+pub has_reported : {W E : Type 0} (contents : E → Option (List ℕ)) (audience : Audience) (hint : Option Hint) (left : List (ℕ × ℕ)) (word : List ℕ) (output output' : W) (errors errors' : E)
+    (done : Result (Unit {0}) Refusal) (ended : Ended) → ended.status ≡ status_of done left → IfErr done (λ refusal. ¬ WritesPart word refusal → output' ≡ output)
+    → (ended.status ≡ Done → (errors' ≡ errors) × IsTrue ended.is_reported)
+    → (ended.status ≡ PartlyDone → IsTrue ended.is_reported → Appends (contents errors) (contents errors') (left_out_text audience left))
+    → TellsRefusal (told audience hint) ended (contents errors) (contents errors') → HasReported contents audience hint left (WritesPart word) output output' errors errors' ended
+has_reported contents audience hint [] word output output' errors errors' (Ok unit) ended ends quiet silent lines line = record {
+  silent = λ done. (refl, (silent done).0, (silent done).1);
+  listed = λ partly. absurd (cc (ends, partly));
+  nothing_written = λ wrong. absurd (cc (ends, wrong));
+  quiet = subst (λ s. IfRefused s (λ refusal. ¬ WritesPart word refusal → output' ≡ output)) (sym ends) tt;
+  line = line;
+}
+has_reported contents audience hint (s ∷ ss) word output output' errors errors' (Ok unit) ended ends quiet silent lines line = record {
+  silent = λ done. absurd (cc (ends, done));
+  listed = λ partly. (λ none. absurd (cc none), lines partly);
+  nothing_written = λ wrong. absurd (cc (ends, wrong));
+  quiet = subst (λ s. IfRefused s (λ refusal. ¬ WritesPart word refusal → output' ≡ output)) (sym ends) tt;
+  line = line;
+}
+has_reported contents audience hint left word output output' errors errors' (Err e) ended ends quiet silent lines line = record {
+  silent = λ done. absurd (cc (ends, done));
+  listed = λ partly. absurd (cc (ends, partly));
+  nothing_written = λ wrong. absurd (cc (ends, wrong));
+  quiet = subst (λ s. IfRefused s (λ refusal. ¬ WritesPart word refusal → output' ≡ output)) (sym ends) quiet;
   line = line;
 }
 

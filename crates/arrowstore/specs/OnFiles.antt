@@ -1,5 +1,5 @@
 -- What a request of a store comes to, on devices of one kind.
-use Rattle.std.specs.Prelude.{◌≡◌, ◌⊎◌, ◌≤◌, ℕ, Bool, true, List, codes, Option, Some, None, Result, Ok, Err, IfErr, OnOk, IsErrAnd}
+use Rattle.std.specs.Prelude.{◌≡◌, ◌⊎◌, ◌≤◌, ℕ, Bool, true, List, [], ◌∷◌, codes, Option, Some, None, IsSome, Result, Ok, Err, IfErr, OnOk, IsErrAnd}
 use Rattle.std.specs.Io.KnownBytes.{Appends}
 use Rattle.std.specs.declared.io.traits.Read.{Ghosts as ReadGhosts}
 use Rattle.std.specs.declared.io.traits.Write.{Ghosts as WriteGhosts}
@@ -13,21 +13,26 @@ use Rattle.commit.specs.Standing.{is_size}
 use Rattle.text_import.specs.declared.part.RefusedPart.{RefusedPart}
 use Rattle.store.specs.declared.store.Store.{Store}
 use Rattle.commit.specs.declared.sector.FormatVersion.{FormatVersion}
-use Rattle.store.specs.Fits.{commit_of, device_of, IsNewStore}
+use Rattle.catalogue.specs.Edits.{entry_of}
+use Rattle.store.specs.Calls.{done}
+use Rattle.store.specs.Fits.{commit_of, device_of, is_halted, listed_in, IsNewStore}
+use Rattle.store.specs.Reading.{OnlyReadsStore}
+use Rattle.store.specs.Salvaging.{SalvagesAt, RefusesSalvage}
 use Rattle.store.specs.Answering.{LeavesUnformatted}
 use Rattle.command_refusals.specs.declared.refusal.Refusal.{Refusal}
 use Rattle.command_refusals.specs.declared.refusal.Refusal.TheVariants as refusals
 use Rattle.tables.specs.declared.refusal.Refusal as tables
 use Rattle.store_commands.specs.Copying.{Copies}
+use Rattle.store_commands.specs.Reading.{OfStore, refusal_ended}
+use Rattle.store_commands.specs.Salvaging.{IsBrokenOff}
 use Rattle.command_refusals.specs.declared.hint.Hint.{Hint}
 use Rattle.command_refusals.specs.declared.hint.Hint.TheVariants as hints
 use Rattle.program_texts.specs.Reported.{IsWrong}
-use Rattle.program_texts.specs.Ending.{GivesSome, HasReported}
-use Rattle.program_texts.specs.Told.{told}
+use Rattle.program_texts.specs.Ending.{GivesSome, HasReported, IsIo}
 use Rattle.program_texts.specs.declared.telling.Audience.{Audience}
 use Rattle.program_texts.specs.declared.status.Ended.{Ended}
 use Rattle.program_texts.specs.declared.status.Status.{Status}
-use Rattle.program_texts.specs.declared.status.Status.TheVariants.{Done, Refused}
+use Rattle.program_texts.specs.declared.status.Status.TheVariants.{Done, PartlyDone, Refused}
 use Rattle.store_requests.specs.Asked.{request_word}
 use Rattle.store_requests.specs.Operands.{are_right, Names}
 use Rattle.store_requests.specs.StoreWords.{first_word, ask_for_help}
@@ -40,7 +45,7 @@ use Rattle.store_requests.specs.declared.store_words.StoreRequest.TheVariants as
 use Rattle.arrowstore.specs.declared.open_command.OpenCommand.{OpenCommand}
 use Rattle.arrowstore.specs.OpenCommands.{States, RefusesStating}
 use Rattle.arrowstore.specs.OnDevice.{IsOpened, RefusesOpening, ServesDevice}
-use Rattle.arrowstore.specs.Serving.{Channels, channels}
+use Rattle.arrowstore.specs.Serving.{Channels, channels, image_of}
 
 -- a device that was opened over a file: all of the file, of which no write is held back
 pub record IsOpenedFile {F : Type 0} {r : ReadGhosts F} {w : WriteGhosts F} {s : SeekGhosts F} (device : FileDevice F r w s) : Type 0 where
@@ -148,6 +153,32 @@ abbrev pub CopiesStore : {D : Type 0} → (g : Ghosts D) → (is_opened : D → 
 CopiesStore g is_opened contents sectors output output' result =
     IsErrAnd result (λ refusal. RefusesCopying g is_opened sectors refusal × (output' ≡ output)) ⊎ MakesCopy g is_opened contents sectors output output' result
 
+-- ---- a salvage of a table of the store of a file
+
+-- a store was opened and its table of this name was salvaged, which left these segments out; the store was only read
+pub record SalvagesOpened {D : Type 0} (g : Ghosts D) (is_opened : D → Type 0) {W : Type 0} (contents : W → Option (List ℕ)) (name : List ℕ) (output output' : W)
+    (left : List (ℕ × ℕ)) : Type 0 where
+  pub store : Store D g
+  pub opens : OpensStore g is_opened store
+  pub salvages : SalvagesAt (is_halted store) g.tells (image_of store) (entry_of (listed_in store) name) (contents output) (contents output') left
+  pub after_it : Store D g
+  pub reads : OnlyReadsStore g.size g.story g.failed g.tells done store after_it
+
+-- or it has no such table, or the salvage was broken off
+pub record FailsToSalvage {D : Type 0} (g : Ghosts D) (is_opened : D → Type 0) (name : List ℕ) (refusal : Refusal) : Type 0 where
+  pub store : Store D g
+  pub opens : OpensStore g is_opened store
+  pub refuses : OfStore (RefusesSalvage (is_halted store) (entry_of (listed_in store) name)) (IsSome (entry_of (listed_in store) name)) refusal
+  pub after_it : Store D g
+  pub reads : OnlyReadsStore g.size g.story g.failed g.tells (refusal_ended refusal) store after_it
+
+-- what a salvage leaves out; where it is refused since no store is opened, nothing is written
+abbrev pub SalvagesFile : {D : Type 0} → (g : Ghosts D) → (is_opened : D → Type 0) → {W : Type 0} → (contents : W → Option (List ℕ)) → (name : List ℕ) → (output output' : W)
+    → (left left' : List (ℕ × ℕ)) → Result (Unit {0}) Refusal → Type 0
+SalvagesFile g is_opened contents name output output' left left' (Ok unit) = SalvagesOpened g is_opened contents name output output' left'
+SalvagesFile g is_opened contents name output output' left left' (Err refusal) =
+    ((FailsToOpen g is_opened refusal × (output' ≡ output)) ⊎ FailsToSalvage g is_opened name refusal) × (left' ≡ left)
+
 -- ---- a script
 
 -- the script of some file was played on a device in memory, and what is printed is what came of it; or why not
@@ -159,23 +190,30 @@ Replays g of_file of_none contents words output output' result =
 
 -- ---- requests
 
--- what a request comes to; what a script does is said by `replays`
+-- what a request comes to, and what it leaves out, which is nothing but of a salvage; what a script does is said by `replays`
 abbrev pub ServesRequest : {D : Type 0} → (g : Ghosts D) → (is_opened : D → Type 0) → {R W : Type 0} → (remaining : R → Option (List ℕ))
     → (contents : W → Option (List ℕ)) → (replays : ReplayWords → W → W → Result (Unit {0}) Refusal → Type 0) → StoreRequest → (before after : Channels R W)
-    → Result (Unit {0}) Refusal → Type 0
-ServesRequest g is_opened remaining contents replays (requests.Format path sectors version) before after result =
-    Formats g contents sectors version before.output after.output result × (after.hint ≡ before.hint)
-ServesRequest g is_opened remaining contents replays (requests.Copy path new sectors) before after result =
-    CopiesStore g is_opened contents sectors before.output after.output result × (after.hint ≡ before.hint)
-ServesRequest g is_opened remaining contents replays (requests.Replay words) before after result =
-    replays words before.output after.output result × (after.hint ≡ before.hint)
-ServesRequest g is_opened remaining contents replays (requests.Command path command) before after result =
-    ServesCommand g is_opened remaining contents command before after result
+    → (left left' : List (ℕ × ℕ)) → Result (Unit {0}) Refusal → Type 0
+ServesRequest g is_opened remaining contents replays (requests.Format path sectors version) before after left left' result =
+    Formats g contents sectors version before.output after.output result × (after.hint ≡ before.hint) × (left' ≡ left)
+ServesRequest g is_opened remaining contents replays (requests.Copy path new sectors) before after left left' result =
+    CopiesStore g is_opened contents sectors before.output after.output result × (after.hint ≡ before.hint) × (left' ≡ left)
+ServesRequest g is_opened remaining contents replays (requests.Salvage path name) before after left left' result =
+    SalvagesFile g is_opened contents name.now before.output after.output left left' result × (after.hint ≡ before.hint)
+ServesRequest g is_opened remaining contents replays (requests.Replay words) before after left left' result =
+    replays words before.output after.output result × (after.hint ≡ before.hint) × (left' ≡ left)
+ServesRequest g is_opened remaining contents replays (requests.Command path command) before after left left' result =
+    ServesCommand g is_opened remaining contents command before after result × (left' ≡ left)
 
--- how a run ends
-abbrev pub status_of : Result (Unit {0}) Refusal → Status
-status_of (Ok unit) = Done
-status_of (Err refusal) = Refused refusal
+-- the refusals after which some output may be written: a read or a write failed, or a salvage was broken off
+abbrev pub WritesPart : (word : List ℕ) → Refusal → Type 0
+WritesPart word refusal = IsIo refusal ⊎ ((word ≡ codes "salvage") × IsBrokenOff refusal)
+
+-- how a run ends that leaves this out
+abbrev pub status_of : Result (Unit {0}) Refusal → (left : List (ℕ × ℕ)) → Status
+status_of (Ok unit) [] = Done
+status_of (Ok unit) (s ∷ ss) = PartlyDone
+status_of (Err refusal) left = Refused refusal
 
 -- the part of the input that a hint names, if it names one
 abbrev pub hinted_part : Option Hint → Option RefusedPart
@@ -191,21 +229,24 @@ pub record Ends (R W E : Type 0) : Type 0 where
 abbrev pub ends_of : {R W E : Type 0} → R → W → E → Ends R W E
 ends_of input output errors = record { input = input; output = output; errors = errors }
 
--- what a run ended with was reported to an audience, with a hint
-abbrev pub HasTold : {W E : Type 0} → (reported : E → Option (List ℕ)) → Audience → (output output' : W) → (errors errors' : E) → Ended → Option Hint → Type 0
-HasTold reported audience output output' errors errors' ended hint = HasReported reported (told audience hint) output output' errors errors' ended
+-- what a run of the command of this word ended with, and what it left out, was reported to an audience, with a hint
+abbrev pub HasTold : {W E : Type 0} → (reported : E → Option (List ℕ)) → Audience → (word : List ℕ) → (left : List (ℕ × ℕ)) → (output output' : W) → (errors errors' : E)
+    → Ended → Option Hint → Type 0
+HasTold reported audience word left output output' errors errors' ended hint =
+    HasReported reported audience hint left (WritesPart word) output output' errors errors' ended
 
--- a request was served, and what is hinted is reported
+-- a request was served, and what is left out or hinted is reported
 pub record ServesTold {D : Type 0} (g : Ghosts D) (is_opened : D → Type 0) {R W E : Type 0} (remaining : R → Option (List ℕ)) (contents : W → Option (List ℕ))
     (replays : ReplayWords → W → W → Result (Unit {0}) Refusal → Type 0) (reported : E → Option (List ℕ)) (audience : Audience) (request : StoreRequest) (before after : Ends R W E) (ended : Ended) : Type 0 where
   pub part : Option RefusedPart
+  pub left : List (ℕ × ℕ)
   pub result : Result (Unit {0}) Refusal
-  pub serves : ServesRequest g is_opened remaining contents replays request (channels before.input before.output None) (channels after.input after.output part) result
-  pub ends : ended.status ≡ status_of result
+  pub serves : ServesRequest g is_opened remaining contents replays request (channels before.input before.output None) (channels after.input after.output part) [] left result
+  pub ends : ended.status ≡ status_of result left
   pub hint : Option Hint
   -- what is hinted of the input is the part that is refused, and else none is
   pub hints : hinted_part hint ≡ part
-  pub told : HasTold reported audience before.output after.output before.errors after.errors ended hint
+  pub told : HasTold reported audience (request_word request) left before.output after.output before.errors after.errors ended hint
 
 -- the request that the words state: the command of the first one, and where operands alone follow, the file and the tables that they name
 abbrev pub IsAskedBy : (arguments : List (List ℕ)) → StoreRequest → Type 0
@@ -234,5 +275,5 @@ abbrev pub RunsOnStore : {D : Type 0} → (g : Ghosts D) → (is_opened : D → 
     → (arguments : List (List ℕ)) → (before after : Ends R W E) → Ended → Type 0
 RunsOnStore g is_opened remaining contents replays reported audience arguments before after ended =
     (AsksForNone contents arguments before.output after.output ended.status × (after.input ≡ before.input)
-    × HasTold reported audience before.output after.output before.errors after.errors ended None)
+    × HasReported reported audience None [] IsIo before.output after.output before.errors after.errors ended)
     ⊎ ServesAsked g is_opened remaining contents replays reported audience arguments before after ended

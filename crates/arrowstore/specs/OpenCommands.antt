@@ -39,7 +39,7 @@ States (words.Drop name) (opened.Change c) = command_of c ≡ plain.drop_table n
 States (words.Import name) (opened.Import n) = n.now ≡ name.now
 States (words.Append name) (opened.Append n) = n.now ≡ name.now
 States (words.AppendText name form) (opened.AppendText n f) = (n.now ≡ name.now) × (f ≡ form)
-States (words.Query name query) (opened.Select n q) = (n.now ≡ name.now) × (query_stated query ≡ Some (query_in q))
+States (words.Query name query form) (opened.Select n q f) = (n.now ≡ name.now) × (query_stated query ≡ Some (query_in q)) × (f ≡ form)
 States words.Tables opened.Tables = Unit {0}
 States (words.Schema name) (opened.Schema n) = n.now ≡ name.now
 States (words.Export name) (opened.Export n) = n.now ≡ name.now
@@ -53,7 +53,7 @@ States _ _ = ⊥
 unfoldable pub RefusesStating : StoreCommand → Refusal → Type 0
 RefusesStating (words.Create name fields) refusal = RefusesFields (map (λ t. t.now) fields.items) refusal
 RefusesStating (words.SaveAs from to query) refusal = RefusesWords (query_stated query) refusal
-RefusesStating (words.Query name query) refusal = RefusesWords (query_stated query) refusal
+RefusesStating (words.Query name query form) refusal = RefusesWords (query_stated query) refusal
 RefusesStating (words.Rename from to) refusal = refusal ≡ refusals.OutOfMemory
 RefusesStating (words.Drop name) refusal = refusal ≡ refusals.OutOfMemory
 RefusesStating _ refusal = ⊥

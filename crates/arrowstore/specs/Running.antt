@@ -4,7 +4,7 @@ use Rattle.ipc_message.specs.Header.{supported_codes}
 use Rattle.ipc_stream.specs.Meaning.{meaning}
 use Rattle.command_refusals.specs.declared.refusal.Refusal.TheVariants.{TooManyBytes}
 use Rattle.program_texts.specs.declared.status.Status.{Status}
-use Rattle.program_texts.specs.declared.status.Status.TheVariants.{Done, Refused, WrongArguments}
+use Rattle.program_texts.specs.declared.status.Status.TheVariants.{Done, PartlyDone, Refused, WrongArguments}
 use Rattle.program_texts.specs.Reported.{IfRefused, IsRefused}
 use Rattle.store_commands.specs.declared.input.TheConstants.{LARGEST_INPUT}
 use Rattle.store_commands.specs.Recode.{AppendsCanonical, IsTrueFault}
@@ -20,5 +20,7 @@ pub record Recodes {W : Type 0} (contents : W → Option (List ℕ)) (input : Op
   pub fault : IfRefused status (λ refusal. IsTrueFault refusal input)
   -- too many bytes are reported only of an input that has them
   pub too_many : status ≡ Refused TooManyBytes → IfSome input (λ bytes. LARGEST_INPUT < length bytes)
+  -- nothing is left out
+  pub whole : status ≢ PartlyDone
   -- its arguments are taken
   pub right_arguments : status ≢ WrongArguments

@@ -124,10 +124,10 @@ Serves remaining contents (opened.Append name) old new before after result =
 Serves remaining contents (opened.AppendText name form) old new before after result =
     CarriesText contents (remaining before.input) form name.now
     (RefusesText remaining form (is_halted old) (entry_of (listed_in old) name.now) before.input after.input) old new before after result
-Serves {g = g} remaining contents (opened.Select name query) old new before after result =
-    Prints ((selected : PlainTable) × QueryAnswers (is_halted old) g.tells (image_of old) (entry_of (listed_in old) name.now) (query_in query) (Ok selected)
-    × Appends (contents before.output) (contents after.output) (rows_text selected.rows))
-    (RefusesQuery (is_halted old) g.tells (image_of old) (entry_of (listed_in old) name.now) (query_in query)) (OnlyRead result old new) before after result
+Serves {g = g} remaining contents (opened.Select name query form) old new before after result =
+    Prints ((selected : PlainTable) × QueryAnswers form (is_halted old) g.tells (image_of old) (entry_of (listed_in old) name.now) (query_in query) (Ok selected)
+    × Appends (contents before.output) (contents after.output) (rows_text form selected))
+    (RefusesQuery form (is_halted old) g.tells (image_of old) (entry_of (listed_in old) name.now) (query_in query)) (OnlyRead result old new) before after result
 Serves remaining contents opened.Tables old new before after result =
     Prints (Appends (contents before.output) (contents after.output) (tables_text (tables_of (listed_in old))))
     (RefusesPrinting (RefusesTables (is_halted old)) (is_halted old ≡ false)) (new ≡ old) before after result

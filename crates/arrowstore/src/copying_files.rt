@@ -12,8 +12,8 @@ use std::rt::Files;
 use store::Store;
 use store_commands::copy_tables;
 
-// The store in a file, to be read.
-fn open_to_read<
+/// The store in a file, to be read.
+pub(crate) fn open_to_read<
     F: Read + Write + Seek + OpenFile + LockFile + Drop,
     H: Files<File = F> + AllocGlobal,
 >(rt: &H, path: &str) -> Result<Store<FileDevice<F>>, Refusal>

@@ -13,9 +13,11 @@
 
 mod command_line;
 mod copying_files;
+mod ending;
 mod open_command;
 mod replaying;
 mod running;
+mod salvaging_files;
 mod serving;
 mod serving_device;
 mod serving_open;

@@ -11,7 +11,7 @@ ghost use Rattle.store_requests.specs.StoreWords.{takes_input_word};
 ghost use Rattle.arrowstore.specs.OpenCommands.{query_stated, StatesTable, StatesSaving, States, RefusesStating, reads_input};
 
 use command_refusals::Refusal;
-use query::Query;
+use query::{Query, RowForm};
 use std::alloc::Global;
 use store_commands::{new_table, query_of};
 use store_requests::{QueryWords, StoreCommand};
@@ -24,23 +24,40 @@ pub enum OpenCommand<'a> {
     /// A change of its tables.
     Change(Command),
     /// The table that all of the input means as a stream, in place of one of this name.
-    Import { name: &'a str },
+    Import {
+        name: &'a str,
+    },
     /// The rows that all of the input means as a stream, after those of the table.
-    Append { name: &'a str },
+    Append {
+        name: &'a str,
+    },
     /// The same of a text.
-    AppendText { name: &'a str, form: TextForm<'a> },
-    /// The rows that a query selects, as lines.
-    Select { name: &'a str, query: Query },
+    AppendText {
+        name: &'a str,
+        form: TextForm<'a>,
+    },
+    /// The rows that a query selects, as lines in a form.
+    Select {
+        name: &'a str,
+        query: Query,
+        form: RowForm,
+    },
     /// The names of its tables, and how many rows each has.
     Tables,
     /// The fields of a table.
-    Schema { name: &'a str },
+    Schema {
+        name: &'a str,
+    },
     /// The stream of a table.
-    Export { name: &'a str },
+    Export {
+        name: &'a str,
+    },
     /// Whether all tables can be read.
     Check,
     /// The store in numbers, as lines or as JSON.
-    Info { as_json: bool },
+    Info {
+        as_json: bool,
+    },
     /// Steps of a compaction until there is nothing to do.
     Compact,
     /// A digest for each segment.
@@ -112,9 +129,14 @@ pub fn stated<'a>(alloc: Global, command: &StoreCommand<'a>) -> Result<OpenComma
             name,
             form: *form,
         }),
-        StoreCommand::Query { name, query: words } => Ok(OpenCommand::Select {
+        StoreCommand::Query {
+            name,
+            query: words,
+            form,
+        } => Ok(OpenCommand::Select {
             name,
             query: query(alloc, words)?,
+            form: *form,
         }),
         StoreCommand::SaveAs { from, to, query } => {
             Ok(OpenCommand::Change(save_as(alloc, from, to, query)?))

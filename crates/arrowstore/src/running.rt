@@ -1,12 +1,11 @@
 // The program over any input and output.
-ghost use Rattle.std.specs.Prelude.{◌≡◌, ◌⊎◌, true, map, None};
+ghost use Rattle.std.specs.Prelude.{◌≡◌, ◌⊎◌, [], true, map, None};
 ghost use Rattle.std.specs.Io.KnownBytes.{Appends};
 ghost use Rattle.arrowstore.specs.Arguments.{AreRecode, AreRight};
 ghost use Rattle.arrowstore.specs.Running.{Recodes};
-ghost use Rattle.program_texts.specs.Ending.{GivesSome, GivesText, HasReported};
+ghost use Rattle.program_texts.specs.Ending.{GivesSome, GivesText, HasReported, IsIo};
 ghost use Rattle.program_texts.specs.OwnTexts.{is_own, own_text};
 ghost use Rattle.program_texts.specs.Reported.{IsWrong};
-ghost use Rattle.program_texts.specs.Told.{told};
 ghost use Rattle.program_texts.specs.declared.status.Status.TheVariants.{Done};
 
 use crate::command_line::{Action, action_of};
@@ -40,7 +39,7 @@ pub fn run<S: AsStr, R: Read, W: Write, E: Write>(
         ⊎ GivesSome (W.contents output.old) (W.contents output.new) }
     ensures only_recode_reads { AreRecode (map S.text arguments.now) ⊎ (input.new ≡ input.old) }
     // What is on `errors`: the report of a refusal to such an audience, and nothing where all is done.
-    ensures reports { HasReported E.contents (told audience None) output.old output.new errors.old errors.new result }
+    ensures reports { HasReported E.contents audience None [] IsIo output.old output.new errors.old errors.new result }
 {
     if is_own(arguments) {
         return end(

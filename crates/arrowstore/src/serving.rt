@@ -1,14 +1,16 @@
 // The commands of a store, on its file.
 ghost use Rattle.std.specs.Prelude.{◌≡◌, ◌≢◌, ◌⊎◌, true, IfOk, IfErr};
 ghost use Rattle.store.specs.Fits.{device_of, IsNewStore};
+ghost use Rattle.store.specs.Salvaging.{plain_left};
 ghost use Rattle.store_requests.specs.Asked.{command_word, request_word};
 ghost use Rattle.store_requests.specs.StoreWords.{takes_input_word};
-ghost use Rattle.arrowstore.specs.OnFiles.{IsOpenedFile, FailsToFormat, RefusesFormat, Formats, Replays, ServesCommand, ServesRequest};
+ghost use Rattle.arrowstore.specs.OnFiles.{IsOpenedFile, FailsToFormat, RefusesFormat, Formats, Replays, ServesCommand, ServesRequest, WritesPart};
 ghost use Rattle.arrowstore.specs.Serving.{channels};
 
 use crate::copying_files::serve_copy;
 use crate::open_command::stated;
 use crate::replaying::serve_replay;
+use crate::salvaging_files::serve_salvage;
 use crate::serving_device::serve_device;
 use command_refusals::{Refusal, write_whole};
 use commit::FormatVersion;
@@ -17,7 +19,7 @@ use std::alloc::Global;
 use std::fs::{self, OpenFile};
 use std::io::{Empty, Read, Seek, Write};
 use std::rt::Files;
-use store::Store;
+use store::{LeftOut, Store};
 use store_requests::{StoreCommand, StoreRequest};
 use text_import::RefusedPart;
 
@@ -123,7 +125,7 @@ fn serve_command<
     done
 }
 
-/// Does what is asked of a store. Where a text is refused, `hint` is left with the part of it that is.
+/// Does what is asked of a store. Where a text is refused, `hint` is left with the part of it that is, and `left_out` with what a salvage leaves out.
 pub(crate) fn serve<
     F: Read + Write + Seek + OpenFile + LockFile + Drop,
     H: Files<File = F> + AllocGlobal,
@@ -135,13 +137,15 @@ pub(crate) fn serve<
     input: &mut R,
     output: &mut W,
     hint: &mut Option<RefusedPart>,
+    left_out: &mut Vec<LeftOut>,
 ) -> Result<(), Refusal>
     ensures serves { ServesRequest ⟦<FileDevice<F> as SectorDevice>⟧ IsOpenedFile R.remaining W.contents
         (Replays ⟦<ModelDevice as SectorDevice>⟧ F.remaining ⟦<Empty as Read>⟧.remaining W.contents) request.now
-        (channels input.old output.old hint.old) (channels input.new output.new hint.new) result }
+        (channels input.old output.old hint.old) (channels input.new output.new hint.new)
+        (plain_left left_out.old.items) (plain_left left_out.new.items) result }
     ensures unread { (takes_input_word (request_word request.now) ≡ true) ⊎ (input.new ≡ input.old) }
-    // Where it is refused, nothing is written, unless a read or a write failed.
-    ensures silent { IfErr result (λ refusal. refusal ≢ Refusal.Io → output.new ≡ output.old) }
+    // Where it is refused, nothing is written, unless a read or a write failed or a salvage was broken off.
+    ensures silent { IfErr result (λ refusal. ¬ WritesPart (request_word request.now) refusal → output.new ≡ output.old) }
 {
     match request {
         StoreRequest::Format {
@@ -150,6 +154,7 @@ pub(crate) fn serve<
             version,
         } => serve_format(rt, path, *sectors, *version, output),
         StoreRequest::Copy { path, new, sectors } => serve_copy(rt, path, new, *sectors, output),
+        StoreRequest::Salvage { path, name } => serve_salvage(rt, path, name, output, left_out),
         StoreRequest::Replay(words) => serve_replay(rt, words, output),
         StoreRequest::Command { path, command } => {
             serve_command(rt, path, command, input, output, hint)

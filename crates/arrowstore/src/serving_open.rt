@@ -42,8 +42,8 @@ pub fn serve_open<D: SectorDevice, R: Read, W: Write>(
         OpenCommand::AppendText { name, form } => {
             append_text(alloc, store, name, &form, input, output, hint)
         }
-        OpenCommand::Select { name, query } => {
-            print_selection(alloc, store, name, &query, output)
+        OpenCommand::Select { name, query, form } => {
+            print_selection(alloc, store, name, &query, form, output)
         }
         OpenCommand::Tables => print_tables(alloc, store, output),
         OpenCommand::Schema { name } => print_schema(alloc, store, name, output),

@@ -142,7 +142,9 @@ pub(crate) fn is_there<H: Files + AllocGlobal>(rt: &H, request: &StoreRequest<'_
         StoreRequest::Format { path, .. } | StoreRequest::Copy { new: path, .. } => {
             fs::symlink_metadata(rt, *path).is_ok()
         }
-        StoreRequest::Replay(_) | StoreRequest::Command { .. } => false,
+        StoreRequest::Salvage { .. } | StoreRequest::Replay(_) | StoreRequest::Command { .. } => {
+            false
+        }
     }
 }
 
@@ -163,6 +165,7 @@ pub(crate) fn refused_file<'a, F: OpenFile + LockFile + Drop, H: Files<File = F>
             Some(file) => Some(file),
             None => not_made(rt, new, was_there),
         },
+        StoreRequest::Salvage { path, .. } => not_opened(rt, path, true),
         StoreRequest::Replay(words) => not_read(rt, words.script),
         StoreRequest::Command { path, command } => not_opened(rt, path, command.only_reads()),
     }

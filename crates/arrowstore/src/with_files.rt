@@ -1,27 +1,30 @@
 // The program over any files, input and output.
-ghost use Rattle.std.specs.Prelude.{◌≡◌, ◌⊎◌, true, map, Option, None, IsOk, IsTrue, IfErr};
+ghost use Rattle.std.specs.Prelude.{◌≡◌, ◌⊎◌, ℕ, List, [], true, map, Option, None, IsTrue};
 ghost use Rattle.std.specs.Io.KnownBytes.{Appends};
 ghost use Rattle.clap.specs.Words.{kind_of};
 ghost use Rattle.clap.specs.declared.error.kind.ErrorKind.TheVariants as kinds;
 ghost use Rattle.arrowstore.specs.Arguments.{AreRecode, AreRight};
-ghost use Rattle.arrowstore.specs.OnFiles.{GivesHelpOrWrong, HasTold, IsOpenedFile, Replays, RunsOnStore, ServesTold, ends_of, hinted_part};
+ghost use Rattle.arrowstore.specs.OnFiles.{GivesHelpOrWrong, HasTold, IsOpenedFile, Replays, RunsOnStore, ServesTold, ends_of, hinted_part, status_of};
 ghost use Rattle.arrowstore.specs.Running.{Recodes};
-ghost use Rattle.program_texts.specs.Ending.{GivesSome, GivesText, TellsRefusal};
+ghost use Rattle.program_texts.specs.Ending.{GivesSome, GivesText, HasReported, IsIo, TellsRefusal};
+ghost use Rattle.program_texts.specs.LeftOut.{left_out_text};
 ghost use Rattle.program_texts.specs.OwnTexts.{is_own, own_text};
 ghost use Rattle.program_texts.specs.Told.{told};
 ghost use Rattle.store_requests.specs.Asked.{request_word};
-ghost use Rattle.store_requests.specs.StoreWords.{is_of_store, takes_input, takes_input_word};
+ghost use Rattle.store_requests.specs.StoreWords.{first_word, is_of_store, takes_input, takes_input_word};
 ghost use Rattle.program_texts.specs.Reported.{IsWrong};
-ghost use Rattle.program_texts.specs.declared.status.Status.TheVariants.{Done, Refused};
+ghost use Rattle.program_texts.specs.declared.status.Status.TheVariants.{Done, PartlyDone, Refused};
 ghost use Rattle.command_refusals.specs.declared.refusal.Refusal.TheVariants as refusals;
 ghost use Rattle.command_refusals.specs.declared.hint.Hint.{Hint};
+ghost use Rattle.store.specs.Salvaging.{plain_left};
 
+use crate::ending::end_whole_or_partly;
 use crate::run;
 use crate::serving::serve;
 use crate::unopened::{Unopened, is_there, refused_file};
 use command_refusals::{Hint, Refusal};
 use program_texts::{
-    Audience, Ended, end, report_arguments, report_signed_number, report_wrong_arguments,
+    Audience, Ended, report_arguments, report_signed_number, report_wrong_arguments,
 };
 use sector_dev::{FileDevice, LockFile, ModelDevice, SectorDevice};
 use std::alloc::Global;
@@ -29,6 +32,7 @@ use std::convert::AsStr;
 use std::fs::OpenFile;
 use std::io::{Empty, Read, Seek, Write};
 use std::rt::Files;
+use store::LeftOut;
 use store_requests::{Mistake, StoreRequest, ask_for_help, is_of_store, refused_word, request_of};
 use text_import::RefusedPart;
 
@@ -76,20 +80,26 @@ fn end_of_request<E: Write>(
     request: &StoreRequest<'_>,
     file: &Option<Unopened<'_>>,
     done: Result<(), Refusal>,
+    left_out: &[LeftOut],
     audience: Audience,
     errors: &mut E,
 ) -> Ended
-    ensures done { IsOk done → (result.status ≡ Done) × (errors.new ≡ errors.old) × IsTrue result.is_reported }
-    ensures refused { IfErr done (λ refusal. result.status ≡ Refused refusal) }
+    ensures ends { result.status ≡ status_of done (plain_left left_out.now) }
+    ensures silent { result.status ≡ Done → (errors.new ≡ errors.old) × IsTrue result.is_reported }
+    ensures lines { result.status ≡ PartlyDone → IsTrue result.is_reported
+        → Appends (E.contents errors.old) (E.contents errors.new) (left_out_text audience (plain_left left_out.now)) }
     ensures line { (hint : Option Hint) × (hinted_part hint ≡ None) × TellsRefusal (told audience hint) result (E.contents errors.old) (E.contents errors.new) }
 {
     match file {
-        Some(file) => end(done, Some(file.hint()), audience, errors),
-        None => end(done, word_of(alloc, request, &done), audience, errors),
+        Some(file) => end_whole_or_partly(done, left_out, Some(file.hint()), audience, errors),
+        None => {
+            let word = word_of(alloc, request, &done);
+            end_whole_or_partly(done, left_out, word, audience, errors)
+        }
     }
 }
 
-// A command of a store. What is hinted to be refused is a part of the input, where one is known, and else a word of the command line.
+// A request of a store. What is hinted to be refused is a part of the input, where one is known, and else a word of the command line.
 fn serve_and_report<
     F: Read + Write + Seek + OpenFile + LockFile + Drop,
     H: Files<File = F> + AllocGlobal,
@@ -111,12 +121,21 @@ fn serve_and_report<
 {
     let was_there = audience == Audience::Terminal && is_there(rt, request);
     let mut part = None;
-    let done = serve(rt, request, input, output, &mut part);
+    let mut left_out = Vec::new(rt.alloc());
+    let done = serve(rt, request, input, output, &mut part, &mut left_out);
     match part_of(&part) {
-        Some(hint) => end(done, Some(hint), audience, errors),
+        Some(hint) => end_whole_or_partly(done, &left_out, Some(hint), audience, errors),
         None => {
             let file = unopened_for(rt, request, was_there, &done, audience);
-            end_of_request(rt.alloc(), request, &file, done, audience, errors)
+            end_of_request(
+                rt.alloc(),
+                request,
+                &file,
+                done,
+                &left_out,
+                audience,
+                errors,
+            )
         }
     }
 }
@@ -132,7 +151,7 @@ fn report_mistake<W: Write, E: Write>(
 ) -> Ended
     ensures none { GivesHelpOrWrong W.contents asks_for_help output.old output.new result.status }
     ensures memory { kind_of error.now ≡ kinds.OutOfMemory → result.status ≡ Refused refusals.OutOfMemory }
-    ensures reports { HasTold E.contents audience output.old output.new errors.old errors.new result None }
+    ensures reports { HasReported E.contents audience None [] IsIo output.old output.new errors.old errors.new result }
 {
     if asks_for_help {
         report_arguments(alloc, error, output, errors, audience)
@@ -217,9 +236,10 @@ pub fn run_with_files<
     // Where no command is done, help that is asked for is written, and nothing else.
     ensures helps { result.status ≡ Done → AreRecode (map S.text arguments.now) ⊎ (is_own (map S.text arguments.now) ≡ true)
         ⊎ (is_of_store (map S.text arguments.now) ≡ true) ⊎ GivesSome (W.contents output.old) (W.contents output.new) }
-    // What is on `errors`: the report of a refusal to such an audience, and nothing where all is done. Only of commands of a store more is hinted.
-    ensures reports { (hint : Option Hint) × ((is_of_store (map S.text arguments.now) ≡ true) ⊎ (hint ≡ None))
-        × HasTold E.contents audience output.old output.new errors.old errors.new result hint }
+    // What is on `errors`: the report of a refusal to such an audience, the segments that are left out, and nothing where all is done. Only of commands of a
+    // store more is hinted, or something left out.
+    ensures reports { (hint : Option Hint) × (left : List (ℕ × ℕ)) × ((is_of_store (map S.text arguments.now) ≡ true) ⊎ ((hint ≡ None) × (left ≡ [])))
+        × HasTold E.contents audience (first_word (map S.text arguments.now)) left output.old output.new errors.old errors.new result hint }
 {
     if is_of_store(arguments) {
         return run_on_store(rt, arguments, input, output, errors, audience);

@@ -23,7 +23,10 @@ A refusal is one line on standard error: `refused`, a code, a name, and what it 
 and names the word of the command line that is refused, the file with the reason that the system gives,
 or the field of the input with its text, where that is known and can be shown. The exit status is 1
 then; it is 0 where all is done, and 2 where the command line is wrong. A refused command has changed no
-table, but for S9 and G1, as said there.
+table, but for S9 and G1, as said there. It has written no output, but for G1, and `salvage` for S9 and
+OutOfMemory too: that writes one segment after another. Where `salvage` leaves out segments that can't
+be read, it is not refused: it names each with its rows, as `left out segment 2 with 4096 rows`, and
+ends with status 1.
 
 ## F: the input is no stream that is read
 
@@ -189,7 +192,8 @@ appended. A refusal without a remedy of its own lies with that record.
 
 ## Q: a query
 
-- Q1 UnknownColumn: no column has a name of the query, or two have, or `--columns` lists one twice.
+- Q1 UnknownColumn: no column has a name of the query, or two have, or `--columns` lists one twice; or
+  rows are to be objects (`--objects`), and two of the chosen columns have one name.
   ",
     NAMES_OF_COLUMNS,
     "

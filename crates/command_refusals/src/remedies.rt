@@ -105,7 +105,7 @@ pub const MORE_ROOM: &str = "Drop tables, or use a larger store.";
 pub const LOOK_AGAIN: &str = "See to the disk, and look with `tables` whether the command is done.";
 
 pub const IMPORT_AGAIN: &str =
-    "Drop the table, or import it again: the other tables are as they were.";
+    "Write what can be read of the table with `salvage`, and drop it or import it again: the others are as they were.";
 
 pub const MORE_MEMORY: &str =
     "Give the program more memory: a stream needs a small multiple of its size.";

@@ -1,4 +1,5 @@
 pub mod Reported
 pub mod Told
+pub mod LeftOut
 pub mod OwnTexts
 pub mod Ending

@@ -7,7 +7,7 @@ use Rattle.command_refusals.specs.declared.refusal.Refusal.{Refusal}
 use Rattle.command_refusals.specs.declared.refusal.Refusal.TheVariants.{OutOfMemory}
 use Rattle.program_texts.specs.declared.status.Ended.{Ended}
 use Rattle.program_texts.specs.declared.status.Status.{Status}
-use Rattle.program_texts.specs.declared.status.Status.TheVariants.{Done, Refused, WrongArguments}
+use Rattle.program_texts.specs.declared.status.Status.TheVariants.{Done, PartlyDone, Refused, WrongArguments}
 
 -- the line of a refusal on standard error
 unfoldable pub refusal_line : Refusal → List ℕ
@@ -16,6 +16,7 @@ refusal_line refusal = codes "refused " ++ refusal_text refusal ++ 10 ∷ []
 -- the exit status
 abbrev pub status_code : Status → ℕ
 status_code Done = 0
+status_code PartlyDone = 1
 status_code (Refused refusal) = 1
 status_code WrongArguments = 2
 
@@ -25,6 +26,7 @@ ended_code ended = if ended.is_reported then status_code ended.status else max 1
 
 abbrev pub IfRefused : Status → (Refusal → Type 0) → Type 0
 IfRefused Done P = Unit {0}
+IfRefused PartlyDone P = Unit {0}
 IfRefused (Refused refusal) P = P refusal
 IfRefused WrongArguments P = Unit {0}
 

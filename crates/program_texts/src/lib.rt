@@ -1,7 +1,8 @@
 //! What the program says, and how it ends: its status, what it reports of a refusal and to whom, and its own texts.
 //!
 //! [`end`] and [`report_arguments`] report on any writer how a run ended, and say which bytes are written: to a program the
-//! line of a refusal, and on a terminal after it what to do. [`write_own_text`] writes the version, or what each refusal means.
+//! line of a refusal, and on a terminal after it what to do. [`tell_left_out`] and [`tell_lacking`] report what a salvage leaves out.
+//! [`write_own_text`] writes the version, or what each refusal means.
 //!
 //! ```
 //! let ended = end(Err(Refusal::Io), None, Audience::Program, &mut errors); // `errors` has the line `refused G1 Io`
@@ -9,12 +10,14 @@
 //! ```
 #![tactic(auto)]
 
+mod left_out;
 mod own_texts;
 mod reports;
 mod status;
 mod telling;
 mod unreadable;
 
+pub use left_out::{tell_lacking, tell_left_out};
 pub use own_texts::{VERSION, is_own, write_own_text};
 pub use reports::{end, report_arguments, report_signed_number, report_wrong_arguments};
 pub use status::{Ended, Status};

@@ -1,8 +1,8 @@
 // What is reported of a run that was refused, of wrong arguments and of a request for help.
-ghost use Rattle.std.specs.Prelude.{◌≡◌, ◌≢◌, ◌⊎◌, None, IsOk, IsTrue, IfErr, OnOk};
+ghost use Rattle.std.specs.Prelude.{◌≡◌, ◌≢◌, ◌⊎◌, [], None, IsOk, IsTrue, IfErr, OnOk};
 ghost use Rattle.clap.specs.Words.{kind_of};
 ghost use Rattle.program_texts.specs.Reported.{IsRequest, IsWrong};
-ghost use Rattle.program_texts.specs.Ending.{GivesSome, IsOfOutput, TellsRefusal, HasReported};
+ghost use Rattle.program_texts.specs.Ending.{GivesSome, IsIo, IsOfOutput, TellsRefusal, HasReported};
 ghost use Rattle.program_texts.specs.Told.{told};
 
 use crate::telling::tell;
@@ -37,7 +37,7 @@ pub fn report_arguments<W: Write, E: Write>(
     // Help that is asked for is written, and nothing else.
     ensures helps { result.status ≡ Status.Done → GivesSome (W.contents output.old) (W.contents output.new) }
     ensures memory { kind_of error.now ≡ ErrorKind.OutOfMemory → (result.status ≡ Status.Refused Refusal.OutOfMemory) × (output.new ≡ output.old) }
-    ensures reports { HasReported E.contents (told audience None) output.old output.new errors.old errors.new result }
+    ensures reports { HasReported E.contents audience None [] IsIo output.old output.new errors.old errors.new result }
 {
     match error.kind() {
         ErrorKind::DisplayHelp | ErrorKind::DisplayVersion => {

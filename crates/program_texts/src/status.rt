@@ -9,6 +9,8 @@ use command_refusals::Refusal;
 pub enum Status {
     /// What the arguments ask for is done.
     Done,
+    /// It is done but for what is left out, which is reported.
+    PartlyDone,
     /// It was refused, for this reason.
     Refused(Refusal),
     /// The arguments ask for nothing that the program does.
@@ -22,7 +24,7 @@ impl Status {
     {
         match self {
             Status::Done => 0,
-            Status::Refused(_) => 1,
+            Status::PartlyDone | Status::Refused(_) => 1,
             Status::WrongArguments => 2,
         }
     }

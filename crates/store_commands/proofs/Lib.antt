@@ -3,6 +3,7 @@ mod ChangingLemmas
 mod CompactingLemmas
 mod CopyingLemmas
 mod ReadingLemmas
+mod SalvagingLemmas
 mod TextLemmas
 mod RefusedInputs
 mod ConditionLemmas

@@ -20,7 +20,7 @@ use Rattle.store.specs.Calls.{PlainReply, done, refused, is_device_reply, counte
 use Rattle.store.specs.Reading.{ReadsTable, RefusesRead, OnlyReadsStore}
 use Rattle.command_refusals.specs.declared.refusal.Refusal.{Refusal}
 use Rattle.command_refusals.specs.declared.refusal.Refusal.TheVariants.{Io}
-use Rattle.store_commands.specs.Reading.{OfStore, store_ended, IsReadable}
+use Rattle.store_commands.specs.Reading.{OfStore, refusal_ended, store_ended, IsReadable}
 
 -- ---- lists
 
@@ -74,7 +74,7 @@ module _ {D : Type 0} {g : Ghosts D} (story : D → Story) where
   pub read_and_written : (size failed : D → ℕ) (tells : Bool) (old new : Store D g) (r : Result (Unit {0}) Refusal) → IfErr r (λ e. e ≡ Io) → OnlyReadsStore size story failed tells done old new
       → OnlyReadsStore size story failed tells (store_ended r) old new
   read_and_written size failed tells old new (Ok unit) io reads = reads
-  read_and_written size failed tells old new (Err e) io reads = subst (λ (x : Refusal). OnlyReadsStore size story failed tells (store_ended (Err x)) old new) (sym io) reads
+  read_and_written size failed tells old new (Err e) io reads = subst (λ (x : Refusal). OnlyReadsStore size story failed tells (refusal_ended x) old new) (sym io) reads
 
   -- a writer that fails is no failure of the store
   pub read_unwritten : (size failed : D → ℕ) (tells : Bool) (old new : Store D g) (r : tables.Refusal) → r ≡ Write → OnlyReadsStore size story failed tells (refused r) old new

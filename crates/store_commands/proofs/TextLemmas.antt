@@ -7,7 +7,7 @@ use Rattle.arrow_schema.specs.Column.{PlainSchema}
 use Rattle.cells.specs.Cell.{Cell, PlainTable}
 use Rattle.catalogue.specs.Entries.{PlainEntry}
 use Rattle.query.specs.Query.{PlainQuery}
-use Rattle.query.specs.Selection.{selection}
+use Rattle.query.specs.declared.row_form.RowForm.{RowForm}
 use Rattle.text_import.specs.declared.refusal.Refused.{Refused}
 use Rattle.tables.specs.declared.refusal.Refusal as tables
 use Rattle.store.specs.Reading.{ReadsTable}
@@ -27,7 +27,7 @@ use Rattle.facts.specs.Outcomes.{Reports}
 use Rattle.command_refusals.specs.Refusals.{text_refusal}
 use Rattle.store_commands.specs.Printed.{schema_text, RefusesPrinting}
 use Rattle.store_commands.specs.TextRows.{InputGives, IfOfText, HintsAt, IfHinted, RefusesText}
-use Rattle.store_commands.specs.Selecting.{rows_text, QueryAnswers, RefusesQuery}
+use Rattle.store_commands.specs.Selecting.{rows_text, printed_selection, QueryAnswers, RefusesQuery}
 
 -- the schema is that of the entry that is found
 pub input_gives : (form : TextForm) (found : Option PlainEntry) (input : Option (List ℕ)) (s : PlainSchema) (bytes : List ℕ) (given : Result (List (List Cell)) Refused)
@@ -98,19 +98,19 @@ refuses_text remaining form halted found old new s bytes (texts.Refused refused)
 refuses_text remaining form halted found old new s bytes texts.OutOfMemory on is whole gives end few = (on, there_is found s is, few)
 
 -- where all is written, the lines of the selection are
-pub lines_written : (halted tells : Bool) (image : Image) (found : Option PlainEntry) (q : PlainQuery) (table selected : PlainTable) (text : List ℕ) (old new : Option (List ℕ)) (r : Result (Unit {0}) Refusal)
-    → ReadsTable halted tells image found table → selection table q ≡ Ok selected → text ≡ rows_text selected.rows → OnOk r (Appends old new text)
-    → OnOk r ((s : PlainTable) × QueryAnswers halted tells image found q (Ok s) × Appends old new (rows_text s.rows))
-lines_written halted tells image found q table selected text old new (Ok done) reads answers is appends =
+pub lines_written : (form : RowForm) (halted tells : Bool) (image : Image) (found : Option PlainEntry) (q : PlainQuery) (table selected : PlainTable) (text : List ℕ) (old new : Option (List ℕ)) (r : Result (Unit {0}) Refusal)
+    → ReadsTable halted tells image found table → printed_selection form table q ≡ Ok selected → text ≡ rows_text form selected → OnOk r (Appends old new text)
+    → OnOk r ((s : PlainTable) × QueryAnswers form halted tells image found q (Ok s) × Appends old new (rows_text form s))
+lines_written form halted tells image found q table selected text old new (Ok done) reads answers is appends =
     (selected, record { table = table; reads = reads; answers = answers }, subst (λ b. Appends old new b) is appends)
-lines_written halted tells image found q table selected text old new (Err e) reads answers is appends = appends
+lines_written form halted tells image found q table selected text old new (Err e) reads answers is appends = appends
 
 -- where the output failed there is a selection
-pub selection_told : (halted tells : Bool) (image : Image) (found : Option PlainEntry) (q : PlainQuery) (table selected : PlainTable) (r : Result (Unit {0}) Refusal)
-    → IfErr r (λ e. e ≡ Io) → ReadsTable halted tells image found table → selection table q ≡ Ok selected → IfErr r (RefusesQuery halted tells image found q)
-selection_told halted tells image found q table selected (Ok done) io reads answers = tt
-selection_told halted tells image found q table selected (Err e) io reads answers =
-    subst (RefusesQuery halted tells image found q) (sym io) (selected, record { table = table; reads = reads; answers = answers })
+pub selection_told : (form : RowForm) (halted tells : Bool) (image : Image) (found : Option PlainEntry) (q : PlainQuery) (table selected : PlainTable) (r : Result (Unit {0}) Refusal)
+    → IfErr r (λ e. e ≡ Io) → ReadsTable halted tells image found table → printed_selection form table q ≡ Ok selected → IfErr r (RefusesQuery form halted tells image found q)
+selection_told form halted tells image found q table selected (Ok done) io reads answers = tt
+selection_told form halted tells image found q table selected (Err e) io reads answers =
+    subst (RefusesQuery form halted tells image found q) (sym io) (selected, record { table = table; reads = reads; answers = answers })
 
 -- where all is written, the lines of the schema of a table are
 pub schema_written : (found : Option PlainEntry) (s : PlainSchema) (text : List ℕ) (old new : Option (List ℕ)) (r : Result (Unit {0}) Refusal)

@@ -9,3 +9,4 @@ pub mod inner
 pub mod TextRows
 pub mod Selecting
 pub mod Reading
+pub mod Salvaging

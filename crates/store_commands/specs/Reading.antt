@@ -19,10 +19,13 @@ OfStore P there Io = there
 OfStore P there _ = ⊥
 
 -- how the store's own calls ended where the program answers so
-abbrev pub store_ended : Result (Unit {0}) Refusal → PlainReply
-store_ended (Ok unit) = done
-store_ended (Err (Store r)) = refused r
-store_ended (Err _) = done
+abbrev pub refusal_ended : Refusal → PlainReply
+refusal_ended (Store r) = refused r
+refusal_ended _ = done
+
+abbrev pub store_ended : {T : Type 0} → Result T Refusal → PlainReply
+store_ended (Ok x) = done
+store_ended (Err refusal) = refusal_ended refusal
 
 -- the table of a name can be read
 abbrev pub IsReadable : (halted : Bool) → Image → PlainCatalogue → (List ℕ × ℕ) → Type 0

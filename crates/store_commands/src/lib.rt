@@ -2,7 +2,8 @@
 //!
 //! [`apply_command`], [`import_input`], [`append_input`] and [`append_text`] change its tables; [`print_tables`],
 //! [`print_schema`], [`print_selection`], [`print_summary`], [`export_table`] and [`check_tables`] read them; [`compact_tables`] moves their rows together,
-//! [`upgrade_store`] gives their segments digests, and [`copy_tables`] copies all into another store. Their contracts say which bytes are taken and given, and what became of the store.
+//! [`upgrade_store`] gives their segments digests, [`copy_tables`] copies all into another store, and [`salvage_table`] writes what can be read of a
+//! damaged one. Their contracts say which bytes are taken and given, and what became of the store.
 //! [`recode`] reads a stream and writes its canonical form.
 //!
 //! ```
@@ -18,6 +19,7 @@ mod creating;
 mod input;
 mod printing;
 mod reading;
+mod salvaging;
 mod selecting;
 mod stream;
 mod summing;
@@ -31,6 +33,7 @@ pub use creating::new_table;
 pub use input::LARGEST_INPUT;
 pub use printing::{lines_of_tables, print_schema, print_tables};
 pub use reading::{check_tables, export_table};
+pub use salvaging::salvage_table;
 pub use selecting::{print_selection, query_of};
 pub use stream::recode;
 pub use summing::print_summary;

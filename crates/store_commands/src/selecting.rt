@@ -4,18 +4,20 @@ ghost use Rattle.std.specs.Option.{option_copied};
 ghost use Rattle.std.specs.Io.KnownBytes.{Appends};
 ghost use Rattle.sector_dev.specs.Disk.{now, shown_image};
 ghost use Rattle.catalogue.specs.Edits.{entry_of};
+ghost use Rattle.arrow_schema.specs.View.{column_of};
 ghost use Rattle.cells.specs.Cell.{PlainTable};
 ghost use Rattle.values.specs.TableView.{table_of};
 ghost use Rattle.values.specs.Borrowed.{borrowed_cells};
-ghost use Rattle.query.specs.Line.{line};
-ghost use Rattle.query.specs.View.{query_in, condition_in};
+ghost use Rattle.query.specs.ObjectLine.{line_in};
+ghost use Rattle.query.specs.View.{query_in, condition_in, Reports};
 ghost use Rattle.store.specs.Fits.{device_of, is_halted, listed_in};
 ghost use Rattle.store.specs.Reading.{OnlyReadsStore};
 ghost use Rattle.store_commands.specs.Reading.{store_ended};
-ghost use Rattle.store_commands.specs.Selecting.{named_columns, conditions_of, stated_query, RefusesWords, rows_text, AreLines, RefusesLines, QueryAnswers, RefusesQuery};
+ghost use Rattle.store_commands.specs.Selecting.{named_columns, conditions_of, stated_query, RefusesWords, rows_text, is_printable, printed_selection, AreLines, RefusesLines, QueryAnswers, RefusesQuery};
 
+use arrow_schema::Field;
 use command_refusals::{Refusal, write_whole};
-use query::{Condition, Query, json_line};
+use query::{Condition, Query, QueryError, RowForm, are_named_apart, line_in};
 use sector_dev::SectorDevice;
 use selection::select;
 use std::alloc::{AllocError, Global};
@@ -82,48 +84,90 @@ pub fn query_of(
     })
 }
 
-fn push_line(alloc: Global, text: &mut Vec<u8>, row: Values<'_>) -> Result<(), AllocError>
-    ensures { OnOk result (text.new.items ≡ text.old.items ++ line (borrowed_cells row.entry) ++ codes "\n") }
+fn push_line(
+    alloc: Global,
+    text: &mut Vec<u8>,
+    form: RowForm,
+    fields: &[Field],
+    row: Values<'_>,
+) -> Result<(), AllocError>
+    ensures { OnOk result (text.new.items ≡ text.old.items ++ line_in form (map column_of fields.now) (borrowed_cells row.entry) ++ codes "\n") }
 {
-    text.extend_from_slice(&json_line(alloc, row)?)?;
+    text.extend_from_slice(&line_in(alloc, form, fields, row)?)?;
     text.extend_from_slice(b"\n")
 }
 
-fn lines_of_rows(alloc: Global, table: &Table) -> Result<Vec<u8>, AllocError>
-    ensures { IfOk result (λ v. v.items ≡ rows_text (table_of table.now).rows) }
+fn lines_of_rows(alloc: Global, form: RowForm, table: &Table) -> Result<Vec<u8>, AllocError>
+    ensures { IfOk result (λ v. v.items ≡ rows_text form (table_of table.now)) }
 {
     let mut text = Vec::new(alloc);
+    let fields = table.schema().fields.as_slice();
     for row in table.rows() {
-        push_line(alloc, &mut text, row)?;
+        push_line(alloc, &mut text, form, fields, row)?;
     }
     Ok(text)
 }
 
-// The lines of what a query selects from a table.
-fn lines_of_selection(alloc: Global, table: &Table, query: &Query) -> Result<Vec<u8>, Refusal>
-    ensures lines { IfOk result (λ v. AreLines (table_of table.now) (query_in query.now) v.items) }
-    ensures refused { IfErr result (RefusesLines (table_of table.now) (query_in query.now)) }
+// An object has a member for each column, so that it must be the only one of its name.
+fn can_be_printed(form: RowForm, table: &Table) -> bool
+    ensures { result ≡ is_printable form (table_of table.now) }
 {
-    let selected = select(alloc, table, query)?;
-    Ok(lines_of_rows(alloc, &selected)?)
+    match form {
+        RowForm::Array => true,
+        RowForm::Object => are_named_apart(&table.schema().fields),
+    }
 }
 
-/// Prints each row that a query selects from a table, as a line of JSON. All lines are made before the first is written.
+// What a query selects from a table, where it can be printed in this form.
+fn selection_to_print(
+    alloc: Global,
+    form: RowForm,
+    table: &Table,
+    query: &Query,
+) -> Result<Table, QueryError>
+    ensures ok { IfOk result (λ selected. printed_selection form (table_of table.now) (query_in query.now) ≡ Ok (table_of selected)) }
+    ensures refused { IfErr result (λ e. Reports e (printed_selection form (table_of table.now) (query_in query.now))) }
+{
+    let selected = select(alloc, table, query)?;
+    if !can_be_printed(form, &selected) {
+        return Err(QueryError::UnknownColumn);
+    }
+    Ok(selected)
+}
+
+// The lines of what a query selects from a table.
+fn lines_of_selection(
+    alloc: Global,
+    form: RowForm,
+    table: &Table,
+    query: &Query,
+) -> Result<Vec<u8>, Refusal>
+    ensures lines { IfOk result (λ v. AreLines form (table_of table.now) (query_in query.now) v.items) }
+    ensures refused { IfErr result (RefusesLines form (table_of table.now) (query_in query.now)) }
+{
+    let selected = selection_to_print(alloc, form, table, query)?;
+    Ok(lines_of_rows(alloc, form, &selected)?)
+}
+
+/// Prints each row that a query selects from a table, as a line of JSON: an array, or an object by the names of the columns. All lines are made before
+/// the first is written.
 ///
 /// # Errors
-/// Those of [`Store::read`]; `Query` where the query is refused; `Io` where a write fails, and then some lines may be written.
+/// Those of [`Store::read`]; `Query` where the query is refused, or with `UnknownColumn` where two of the chosen columns have the same name and rows are
+/// objects; `Io` where a write fails, and then some lines may be written.
 pub fn print_selection<D: SectorDevice, W: Write>(
     alloc: Global,
     store: &mut Store<D>,
     name: &str,
     query: &Query,
+    form: RowForm,
     output: &mut W,
 ) -> Result<(), Refusal>
     // What is written are the lines of the selection of the table that reads show, and nothing else.
-    ensures written { OnOk result ((selected : PlainTable) × QueryAnswers (is_halted store.old) D.tells (shown_image (now (D.story (device_of store.old))))
+    ensures written { OnOk result ((selected : PlainTable) × QueryAnswers form (is_halted store.old) D.tells (shown_image (now (D.story (device_of store.old))))
         (entry_of (listed_in store.old) name.now) (query_in query.now) (Ok selected)
-        × Appends (W.contents output.old) (W.contents output.new) (rows_text selected.rows)) }
-    ensures told { IfErr result (RefusesQuery (is_halted store.old) D.tells (shown_image (now (D.story (device_of store.old))))
+        × Appends (W.contents output.old) (W.contents output.new) (rows_text form selected)) }
+    ensures told { IfErr result (RefusesQuery form (is_halted store.old) D.tells (shown_image (now (D.story (device_of store.old))))
         (entry_of (listed_in store.old) name.now) (query_in query.now)) }
     // The store is only read.
     ensures reads { OnlyReadsStore D.size D.story D.failed D.tells (store_ended result) store.old store.new }
@@ -131,6 +175,6 @@ pub fn print_selection<D: SectorDevice, W: Write>(
     ensures silent { IfErr result (λ refusal. refusal ≢ Refusal.Io → output.new ≡ output.old) }
 {
     let table = store.read(alloc, name)?;
-    let text = lines_of_selection(alloc, &table, query)?;
+    let text = lines_of_selection(alloc, form, &table, query)?;
     write_whole(output, &text)
 }

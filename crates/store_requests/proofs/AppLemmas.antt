@@ -10,6 +10,7 @@ use Rattle.clap.specs.Walk.{Held, Row, Rule, first_of, one_of, all_of, arg_by_in
 use Rattle.clap.specs.Simple.{App, HasMatchesOf, Shape, app_of, built}
 use Rattle.clap.specs.declared.builder.command.Command.{Command}
 use Rattle.clap.specs.Matches.{first_value, found_of, one_text}
+use Rattle.clap.specs.declared.parser.matches.Found.{Found}
 use Rattle.clap.specs.Kinds.{IsAmong, Kinds, or_else}
 use Rattle.clap.specs.Faults.{fault_of, is_simple_and_free, defaults_fault, check_fault}
 use Rattle.clap.specs.declared.builder.value_parser.ValueParser.{ValueParser}
@@ -24,8 +25,8 @@ use Rattle.store_requests.specs.Apps.{HasFound, takes_number}
 use Rattle.store_requests.specs.Asked.{request_word}
 use Rattle.store_requests.specs.Operands.{number_of, version_named, operands, names_file, names_table, wanted, are_as_many, are_right, IsNamedBy, Names}
 use Rattle.store_requests.specs.StoreWords.{is_of_store, is_store_word, first_word}
-use Rattle.store_requests.specs.declared.store_command_line.Parameters.{Parameters}
-use Rattle.store_requests.specs.declared.store_command_line.Parameters.TheVariants as parameters
+use Rattle.store_requests.specs.declared.command_parameters.Parameters.{Parameters}
+use Rattle.store_requests.specs.declared.command_parameters.Parameters.TheVariants as parameters
 use Rattle.store_requests.specs.declared.store_words.StoreCommand.TheVariants as commands
 use Rattle.store_requests.specs.declared.store_words.StoreRequest.{StoreRequest}
 use Rattle.store_requests.specs.declared.store_words.StoreRequest.TheVariants as requests
@@ -305,12 +306,13 @@ append_stream forms name (a ∷ []) e = absurd (some_kind _ _ (last_fault (appen
 append_stream forms name (a ∷ b ∷ []) e = refl
 append_stream forms name (a ∷ b ∷ c ∷ rest) e = absurd (some_kind _ _ e)
 
-abbrev options_in : Text → Held → Option Text × Option Text × Option Text
+abbrev options_in : Text → Held → Option Text × Option Text × Option Text × Option Text
 options_in name h =
     let rows = finished (query_top name).rules h in
-    (first_of (codes "columns") rows, first_of (codes "limit") rows, first_of (codes "save") rows)
+    (first_of (codes "columns") rows, first_of (codes "limit") rows, first_of (codes "save") rows, one_of (codes "objects") rows)
 
-query_alone : (name : Text) (ops : List Text) → operands_fault (query_top name) ops ≡ [] → options_in name (operands_held (query_top name) ops) ≡ (None, None, None)
+query_alone : (name : Text) (ops : List Text) → operands_fault (query_top name) ops ≡ []
+    → options_in name (operands_held (query_top name) ops) ≡ (None, None, None, Some (codes "false"))
 unfolding walked clap_on_literals
 query_alone name [] e = absurd (some_kind _ _ e)
 query_alone name (a ∷ []) e = absurd (some_kind _ _ e)
@@ -351,6 +353,13 @@ found_one m rows id e = ap (one_of id) (sym e) ∙ sym (one_text-rows (found_of 
 
 found_values : (m : ArgMatches) (rows : List Row) (id : Text) → rows_of (found_of m) ≡ rows → row_values id rows ≡ values_of (found_of m) id
 found_values m rows id e = ap (row_values id) (sym e) ∙ ap (λ (o : Option (List Text)). unwrap_or o []) (sym (raw_values-rows (found_of m) id))
+
+-- none of the options of a query was found
+record HasNoOption (found : Found) : Type 0 where
+  pub columns : first_value found (codes "columns") ≡ None
+  pub limit : first_value found (codes "limit") ≡ None
+  pub save : first_value found (codes "save") ≡ None
+  pub objects : one_text found (codes "objects") ≡ Some (codes "false")
 
 module _ (word : Text) (words : List Text) (m : ArgMatches) (a : App) (name : Text) (parsed : Parsed a (word ∷ words) m) where
   file_found : a ≡ file_app name → (ops : List Text) → operands words ≡ Some ops → ops ≡ value_of (found_of m) (codes "STORE") ∷ []
@@ -459,18 +468,19 @@ module _ (word : Text) (words : List Text) (m : ArgMatches) (a : App) (name : Te
       let rows = (p.matches refl).0 ∙ reads.rows in
       sym (found_value m _ (codes "as") rows) ∙ append_stream forms name ops (sym reads.fault ∙ p.faultless refl)
 
-  query_options : a ≡ query_app name → (ops : List Text) → operands words ≡ Some ops
-      → (first_value (found_of m) (codes "columns") ≡ None) × (first_value (found_of m) (codes "limit") ≡ None) × (first_value (found_of m) (codes "save") ≡ None)
+  query_options : a ≡ query_app name → (ops : List Text) → operands words ≡ Some ops → HasNoOption (found_of m)
   unfolding clap_on_literals
   query_options is ops e =
       let reads = reads_operands (query_app name) word words ops e refl refl (query_plain name) in
       let p : Parsed (query_app name) (word ∷ words) m = subst (λ (x : App). Parsed x (word ∷ words) m) is parsed in
       let rows = (p.matches refl).0 ∙ reads.rows in
-      let none = query_alone name ops (sym reads.fault ∙ p.faultless refl) in (
-        sym (found_first m _ (codes "columns") rows) ∙ (λ i. (none i).0),
-        sym (found_first m _ (codes "limit") rows) ∙ (λ i. (none i).1),
-        sym (found_first m _ (codes "save") rows) ∙ (λ i. (none i).2),
-      )
+      let none = query_alone name ops (sym reads.fault ∙ p.faultless refl) in
+      record {
+        columns = sym (found_first m _ (codes "columns") rows) ∙ (λ i. (none i).0);
+        limit = sym (found_first m _ (codes "limit") rows) ∙ (λ i. (none i).1);
+        save = sym (found_first m _ (codes "save") rows) ∙ (λ i. (none i).2);
+        objects = sym (found_one m _ (codes "objects") rows) ∙ (λ i. (none i).3);
+      }
 
 no_text : (o : Option (Bor Text)) → option_map (λ s. s.now) o ≡ None → o ≡ None
 no_text None e = refl
@@ -526,8 +536,7 @@ module _ (word : Text) (words : List Text) (m : ArgMatches) (a : App) (own : IsO
       let own_app = subst (λ (b : Parameters). IsAppWith word b a) is own in
       true≢false (ap (λ (form : Text). bytes_eq form (codes "stream")) (sym (append_default word words m a word parsed own_app.0 own_app.1 ops e)) ∙ other)
 
-  asks_all : parameters_of word ≡ parameters.TableAndQuery → (ops : List Text) → operands words ≡ Some ops
-      → (first_value (found_of m) (codes "columns") ≡ None) × (first_value (found_of m) (codes "limit") ≡ None) × (first_value (found_of m) (codes "save") ≡ None)
+  asks_all : parameters_of word ≡ parameters.TableAndQuery → (ops : List Text) → operands words ≡ Some ops → HasNoOption (found_of m)
   asks_all is ops e = query_options word words m a word parsed (subst (λ (b : Parameters). IsAppWith word b a) is own) ops e
 
   of_word : (w : Text) (b : Parameters) → w ≡ word → parameters_of w ≡ b → parameters_of word ≡ b
@@ -555,6 +564,9 @@ module _ (word : Text) (words : List Text) (m : ArgMatches) (a : App) (own : IsO
             ∙ (λ i. sym found.0 i ∷ sym found.1 i ∷ value_of (found_of m) (codes "SECTORS") ∷ []),
         found.2,
       ))
+  names_command (requests.Salvage file name) is found =
+      named (requests.Salvage file name)
+      (λ ops e. names_one_table (of_word (codes "salvage") parameters.Table is refl) ops e ∙ (λ i. sym found.0 i ∷ sym found.1 i ∷ []))
   names_command (requests.Replay script) is found = named (requests.Replay script) (λ ops e. tt)
   names_command (requests.Command file commands.Tables) is found =
       named (requests.Command file commands.Tables)
@@ -605,20 +617,20 @@ module _ (word : Text) (words : List Text) (m : ArgMatches) (a : App) (own : IsO
   names_command (requests.Command file (commands.AppendText name form)) is found =
       named (requests.Command file (commands.AppendText name form))
       (λ ops e. absurd (asks_stream (of_word (codes "append") parameters.TableAndRows is refl) ops e found.1.1))
-  names_command (requests.Command file (commands.Query name query)) is found =
-      named (requests.Command file (commands.Query name query))
+  names_command (requests.Command file (commands.Query name query form)) is found =
+      named (requests.Command file (commands.Query name query form))
       (λ ops e.
       let taken = of_word (codes "query") parameters.TableAndQuery is refl in
       let none = asks_all taken ops e in
       let has = found.1.1 in (
         names_conditions taken ops e ∙ (λ i. sym found.0 i ∷ sym found.1.0 i ∷ sym has.conditions i),
-        (no_text query.columns (has.columns ∙ none.0), has.limit ∙ ap (option_map number_of) none.1),
+        (no_text query.columns (has.columns ∙ none.columns), has.limit ∙ ap (option_map number_of) none.limit, found.1.2.arrays none.objects),
       ))
   names_command (requests.Command file (commands.SaveAs from to query)) is found =
       named (requests.Command file (commands.SaveAs from to query))
       (λ ops e.
       let none = asks_all (of_word (codes "query") parameters.TableAndQuery is refl) ops e in
-      absurd (none-some to.now (sym none.2 ∙ sym found.1.1)))
+      absurd (none-some to.now (sym none.save ∙ sym found.1.1)))
 
 -- ---- arguments that are right
 
@@ -646,15 +658,16 @@ file_number word false false true u t e f g is = named_as parameters.Nothing (co
 file_number word false false false true t e f g is = named_as parameters.Nothing (codes "upgrade") word g (refl, refl)
 file_number word false false false false t e f g is = let none : false ≡ true = rw (t, e, f, g) at is in absurd (true≢false (sym none))
 
-table_number : (word : Text) (import drops schema export : Bool) → bytes_eq (codes "import") word ≡ import → bytes_eq (codes "drop") word ≡ drops
+table_number : (word : Text) (import drops schema export salvage : Bool) → bytes_eq (codes "import") word ≡ import → bytes_eq (codes "drop") word ≡ drops
     → bytes_eq (codes "schema") word ≡ schema
-    → bytes_eq (codes "export") word ≡ export → names_table word ≡ true → IsOfNames parameters.Table word
+    → bytes_eq (codes "export") word ≡ export → bytes_eq (codes "salvage") word ≡ salvage → names_table word ≡ true → IsOfNames parameters.Table word
 unfolding names_file names_table other_parameters parameters_of
-table_number word true d s x ei ed es ex is = named_as parameters.Table (codes "import") word ei (refl, refl)
-table_number word false true s x ei ed es ex is = named_as parameters.Table (codes "drop") word ed (refl, refl)
-table_number word false false true x ei ed es ex is = named_as parameters.Table (codes "schema") word es (refl, refl)
-table_number word false false false true ei ed es ex is = named_as parameters.Table (codes "export") word ex (refl, refl)
-table_number word false false false false ei ed es ex is = let none : false ≡ true = rw (ei, ed, es, ex) at is in absurd (true≢false (sym none))
+table_number word true d s x v ei ed es ex ev is = named_as parameters.Table (codes "import") word ei (refl, refl)
+table_number word false true s x v ei ed es ex ev is = named_as parameters.Table (codes "drop") word ed (refl, refl)
+table_number word false false true x v ei ed es ex ev is = named_as parameters.Table (codes "schema") word es (refl, refl)
+table_number word false false false true v ei ed es ex ev is = named_as parameters.Table (codes "export") word ex (refl, refl)
+table_number word false false false false true ei ed es ex ev is = named_as parameters.Table (codes "salvage") word ev (refl, refl)
+table_number word false false false false false ei ed es ex ev is = let none : false ≡ true = rw (ei, ed, es, ex, ev) at is in absurd (true≢false (sym none))
 
 rename_number : (word : Text) → bytes_eq (codes "rename") word ≡ true → IsOfNames parameters.TableAndNewName word
 unfolding names_file names_table other_parameters parameters_of
@@ -670,7 +683,7 @@ which word words true t r ef et er right =
 which word words false true r ef et er right =
     let m = as_many 2 (operands words) (rw (ef, et) at right) in
     of_table (table_number word (bytes_eq (codes "import") word) (bytes_eq (codes "drop") word) (bytes_eq (codes "schema") word) (bytes_eq
-    (codes "export") word) refl refl refl refl et) m.0 m.1 m.2
+    (codes "export") word) (bytes_eq (codes "salvage") word) refl refl refl refl refl et) m.0 m.1 m.2
 which word words false false true ef et er right =
     let m = as_many 3 (operands words) (rw (ef, et, er) at right) in
     of_rename (rename_number word er) m.0 m.1 m.2

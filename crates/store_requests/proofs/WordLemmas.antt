@@ -22,10 +22,10 @@ other_word other word differs = other_false other word (bytes_eq other word) ref
 -- a word that is none of the others
 pub last_word : (word : Text) → is_store_word word ≡ true → bytes_eq (codes "format") word ≡ false → bytes_eq (codes "import") word ≡ false → bytes_eq (codes "append") word ≡ false
     → bytes_eq (codes "create") word ≡ false → bytes_eq (codes "rename") word ≡ false → bytes_eq (codes "drop") word ≡ false → bytes_eq (codes "schema") word ≡ false → bytes_eq (codes "export") word ≡ false
-    → bytes_eq (codes "query") word ≡ false → bytes_eq (codes "check") word ≡ false → bytes_eq (codes "info") word ≡ false → bytes_eq (codes "compact") word ≡ false → bytes_eq (codes "upgrade") word ≡ false → bytes_eq (codes "copy") word ≡ false → bytes_eq (codes "replay") word ≡ false → codes "tables" ≡ word
+    → bytes_eq (codes "query") word ≡ false → bytes_eq (codes "check") word ≡ false → bytes_eq (codes "info") word ≡ false → bytes_eq (codes "compact") word ≡ false → bytes_eq (codes "upgrade") word ≡ false → bytes_eq (codes "copy") word ≡ false → bytes_eq (codes "salvage") word ≡ false → bytes_eq (codes "replay") word ≡ false → codes "tables" ≡ word
 unfolding is_store_word changes_word makes_word reads_word takes_input_word reads_table_word
-last_word word is format import append create rename drop schema export query check info compact upgrade copy replay =
-    (bytes_eq-Decides (codes "tables") word).0 (sym (rw (import, append, create, rename, drop, compact, upgrade, format, copy, replay, schema, export, query, check, info) (or-false (bytes_eq (codes "tables") word))) ∙ is)
+last_word word is format import append create rename drop schema export query check info compact upgrade copy salvage replay =
+    (bytes_eq-Decides (codes "tables") word).0 (sym (rw (import, append, create, rename, drop, compact, upgrade, format, copy, replay, schema, export, salvage, query, check, info) (or-false (bytes_eq (codes "tables") word))) ∙ is)
 
 -- the words of a test may be turned round
 pub turned : (word other : Text) → bytes_eq word other ≡ false → bytes_eq other word ≡ false

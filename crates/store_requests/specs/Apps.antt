@@ -8,9 +8,11 @@ use Rattle.clap.specs.declared.builder.action.ArgAction.TheVariants.{SetTrue}
 use Rattle.clap.specs.declared.builder.value_parser.ValueParser.{ValueParser}
 use Rattle.clap.specs.declared.builder.value_parser.ValueParser.TheVariants as parsers
 use Rattle.clap.specs.declared.parser.matches.Found.{Found}
+use Rattle.query.specs.declared.row_form.RowForm.{RowForm}
+use Rattle.query.specs.declared.row_form.RowForm.TheVariants.{Array, Object}
 use Rattle.clap.specs.declared.error.kind.ErrorKind.TheVariants.{OutOfMemory}
-use Rattle.store_requests.specs.declared.store_command_line.Parameters.{Parameters}
-use Rattle.store_requests.specs.declared.store_command_line.Parameters.TheVariants as parameters
+use Rattle.store_requests.specs.declared.command_parameters.Parameters.{Parameters}
+use Rattle.store_requests.specs.declared.command_parameters.Parameters.TheVariants as parameters
 use Rattle.store_requests.specs.Choices.{IsChoice}
 use Rattle.store_requests.specs.Operands.{names_file, names_table, number_of, version_named}
 use Rattle.store_requests.specs.declared.store_command_line.Mistake.{Mistake}
@@ -86,11 +88,16 @@ append_app forms name = with_rule (with_rule (table_app name) (form_rule forms))
 abbrev pub limit_rule : Rule
 limit_rule = record (option_rule (codes "limit")) { parser = Some (parsers.Unsigned 0 18446744073709551615) }
 
+-- an option without a value
+abbrev pub objects_rule : Rule
+objects_rule = record (new_rule (codes "objects")) { long = Some (codes "objects"); action = Some SetTrue }
+
 abbrev pub conditions_app : Text → App
 conditions_app name = with_rule (table_app name) (repeated_rule (codes "CONDITION"))
 
 abbrev pub query_app : Text → App
-query_app name = with_rule (with_rule (with_rule (conditions_app name) (option_rule (codes "columns"))) limit_rule) (option_rule (codes "save"))
+query_app name = with_rule (with_rule (with_rule (with_rule (conditions_app name) (option_rule (codes "columns"))) limit_rule) (option_rule (codes "save")))
+    objects_rule
 
 -- the command of a name, by what it takes
 abbrev pub IsAppWith : Text → Parameters → App → Type 0
@@ -137,6 +144,11 @@ pub record HasQuery (found : Found) (query : QueryWords) : Type 0 where
   pub columns : option_map (λ s. s.now) query.columns ≡ first_value found (codes "columns")
   pub limit : query.limit ≡ option_map number_of (first_value found (codes "limit"))
 
+-- rows are objects where the option stands
+pub record HasForm (found : Found) (form : RowForm) : Type 0 where
+  pub arrays : one_text found (codes "objects") ≡ Some (codes "false") → form ≡ Array
+  pub objects : one_text found (codes "objects") ≡ Some (codes "true") → form ≡ Object
+
 -- numbers are printed as JSON where the option stands
 pub record HasJson (found : Found) (as_json : Bool) : Type 0 where
   pub lines : one_text found (codes "json") ≡ Some (codes "false") → as_json ≡ false
@@ -148,9 +160,9 @@ HasNames found (commands.Import name) = name.now ≡ value_of found (codes "NAME
 HasNames found (commands.Create name fields) = (name.now ≡ value_of found (codes "NAME")) × (texts fields.items ≡ values_of found (codes "FIELD"))
 HasNames found (commands.Append name) = name.now ≡ value_of found (codes "NAME")
 HasNames found (commands.AppendText name form) = (name.now ≡ value_of found (codes "NAME")) × (bytes_eq (value_of found (codes "as")) (codes "stream") ≡ false)
-HasNames found (commands.Query name query) = (name.now ≡ value_of found (codes "NAME")) × HasQuery found query
+HasNames found (commands.Query name query form) = (name.now ≡ value_of found (codes "NAME")) × HasQuery found query × HasForm found form
 HasNames found (commands.SaveAs from to query) =
-    (from.now ≡ value_of found (codes "NAME")) × (Some to.now ≡ first_value found (codes "save")) × HasQuery found query
+    (from.now ≡ value_of found (codes "NAME")) × (Some to.now ≡ first_value found (codes "save")) × HasQuery found query × HasForm found Array
 HasNames found (commands.Drop name) = name.now ≡ value_of found (codes "NAME")
 HasNames found (commands.Schema name) = name.now ≡ value_of found (codes "NAME")
 HasNames found (commands.Export name) = name.now ≡ value_of found (codes "NAME")
@@ -165,6 +177,7 @@ HasFound found (requests.Format path sectors version) =
     × (version ≡ version_named (first_value found (codes "format-version")))
 HasFound found (requests.Copy path new sectors) =
     (path.now ≡ value_of found (codes "STORE")) × (new.now ≡ value_of found (codes "NEW")) × (sectors ≡ number_of (value_of found (codes "SECTORS")))
+HasFound found (requests.Salvage path name) = (path.now ≡ value_of found (codes "STORE")) × (name.now ≡ value_of found (codes "NAME"))
 HasFound found (requests.Replay words) =
     (words.script.now ≡ value_of found (codes "SCRIPT")) × (words.sectors ≡ number_of (value_of found (codes "sectors")))
     × (words.fail ≡ number_of (value_of found (codes "fail"))) × (words.stop ≡ number_of (value_of found (codes "stop")))

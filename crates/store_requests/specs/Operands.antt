@@ -6,6 +6,7 @@ use Rattle.clap.specs.Walk.{texts}
 use Rattle.clap.specs.Words.{Text}
 use Rattle.commit.specs.declared.sector.FormatVersion.{FormatVersion}
 use Rattle.commit.specs.declared.sector.FormatVersion.TheVariants.{One, Two}
+use Rattle.query.specs.declared.row_form.RowForm.TheVariants.{Array}
 use Rattle.store_requests.specs.declared.store_words.StoreCommand.{StoreCommand}
 use Rattle.store_requests.specs.declared.store_words.StoreCommand.TheVariants as commands
 use Rattle.store_requests.specs.declared.store_words.StoreRequest.{StoreRequest}
@@ -33,7 +34,9 @@ names_file word =
     bytes_eq (codes "tables") word || (bytes_eq (codes "check") word || (bytes_eq (codes "compact") word || bytes_eq (codes "upgrade") word))
 
 unfoldable pub names_table : Text → Bool
-names_table word = bytes_eq (codes "import") word || (bytes_eq (codes "drop") word || (bytes_eq (codes "schema") word || bytes_eq (codes "export") word))
+names_table word =
+    bytes_eq (codes "import") word || (bytes_eq (codes "drop") word || (bytes_eq (codes "schema") word || (bytes_eq (codes "export") word
+    || bytes_eq (codes "salvage") word)))
 
 -- how many operands these commands take, and the one that gives a table another name
 abbrev pub wanted : Text → Option ℕ
@@ -64,7 +67,7 @@ names_in (commands.Create name fields) = name.now ∷ texts fields.items
 names_in (commands.Import name) = name.now ∷ []
 names_in (commands.Append name) = name.now ∷ []
 names_in (commands.AppendText name form) = name.now ∷ []
-names_in (commands.Query name query) = name.now ∷ texts query.conditions.items
+names_in (commands.Query name query form) = name.now ∷ texts query.conditions.items
 names_in (commands.SaveAs from to query) = from.now ∷ texts query.conditions.items
 names_in (commands.Rename from to) = from.now ∷ to.now ∷ []
 names_in (commands.Drop name) = name.now ∷ []
@@ -76,10 +79,10 @@ names_in (commands.Info as_json) = []
 names_in commands.Compact = []
 names_in commands.Upgrade = []
 
--- what it is without options: rows are appended of a stream, all columns of all rows are printed, and numbers as lines
+-- what it is without options: rows are appended of a stream, all columns of all rows are printed as arrays, and numbers as lines
 abbrev pub IsWithoutOptions : StoreCommand → Type 0
 IsWithoutOptions (commands.AppendText name form) = ⊥
-IsWithoutOptions (commands.Query name query) = (query.columns ≡ None) × (query.limit ≡ None)
+IsWithoutOptions (commands.Query name query form) = (query.columns ≡ None) × (query.limit ≡ None) × (form ≡ Array)
 IsWithoutOptions (commands.SaveAs from to query) = ⊥
 IsWithoutOptions (commands.Info as_json) = as_json ≡ false
 IsWithoutOptions _ = Unit {0}
@@ -90,6 +93,7 @@ IsNamedBy (requests.Command path command) words = (words ≡ path.now ∷ names_
 IsNamedBy (requests.Format path sectors version) words =
     (number : Text) × (words ≡ path.now ∷ number ∷ []) × (sectors ≡ number_of number) × (version ≡ Two)
 IsNamedBy (requests.Copy path new sectors) words = (number : Text) × (words ≡ path.now ∷ new.now ∷ number ∷ []) × (sectors ≡ number_of number)
+IsNamedBy (requests.Salvage path name) words = words ≡ path.now ∷ name.now ∷ []
 -- a script is played with options, which are no operands
 IsNamedBy (requests.Replay script) words = Unit {0}
 

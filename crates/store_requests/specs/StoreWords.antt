@@ -17,7 +17,8 @@ changes_word word =
 
 -- those that read one table; a query may be saved as another one
 unfoldable pub reads_table_word : Text → Bool
-reads_table_word word = bytes_eq (codes "schema") word || (bytes_eq (codes "export") word || bytes_eq (codes "query") word)
+reads_table_word word =
+    bytes_eq (codes "schema") word || (bytes_eq (codes "export") word || (bytes_eq (codes "salvage") word || bytes_eq (codes "query") word))
 
 -- those that read tables
 unfoldable pub reads_word : Text → Bool

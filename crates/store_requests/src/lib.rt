@@ -12,15 +12,20 @@
 //! ```
 #![tactic(auto)]
 
+mod command_parameters;
+mod found_values;
 mod naming;
 mod replaying;
 mod store_command_line;
 mod store_words;
+mod usages;
 
+pub use command_parameters::store_commands;
 pub use naming::refused_word;
 pub use replaying::ReplayWords;
-pub use store_command_line::{Mistake, command_lines, help_of_command, request_of, store_commands};
+pub use store_command_line::{Mistake, help_of_command, request_of};
 pub use store_words::{
     QueryWords, StoreCommand, StoreRequest, ask_for_help, ask_help_of_command, is_of_store,
     takes_input,
 };
+pub use usages::command_lines;

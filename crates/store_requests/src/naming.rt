@@ -101,11 +101,19 @@ fn word_of_command<'a>(
 fn word_of<'a>(alloc: Global, request: &StoreRequest<'a>, refusal: &Refusal) -> Option<Word<'a>> {
     match (request, refusal) {
         (
-            StoreRequest::Format { path, .. } | StoreRequest::Command { path, .. },
+            StoreRequest::Format { path, .. }
+            | StoreRequest::Salvage { path, .. }
+            | StoreRequest::Command { path, .. },
             Refusal::Opening(_),
         )
         // the number of sectors is what `format` is refused for
-        | (StoreRequest::Command { path, .. }, Refusal::BadSize) => named(Role::File, Some(path)),
+        | (
+            StoreRequest::Salvage { path, .. } | StoreRequest::Command { path, .. },
+            Refusal::BadSize,
+        ) => named(Role::File, Some(path)),
+        (StoreRequest::Salvage { name, .. }, Refusal::Store(tables::Refusal::NoTable)) => {
+            named(Role::Name, Some(name))
+        }
         (StoreRequest::Command { command, .. }, _) => word_of_command(alloc, command, refusal),
         _ => None,
     }

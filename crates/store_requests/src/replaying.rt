@@ -5,9 +5,8 @@ ghost use Rattle.store_requests.specs.Apps.{HasFound};
 ghost use Rattle.store_requests.specs.Asked.{request_word};
 ghost use Rattle.store_requests.specs.Choices.{IsNumber, IsChoice};
 
-use crate::store_command_line::{
-    format_version, number_in, option, version_in, with_operand, word,
-};
+use crate::command_parameters::{format_version, option, with_operand};
+use crate::found_values::{number_in, version_in, word};
 use crate::{Mistake, StoreRequest};
 use clap::builder::ValueParser;
 use clap::error::ErrorKind;

@@ -5,6 +5,7 @@ ghost use Rattle.store_requests.specs.StoreWords.{takes_input_word, changes_word
 
 use crate::ReplayWords;
 use commit::FormatVersion;
+use query::RowForm;
 use std::convert::AsStr;
 use text_import::TextForm;
 
@@ -30,6 +31,11 @@ pub enum StoreRequest<'a> {
         path: &'a str,
         new: &'a str,
         sectors: u64,
+    },
+    /// The stream of the rows of a table that can be read, where some may be damaged.
+    Salvage {
+        path: &'a str,
+        name: &'a str,
     },
     /// A script, played on a device in memory.
     Replay(ReplayWords<'a>),
@@ -61,10 +67,11 @@ pub enum StoreCommand<'a> {
         name: &'a str,
         form: TextForm<'a>,
     },
-    /// The rows that a query selects, as lines.
+    /// The rows that a query selects, as lines in a form.
     Query {
         name: &'a str,
         query: QueryWords<'a>,
+        form: RowForm,
     },
     /// The same, as a new table.
     SaveAs {
@@ -146,7 +153,7 @@ fn makes_word(word: &str) -> bool
 fn reads_table_word(word: &str) -> bool
     ensures { result ≡ reads_table_word word.now }
 {
-    matches!(word, "schema" | "export" | "query")
+    matches!(word, "schema" | "export" | "salvage" | "query")
 }
 
 #[tactic(auto, unfolding(crate::specs::StoreWords::reads_word))]

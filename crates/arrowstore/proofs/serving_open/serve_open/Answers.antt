@@ -41,7 +41,7 @@ unfolding Serves
 returns-in-Select-clause-serves g c =
     let e = c.print_selection.ensures in
     let new = c.print_selection.new in
-    serves_as g.R.Read.remaining g.W.Write.contents c.args.command (opened.Select c.in-Select.name c.in-Select.query) c.args.store.now new.store (channels c.args.input.now c.args.output.now c.args.hint.now)
+    serves_as g.R.Read.remaining g.W.Write.contents c.args.command (opened.Select c.in-Select.name c.in-Select.query c.in-Select.form) c.args.store.now new.store (channels c.args.input.now c.args.output.now c.args.hint.now)
     (channels c.args.input.now new.output c.args.hint.now) c.print_selection.result c.in-Select.is (record { written = e.written; told = e.told; leaves = e.reads; unhinted = refl })
 
 pub returns-in-Tables-clause-serves : goal.returns-in-Tables-clause-serves

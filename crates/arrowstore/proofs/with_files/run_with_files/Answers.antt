@@ -1,4 +1,5 @@
-use Rattle.std.proofs.Common.{◌∙◌, None, inl, inr, refl, sym, true≢false}
+use Rattle.std.proofs.Common.{◌∙◌, [], None, inl, inr, refl, sym, true≢false}
+use Rattle.arrowstore.proofs.EndLemmas.{reported_of_word, told_of_word}
 use Rattle.arrowstore.proofs.WordLemmas.{recode_of_no_store, own_of_no_store}
 use Rattle.arrowstore.proofs.with_files.run_with_files.Goals as goal
 
@@ -26,7 +27,10 @@ returns-then-is_of_store-clause-serves g c = λ _. c.run_on_store.ensures.serves
 pub returns-then-is_of_store-clause-reports : goal.returns-then-is_of_store-clause-reports
 returns-then-is_of_store-clause-reports g c =
     let is = sym c.is_of_store.ensures ∙ c.if-is_of_store.true in
-    elim c.run_on_store.ensures.serves [ inl none ↦ (None, inl is, none.2) | inr asked ↦ (asked.served.hint, inl is, asked.served.told) ]
+    elim c.run_on_store.ensures.serves [
+      | inl none ↦ (None, [], inl is, reported_of_word _ _ None [] _ _ _ _ _ _ none.2)
+      | inr asked ↦ (asked.served.hint, asked.served.left, inl is, told_of_word _ _ _ _ _ _ _ _ _ _ _ asked.asks.0 asked.served.told)
+    ]
 
 pub returns-clause-done : goal.returns-clause-done
 returns-clause-done g c = λ done. inl (c.run.ensures.done done)
@@ -47,7 +51,7 @@ pub returns-clause-serves : goal.returns-clause-serves
 returns-clause-serves g c = λ is. absurd (true≢false (sym is ∙ (sym c.is_of_store.ensures ∙ c.if-is_of_store.false)))
 
 pub returns-clause-reports : goal.returns-clause-reports
-returns-clause-reports g c = (None, inr refl, c.run.ensures.reports)
+returns-clause-reports g c = (None, [], inr (refl, refl), reported_of_word _ _ None [] _ _ _ _ _ _ c.run.ensures.reports)
 
 pub returns-then-is_of_store-clause-helps : goal.returns-then-is_of_store-clause-helps
 returns-then-is_of_store-clause-helps g c = λ _. inr (inr (inl (sym c.is_of_store.ensures ∙ c.if-is_of_store.true)))

@@ -1,25 +1,28 @@
 use Rattle.std.proofs.Common.{Some, ◌∙◌}
-use Rattle.arrowstore.proofs.FileLemmas.{ends_as, has_reported}
+use Rattle.store.specs.Salvaging.{plain_left}
+use Rattle.arrowstore.proofs.FileLemmas.{has_reported}
 use Rattle.arrowstore.proofs.with_files.serve_and_report.Goals as goal
 
 pub returns-in-Some-clause-serves : goal.returns-in-Some-clause-serves
-returns-in-Some-clause-serves g c = record {
+returns-in-Some-clause-serves g c = let e = c.end_whole_or_partly.ensures in record {
   part = c.serve-done.new.hint;
+  left = plain_left c.serve-done.new.left_out.items;
   result = c.serve-done.result;
   serves = c.serve-done.ensures.serves;
-  ends = ends_as c.serve-done.result c.end.result.status _ _ c.end.ensures.done c.end.ensures.refused;
+  ends = e.ends;
   hint = Some c.in-Some.hint;
   hints = c.in-Some.ensures;
-  told = has_reported _ _ _ _ _ _ c.serve-done.result c.end.result c.serve-done.ensures.silent c.end.ensures.done c.end.ensures.refused c.end.ensures.line;
+  told = has_reported _ _ _ _ _ _ _ _ _ c.serve-done.result c.end_whole_or_partly.result e.ends c.serve-done.ensures.silent e.silent e.lines e.line;
 }
 
 pub returns-clause-serves : goal.returns-clause-serves
 returns-clause-serves g c = let e = c.end_of_request.ensures in record {
   part = c.serve-done.new.hint;
+  left = plain_left c.serve-done.new.left_out.items;
   result = c.serve-done.result;
   serves = c.serve-done.ensures.serves;
-  ends = ends_as c.serve-done.result c.end_of_request.result.status _ _ e.done e.refused;
+  ends = e.ends;
   hint = e.line.0;
   hints = e.line.1 ∙ c.in-None.ensures;
-  told = has_reported _ _ _ _ _ _ c.serve-done.result c.end_of_request.result c.serve-done.ensures.silent e.done e.refused e.line.2;
+  told = has_reported _ _ _ _ _ _ _ _ _ c.serve-done.result c.end_of_request.result e.ends c.serve-done.ensures.silent e.silent e.lines e.line.2;
 }

@@ -9,7 +9,7 @@ returns-clause-lines c = (table_of c.in_ok-selected.selected, c.in_ok-selected.e
 pub returns-in_err-selected-clause-refused : goal.returns-in_err-selected-clause-refused
 returns-in_err-selected-clause-refused c =
     let p = err_from_is_err_and c.from_residual.result c.from_residual.ensures.1 in
-    rw (p.1, p.2) (query_refused _ _ c.in_err-selected.field-0.0 c.in_err-selected.ensures.refused)
+    rw (p.1, p.2) (query_refused _ _ _ c.in_err-selected.field-0.0 c.in_err-selected.ensures.refused)
 
 pub returns-in_err-lines_of_rows-clause-refused : goal.returns-in_err-lines_of_rows-clause-refused
 returns-in_err-lines_of_rows-clause-refused c =

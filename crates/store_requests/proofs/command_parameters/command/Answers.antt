@@ -1,5 +1,5 @@
 use Rattle.store_requests.proofs.AppLemmas.{own_of, own_any}
-use Rattle.store_requests.proofs.store_command_line.command.Goals as goal
+use Rattle.store_requests.proofs.command_parameters.command.Goals as goal
 
 pub returns-in-Nothing : goal.returns-in-Nothing
 returns-in-Nothing c = own_of _ _ _ _ c.parameters_of.ensures c.in-Nothing.is c.with_file.ensures

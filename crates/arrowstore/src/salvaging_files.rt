@@ -1,0 +1,42 @@
+// The rows of a table that can be read, of the store of a file.
+ghost use Rattle.std.specs.Prelude.{◌≡◌, IfErr};
+ghost use Rattle.store.specs.Salvaging.{plain_left};
+ghost use Rattle.store_commands.specs.Salvaging.{IsBrokenOff};
+ghost use Rattle.arrowstore.specs.OnFiles.{IsOpenedFile, SalvagesFile};
+
+use crate::copying_files::open_to_read;
+use crate::serving::take_places_of_streams;
+use command_refusals::Refusal;
+use sector_dev::{FileDevice, LockFile, SectorDevice};
+use std::fs::OpenFile;
+use std::io::{Read, Seek, Write};
+use std::rt::Files;
+use store::LeftOut;
+use store_commands::salvage_table;
+
+/// Writes the stream of all rows of a table that can be read. `left_out` is left with the segments that can't, where all others were written.
+pub(crate) fn serve_salvage<
+    F: Read + Write + Seek + OpenFile + LockFile + Drop,
+    H: Files<File = F> + AllocGlobal,
+    W: Write,
+>(
+    rt: &H,
+    path: &str,
+    name: &str,
+    output: &mut W,
+    left_out: &mut Vec<LeftOut>,
+) -> Result<(), Refusal>
+    ensures salvages { SalvagesFile ⟦<FileDevice<F> as SectorDevice>⟧ IsOpenedFile W.contents name.now output.old output.new
+        (plain_left left_out.old.items) (plain_left left_out.new.items) result }
+    ensures silent { IfErr result (λ refusal. ¬ IsBrokenOff refusal → output.new ≡ output.old) }
+{
+    let _places = take_places_of_streams(rt)?;
+    let mut store = open_to_read(rt, path)?;
+    match salvage_table(rt.alloc(), &mut store, name, output) {
+        Ok(segments) => {
+            *left_out = segments;
+            Ok(())
+        }
+        Err(refusal) => Err(refusal),
+    }
+}

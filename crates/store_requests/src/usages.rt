@@ -1,0 +1,150 @@
+// What the help says of each command of a store: its name, what it does, and an example.
+use std::alloc::{AllocError, Global};
+
+// A command as its help shows it.
+pub(crate) struct Usage {
+    pub(crate) name: &'static str,
+    about: &'static str,
+    example: &'static str,
+}
+
+// In the order of the help.
+pub(crate) const COMMANDS: [Usage; 17] = [
+    Usage {
+        name: "format",
+        about: "Makes a file of the given number of sectors, and an empty store in it",
+        example: "Example: arrowstore format store 4096",
+    },
+    Usage {
+        name: "create",
+        about: "Makes a table without rows",
+        example: "Example: arrowstore create store measurements id:uint64 'value:int32?' 'tags:list<utf8>'
+
+A TYPE is null, bool, int8 to int64, uint8 to uint64, utf8, large_utf8, binary,
+large_binary, date_day, date_ms, timestamp_s, timestamp_ms, timestamp_us or
+timestamp_ns, each of these four also with a zone, as timestamp_ms(UTC),
+fixed_binary(N), list<ITEM>, large_list<ITEM>, fixed_list(N,ITEM), struct<FIELD,..>
+or dict<INDEX,TYPE>, as dict<int8,utf8>. An ITEM is a TYPE, with a ? where nulls
+are allowed.",
+    },
+    Usage {
+        name: "import",
+        about: "Reads a stream from standard input, and makes its table, in place of one of this name",
+        example: "Example: arrowstore import store measurements < readings.arrows",
+    },
+    Usage {
+        name: "append",
+        about: "Reads rows from standard input, and appends them to a table",
+        example: "Example: arrowstore append store measurements --as csv --null NA < readings.csv
+where readings.csv begins with the line id,value",
+    },
+    Usage {
+        name: "query",
+        about: "Prints the rows of a table that meet all conditions, each as a line of JSON",
+        example: "Example: arrowstore query store measurements 'value >= 7' --columns id,value --limit 10
+
+A LITERAL stands without quotation marks, as in 'city = New York': all that follows
+the operator and one space is the text. Bytes are pairs of hexadecimal digits, bools
+true or false, dates and timestamps the integers that are stored: how many days,
+seconds, .. they are after 1970-01-01.",
+    },
+    Usage {
+        name: "export",
+        about: "Writes the stream of a table to standard output",
+        example: "Example: arrowstore export store measurements > readings.arrows",
+    },
+    Usage {
+        name: "rename",
+        about: "Gives a table another name",
+        example: "Example: arrowstore rename store measurements readings",
+    },
+    Usage {
+        name: "drop",
+        about: "Removes a table with all its rows",
+        example: "Example: arrowstore drop store measurements",
+    },
+    Usage {
+        name: "tables",
+        about: "Prints a line for each table: its name, and how many rows it has",
+        example: "Example: arrowstore tables store",
+    },
+    Usage {
+        name: "schema",
+        about: "Prints a line for each field of a table",
+        example: "Example: arrowstore schema store measurements",
+    },
+    Usage {
+        name: "check",
+        about: "Reads all tables, and prints ok where each can be read",
+        example: "Example: arrowstore check store",
+    },
+    Usage {
+        name: "salvage",
+        about: "Writes the stream of the rows of a damaged table that can be read, and tells what is left out",
+        example: "Example: arrowstore salvage store measurements > rescued.arrows
+
+It is for a table that check and export refuse. Each segment that can't be read is left
+out, with a line on standard error, and the status is then 1. The store is only read.",
+    },
+    Usage {
+        name: "info",
+        about: "Prints the store in numbers",
+        example: "Example: arrowstore info store --json
+
+Sectors are counted in 512 bytes. The used ones are those of the two commits, of the
+catalogue and of the tables.",
+    },
+    Usage {
+        name: "compact",
+        about: "Joins small segments, moves the last ones forward, and prints how many steps that took",
+        example: "Example: arrowstore compact store
+
+The tables stay as they are, also where it is stopped. Each append leaves a segment of
+its own, with a bound on how many a store has; what is joined is read faster too.",
+    },
+    Usage {
+        name: "upgrade",
+        about: "Gives each segment of a store of version 1 the digest of its bytes",
+        example: "Example: arrowstore upgrade store
+
+The tables stay as they are, also where it is stopped. A store of version 2 notices when
+a disk has changed its bytes. Programs that know version 1 alone do not read it.",
+    },
+    Usage {
+        name: "copy",
+        about: "Makes a store of the given number of sectors in a new file, with all tables of another one",
+        example: "Example: arrowstore copy store larger 65536",
+    },
+    Usage {
+        name: "replay",
+        about: "Plays a script on a device in memory that fails or stops, and prints what a crash leaves",
+        example: "Example: arrowstore replay script --sectors 16 --stop 8 --choice new
+where script has a command on each line, its words split by single spaces:
+create NAME FIELD .., import NAME FILE, append NAME FILE, rename NAME NEW, drop NAME,
+compact (one step), upgrade or reopen. Each line prints ok or its refusal. Writes and syncs of
+the device are counted from 1, the first one after the formatting.",
+    },
+];
+
+// What the help of a command says it does, and an example.
+pub(crate) fn texts_of(name: &str) -> (&'static str, &'static str) {
+    for usage in &COMMANDS {
+        if usage.name == name {
+            return (usage.about, usage.example);
+        }
+    }
+    ("", "")
+}
+
+/// A line for each command of a store: its name, and the first line of its help.
+///
+/// # Errors
+/// Memory is refused.
+pub fn command_lines(alloc: Global) -> Result<String, AllocError> {
+    let mut lines = String::new(alloc);
+    for usage in &COMMANDS {
+        let Usage { name, about, .. } = usage;
+        lines.push_str(format!(in alloc; "  {name:<9}{about}\n")?.as_str())?;
+    }
+    Ok(lines)
+}
