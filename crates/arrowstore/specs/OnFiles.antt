@@ -1,27 +1,20 @@
 -- What a request of a store comes to, on devices of one kind.
-use Rattle.std.specs.Prelude.{◌≡◌, ◌≢◌, ◌⊎◌, ◌≤◌, ℕ, Bool, true, List, codes, Option, Some, None, Result, Ok, Err, IfErr, OnOk, IsErrAnd}
+use Rattle.std.specs.Prelude.{◌≡◌, ◌⊎◌, ◌≤◌, ℕ, Bool, true, List, codes, Option, Some, None, Result, Ok, Err, IfErr, OnOk, IsErrAnd}
 use Rattle.std.specs.Io.KnownBytes.{Appends}
 use Rattle.std.specs.declared.io.traits.Read.{Ghosts as ReadGhosts}
 use Rattle.std.specs.declared.io.traits.Write.{Ghosts as WriteGhosts}
 use Rattle.std.specs.declared.io.traits.Seek.{Ghosts as SeekGhosts}
 use Rattle.sector_dev.specs.declared.device.SectorDevice.{Ghosts}
-use Rattle.sector_dev.specs.Disk.{now, shown_image}
-use Rattle.sector_dev.specs.Time.{Grows, OnlyReads}
 use Rattle.sector_dev.specs.View.{failures_of, IsOver}
 use Rattle.sector_dev.specs.Written.{IsEmpty}
 use Rattle.sector_dev.specs.declared.file.FileDevice.{FileDevice}
 use Rattle.sector_dev.specs.declared.file.TheConstants.{LEAST_SECTORS, MOST_SECTORS}
 use Rattle.commit.specs.Standing.{is_size}
-use Rattle.commit.specs.Ruling.{ruling}
-use Rattle.commit.specs.Formatting.{IsFormatting}
-use Rattle.commit.specs.declared.opening_refusal.OpeningRefusal.{OpeningRefusal}
-use Rattle.commit.specs.declared.opening_refusal.OpeningRefusal.TheVariants as openings
 use Rattle.text_import.specs.declared.part.RefusedPart.{RefusedPart}
 use Rattle.store.specs.declared.store.Store.{Store}
 use Rattle.commit.specs.declared.sector.FormatVersion.{FormatVersion}
 use Rattle.store.specs.Fits.{commit_of, device_of, IsNewStore}
-use Rattle.store.specs.Opening.{TellsFormatting, IsOfFormatting}
-use Rattle.store.specs.Answering.{RefusesSize}
+use Rattle.store.specs.Answering.{LeavesUnformatted}
 use Rattle.command_refusals.specs.declared.refusal.Refusal.{Refusal}
 use Rattle.command_refusals.specs.declared.refusal.Refusal.TheVariants as refusals
 use Rattle.tables.specs.declared.refusal.Refusal as tables
@@ -82,19 +75,10 @@ ServesCommand g is_opened remaining contents command before after result =
     IsErrAnd result (λ refusal. RefusesCommand command refusal × (after ≡ before))
     ⊎ ServesStated g is_opened remaining contents command before after result
 
--- a device was not formatted in this version: why it was not, and what each moment and the end of it leave
-pub record LeavesUnformatted {D : Type 0} (g : Ghosts D) (version : FormatVersion) (device : D) (refusal : OpeningRefusal) (back : D) : Type 0 where
-  pub told : g.tells ≡ true → TellsFormatting refusal (g.size device) (ruling (shown_image (now (g.story device))))
-  pub reason : IsOfFormatting (g.size device) refusal
-  pub untouched : g.tells ≡ true → ruling (shown_image (now (g.story device))) ≢ None → OnlyReads (g.story device) (g.story back)
-  pub quiet : refusal ≢ openings.Device → g.tells ≡ true → now (g.story back) ≡ now (g.story device)
-  pub moments : g.tells ≡ true → Grows (IsFormatting (g.size device) version (now (g.story device))) (g.story device) (g.story back)
-  pub limits : RefusesSize g.size g.story device refusal back
-
 -- why no store of this version is made on a device of this number of sectors
 unfoldable pub FailsToFormat : {D : Type 0} → (g : Ghosts D) → (sectors : ℕ) → FormatVersion → Refusal → Type 0
 FailsToFormat {D} g sectors version (refusals.Opening r) =
-    (device : D) × (back : D) × (g.size device ≡ sectors) × LeavesUnformatted g version device r back
+    (device : D) × (back : D) × (g.size device ≡ sectors) × LeavesUnformatted g.size g.story g.tells version device r back
 FailsToFormat g sectors version _ = ⊥
 
 -- why none is made in a new file of this number of sectors: the system refuses the file, no store has that size, or some device was not formatted

@@ -10,7 +10,8 @@ use Rattle.catalogue.specs.Edits.{entry_of, tables_of}
 use Rattle.commit.specs.Standing.{is_size}
 use Rattle.commit.specs.Opening.{IsOpening, standing_shown}
 use Rattle.commit.specs.Ruling.{ruling}
-use Rattle.commit.specs.declared.sector.FormatVersion.TheVariants.{One, Two}
+use Rattle.commit.specs.declared.sector.FormatVersion.{FormatVersion}
+use Rattle.commit.specs.declared.sector.FormatVersion.TheVariants.{Two}
 use Rattle.commit.specs.Formatting.{IsFormatting}
 use Rattle.commit.specs.declared.cause.Cause.TheVariants.{DeviceSize}
 use Rattle.tables.specs.declared.refusal.Refusal.{Refusal}
@@ -68,13 +69,13 @@ pub record LeavesUnopened {D : Type 0} (size : D → ℕ) (story : D → Story) 
   pub moments : tells ≡ true → Grows (IsOpening (now (story device))) (story device) (story back)
   pub limits : RefusesSize size story device refusal back
 
--- and one that was not formatted
-pub record LeavesUnformatted {D : Type 0} (size : D → ℕ) (story : D → Story) (tells : Bool) (device : D) (refusal : OpeningRefusal) (back : D) : Type 0 where
+-- and one that was not formatted in this version
+pub record LeavesUnformatted {D : Type 0} (size : D → ℕ) (story : D → Story) (tells : Bool) (version : FormatVersion) (device : D) (refusal : OpeningRefusal) (back : D) : Type 0 where
   pub told : tells ≡ true → TellsFormatting refusal (size device) (ruling (shown_image (now (story device))))
   pub reason : IsOfFormatting (size device) refusal
   pub untouched : tells ≡ true → ruling (shown_image (now (story device))) ≢ None → OnlyReads (story device) (story back)
   pub quiet : refusal ≢ openings.Device → tells ≡ true → now (story back) ≡ now (story device)
-  pub moments : tells ≡ true → Grows (IsFormatting (size device) One (now (story device))) (story device) (story back)
+  pub moments : tells ≡ true → Grows (IsFormatting (size device) version (now (story device))) (story device) (story back)
   pub limits : RefusesSize size story device refusal back
 
 abbrev pub AnswersOpening : {D : Type 0} {g : Ghosts D} → (size : D → ℕ) → (story : D → Story) → (tells : Bool) → D → PlainReply → Place D g → Type 0
@@ -83,10 +84,11 @@ AnswersOpening size story tells device done new =
 AnswersOpening size story tells device (shut_by refusal) new = IsShutWith (λ back. LeavesUnopened size story tells device refusal back) new
 AnswersOpening size story tells device _ new = ⊥
 
+-- a formatting makes a store of version 2
 abbrev pub AnswersFormatting : {D : Type 0} {g : Ghosts D} → (size : D → ℕ) → (story : D → Story) → (tells : Bool) → D → PlainReply → Place D g → Type 0
 AnswersFormatting size story tells device done new =
-    (is_size (size device) ≡ true) × IsOpenWith (λ store. IsNewStore (size device) One store × (tells ≡ true → FormatsStore size story One device store)) new
-AnswersFormatting size story tells device (shut_by refusal) new = IsShutWith (λ back. LeavesUnformatted size story tells device refusal back) new
+    (is_size (size device) ≡ true) × IsOpenWith (λ store. IsNewStore (size device) Two store × (tells ≡ true → FormatsStore size story Two device store)) new
+AnswersFormatting size story tells device (shut_by refusal) new = IsShutWith (λ back. LeavesUnformatted size story tells Two device refusal back) new
 AnswersFormatting size story tells device _ new = ⊥
 
 -- ---- calls of an open store

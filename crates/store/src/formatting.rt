@@ -38,7 +38,7 @@ impl<D: SectorDevice> Store<D> {
     ghost use Rattle.sector_dev.specs.Time.{Grows, OnlyReads};
     ghost use Rattle.commit.specs.Ruling.{ruling};
     ghost use Rattle.commit.specs.Standing.{is_size};
-    ghost use Rattle.commit.specs.declared.sector.FormatVersion.TheVariants.{One};
+    ghost use Rattle.commit.specs.declared.sector.FormatVersion.TheVariants.{Two};
     ghost use Rattle.commit.specs.Formatting.{IsFormatting};
     ghost use Rattle.commit.specs.declared.cause.Cause.TheVariants.{DeviceSize};
     ghost use Rattle.tables.specs.Tables.{Tables};
@@ -47,7 +47,7 @@ impl<D: SectorDevice> Store<D> {
     ghost use Rattle.store.specs.Fits.{DeviceFits, FormatsStore, IsNewStore, Opens, Shuts, device_of};
     ghost use Rattle.store.specs.Opening.{TellsFormatting, IsOfFormatting};
 
-    /// Makes an empty store of version 1 ([`Store::format_version`]).
+    /// Makes an empty store of version 2 ([`Store::format_version`]).
     ///
     /// # Errors
     /// As there.
@@ -58,15 +58,15 @@ impl<D: SectorDevice> Store<D> {
         ensures refused { IfErr result (λ e. D.tells ≡ true → (base : Tables) (m : Machine) → DeviceFits D.size D.story base m device
             → Shuts D.size D.story D.failed base m format_call device e.0 e.1) }
         // On any device: what is told is so, and no moment has anything but what was there, no store or the empty one.
-        ensures formatted { IfOk result (λ store. D.tells ≡ true → FormatsStore D.size D.story One device store) }
+        ensures formatted { IfOk result (λ store. D.tells ≡ true → FormatsStore D.size D.story Two device store) }
         ensures told { IfErr result (λ e. D.tells ≡ true → TellsFormatting e.0 (D.size device) (ruling (shown_image (now (D.story device))))) }
         ensures untouched { IfErr result (λ e. D.tells ≡ true → ruling (shown_image (now (D.story device))) ≢ None
             → OnlyReads (D.story device) (D.story e.1)) }
         ensures quiet { IfErr result (λ e. e.0 ≢ OpeningRefusal.Device → D.tells ≡ true → now (D.story e.1) ≡ now (D.story device)) }
         ensures moments { IfErr result (λ e. D.tells ≡ true
-            → Grows (IsFormatting (D.size device) One (now (D.story device))) (D.story device) (D.story e.1)) }
+            → Grows (IsFormatting (D.size device) Two (now (D.story device))) (D.story device) (D.story e.1)) }
         // Also of a device that doesn't tell its story.
-        ensures empty { IfOk result (λ store. IsNewStore (D.size device) One store) }
+        ensures empty { IfOk result (λ store. IsNewStore (D.size device) Two store) }
         ensures in_limits { OnOk result (is_size (D.size device) ≡ true) }
         ensures reason { IfErr result (λ e. IsOfFormatting (D.size device) e.0) }
         ensures limits { IfErr result (λ e. is_size (D.size device) ≡ false
@@ -76,7 +76,7 @@ impl<D: SectorDevice> Store<D> {
         ensures count { IfOk result (λ store. D.failed (device_of store) ≡ D.failed device) }
         ensures count_back { IfErr result (λ e. D.failed e.1 ≡ counted (shut_by e.0) (D.failed device)) }
     {
-        Store::format_version(alloc, device, FormatVersion::One)
+        Store::format_version(alloc, device, FormatVersion::Two)
     }
 
     /// Makes an empty store of a device on which none is, in a version of the format, and opens it. Each change keeps the version. Where it is refused the
