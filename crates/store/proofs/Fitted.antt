@@ -66,12 +66,15 @@ whole_below size (r ∷ rs) on =
     let own = on_device_is size r parts.0 in
     omega (arith, own.within, whole_below size rs parts.1, sum_by-cons (λ (r : Run). r.count) r rs)
 
--- the runs of a catalogue, and that of its text, fit behind the commit sectors
+-- runs on the device that share no sector fit behind the commit sectors
+pub apart_fit : (size : ℕ) (rs : List Run) → 2 ≤ size → all_on_device size rs ≡ true → are_apart rs ≡ true → 2 + sum_by (λ (r : Run). r.count) rs ≤ size
+apart_fit size rs some on apart = omega (arith, some, few_below size (size - 2) rs apart on size (omega (arith, some)), whole_below size rs on)
+
+-- so do the runs of a catalogue, and that of its text
 pub runs_fit : (size : ℕ) (text : Run) (runs : List Run) → 2 ≤ size → is_on_device size text ≡ true → runs_fault size text runs ≡ None → 2 + sum_by (λ (r : Run). r.count) (text ∷ runs) ≤ size
 runs_fit size text runs some placed fit =
     let parts = fault_none size text runs fit in
-    let on : all_on_device size (text ∷ runs) ≡ true = and_from (is_on_device size text) (all_on_device size runs) placed parts.0 in
-    omega (arith, some, few_below size (size - 2) (text ∷ runs) parts.1 on size (omega (arith, some)), whole_below size (text ∷ runs) on)
+    apart_fit size (text ∷ runs) some (and_from (is_on_device size text) (all_on_device size runs) placed parts.0) parts.1
 
 -- the same of a store's device, and of the runs as they were gathered
 pub used_fit : (size : ℕ) (text : Run) (named runs : List Run) → is_size size ≡ true → is_on_device size text ≡ true → runs_fault size text named ≡ None → runs ≡ named

@@ -41,4 +41,5 @@ mod OpenExports
 mod ExportSteps
 mod ExportAnswers
 mod Fitted
+mod KeptRuns
 mod Salvaged

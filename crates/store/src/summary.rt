@@ -1,11 +1,12 @@
 // A store in numbers.
-ghost use Rattle.std.specs.Prelude.{◌≡◌, ◌≤◌, ◌<◌, ◌^◌, sum_by};
+ghost use Rattle.std.specs.Prelude.{◌≡◌, ◌≤◌, ◌<◌, ◌+◌, ◌^◌, ◌∷◌, true, None, sum_by, IfOk, IfErr};
 ghost use Rattle.segments.specs.Usages.{IsUsedIn};
 ghost use Rattle.commit.specs.Sector.{version_number};
-ghost use Rattle.store.specs.Summary.{IsLargest};
+ghost use Rattle.commit.specs.Standing.{is_size, is_on_device, runs_fault};
+ghost use Rattle.store.specs.Summary.{CountsKept, IsLargest};
 
 use crate::Store;
-use commit::FormatVersion;
+use commit::{FormatVersion, occupy_runs};
 use sector_dev::SectorDevice;
 use segments::{FreeMap, Run};
 use std::alloc::Global;
@@ -21,8 +22,10 @@ pub struct Summary {
     pub sectors: u64,
     /// Those of the two commits, of the catalogue and of the segments that it names.
     pub used: u64,
-    /// The others. An export that is open may keep some of them.
+    /// Those that a command can write now: neither used nor kept.
     pub free: u64,
+    /// Those that open exports keep, of segments that no table has any more.
+    pub kept: u64,
     /// Of the largest run that can be written.
     pub largest_free_run: u64,
     pub tables: u64,
@@ -43,6 +46,40 @@ fn sectors_of(runs: &[Run]) -> u64
     ensures { result ≡ sum_by (λ r. r.count) runs.now }
 {
     runs.iter().map(|run| run.count).sum()
+}
+
+// The sectors of the runs that are kept and are not in use, each run once.
+fn sectors_kept(
+    alloc: Global,
+    sectors: u64,
+    text: Run,
+    used: &[Run],
+    kept: &[Run],
+) -> Result<u64, Refusal>
+    requires size { is_size sectors ≡ true }
+    requires placed { is_on_device sectors text ≡ true }
+    requires fit { runs_fault sectors text used.now ≡ None }
+    ensures kept { IfOk result (λ count. CountsKept (text ∷ used.now) kept.now count) }
+    ensures fits { IfOk result (λ count. 2 + text.count + sum_by (λ r. r.count) used.now + count ≤ sectors) }
+    ensures err { IfErr result (λ e. e ≡ Refusal.OutOfMemory) }
+{
+    if kept.is_empty() {
+        return Ok(0);
+    }
+    let Ok(mut map) = occupy_runs(alloc, sectors, text, used) else {
+        return Err(Refusal::OutOfMemory);
+    };
+    let mut count = 0;
+    for run in kept {
+        if !map.usage(*run).taken {
+            // No run that is kept shares a sector with others, so it is memory that was refused.
+            let Ok(()) = map.occupy(*run) else {
+                return Err(Refusal::OutOfMemory);
+            };
+            count += run.count;
+        }
+    }
+    Ok(count)
 }
 
 // The largest number of sectors of which a free run is found, by halving what is in question.
@@ -84,13 +121,16 @@ impl<D: SectorDevice> Store<D> {
         let list = &opened.catalogue.list;
         let runs = list.runs(alloc)?;
         let sectors = self.device.sectors();
-        let used = 2 + opened.commit.catalogue.run.count + sectors_of(&runs);
+        let text = opened.commit.catalogue.run;
+        let used = 2 + text.count + sectors_of(&runs);
+        let kept = sectors_kept(alloc, sectors, text, &runs, &self.book.runs(alloc)?)?;
         Ok(Summary {
             format_version: version_number(opened.commit.version),
             epoch: opened.commit.epoch,
             sectors,
             used,
-            free: sectors - used,
+            free: sectors - used - kept,
+            kept,
             largest_free_run: largest_free(&opened.map, sectors),
             tables: list.len() as u64,
             segments: list.segment_count(),

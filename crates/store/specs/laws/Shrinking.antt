@@ -26,7 +26,7 @@ on_parts size (r ∷ rs) ss on =
     let more = on_parts size rs ss parts.1 in
     (and_from (is_on_device size r) (all_on_device size rs) parts.0 more.0, more.1)
 
-on_both : (size : ℕ) (rs ss : List Run) → all_on_device size rs ≡ true → all_on_device size ss ≡ true → all_on_device size (rs ++ ss) ≡ true
+pub on_both : (size : ℕ) (rs ss : List Run) → all_on_device size rs ≡ true → all_on_device size ss ≡ true → all_on_device size (rs ++ ss) ≡ true
 on_both size [] ss first others = others
 on_both size (r ∷ rs) ss first others =
     let parts = and_parts (is_on_device size r) (all_on_device size rs) first in
