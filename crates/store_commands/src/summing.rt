@@ -29,6 +29,7 @@ fn lines_of(alloc: Global, s: &Summary) -> Result<String, AllocError>
     push_number(&mut text, "\nsectors ", s.sectors)?;
     push_number(&mut text, "\nused ", s.used)?;
     push_number(&mut text, "\nfree ", s.free)?;
+    push_number(&mut text, "\nkept ", s.kept)?;
     push_number(&mut text, "\nlargest_free_run ", s.largest_free_run)?;
     push_number(&mut text, "\ntables ", s.tables)?;
     push_number(&mut text, "\nsegments ", s.segments)?;
@@ -45,6 +46,7 @@ fn object_of(alloc: Global, s: &Summary) -> Result<String, AllocError>
     push_number(&mut text, ",\"sectors\":", s.sectors)?;
     push_number(&mut text, ",\"used\":", s.used)?;
     push_number(&mut text, ",\"free\":", s.free)?;
+    push_number(&mut text, ",\"kept\":", s.kept)?;
     push_number(&mut text, ",\"largest_free_run\":", s.largest_free_run)?;
     push_number(&mut text, ",\"tables\":", s.tables)?;
     push_number(&mut text, ",\"segments\":", s.segments)?;
