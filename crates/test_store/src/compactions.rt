@@ -21,24 +21,24 @@ const APPENDED: Steps = &[
 ];
 
 const ONE_BY_ONE: &[Row] = &[
-    (16, APPENDED, &[], "epoch 3, 233 in 5, t: 3+1 2+1"),
+    (16, APPENDED, &[], "epoch 3, 297 in 5, t: 3+1 2+1"),
     (
         16,
         APPENDED,
         &[Compaction::Merged],
-        "epoch 4, 201 in 6, t: 4+1",
+        "epoch 4, 233 in 6, t: 4+1",
     ),
     (
         16,
         APPENDED,
         &[Compaction::Merged, Compaction::Moved],
-        "epoch 5, 201 in 3, t: 2+1",
+        "epoch 5, 233 in 3, t: 2+1",
     ),
     (
         16,
         APPENDED,
         &[Compaction::Merged, Compaction::Moved, Compaction::Nothing],
-        "epoch 5, 201 in 3, t: 2+1",
+        "epoch 5, 233 in 3, t: 2+1",
     ),
 ];
 
@@ -59,7 +59,7 @@ const NOTHING: &[Row] = &[
             (Append("t", Ints(&[5])), "ok"),
         ],
         &[Compaction::Nothing],
-        "epoch 4, 233 in 37, t: 4+33 3+1",
+        "epoch 4, 297 in 37, t: 4+33 3+1",
     ),
 ];
 

@@ -27,7 +27,7 @@ pub struct Script {
     calls: &'static [u64],
     /// The step that opens the store once more. After it the tables go.
     opening: Option<usize>,
-    /// Where the store keeps what in the end.
+    /// Where the store keeps what in the end, in version 2.
     pub layout: &'static str,
 }
 
@@ -90,7 +90,7 @@ const EXPORTED: Script = Script {
     ],
     calls: &[1, 6, 6, 11, 11, 16, 20, 25, 25, 25, 25, 25],
     opening: None,
-    layout: "epoch 6, 201 in 5, u: 4+1",
+    layout: "epoch 6, 233 in 5, u: 4+1",
 };
 
 /// The script of a number: there are two.
@@ -117,13 +117,13 @@ enum Kind {
 
 const KINDS: &[Kind] = &[Failure, Stop, FailedRead];
 
-/// A device of 16 sectors that holds an empty store.
-pub fn formatted(alloc: Global) -> Result<ModelDevice, NotMade> {
-    device_after(alloc, FORMATTED)
+/// A device of 16 sectors that holds an empty store, which was made in this way.
+pub fn formatted(alloc: Global, made: Way) -> Result<ModelDevice, NotMade> {
+    device_after(alloc, FORMATTED, made)
 }
 
-fn disturbed(alloc: Global, kind: Kind, k: u64) -> Result<Slot, NotMade> {
-    let mut device = formatted(alloc)?;
+fn disturbed(alloc: Global, made: Way, kind: Kind, k: u64) -> Result<Slot, NotMade> {
+    let mut device = formatted(alloc, made)?;
     match kind {
         Failure => device.fail_at(k),
         Stop => device.stop_at(k),
@@ -276,9 +276,20 @@ fn is_undisturbed(
 }
 
 // The first call after whose failure something is wrong. In the last run none fails.
-fn wrong_call(alloc: Global, script: &Script, kind: Kind) -> Result<Option<usize>, NotMade> {
+fn wrong_call(
+    alloc: Global,
+    made: Way,
+    script: &Script,
+    kind: Kind,
+) -> Result<Option<usize>, NotMade> {
     for k in 1..100u64 {
-        match is_undisturbed(alloc, &mut disturbed(alloc, kind, k)?, script, kind, k)? {
+        match is_undisturbed(
+            alloc,
+            &mut disturbed(alloc, made, kind, k)?,
+            script,
+            kind,
+            k,
+        )? {
             Some(true) => return Ok(None),
             Some(false) => {}
             None => return Ok(Some(k as usize)),
@@ -287,9 +298,9 @@ fn wrong_call(alloc: Global, script: &Script, kind: Kind) -> Result<Option<usize
     Err(NotMade)
 }
 
-fn wrong_kind(alloc: Global, script: &Script) -> Result<Option<usize>, NotMade> {
+fn wrong_kind(alloc: Global, made: Way, script: &Script) -> Result<Option<usize>, NotMade> {
     for kind in KINDS {
-        let wrong = wrong_call(alloc, script, *kind)?;
+        let wrong = wrong_call(alloc, made, script, *kind)?;
         if wrong.is_some() {
             return Ok(wrong);
         }
@@ -298,12 +309,12 @@ fn wrong_kind(alloc: Global, script: &Script) -> Result<Option<usize>, NotMade> 
 }
 
 // The number of calls of the first script that goes wrong, a thousand for each before it.
-fn wrong_script(alloc: Global) -> Result<Option<usize>, NotMade> {
+fn wrong_script(alloc: Global, made: Way) -> Result<Option<usize>, NotMade> {
     for number in 0..usize::MAX {
         let Some(script) = script_of(number) else {
             return Ok(None);
         };
-        if let Some(k) = wrong_kind(alloc, &script)? {
+        if let Some(k) = wrong_kind(alloc, made, &script)? {
             return Ok(Some(number.wrapping_mul(1000).wrapping_add(k)));
         }
     }
@@ -312,7 +323,8 @@ fn wrong_script(alloc: Global) -> Result<Option<usize>, NotMade> {
 
 #[test]
 fn each_call_of_a_compaction_and_an_export_fails_in_turn(rt: HostRuntime) {
-    assert_no_row(&rt, wrong_script(rt.alloc()));
+    assert_no_row(&rt, wrong_script(rt.alloc(), Way::EachCall));
+    assert_no_row(&rt, wrong_script(rt.alloc(), Way::VersionOne));
 }
 
 // What is asked of what a first stop left, how many calls it makes, and the tables then; before an import is done they are those that were left.
@@ -402,7 +414,7 @@ fn survives_second(
 
 // What a device holds when it stopped at this call of the first script.
 fn stopped(alloc: Global, k: u64) -> Result<ModelDevice, NotMade> {
-    let mut slot = disturbed(alloc, Stop, k)?;
+    let mut slot = disturbed(alloc, Way::EachCall, Stop, k)?;
     let _ = replies_of(alloc, &mut slot, COMPACTED.steps, Way::OneRun)?;
     shut(&mut slot)
 }

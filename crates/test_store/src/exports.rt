@@ -102,6 +102,7 @@ fn wrong_step(alloc: Global, way: Way) -> Result<Option<usize>, NotMade> {
 #[test]
 fn exports_give_the_table_that_they_found(rt: HostRuntime) {
     assert_no_row(&rt, wrong_step(rt.alloc(), Way::EachCall));
+    assert_no_row(&rt, wrong_step(rt.alloc(), Way::VersionOne));
     assert_no_row(&rt, wrong_step(rt.alloc(), Way::OneRun));
 }
 

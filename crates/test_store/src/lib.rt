@@ -23,15 +23,25 @@ mod interleavings;
 #[cfg(test)]
 mod limits;
 #[cfg(test)]
+mod lowest_runs;
+#[cfg(test)]
 mod made;
 #[cfg(test)]
 mod openings;
+#[cfg(test)]
+mod paged_catalogues;
 #[cfg(test)]
 mod pieces;
 #[cfg(test)]
 mod plain_tables;
 #[cfg(test)]
 mod playing;
+#[cfg(test)]
+mod read_tables;
+#[cfg(test)]
+mod refused_commands;
+#[cfg(test)]
+mod room_told;
 #[cfg(test)]
 mod salvages;
 #[cfg(test)]

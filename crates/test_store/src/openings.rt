@@ -1,7 +1,7 @@
 // Devices that are formatted or opened: of other sizes, with a store, with bytes that were changed, and with sectors that can't be read.
 use crate::inputs::{Cell, INT, Input};
 use crate::made::{NotMade, assert_no_row};
-use crate::playing::{Slot, is_played, new_slot, shut};
+use crate::playing::{Slot, VERSIONS, Way, is_played, new_slot, play, shut};
 use crate::shown::contents;
 use crate::steps::{Step, Steps};
 use Cell::Text;
@@ -66,16 +66,16 @@ const OLDER: &str = "t: 7 -1";
 
 const NEWER: &str = "t: 1 2 3";
 
-fn played(alloc: Global, slot: &mut Slot, steps: Steps) -> Result<ModelDevice, NotMade> {
-    if !is_played(alloc, slot, steps)? {
+fn played(alloc: Global, slot: &mut Slot, steps: Steps, way: Way) -> Result<ModelDevice, NotMade> {
+    if play(alloc, slot, steps, way)?.is_some() {
         return Err(NotMade);
     }
     shut(slot)
 }
 
 /// The device of 16 sectors after these steps.
-pub fn device_after(alloc: Global, steps: Steps) -> Result<ModelDevice, NotMade> {
-    played(alloc, &mut new_slot(alloc, 16)?, steps)
+pub fn device_after(alloc: Global, steps: Steps, way: Way) -> Result<ModelDevice, NotMade> {
+    played(alloc, &mut new_slot(alloc, 16)?, steps, way)
 }
 
 /// A byte of a sector: its number, the byte's place, and how it is changed.
@@ -144,6 +144,24 @@ const CHANGED_SEGMENT: &[Row] = &[
     ),
 ];
 
+const DAMAGED_SEGMENT: &[Row] = &[
+    // The same in version 2, where the segment has a digest.
+    (
+        &[(2, 0, 1)],
+        &[
+            (Open, "ok"),
+            (Tables, "t 3"),
+            (Read("t"), "S15 SegmentDamaged 0"),
+            (Export("t"), "S15 SegmentDamaged 0"),
+            (Append("t", Ints(&[])), "S15 SegmentDamaged 0"),
+            (Append("t", Changed(&[(120, 98)])), "S4 SchemaMismatch"),
+            (Give("t", &[]), "S15 SegmentDamaged 0"),
+            (Save("t", "w", (&[], &[], None)), "S15 SegmentDamaged 0"),
+            (Tables, "t 3"),
+        ],
+    ),
+];
+
 const CHANGED_COMMITS: &[Row] = &[
     (&[(0, 0, 1)], &[(Open, "ok"), (Tables, "t 3")]),
     (
@@ -182,10 +200,17 @@ const CHANGED_CATALOGUE: &[Row] = &[
     (&[(5, 169, 7)], &[(Open, "C3 Damaged RunOverlap")]),
 ];
 
-fn causes(part: usize) -> Option<&'static [Row]> {
+fn changed_segment(made: Way) -> &'static [Row] {
+    match made {
+        Way::VersionOne => CHANGED_SEGMENT,
+        _ => DAMAGED_SEGMENT,
+    }
+}
+
+fn causes(part: usize, made: Way) -> Option<&'static [Row]> {
     Some(match part {
         0 => EITHER_EPOCH,
-        1 => CHANGED_SEGMENT,
+        1 => changed_segment(made),
         2 => CHANGED_COMMITS,
         3 => CHANGED_CATALOGUE,
         _ => return None,
@@ -193,7 +218,8 @@ fn causes(part: usize) -> Option<&'static [Row]> {
 }
 
 // The table t has two segments of a sector each, in 3 and 2, and u one of two, in 6 and 7: 312 bytes and 8 for each of 26 values. Epoch 5 in
-// sector 1 has pages in 5, 8 and 9 and its root in 10, and epoch 4 in sector 0, before v was made, a list in 4.
+// sector 1 has three pages and its root in 10, and epoch 4 in sector 0 is before v was made. In version 1 the pages are in 5, 8 and 9, and epoch 4
+// has a list in 4; in version 2 the pages of t and u, in 4 and 8, are those of epoch 4 too, whose root is in 9, and that of v is in 5.
 const STORED: Steps = &[
     (Format, "ok"),
     (Import("t", Ints(&[7, -1])), "ok"),
@@ -247,12 +273,29 @@ const LOST_COMMITS: &[Row] = &[
     ),
 ];
 
-const LOST_CATALOGUE: &[Row] = &[
+const LOST_LIST: &[Row] = &[
     (&[(4, 0, 1)], WHOLE),
     (&[(8, 0, 1)], UNREADABLE),
     (&[(9, 0, 1)], UNREADABLE),
     (&[(1, 0, 1), (4, 0, 1)], UNREADABLE),
 ];
+
+const LOST_PAGES: &[Row] = &[
+    (&[(9, 0, 1)], WHOLE),
+    (&[(4, 0, 1)], UNREADABLE),
+    (&[(5, 0, 1)], UNREADABLE),
+    (&[(10, 0, 1)], UNREADABLE),
+    (&[(1, 0, 1), (5, 0, 1)], OF_EPOCH_4),
+    (&[(1, 0, 1), (9, 0, 1)], UNREADABLE),
+    (&[(1, 0, 1), (8, 0, 1)], UNREADABLE),
+];
+
+fn lost_catalogue(made: Way) -> &'static [Row] {
+    match made {
+        Way::VersionOne => LOST_LIST,
+        _ => LOST_PAGES,
+    }
+}
 
 const LOST_SEGMENT: &[Row] = &[
     // The other tables are read as ever.
@@ -296,10 +339,10 @@ const LOST_SECOND_SEGMENT: &[Row] = &[
 
 const LOST_U: &[Row] = &[(&[(6, 0, 1)], WITHOUT_U), (&[(7, 0, 1)], WITHOUT_U)];
 
-fn lost(part: usize) -> Option<&'static [Row]> {
+fn lost(part: usize, made: Way) -> Option<&'static [Row]> {
     Some(match part {
         0 => LOST_COMMITS,
-        1 => LOST_CATALOGUE,
+        1 => lost_catalogue(made),
         2 => LOST_SEGMENT,
         3 => LOST_SECOND_SEGMENT,
         4 => LOST_U,
@@ -329,10 +372,10 @@ enum Cause {
     Lost,
 }
 
-fn rows_of(cause: Cause, part: usize) -> Option<&'static [Row]> {
+fn rows_of(cause: Cause, part: usize, made: Way) -> Option<&'static [Row]> {
     match cause {
-        Cause::Changed => causes(part),
-        Cause::Lost => lost(part),
+        Cause::Changed => causes(part, made),
+        Cause::Lost => lost(part, made),
     }
 }
 
@@ -367,9 +410,14 @@ fn wrong_row(
 }
 
 // The place of the first wrong row, a hundred for each part of the table.
-fn wrong_part(alloc: Global, device: &ModelDevice, cause: Cause) -> Result<Option<usize>, NotMade> {
+fn wrong_part(
+    alloc: Global,
+    device: &ModelDevice,
+    cause: Cause,
+    made: Way,
+) -> Result<Option<usize>, NotMade> {
     for part in 0..usize::MAX {
-        let Some(rows) = rows_of(cause, part) else {
+        let Some(rows) = rows_of(cause, part, made) else {
             return Ok(None);
         };
         if let Some(place) = wrong_row(alloc, device, choice_of(cause), rows)? {
@@ -379,14 +427,25 @@ fn wrong_part(alloc: Global, device: &ModelDevice, cause: Cause) -> Result<Optio
     Ok(None)
 }
 
-fn wrongly_told(alloc: Global, cause: Cause) -> Result<Option<usize>, NotMade> {
-    wrong_part(alloc, &device_after(alloc, steps_before(cause))?, cause)
+fn wrongly_told(alloc: Global, cause: Cause, made: Way) -> Result<Option<usize>, NotMade> {
+    let device = device_after(alloc, steps_before(cause), made)?;
+    wrong_part(alloc, &device, cause, made)
+}
+
+// The place of the first wrong row, ten thousand more in version 1.
+fn wrong_in_each(alloc: Global, cause: Cause) -> Result<Option<usize>, NotMade> {
+    for (number, made) in VERSIONS.iter().enumerate() {
+        if let Some(place) = wrongly_told(alloc, cause, *made)? {
+            return Ok(Some(number.wrapping_mul(10_000).wrapping_add(place)));
+        }
+    }
+    Ok(None)
 }
 
 #[test]
 fn the_first_cause_is_told(rt: HostRuntime) {
-    assert_no_row(&rt, wrongly_told(rt.alloc(), Cause::Changed));
-    assert_no_row(&rt, wrongly_told(rt.alloc(), Cause::Lost));
+    assert_no_row(&rt, wrong_in_each(rt.alloc(), Cause::Changed));
+    assert_no_row(&rt, wrong_in_each(rt.alloc(), Cause::Lost));
 }
 
 // The only byte whose change gives another table: the name `t`.
@@ -430,11 +489,8 @@ fn wrong_byte(alloc: Global, device: &ModelDevice, n: u64) -> Result<Option<usiz
 }
 
 fn wrong_byte_of(alloc: Global, n: u64) -> Result<Option<usize>, NotMade> {
-    wrong_byte(
-        alloc,
-        &device_after(alloc, steps_before(Cause::Changed))?,
-        n,
-    )
+    let device = device_after(alloc, steps_before(Cause::Changed), Way::EachCall)?;
+    wrong_byte(alloc, &device, n)
 }
 
 // The commits and the catalogue of the newer one.
@@ -504,11 +560,8 @@ fn is_last(
     changes: &[Change],
     steps: Steps,
 ) -> Result<bool, NotMade> {
-    is_told(
-        alloc,
-        changed(&device_after(alloc, before)?, changes)?,
-        steps,
-    )
+    let device = device_after(alloc, before, Way::EachCall)?;
+    is_told(alloc, changed(&device, changes)?, steps)
 }
 
 fn wrong_epoch(alloc: Global) -> Result<Option<usize>, NotMade> {

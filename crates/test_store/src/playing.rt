@@ -4,7 +4,7 @@ use crate::pieces::PieceReader;
 use crate::steps::{Call, Step, Steps, call_of, says};
 use sector_dev::ModelDevice;
 use std::alloc::Global;
-use store::{Compaction, OpeningRefusal, Place, Reply, Store, Upgraded, run};
+use store::{Compaction, FormatVersion, OpeningRefusal, Place, Reply, Store, Upgraded, run};
 use tables::{Command, Refusal};
 
 /// Where steps are taken; empty only between two of them.
@@ -15,11 +15,16 @@ pub type Slot = Option<Place<ModelDevice>>;
 pub enum Way {
     /// By the calls of a store.
     EachCall,
+    /// By them too, and a store is made in version 1.
+    VersionOne,
     /// By `run`, as one list.
     OneRun,
 }
 
 pub const WAYS: &[Way] = &[Way::EachCall, Way::OneRun];
+
+/// The ways in which stores are made in version 2 and in version 1.
+pub const VERSIONS: &[Way] = &[Way::EachCall, Way::VersionOne];
 
 type Opening = Result<Store<ModelDevice>, (OpeningRefusal, ModelDevice)>;
 
@@ -30,9 +35,25 @@ fn opened(opening: Opening) -> (Place<ModelDevice>, Reply) {
     }
 }
 
-fn on_device(alloc: Global, device: ModelDevice, call: Call) -> (Place<ModelDevice>, Reply) {
+fn formatted(
+    alloc: Global,
+    device: ModelDevice,
+    version: FormatVersion,
+) -> (Place<ModelDevice>, Reply) {
+    opened(match version {
+        FormatVersion::One => Store::format_version(alloc, device, version),
+        FormatVersion::Two => Store::format(alloc, device),
+    })
+}
+
+fn on_device(
+    alloc: Global,
+    device: ModelDevice,
+    call: Call,
+    version: FormatVersion,
+) -> (Place<ModelDevice>, Reply) {
     match call {
-        Call::Format => opened(Store::format(alloc, device)),
+        Call::Format => formatted(alloc, device, version),
         Call::Open => opened(Store::open(alloc, device)),
         // nothing else can be asked of a device
         _ => (Place::Shut(device), Reply::Refused(Refusal::Halted)),
@@ -167,23 +188,33 @@ fn on_open(alloc: Global, store: Store<ModelDevice>, call: Call) -> (Place<Model
     (Place::Open(store), reply)
 }
 
-fn on_store(alloc: Global, store: Store<ModelDevice>, call: Call) -> (Place<ModelDevice>, Reply) {
+fn on_store(
+    alloc: Global,
+    store: Store<ModelDevice>,
+    call: Call,
+    version: FormatVersion,
+) -> (Place<ModelDevice>, Reply) {
     match call {
-        Call::Format => opened(Store::format(alloc, store.close())),
+        Call::Format => formatted(alloc, store.close(), version),
         Call::Open => opened(Store::open(alloc, store.close())),
         Call::Close => (Place::Shut(store.close()), Reply::Done),
         call => on_open(alloc, store, call),
     }
 }
 
-/// Takes one call of a store.
-pub fn answer(alloc: Global, slot: &mut Slot, call: Call) -> Option<Reply> {
+// Takes one call of a store; one that is made is of this version.
+fn answer_in(alloc: Global, slot: &mut Slot, call: Call, version: FormatVersion) -> Option<Reply> {
     let (place, reply) = match slot.take()? {
-        Place::Open(store) => on_store(alloc, store, call),
-        Place::Shut(device) => on_device(alloc, device, call),
+        Place::Open(store) => on_store(alloc, store, call, version),
+        Place::Shut(device) => on_device(alloc, device, call, version),
     };
     *slot = Some(place);
     Some(reply)
+}
+
+/// Takes one call of a store.
+pub fn answer(alloc: Global, slot: &mut Slot, call: Call) -> Option<Reply> {
+    answer_in(alloc, slot, call, FormatVersion::Two)
 }
 
 /// The reply to a step.
@@ -191,10 +222,16 @@ pub fn reply_to(alloc: Global, slot: &mut Slot, step: Step) -> Result<Reply, Not
     answer(alloc, slot, call_of(alloc, step)?).ok_or(NotMade)
 }
 
-fn replies_of_each(alloc: Global, slot: &mut Slot, steps: Steps) -> Result<Vec<Reply>, NotMade> {
+fn replies_of_each(
+    alloc: Global,
+    slot: &mut Slot,
+    steps: Steps,
+    version: FormatVersion,
+) -> Result<Vec<Reply>, NotMade> {
     let mut replies = Vec::new(alloc);
     for (step, _) in steps {
-        replies.push(reply_to(alloc, slot, *step)?)?;
+        let reply = answer_in(alloc, slot, call_of(alloc, *step)?, version);
+        replies.push(reply.ok_or(NotMade)?)?;
     }
     Ok(replies)
 }
@@ -241,7 +278,8 @@ pub fn replies_of(
     way: Way,
 ) -> Result<Vec<Reply>, NotMade> {
     match way {
-        Way::EachCall => replies_of_each(alloc, slot, steps),
+        Way::EachCall => replies_of_each(alloc, slot, steps, FormatVersion::Two),
+        Way::VersionOne => replies_of_each(alloc, slot, steps, FormatVersion::One),
         Way::OneRun => replies_of_run(alloc, slot, calls_of(alloc, steps)?),
     }
 }

@@ -1,6 +1,7 @@
 // A salvage of a table of which sectors were changed: the table that its stream means, and the segments that are left out.
 use crate::made::{NotMade, assert_no_row};
 use crate::openings::{Change, changed, device_after, stored};
+use crate::playing::{VERSIONS, Way};
 use crate::steps::add_table;
 use ipc_stream::decode;
 use sector_dev::ModelDevice;
@@ -55,14 +56,34 @@ fn salvaged(alloc: Global, device: ModelDevice, name: &str) -> Result<String, No
     Ok(text)
 }
 
-fn is_salvaged(alloc: Global, changes: &[Change], name: &str, want: &str) -> Result<bool, NotMade> {
-    let device = changed(&device_after(alloc, stored())?, changes)?;
+fn is_salvaged(
+    alloc: Global,
+    made: Way,
+    changes: &[Change],
+    name: &str,
+    want: &str,
+) -> Result<bool, NotMade> {
+    let device = changed(&device_after(alloc, stored(), made)?, changes)?;
     Ok(salvaged(alloc, device, name)?.as_str() == want)
+}
+
+// Whether it is so in both versions.
+fn are_salvaged(
+    alloc: Global,
+    changes: &[Change],
+    name: &str,
+    want: &str,
+) -> Result<bool, NotMade> {
+    let mut well = true;
+    for made in VERSIONS {
+        well = well && is_salvaged(alloc, *made, changes, name, want)?;
+    }
+    Ok(well)
 }
 
 fn wrong_salvage(alloc: Global) -> Result<Option<usize>, NotMade> {
     for (place, (changes, name, want)) in SALVAGED.iter().enumerate() {
-        if !is_salvaged(alloc, changes, name, want)? {
+        if !are_salvaged(alloc, changes, name, want)? {
             return Ok(Some(place));
         }
     }

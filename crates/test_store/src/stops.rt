@@ -252,6 +252,11 @@ fn each_call_of_the_device_fails_or_stops_in_turn(rt: HostRuntime) {
 }
 
 #[test]
+fn each_call_of_the_device_fails_or_stops_in_version_1(rt: HostRuntime) {
+    assert_no_row(&rt, wrong_call(rt.alloc(), Way::VersionOne));
+}
+
+#[test]
 fn each_call_of_the_device_fails_or_stops_in_a_run(rt: HostRuntime) {
     assert_no_row(&rt, wrong_call(rt.alloc(), Way::OneRun));
 }
@@ -447,5 +452,6 @@ fn wrong_part(alloc: Global, way: Way) -> Result<Option<usize>, NotMade> {
 #[test]
 fn what_is_in_doubt_is_settled_by_the_next_opening(rt: HostRuntime) {
     assert_no_row(&rt, wrong_part(rt.alloc(), Way::EachCall));
+    assert_no_row(&rt, wrong_part(rt.alloc(), Way::VersionOne));
     assert_no_row(&rt, wrong_part(rt.alloc(), Way::OneRun));
 }

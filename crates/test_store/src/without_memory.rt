@@ -21,7 +21,7 @@ use store::{OpeningRefusal, Place, Reply};
 use tables::Refusal;
 
 // Where the store keeps what after the script.
-const LAYOUT: &str = "epoch 9, 398 in 5, s: 4+1, w: 2+1";
+const LAYOUT: &str = "epoch 9, 462 in 5, s: 4+1, w: 2+1";
 
 // A `Vec` that an export is written to fails where it has no memory.
 fn wants_memory(reply: &Reply) -> bool {
@@ -252,7 +252,8 @@ fn is_script_done_on(alloc: Global, slot: &mut Slot, script: &Script) -> Result<
 
 fn is_script_done(alloc: Global, number: usize) -> Result<bool, NotMade> {
     let script = script_of(number).ok_or(NotMade)?;
-    is_script_done_on(alloc, &mut Some(Place::Shut(formatted(alloc)?)), &script)
+    let device = formatted(alloc, Way::EachCall)?;
+    is_script_done_on(alloc, &mut Some(Place::Shut(device)), &script)
 }
 
 #[test]
