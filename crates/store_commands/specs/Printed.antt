@@ -27,14 +27,16 @@ abbrev pub summary_lines : Summary → List ℕ
 summary_lines s =
     numbered (codes "format_version ") s.format_version ++ numbered (codes "\nepoch ") s.epoch ++ numbered (codes "\nsectors ") s.sectors
     ++ numbered (codes "\nused ") s.used ++ numbered (codes "\nfree ") s.free ++ numbered (codes "\nkept ") s.kept
-    ++ numbered (codes "\nlargest_free_run ") s.largest_free_run ++ numbered (codes "\ntables ") s.tables ++ numbered (codes "\nsegments ") s.segments ++ codes "\n"
+    ++ numbered (codes "\nlargest_free_run ") s.largest_free_run ++ numbered (codes "\ntables ") s.tables ++ numbered (codes "\nsegments ") s.segments
+    ++ codes "\n"
 
 -- the same as one object of JSON (RFC 8259), on one line
 abbrev pub summary_object : Summary → List ℕ
 summary_object s =
     numbered (codes "{\"format_version\":") s.format_version ++ numbered (codes ",\"epoch\":") s.epoch ++ numbered (codes ",\"sectors\":") s.sectors
     ++ numbered (codes ",\"used\":") s.used ++ numbered (codes ",\"free\":") s.free ++ numbered (codes ",\"kept\":") s.kept
-    ++ numbered (codes ",\"largest_free_run\":") s.largest_free_run ++ numbered (codes ",\"tables\":") s.tables ++ numbered (codes ",\"segments\":") s.segments ++ codes "}\n"
+    ++ numbered (codes ",\"largest_free_run\":") s.largest_free_run ++ numbered (codes ",\"tables\":") s.tables
+    ++ numbered (codes ",\"segments\":") s.segments ++ codes "}\n"
 
 abbrev pub summary_text : (as_json : Bool) → Summary → List ℕ
 summary_text as_json s = if as_json then summary_object s else summary_lines s
