@@ -1,8 +1,9 @@
-//! A text as the arrays of one record batch, under a schema of columns of types without parts, and without dictionaries.
+//! A text as the arrays of one record batch, under a schema of columns of types without parts, with dictionaries or without.
 //!
 //! [`csv_table`] answers the table of just the rows that `text_import::csv_rows` gives of the same text, and what they weigh, or the same
 //! refusal. No value is made of a cell and no row is: each field goes into the buffers of its column where it is read. For other schemas,
-//! and for rows that are too heavy for a table, it answers none, and the rows are those of `csv_rows`.
+//! for rows that are too heavy for a table, and for more entries than the indices of a dictionary name, it answers none, and the rows are those of
+//! `csv_rows`.
 //!
 //! [`jsonl_table`] does the same of JSON Lines, token by token: no tree is made of a line. It answers none also for a text that is refused, or that has
 //! an object with a name twice.

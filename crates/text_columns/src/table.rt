@@ -69,7 +69,7 @@ fn build_table(
 }
 
 /// The table of the rows of a CSV text, kept in one record batch, and what its rows weigh; none where a column has a type that is not read
-/// into arrays, or a dictionary, or where the rows are too heavy for a table: the rows are then those of `text_import::csv_rows`.
+/// into arrays, or more entries than its indices name, or where the rows are too heavy for a table: the rows are then those of `text_import::csv_rows`.
 ///
 /// # Errors
 ///
@@ -100,7 +100,8 @@ pub fn csv_table(
 }
 
 /// The table of the rows of a text of JSON Lines, kept in one record batch, and what its rows weigh; none where a line is refused, or has a value with
-/// parts or a member twice, where a column has a type that is not read into arrays, or a dictionary, or where the rows are too heavy for a table:
+/// parts or a member twice, where a column has a type that is not read into arrays, or more entries than its indices name, or where the rows are too
+/// heavy for a table:
 /// the rows are then those of `text_import::jsonl_rows`, or its refusal.
 ///
 /// # Errors
