@@ -2,17 +2,17 @@
 use Rattle.std.proofs.Common.{◌≡◌, ℕ, List, [], Option, refl, sym, subst, inl}
 use Rattle.std.specs.Prelude.{◌≢◌, Some, None, Result, Ok, Err, IsOk, IsTrue, IfErr, OnOk}
 use Rattle.std.specs.Io.KnownBytes.{Appends}
-use Rattle.command_refusals.specs.declared.hint.Hint.{Hint}
-use Rattle.command_refusals.specs.declared.refusal.Refusal.{Refusal}
-use Rattle.command_refusals.specs.declared.refusal.Refusal.TheVariants.{Io, OutOfMemory}
-use Rattle.program_texts.specs.declared.status.Ended.{Ended}
-use Rattle.program_texts.specs.declared.status.Status.{Status}
-use Rattle.program_texts.specs.declared.status.Status.TheVariants.{Done, PartlyDone, Refused, WrongArguments}
-use Rattle.program_texts.specs.Ending.{IsIo, IsOfOutput, GivesText, TellsRefusal, HasReported}
-use Rattle.program_texts.specs.Reported.{IfRefused}
-use Rattle.program_texts.specs.Told.{told}
-use Rattle.program_texts.specs.declared.telling.Audience.{Audience}
-use Rattle.store_commands.specs.Recode.{IsTrueFault}
+use Rattle.cli_refusals.specs.declared.hint.Hint.{Hint}
+use Rattle.cli_refusals.specs.declared.refusal.Refusal.{Refusal}
+use Rattle.cli_refusals.specs.declared.refusal.Refusal.TheVariants.{Io, OutOfMemory}
+use Rattle.cli_texts.specs.declared.status.Ended.{Ended}
+use Rattle.cli_texts.specs.declared.status.Status.{Status}
+use Rattle.cli_texts.specs.declared.status.Status.TheVariants.{Done, PartlyDone, Refused, WrongArguments}
+use Rattle.cli_texts.specs.Ending.{IsIo, IsOfOutput, GivesText, TellsRefusal, HasReported}
+use Rattle.cli_texts.specs.Reported.{IfRefused}
+use Rattle.cli_texts.specs.Told.{told}
+use Rattle.cli_texts.specs.declared.telling.Audience.{Audience}
+use Rattle.cli_commands.specs.Recode.{IsTrueFault}
 use Rattle.arrowstore.specs.OnFiles.{WritesPart}
 use Rattle.arrowstore.specs.Running.{Recodes}
 

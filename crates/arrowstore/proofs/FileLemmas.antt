@@ -15,26 +15,26 @@ use Rattle.sector_dev.specs.declared.file.TheConstants.{LEAST_SECTORS, MOST_SECT
 use Rattle.sector_dev.specs.declared.file.FileError.TheVariants as files
 use Rattle.commit.specs.Standing.{is_size}
 use Rattle.commit.specs.declared.sector.FormatVersion.{FormatVersion}
-use Rattle.command_refusals.specs.declared.refusal.Refusal.{Refusal}
-use Rattle.command_refusals.specs.declared.refusal.Refusal.TheVariants.{Io, Opening}
-use Rattle.command_refusals.specs.Refusals.{file_refusal}
-use Rattle.program_texts.specs.declared.status.Status.{Status}
-use Rattle.program_texts.specs.declared.status.Status.TheVariants.{Done, PartlyDone, Refused}
-use Rattle.program_texts.specs.declared.status.Ended.{Ended}
-use Rattle.program_texts.specs.Ending.{HasReported, TellsRefusal}
-use Rattle.program_texts.specs.LeftOut.{left_out_text}
-use Rattle.program_texts.specs.Reported.{IfRefused}
-use Rattle.program_texts.specs.Told.{told}
-use Rattle.program_texts.specs.declared.telling.Audience.{Audience}
-use Rattle.command_refusals.specs.declared.hint.Hint.{Hint}
-use Rattle.store_commands.specs.Salvaging.{IsBrokenOff}
+use Rattle.cli_refusals.specs.declared.refusal.Refusal.{Refusal}
+use Rattle.cli_refusals.specs.declared.refusal.Refusal.TheVariants.{Io, Opening}
+use Rattle.cli_refusals.specs.Refusals.{file_refusal}
+use Rattle.cli_texts.specs.declared.status.Status.{Status}
+use Rattle.cli_texts.specs.declared.status.Status.TheVariants.{Done, PartlyDone, Refused}
+use Rattle.cli_texts.specs.declared.status.Ended.{Ended}
+use Rattle.cli_texts.specs.Ending.{HasReported, TellsRefusal}
+use Rattle.cli_texts.specs.LeftOut.{left_out_text}
+use Rattle.cli_texts.specs.Reported.{IfRefused}
+use Rattle.cli_texts.specs.Told.{told}
+use Rattle.cli_texts.specs.declared.telling.Audience.{Audience}
+use Rattle.cli_refusals.specs.declared.hint.Hint.{Hint}
+use Rattle.cli_commands.specs.Salvaging.{IsBrokenOff}
 use Rattle.clap.specs.Words.{Text, kind_of}
 use Rattle.clap.specs.declared.error.Error.{Error}
 use Rattle.clap.specs.declared.error.kind.ErrorKind.TheVariants.{OutOfMemory}
-use Rattle.store_requests.specs.Apps.{IsOfMemory}
-use Rattle.store_requests.specs.declared.store_command_line.Mistake.{Mistake}
-use Rattle.store_requests.specs.declared.store_command_line.Mistake.TheVariants as mistakes
-use Rattle.store_requests.specs.StoreWords.{takes_input, takes_input_word, first_word}
+use Rattle.cli_requests.specs.Apps.{IsOfMemory}
+use Rattle.cli_requests.specs.declared.store_command_line.Mistake.{Mistake}
+use Rattle.cli_requests.specs.declared.store_command_line.Mistake.TheVariants as mistakes
+use Rattle.cli_requests.specs.StoreWords.{takes_input, takes_input_word, first_word}
 use Rattle.arrowstore.specs.OnFiles.{IsOpenedFile, IsOfFile, FailsToFormat, RefusesFormat, WritesPart, status_of}
 
 -- a file was not opened

@@ -11,8 +11,8 @@ use Rattle.tables.specs.Commands.{import_stream, append_stream}
 use Rattle.store.specs.declared.store.Store.{Store}
 use Rattle.store.specs.Deciding.{has_entry}
 use Rattle.store.specs.Fits.{is_halted, listed_in}
-use Rattle.command_refusals.specs.declared.refusal.Refusal.{Refusal}
-use Rattle.store_commands.specs.TextRows.{RefusesText}
+use Rattle.cli_refusals.specs.declared.refusal.Refusal.{Refusal}
+use Rattle.cli_commands.specs.TextRows.{RefusesText}
 use Rattle.arrowstore.specs.declared.open_command.OpenCommand.{OpenCommand}
 use Rattle.arrowstore.specs.declared.open_command.OpenCommand.TheVariants as opened
 use Rattle.arrowstore.specs.Serving.{Channels, CarriesInput, CarriesText, Serves}

@@ -4,8 +4,8 @@ use Rattle.std.specs.Str.{bytes_eq}
 use Rattle.std.proofs.lemmas.Slice.Eq.{bytes_eq-Decides}
 use Rattle.clap.specs.Words.{Text}
 use Rattle.arrowstore.specs.Arguments.{AreRecode, AskForHelp, command}
-use Rattle.program_texts.specs.OwnTexts.{is_own, asks_version, asks_refusals, is_version_word, is_refusals_topic}
-use Rattle.store_requests.specs.StoreWords.{is_of_store, is_store_word, changes_word, makes_word, reads_word, takes_input_word, reads_table_word, ask_help_of_command}
+use Rattle.cli_texts.specs.OwnTexts.{is_own, asks_version, asks_refusals, is_version_word, is_refusals_topic}
+use Rattle.cli_requests.specs.StoreWords.{is_of_store, is_store_word, changes_word, makes_word, reads_word, takes_input_word, reads_table_word, ask_help_of_command}
 
 recode_of_none : (name : Text) (rest : List Text) → is_of_store (name ∷ codes "recode" ∷ rest) ≡ false
 unfolding is_of_store is_store_word changes_word makes_word reads_word takes_input_word reads_table_word

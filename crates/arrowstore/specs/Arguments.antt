@@ -2,7 +2,7 @@
 use Rattle.std.specs.Prelude.{◌≡◌, ◌⊎◌, List, [], ◌∷◌, codes, true, Some, slice_get}
 use Rattle.std.specs.Str.{chars}
 use Rattle.clap.specs.Words.{App, Text, new_app, with_subcommand}
-use Rattle.program_texts.specs.OwnTexts.{is_own}
+use Rattle.cli_texts.specs.OwnTexts.{is_own}
 
 abbrev pub recode_command : App
 recode_command = new_app (codes "recode")

@@ -9,8 +9,8 @@ use Rattle.store.specs.Answering.{LeavesUnopened}
 use Rattle.store.specs.Calls.{open_call, shut_by, counted}
 use Rattle.store.specs.Fits.{device_of, is_halted, DeviceFits, FindsStore, Opens, Shuts}
 use Rattle.store.specs.Machine.{Machine}
-use Rattle.command_refusals.specs.declared.refusal.Refusal.{Refusal}
-use Rattle.command_refusals.specs.declared.refusal.Refusal.TheVariants as refusals
+use Rattle.cli_refusals.specs.declared.refusal.Refusal.{Refusal}
+use Rattle.cli_refusals.specs.declared.refusal.Refusal.TheVariants as refusals
 use Rattle.arrowstore.specs.declared.open_command.OpenCommand.{OpenCommand}
 use Rattle.arrowstore.specs.Serving.{Channels, Serves}
 

@@ -19,29 +19,29 @@ use Rattle.store.specs.Fits.{commit_of, device_of, is_halted, listed_in, IsNewSt
 use Rattle.store.specs.Reading.{OnlyReadsStore}
 use Rattle.store.specs.Salvaging.{SalvagesAt, RefusesSalvage}
 use Rattle.store.specs.Answering.{LeavesUnformatted}
-use Rattle.command_refusals.specs.declared.refusal.Refusal.{Refusal}
-use Rattle.command_refusals.specs.declared.refusal.Refusal.TheVariants as refusals
+use Rattle.cli_refusals.specs.declared.refusal.Refusal.{Refusal}
+use Rattle.cli_refusals.specs.declared.refusal.Refusal.TheVariants as refusals
 use Rattle.tables.specs.declared.refusal.Refusal as tables
-use Rattle.store_commands.specs.Copying.{Copies}
-use Rattle.store_commands.specs.Reading.{OfStore, refusal_ended}
-use Rattle.store_commands.specs.Salvaging.{IsBrokenOff}
-use Rattle.command_refusals.specs.declared.hint.Hint.{Hint}
-use Rattle.command_refusals.specs.declared.hint.Hint.TheVariants as hints
-use Rattle.program_texts.specs.Reported.{IsWrong}
-use Rattle.program_texts.specs.Ending.{GivesSome, HasReported, IsIo}
-use Rattle.program_texts.specs.declared.telling.Audience.{Audience}
-use Rattle.program_texts.specs.declared.status.Ended.{Ended}
-use Rattle.program_texts.specs.declared.status.Status.{Status}
-use Rattle.program_texts.specs.declared.status.Status.TheVariants.{Done, PartlyDone, Refused}
-use Rattle.store_requests.specs.Asked.{request_word}
-use Rattle.store_requests.specs.Operands.{are_right, Names}
-use Rattle.store_requests.specs.StoreWords.{first_word, ask_for_help}
+use Rattle.cli_commands.specs.Copying.{Copies}
+use Rattle.cli_commands.specs.Reading.{OfStore, refusal_ended}
+use Rattle.cli_commands.specs.Salvaging.{IsBrokenOff}
+use Rattle.cli_refusals.specs.declared.hint.Hint.{Hint}
+use Rattle.cli_refusals.specs.declared.hint.Hint.TheVariants as hints
+use Rattle.cli_texts.specs.Reported.{IsWrong}
+use Rattle.cli_texts.specs.Ending.{GivesSome, HasReported, IsIo}
+use Rattle.cli_texts.specs.declared.telling.Audience.{Audience}
+use Rattle.cli_texts.specs.declared.status.Ended.{Ended}
+use Rattle.cli_texts.specs.declared.status.Status.{Status}
+use Rattle.cli_texts.specs.declared.status.Status.TheVariants.{Done, PartlyDone, Refused}
+use Rattle.cli_requests.specs.Asked.{request_word}
+use Rattle.cli_requests.specs.Operands.{are_right, Names}
+use Rattle.cli_requests.specs.StoreWords.{first_word, ask_for_help}
 use Rattle.sector_dev.specs.declared.model.ModelDevice.{ModelDevice}
-use Rattle.replay.specs.Replay.{IsReplayOfFile, RefusesReplay}
-use Rattle.store_requests.specs.declared.replaying.ReplayWords.{ReplayWords}
-use Rattle.store_requests.specs.declared.store_words.StoreCommand.{StoreCommand}
-use Rattle.store_requests.specs.declared.store_words.StoreRequest.{StoreRequest}
-use Rattle.store_requests.specs.declared.store_words.StoreRequest.TheVariants as requests
+use Rattle.cli_replay.specs.Replay.{IsReplayOfFile, RefusesReplay}
+use Rattle.cli_requests.specs.declared.replaying.ReplayWords.{ReplayWords}
+use Rattle.cli_requests.specs.declared.store_words.StoreCommand.{StoreCommand}
+use Rattle.cli_requests.specs.declared.store_words.StoreRequest.{StoreRequest}
+use Rattle.cli_requests.specs.declared.store_words.StoreRequest.TheVariants as requests
 use Rattle.arrowstore.specs.declared.open_command.OpenCommand.{OpenCommand}
 use Rattle.arrowstore.specs.OpenCommands.{States, RefusesStating}
 use Rattle.arrowstore.specs.OnDevice.{IsOpened, RefusesOpening, ServesDevice}

@@ -6,13 +6,13 @@ use Rattle.query.specs.View.{query_in}
 use Rattle.tables.specs.Commands as plain
 use Rattle.tables.specs.Commands.{PlainCommand}
 use Rattle.tables.specs.View.{command_of}
-use Rattle.command_refusals.specs.declared.refusal.Refusal.{Refusal}
-use Rattle.command_refusals.specs.declared.refusal.Refusal.TheVariants as refusals
-use Rattle.store_commands.specs.Changing.{StateSchema, RefusesFields}
-use Rattle.store_commands.specs.Selecting.{stated_query, RefusesWords}
-use Rattle.store_requests.specs.declared.store_words.QueryWords.{QueryWords}
-use Rattle.store_requests.specs.declared.store_words.StoreCommand.{StoreCommand}
-use Rattle.store_requests.specs.declared.store_words.StoreCommand.TheVariants as words
+use Rattle.cli_refusals.specs.declared.refusal.Refusal.{Refusal}
+use Rattle.cli_refusals.specs.declared.refusal.Refusal.TheVariants as refusals
+use Rattle.cli_commands.specs.Changing.{StateSchema, RefusesFields}
+use Rattle.cli_commands.specs.Selecting.{stated_query, RefusesWords}
+use Rattle.cli_requests.specs.declared.store_words.QueryWords.{QueryWords}
+use Rattle.cli_requests.specs.declared.store_words.StoreCommand.{StoreCommand}
+use Rattle.cli_requests.specs.declared.store_words.StoreCommand.TheVariants as words
 use Rattle.arrowstore.specs.declared.open_command.OpenCommand.{OpenCommand}
 use Rattle.arrowstore.specs.declared.open_command.OpenCommand.TheVariants as opened
 

@@ -2,12 +2,12 @@
 use Rattle.std.specs.Prelude.{◌≡◌, ◌≢◌, ◌<◌, ℕ, List, length, Option, IfSome, IsErr}
 use Rattle.ipc_message.specs.Header.{supported_codes}
 use Rattle.ipc_stream.specs.Meaning.{meaning}
-use Rattle.command_refusals.specs.declared.refusal.Refusal.TheVariants.{TooManyBytes}
-use Rattle.program_texts.specs.declared.status.Status.{Status}
-use Rattle.program_texts.specs.declared.status.Status.TheVariants.{Done, PartlyDone, Refused, WrongArguments}
-use Rattle.program_texts.specs.Reported.{IfRefused, IsRefused}
-use Rattle.store_commands.specs.declared.input.TheConstants.{LARGEST_INPUT}
-use Rattle.store_commands.specs.Recode.{AppendsCanonical, IsTrueFault}
+use Rattle.cli_refusals.specs.declared.refusal.Refusal.TheVariants.{TooManyBytes}
+use Rattle.cli_texts.specs.declared.status.Status.{Status}
+use Rattle.cli_texts.specs.declared.status.Status.TheVariants.{Done, PartlyDone, Refused, WrongArguments}
+use Rattle.cli_texts.specs.Reported.{IfRefused, IsRefused}
+use Rattle.cli_commands.specs.declared.input.TheConstants.{LARGEST_INPUT}
+use Rattle.cli_commands.specs.Recode.{AppendsCanonical, IsTrueFault}
 
 -- a run of `recode`, of which the input had these bytes left
 pub record Recodes {W : Type 0} (contents : W → Option (List ℕ)) (input : Option (List ℕ)) (output output' : W) (status : Status) : Type 0 where

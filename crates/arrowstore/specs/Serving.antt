@@ -27,15 +27,15 @@ use Rattle.store.specs.Reading.{ReadsTable, RefusesRead, OnlyReadsStore, ended}
 use Rattle.store.specs.Summary.{IsSummary}
 use Rattle.store.specs.Upgrading.{upgrade_ended}
 use Rattle.store.specs.declared.summary.Summary.{Summary}
-use Rattle.command_refusals.specs.declared.refusal.Refusal.{Refusal}
-use Rattle.command_refusals.specs.declared.refusal.Refusal.TheVariants.{Io}
-use Rattle.store_commands.specs.Changing.{Answered, AnswersCommand, AnswersInput}
-use Rattle.store_commands.specs.Compacting.{Compacts}
-use Rattle.store_commands.specs.Upgrading.{AnsweredUpgrade, AnswersUpgrade}
-use Rattle.store_commands.specs.Printed.{tables_text, schema_text, summary_text, RefusesPrinting}
-use Rattle.store_commands.specs.Reading.{OfStore, store_ended, IsReadable, RefusesCheck}
-use Rattle.store_commands.specs.Selecting.{rows_text, QueryAnswers, RefusesQuery}
-use Rattle.store_commands.specs.TextRows.{HandsRows, RefusesText, IfOfText, IfHinted}
+use Rattle.cli_refusals.specs.declared.refusal.Refusal.{Refusal}
+use Rattle.cli_refusals.specs.declared.refusal.Refusal.TheVariants.{Io}
+use Rattle.cli_commands.specs.Changing.{Answered, AnswersCommand, AnswersInput}
+use Rattle.cli_commands.specs.Compacting.{Compacts}
+use Rattle.cli_commands.specs.Upgrading.{AnsweredUpgrade, AnswersUpgrade}
+use Rattle.cli_commands.specs.Printed.{tables_text, schema_text, summary_text, RefusesPrinting}
+use Rattle.cli_commands.specs.Reading.{OfStore, store_ended, IsReadable, RefusesCheck}
+use Rattle.cli_commands.specs.Selecting.{rows_text, QueryAnswers, RefusesQuery}
+use Rattle.cli_commands.specs.TextRows.{HandsRows, RefusesText, IfOfText, IfHinted}
 use Rattle.arrowstore.specs.declared.open_command.OpenCommand.{OpenCommand}
 use Rattle.arrowstore.specs.declared.open_command.OpenCommand.TheVariants as opened
 

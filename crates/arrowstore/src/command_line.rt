@@ -3,13 +3,13 @@ ghost use Rattle.std.specs.Prelude.{◌≡◌, map, codes, Some, IfOk, IfErr, On
 ghost use Rattle.clap.specs.Words.{app_of, kind_of, subcommand_name_of};
 ghost use Rattle.clap.specs.declared.error.kind.ErrorKind.TheVariants.{OutOfMemory};
 ghost use Rattle.arrowstore.specs.Arguments.{program_command, AreRecode, AskForHelp};
-ghost use Rattle.program_texts.specs.Reported.{IsRequest};
+ghost use Rattle.cli_texts.specs.Reported.{IsRequest};
 
 use clap::error::ErrorKind;
 use clap::{ArgMatches, Command, Error};
+use cli_requests::{ask_help_of_command, cli_commands, command_lines, help_of_command};
 use std::alloc::{AllocError, Global};
 use std::convert::AsStr;
-use store_requests::{ask_help_of_command, command_lines, help_of_command, store_commands};
 
 const ABOUT: &str = "A crash-safe store of named tables in the Apache Arrow format";
 
@@ -72,7 +72,7 @@ fn with_all_commands<S: AsStr>(alloc: Global, arguments: &[S], error: Error) -> 
 
 // What is wrong with the arguments where all commands are known.
 fn error_of_all<S: AsStr>(alloc: Global, arguments: &[S]) -> Option<Error> {
-    let commands = store_commands(alloc)
+    let commands = cli_commands(alloc)
         .ok()?
         .subcommand(Command::new(alloc, "recode"))
         .ok()?;

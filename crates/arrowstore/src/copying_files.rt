@@ -3,14 +3,14 @@ ghost use Rattle.std.specs.Prelude.{◌≡◌, ◌≢◌, Ok, IfOk, IfErr, OnOk}
 ghost use Rattle.arrowstore.specs.OnFiles.{IsOpenedFile, OpensStore, FailsToOpen, CopiesInto, FailsToCopy, CopiesStore};
 
 use crate::serving::{format_file, take_places_of_streams};
-use command_refusals::{Refusal, write_whole};
+use cli_commands::copy_tables;
+use cli_refusals::{Refusal, write_whole};
 use sector_dev::{FileDevice, LockFile, SectorDevice};
 use std::alloc::Global;
 use std::fs::{self, OpenFile};
 use std::io::{Read, Seek, Write};
 use std::rt::Files;
 use store::Store;
-use store_commands::copy_tables;
 
 /// The store in a file, to be read.
 pub(crate) fn open_to_read<

@@ -1,14 +1,14 @@
 // How a request of a store is reported to have ended.
 ghost use Rattle.std.specs.Prelude.{◌≡◌, IsTrue, OnOk};
 ghost use Rattle.std.specs.Io.KnownBytes.{Appends};
-ghost use Rattle.program_texts.specs.Ending.{TellsRefusal};
-ghost use Rattle.program_texts.specs.LeftOut.{left_out_lines, left_out_text};
-ghost use Rattle.program_texts.specs.Told.{told};
+ghost use Rattle.cli_texts.specs.Ending.{TellsRefusal};
+ghost use Rattle.cli_texts.specs.LeftOut.{left_out_lines, left_out_text};
+ghost use Rattle.cli_texts.specs.Told.{told};
 ghost use Rattle.store.specs.Salvaging.{plain_left};
 ghost use Rattle.arrowstore.specs.OnFiles.{status_of};
 
-use command_refusals::{Hint, Refusal};
-use program_texts::{Audience, Ended, Status, end, tell_lacking, tell_left_out};
+use cli_refusals::{Hint, Refusal};
+use cli_texts::{Audience, Ended, Status, end, tell_lacking, tell_left_out};
 use std::io::{self, Write};
 use store::LeftOut;
 

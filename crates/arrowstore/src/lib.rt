@@ -1,8 +1,8 @@
 //! What the program `arrowstore` does, over any reader and writer: its contracts say which bytes are taken and given.
 //!
 //! [`run_with_files`] does what a command line asks for; the crate `program` hands it the process's arguments, streams and files. [`run`] is
-//! that without files. The commands that they carry out stand in `store_commands`, what a command line asks of a store in `store_requests`,
-//! what is reported and how a run ends in `program_texts`, and why a command was refused in `command_refusals`.
+//! that without files. The commands that they carry out stand in `cli_commands`, what a command line asks of a store in `cli_requests`,
+//! what is reported and how a run ends in `cli_texts`, and why a command was refused in `cli_refusals`.
 //!
 //! ```
 //! let arguments = ["arrowstore", "recode"];
@@ -24,17 +24,17 @@ mod serving_open;
 mod unopened;
 mod with_files;
 
-pub use command_refusals::{FileReason, Hint, REFUSALS, Refusal, Role, UnopenedFile, Word};
-pub use open_command::{OpenCommand, stated};
-pub use program_texts::{Audience, Ended, Status, VERSION, report_unreadable_arguments};
-pub use running::run;
-pub use serving_device::serve_device;
-pub use serving_open::serve_open;
-pub use store_commands::{
+pub use cli_commands::{
     LARGEST_INPUT, append_input, append_text, apply_command, check_tables, compact_tables,
     copy_tables, export_table, import_input, new_table, print_schema, print_selection,
     print_tables, query_of, recode,
 };
-pub use store_requests::{QueryWords, StoreCommand};
+pub use cli_refusals::{FileReason, Hint, REFUSALS, Refusal, Role, UnopenedFile, Word};
+pub use cli_requests::{QueryWords, StoreCommand};
+pub use cli_texts::{Audience, Ended, Status, VERSION, report_unreadable_arguments};
+pub use open_command::{OpenCommand, stated};
+pub use running::run;
+pub use serving_device::serve_device;
+pub use serving_open::serve_open;
 pub use text_import::{RefusedPart, TextForm};
 pub use with_files::run_with_files;

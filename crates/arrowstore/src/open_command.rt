@@ -3,18 +3,18 @@ ghost use Rattle.std.specs.Prelude.{◌≡◌, map, string_bytes, Some, IfOk, If
 ghost use Rattle.query.specs.View.{query_in};
 ghost use Rattle.tables.specs.Commands as plain;
 ghost use Rattle.tables.specs.View.{command_of};
-ghost use Rattle.command_refusals.specs.declared.refusal.Refusal.TheVariants.{OutOfMemory};
-ghost use Rattle.store_commands.specs.Changing.{RefusesFields};
-ghost use Rattle.store_commands.specs.Selecting.{RefusesWords};
-ghost use Rattle.store_requests.specs.Asked.{command_word};
-ghost use Rattle.store_requests.specs.StoreWords.{takes_input_word};
+ghost use Rattle.cli_refusals.specs.declared.refusal.Refusal.TheVariants.{OutOfMemory};
+ghost use Rattle.cli_commands.specs.Changing.{RefusesFields};
+ghost use Rattle.cli_commands.specs.Selecting.{RefusesWords};
+ghost use Rattle.cli_requests.specs.Asked.{command_word};
+ghost use Rattle.cli_requests.specs.StoreWords.{takes_input_word};
 ghost use Rattle.arrowstore.specs.OpenCommands.{query_stated, StatesTable, StatesSaving, States, RefusesStating, reads_input};
 
-use command_refusals::Refusal;
+use cli_commands::{new_table, query_of};
+use cli_refusals::Refusal;
+use cli_requests::{QueryWords, StoreCommand};
 use query::{Query, RowForm};
 use std::alloc::Global;
-use store_commands::{new_table, query_of};
-use store_requests::{QueryWords, StoreCommand};
 use tables::Command;
 use text_import::TextForm;
 
@@ -112,7 +112,7 @@ fn save_as(alloc: Global, from: &str, to: &str, words: &QueryWords<'_>) -> Resul
 ///
 /// # Errors
 /// `Fields` and `Query` where such a text is refused; `OutOfMemory`.
-#[tactic(auto, unfolding(crate::specs::OpenCommands::States, crate::specs::OpenCommands::RefusesStating, store_requests::specs::StoreWords::takes_input_word))]
+#[tactic(auto, unfolding(crate::specs::OpenCommands::States, crate::specs::OpenCommands::RefusesStating, cli_requests::specs::StoreWords::takes_input_word))]
 pub fn stated<'a>(alloc: Global, command: &StoreCommand<'a>) -> Result<OpenCommand<'a>, Refusal>
     ensures stated { IfOk result (States command.now) }
     ensures refused { IfErr result (RefusesStating command.now) }

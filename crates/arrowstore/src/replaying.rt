@@ -2,13 +2,13 @@
 ghost use Rattle.std.specs.Prelude.{◌≡◌, ◌≢◌, IfErr};
 ghost use Rattle.arrowstore.specs.OnFiles.{Replays};
 
-use command_refusals::Refusal;
-use replay::{Faults, replay};
+use cli_refusals::Refusal;
+use cli_replay::{Faults, replay};
+use cli_requests::ReplayWords;
 use sector_dev::{ModelDevice, SectorDevice};
 use std::fs::OpenFile;
 use std::io::{Empty, Read, Write};
 use std::rt::Files;
-use store_requests::ReplayWords;
 
 /// Plays the script that the words name, and prints what came of it. Nothing is written but to the output.
 pub(crate) fn serve_replay<F: Read + OpenFile + Drop, H: Files<File = F> + AllocGlobal, W: Write>(

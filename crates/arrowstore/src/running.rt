@@ -3,17 +3,17 @@ ghost use Rattle.std.specs.Prelude.{◌≡◌, ◌⊎◌, [], true, map, None};
 ghost use Rattle.std.specs.Io.KnownBytes.{Appends};
 ghost use Rattle.arrowstore.specs.Arguments.{AreRecode, AreRight};
 ghost use Rattle.arrowstore.specs.Running.{Recodes};
-ghost use Rattle.program_texts.specs.Ending.{GivesSome, GivesText, HasReported, IsIo};
-ghost use Rattle.program_texts.specs.OwnTexts.{is_own, own_text};
-ghost use Rattle.program_texts.specs.Reported.{IsWrong};
-ghost use Rattle.program_texts.specs.declared.status.Status.TheVariants.{Done};
+ghost use Rattle.cli_texts.specs.Ending.{GivesSome, GivesText, HasReported, IsIo};
+ghost use Rattle.cli_texts.specs.OwnTexts.{is_own, own_text};
+ghost use Rattle.cli_texts.specs.Reported.{IsWrong};
+ghost use Rattle.cli_texts.specs.declared.status.Status.TheVariants.{Done};
 
 use crate::command_line::{Action, action_of};
-use program_texts::{Audience, Ended, end, is_own, report_arguments, write_own_text};
+use cli_commands::recode;
+use cli_texts::{Audience, Ended, end, is_own, report_arguments, write_own_text};
 use std::alloc::Global;
 use std::convert::AsStr;
 use std::io::{Read, Write};
-use store_commands::recode;
 
 /// Does what the arguments ask for, of which the first is the program's name, and reports on `errors` why not.
 #[tactic(auto, using(crate::proofs::WordLemmas::recode_is_not_own))]

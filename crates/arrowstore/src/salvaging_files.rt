@@ -1,18 +1,18 @@
 // The rows of a table that can be read, of the store of a file.
 ghost use Rattle.std.specs.Prelude.{◌≡◌, IfErr};
 ghost use Rattle.store.specs.Salvaging.{plain_left};
-ghost use Rattle.store_commands.specs.Salvaging.{IsBrokenOff};
+ghost use Rattle.cli_commands.specs.Salvaging.{IsBrokenOff};
 ghost use Rattle.arrowstore.specs.OnFiles.{IsOpenedFile, SalvagesFile};
 
 use crate::copying_files::open_to_read;
 use crate::serving::take_places_of_streams;
-use command_refusals::Refusal;
+use cli_commands::salvage_table;
+use cli_refusals::Refusal;
 use sector_dev::{FileDevice, LockFile, SectorDevice};
 use std::fs::OpenFile;
 use std::io::{Read, Seek, Write};
 use std::rt::Files;
 use store::LeftOut;
-use store_commands::salvage_table;
 
 /// Writes the stream of all rows of a table that can be read. `left_out` is left with the segments that can't, where all others were written.
 pub(crate) fn serve_salvage<

@@ -2,8 +2,8 @@
 ghost use Rattle.std.specs.Prelude.{◌≡◌, ◌≢◌, ◌⊎◌, true, IfOk, IfErr};
 ghost use Rattle.store.specs.Fits.{device_of, IsNewStore};
 ghost use Rattle.store.specs.Salvaging.{plain_left};
-ghost use Rattle.store_requests.specs.Asked.{command_word, request_word};
-ghost use Rattle.store_requests.specs.StoreWords.{takes_input_word};
+ghost use Rattle.cli_requests.specs.Asked.{command_word, request_word};
+ghost use Rattle.cli_requests.specs.StoreWords.{takes_input_word};
 ghost use Rattle.arrowstore.specs.OnFiles.{IsOpenedFile, FailsToFormat, RefusesFormat, Formats, Replays, ServesCommand, ServesRequest, WritesPart};
 ghost use Rattle.arrowstore.specs.Serving.{channels};
 
@@ -12,7 +12,8 @@ use crate::open_command::stated;
 use crate::replaying::serve_replay;
 use crate::salvaging_files::serve_salvage;
 use crate::serving_device::serve_device;
-use command_refusals::{Refusal, write_whole};
+use cli_refusals::{Refusal, write_whole};
+use cli_requests::{StoreCommand, StoreRequest};
 use commit::FormatVersion;
 use sector_dev::{FileDevice, FileError, LockFile, ModelDevice, SectorDevice};
 use std::alloc::Global;
@@ -20,7 +21,6 @@ use std::fs::{self, OpenFile};
 use std::io::{Empty, Read, Seek, Write};
 use std::rt::Files;
 use store::{LeftOut, Store};
-use store_requests::{StoreCommand, StoreRequest};
 use text_import::RefusedPart;
 
 // An empty store on a device, or why not, with the device.

@@ -6,7 +6,7 @@ ghost use Rattle.arrowstore.specs.Serving.{channels};
 
 use crate::OpenCommand;
 use crate::serving_open::serve_open;
-use command_refusals::Refusal;
+use cli_refusals::Refusal;
 use sector_dev::SectorDevice;
 use std::alloc::Global;
 use std::io::{Read, Write};

@@ -4,21 +4,21 @@ ghost use Rattle.arrowstore.specs.OpenCommands.{reads_input};
 ghost use Rattle.arrowstore.specs.Serving.{channels, Serves};
 
 use crate::OpenCommand;
-use command_refusals::Refusal;
+use cli_commands::{
+    append_input, append_text, apply_command, check_tables, compact_tables, export_table,
+    import_input, print_schema, print_selection, print_summary, print_tables, upgrade_store,
+};
+use cli_refusals::Refusal;
 use sector_dev::SectorDevice;
 use std::alloc::Global;
 use std::io::{Read, Write};
 use store::Store;
-use store_commands::{
-    append_input, append_text, apply_command, check_tables, compact_tables, export_table,
-    import_input, print_schema, print_selection, print_summary, print_tables, upgrade_store,
-};
 use text_import::RefusedPart;
 
 /// Does what is asked of an open store, on any device. Where a text is refused, `hint` is left with the part of it that is.
 ///
 /// # Errors
-/// Those of the function of `store_commands` that does the command.
+/// Those of the function of `cli_commands` that does the command.
 #[tactic(auto, unfolding(crate::specs::Serving::Serves))]
 pub fn serve_open<D: SectorDevice, R: Read, W: Write>(
     alloc: Global,

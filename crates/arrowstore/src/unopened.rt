@@ -2,13 +2,13 @@
 ghost use Rattle.std.specs.Prelude.{◌≡◌, None, Some};
 ghost use Rattle.arrowstore.specs.OnFiles.{hinted_part};
 
-use command_refusals::{FileReason, Hint, Refusal, UnopenedFile};
+use cli_refusals::{FileReason, Hint, Refusal, UnopenedFile};
+use cli_requests::StoreRequest;
 use sector_dev::LockFile;
 use std::alloc::Global;
 use std::fs::{self, File, OpenFile, OpenOptions};
 use std::io::{self, ErrorKind};
 use std::rt::Files;
-use store_requests::StoreRequest;
 
 #[derive(Drop)]
 enum Reason {

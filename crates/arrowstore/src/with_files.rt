@@ -6,26 +6,25 @@ ghost use Rattle.clap.specs.declared.error.kind.ErrorKind.TheVariants as kinds;
 ghost use Rattle.arrowstore.specs.Arguments.{AreRecode, AreRight};
 ghost use Rattle.arrowstore.specs.OnFiles.{GivesHelpOrWrong, HasTold, IsOpenedFile, Replays, RunsOnStore, ServesTold, ends_of, hinted_part, status_of};
 ghost use Rattle.arrowstore.specs.Running.{Recodes};
-ghost use Rattle.program_texts.specs.Ending.{GivesSome, GivesText, HasReported, IsIo, TellsRefusal};
-ghost use Rattle.program_texts.specs.LeftOut.{left_out_text};
-ghost use Rattle.program_texts.specs.OwnTexts.{is_own, own_text};
-ghost use Rattle.program_texts.specs.Told.{told};
-ghost use Rattle.store_requests.specs.Asked.{request_word};
-ghost use Rattle.store_requests.specs.StoreWords.{first_word, is_of_store, takes_input, takes_input_word};
-ghost use Rattle.program_texts.specs.Reported.{IsWrong};
-ghost use Rattle.program_texts.specs.declared.status.Status.TheVariants.{Done, PartlyDone, Refused};
-ghost use Rattle.command_refusals.specs.declared.refusal.Refusal.TheVariants as refusals;
-ghost use Rattle.command_refusals.specs.declared.hint.Hint.{Hint};
+ghost use Rattle.cli_texts.specs.Ending.{GivesSome, GivesText, HasReported, IsIo, TellsRefusal};
+ghost use Rattle.cli_texts.specs.LeftOut.{left_out_text};
+ghost use Rattle.cli_texts.specs.OwnTexts.{is_own, own_text};
+ghost use Rattle.cli_texts.specs.Told.{told};
+ghost use Rattle.cli_requests.specs.Asked.{request_word};
+ghost use Rattle.cli_requests.specs.StoreWords.{first_word, is_of_store, takes_input, takes_input_word};
+ghost use Rattle.cli_texts.specs.Reported.{IsWrong};
+ghost use Rattle.cli_texts.specs.declared.status.Status.TheVariants.{Done, PartlyDone, Refused};
+ghost use Rattle.cli_refusals.specs.declared.refusal.Refusal.TheVariants as refusals;
+ghost use Rattle.cli_refusals.specs.declared.hint.Hint.{Hint};
 ghost use Rattle.store.specs.Salvaging.{plain_left};
 
 use crate::ending::end_whole_or_partly;
 use crate::run;
 use crate::serving::serve;
 use crate::unopened::{Unopened, is_there, refused_file};
-use command_refusals::{Hint, Refusal};
-use program_texts::{
-    Audience, Ended, report_arguments, report_signed_number, report_wrong_arguments,
-};
+use cli_refusals::{Hint, Refusal};
+use cli_requests::{Mistake, StoreRequest, ask_for_help, is_of_store, refused_word, request_of};
+use cli_texts::{Audience, Ended, report_arguments, report_signed_number, report_wrong_arguments};
 use sector_dev::{FileDevice, LockFile, ModelDevice, SectorDevice};
 use std::alloc::Global;
 use std::convert::AsStr;
@@ -33,7 +32,6 @@ use std::fs::OpenFile;
 use std::io::{Empty, Read, Seek, Write};
 use std::rt::Files;
 use store::LeftOut;
-use store_requests::{Mistake, StoreRequest, ask_for_help, is_of_store, refused_word, request_of};
 use text_import::RefusedPart;
 
 // What is said to be refused of the input, where a part of it is known.

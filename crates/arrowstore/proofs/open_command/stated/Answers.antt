@@ -1,6 +1,6 @@
 use Rattle.std.proofs.Common.{refl}
 use Rattle.arrowstore.specs.OpenCommands.{States}
-use Rattle.store_requests.specs.StoreWords.{takes_input_word}
+use Rattle.cli_requests.specs.StoreWords.{takes_input_word}
 use Rattle.arrowstore.proofs.open_command.stated.Goals as goal
 
 -- which of them read the input

@@ -1,0 +1,128 @@
+-- What a text and a query give of the table that is found.
+use Rattle.std.proofs.Common.{◌≡◌, ◌∙◌, ℕ, Bool, List, refl, ap, sym, subst}
+use Rattle.std.specs.Prelude.{Option, Some, None, IsSome, false, option_map, unwrap_or, Result, Ok, Err, OnOk, IfErr}
+use Rattle.std.specs.Io.KnownBytes.{Appends, IsAtEnd}
+use Rattle.sector_dev.specs.Disk.{Image}
+use Rattle.arrow_schema.specs.Column.{PlainSchema}
+use Rattle.cells.specs.Cell.{Cell, PlainTable}
+use Rattle.catalogue.specs.Entries.{PlainEntry}
+use Rattle.query.specs.Query.{PlainQuery}
+use Rattle.query.specs.declared.row_form.RowForm.{RowForm}
+use Rattle.text_import.specs.declared.refusal.Refused.{Refused}
+use Rattle.tables.specs.declared.refusal.Refusal as tables
+use Rattle.store.specs.Reading.{ReadsTable}
+use Rattle.cli_refusals.specs.declared.refusal.Refusal.{Refusal}
+use Rattle.cli_refusals.specs.declared.refusal.Refusal.TheVariants.{Io}
+use Rattle.text_import.specs.declared.form.TextForm.{TextForm}
+use Rattle.store.specs.Input.{HasGivenAtMost}
+use Rattle.cli_commands.specs.Given.{IsWholeInput}
+use Rattle.cli_commands.specs.declared.input.TheConstants.{LARGEST_INPUT}
+use Rattle.text_import.specs.Form.{rows_of_text}
+use Rattle.text_import.specs.Part.{part_of, refused_part}
+use Rattle.text_import.specs.Refusals.{given, refused_by}
+use Rattle.text_import.specs.declared.part.RefusedPart.{RefusedPart}
+use Rattle.text_import.specs.declared.refusal.TextError.{TextError}
+use Rattle.text_import.specs.declared.refusal.TextError.TheVariants as texts
+use Rattle.facts.specs.Outcomes.{Reports}
+use Rattle.cli_refusals.specs.Refusals.{text_refusal}
+use Rattle.cli_commands.specs.Printed.{schema_text, RefusesPrinting}
+use Rattle.cli_commands.specs.TextRows.{InputGives, IfOfText, HintsAt, IfHinted, RefusesText}
+use Rattle.cli_commands.specs.Selecting.{rows_text, printed_selection, QueryAnswers, RefusesQuery}
+
+-- the schema is that of the entry that is found
+pub input_gives : (form : TextForm) (found : Option PlainEntry) (input : Option (List ℕ)) (s : PlainSchema) (bytes : List ℕ) (given : Result (List (List Cell)) Refused)
+    → option_map (λ e. e.schema) found ≡ Some s → IsWholeInput input bytes → rows_of_text form s bytes ≡ given → InputGives form found input given
+input_gives form None input s bytes given is whole gives = cc
+input_gives form (Some e) input s bytes given is whole gives = record {
+  entry = e;
+  is_there = refl;
+  bytes = bytes;
+  whole = whole;
+  gives = ap (λ t. rows_of_text form t bytes) (ap (λ o. unwrap_or o s) is) ∙ gives;
+}
+
+-- a refusal of a text for the schema of the entry that is found
+pub input_refused : (form : TextForm) (found : Option PlainEntry) (input : Option (List ℕ)) (s : PlainSchema) (bytes : List ℕ) (error : TextError) → option_map (λ e. e.schema) found ≡ Some s
+    → IsWholeInput input bytes → Reports (refused_by error) (rows_of_text form s bytes) → IfOfText form found input (text_refusal error)
+input_refused form found input s bytes (texts.Refused refused) is whole gives = input_gives form found input s bytes (Err refused) is whole gives
+input_refused form found input s bytes texts.OutOfMemory is whole gives = tt
+
+-- a part that a call gave is the one that is refused, and where nothing is hinted there is nothing to show
+pub hints_at : (form : TextForm) (s : PlainSchema) (bytes : List ℕ) (refused : Refused) (part : Option RefusedPart) → option_map part_of part ≡ refused_part form s bytes refused.number
+    → HintsAt part form s bytes (Some refused)
+hints_at form s bytes refused None e = tt
+hints_at form s bytes refused (Some part) e = sym e
+
+pub no_hint : (hint : Option RefusedPart) (form : TextForm) (found : Option PlainEntry) (input : Option (List ℕ)) (result : Result (Unit {0}) Refusal) → hint ≡ None → IfHinted hint form found input result
+no_hint None form found input result e = tt
+no_hint (Some part) form found input result e = absurd cc
+
+-- what is hinted of a text for the schema of the entry that is found
+pub input_hints : (form : TextForm) (found : Option PlainEntry) (input : Option (List ℕ)) (s : PlainSchema) (bytes : List ℕ) (error : TextError) (hint : Option RefusedPart)
+    → option_map (λ e. e.schema) found ≡ Some s → IsWholeInput input bytes → Reports (refused_by error) (rows_of_text form s bytes) → HintsAt hint form s bytes (refused_by error)
+    → IfHinted hint form found input (Err (text_refusal error))
+input_hints form found input s bytes error None is whole gives hints = tt
+input_hints form None input s bytes error (Some part) is whole gives hints = absurd cc
+input_hints form (Some e) input s bytes texts.OutOfMemory (Some part) is whole gives hints = absurd hints
+input_hints form (Some e) input s bytes (texts.Refused refused) (Some part) is whole gives hints =
+    let schema : e.schema ≡ s = ap (λ o. unwrap_or o s) is in
+    record {
+      entry = e;
+      is_there = refl;
+      bytes = bytes;
+      whole = whole;
+      refuses = ap (λ t. rows_of_text form t bytes) schema ∙ gives;
+      names = ap (λ t. refused_part form t bytes refused.number) schema ∙ hints;
+    }
+
+-- what is made of what is given was given
+pub made_of : {A B E : Type 0} (f : A → B) (r : Result A E) (b : B) → given f r ≡ Ok b → (a : A) × (r ≡ Ok a) × (b ≡ f a)
+made_of f (Ok a) b e = (a, refl, cc)
+made_of f (Err x) b e = absurd (cc)
+
+pub reported_of : {A B E : Type 0} (f : A → B) (r : Result A E) (o : Option E) → Reports o (given f r) → Reports o r
+reported_of f r None e = tt
+reported_of f (Ok a) (Some x) e = absurd (cc)
+reported_of f (Err y) (Some x) e = cc
+
+pub there_is : (found : Option PlainEntry) (s : PlainSchema) → option_map (λ e. e.schema) found ≡ Some s → IsSome found
+there_is None s is = absurd cc
+there_is (Some e) s is = refl
+
+-- why the rows of a text that is refused are not handed on
+pub refuses_text : {R : Type 0} (remaining : R → Option (List ℕ)) (form : TextForm) (halted : Bool) (found : Option PlainEntry) (old new : R) (s : PlainSchema) (bytes : List ℕ) (error : TextError)
+    → halted ≡ false → option_map (λ e. e.schema) found ≡ Some s → IsWholeInput (remaining old) bytes → Reports (refused_by error) (rows_of_text form s bytes)
+    → IsAtEnd (remaining new) → HasGivenAtMost (remaining old) (remaining new) LARGEST_INPUT → RefusesText remaining form halted found old new (text_refusal error)
+refuses_text remaining form halted found old new s bytes (texts.Refused refused) on is whole gives end few =
+    (on, input_gives form found (remaining old) s bytes (Err refused) is whole gives, end)
+refuses_text remaining form halted found old new s bytes texts.OutOfMemory on is whole gives end few = (on, there_is found s is, few)
+
+-- where all is written, the lines of the selection are
+pub lines_written : (form : RowForm) (halted tells : Bool) (image : Image) (found : Option PlainEntry) (q : PlainQuery) (table selected : PlainTable) (text : List ℕ) (old new : Option (List ℕ)) (r : Result (Unit {0}) Refusal)
+    → ReadsTable halted tells image found table → printed_selection form table q ≡ Ok selected → text ≡ rows_text form selected → OnOk r (Appends old new text)
+    → OnOk r ((s : PlainTable) × QueryAnswers form halted tells image found q (Ok s) × Appends old new (rows_text form s))
+lines_written form halted tells image found q table selected text old new (Ok done) reads answers is appends =
+    (selected, record { table = table; reads = reads; answers = answers }, subst (λ b. Appends old new b) is appends)
+lines_written form halted tells image found q table selected text old new (Err e) reads answers is appends = appends
+
+-- where the output failed there is a selection
+pub selection_told : (form : RowForm) (halted tells : Bool) (image : Image) (found : Option PlainEntry) (q : PlainQuery) (table selected : PlainTable) (r : Result (Unit {0}) Refusal)
+    → IfErr r (λ e. e ≡ Io) → ReadsTable halted tells image found table → printed_selection form table q ≡ Ok selected → IfErr r (RefusesQuery form halted tells image found q)
+selection_told form halted tells image found q table selected (Ok done) io reads answers = tt
+selection_told form halted tells image found q table selected (Err e) io reads answers =
+    subst (RefusesQuery form halted tells image found q) (sym io) (selected, record { table = table; reads = reads; answers = answers })
+
+-- where all is written, the lines of the schema of a table are
+pub schema_written : (found : Option PlainEntry) (s : PlainSchema) (text : List ℕ) (old new : Option (List ℕ)) (r : Result (Unit {0}) Refusal)
+    → option_map (λ e. e.schema) found ≡ Some s → text ≡ schema_text s.columns → OnOk r (Appends old new text)
+    → OnOk r ((e : PlainEntry) × (found ≡ Some e) × Appends old new (schema_text e.schema.columns))
+schema_written None s text old new r is lines appends = absurd cc
+schema_written (Some e) s text old new (Ok done) is lines appends =
+    let schema : e.schema ≡ s = ap (λ o. unwrap_or o s) is in
+    (e, refl, subst (λ b. Appends old new b) (lines ∙ ap (λ (t : PlainSchema). schema_text t.columns) (sym schema)) appends)
+schema_written (Some e) s text old new (Err refusal) is lines appends = tt
+
+-- where the output failed there was something to print
+pub printing_failed : (P : tables.Refusal → Type 0) (there : Type 0) (r : Result (Unit {0}) Refusal) → IfErr r (λ e. e ≡ Io) → there → IfErr r (RefusesPrinting P there)
+printing_failed P there (Ok done) io h = tt
+printing_failed P there (Err e) io h = subst (RefusesPrinting P there) (sym io) h

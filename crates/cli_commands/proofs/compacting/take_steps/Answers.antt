@@ -1,0 +1,31 @@
+use Rattle.std.proofs.Common.{arith, refl}
+use Rattle.cli_commands.proofs.CompactingLemmas.{few_steps, none_so_far, so_far_more, ends_with_nothing, ends_refused}
+use Rattle.cli_commands.proofs.compacting.take_steps.Goals as goal
+
+pub loop-count-init : goal.loop-count-init
+loop-count-init g c = none_so_far c.args.store.now
+
+pub loop-count-preserved : goal.loop-count-preserved
+loop-count-preserved g c =
+    let e = c.in-Ok.ensures in
+    so_far_more c.loop-count.count c.args.store.now c.loop-count.store c.compact_step.new.self c.in-Ok.done c.loop-count.invariant c.in_default.not-Nothing e.goes e.step e.shrinks e.halted e.halts e.size e.count e.book
+
+pub returns-in-Nothing-clause-done : goal.returns-in-Nothing-clause-done
+returns-in-Nothing-clause-done g c =
+    let e = c.in-Ok.ensures in
+    ends_with_nothing c.loop-count.count c.args.store.now c.loop-count.store c.compact_step.new.self c.in-Ok.done c.in-Nothing.is c.loop-count.invariant e.goes e.step (e.still (rw c.in-Nothing.is refl))
+    e.halted e.halts e.size e.count e.book
+
+pub returns-in-Err-clause-refused : goal.returns-in-Err-clause-refused
+returns-in-Err-clause-refused g c =
+    let e = c.in-Err.ensures in
+    ends_refused c.loop-count.count c.args.store.now c.loop-count.store c.compact_step.new.self c.in-Err.refusal c.loop-count.invariant e.refused (record { told = e.told; kept = e.kept; reads = e.reads })
+    e.halted e.same e.halts e.size e.count e.book
+
+pub unreachable-requires : goal.unreachable-requires
+unreachable-requires g c =
+    let so = c.loop-count.invariant in
+    let few = few_steps c.args.store.now so.taken c.loop-count.store so.steps in
+    let count = so.counted_so in
+    let end = c.loop-count-test.false in
+    omega (arith, few, count, end)

@@ -1,0 +1,102 @@
+-- What a whole compaction makes of a store, and what is printed of it.
+use Rattle.std.specs.Prelude.{◌≡◌, ◌≢◌, ◌↔◌, ◌++◌, ℕ, true, false, List, [], ◌∷◌, codes, length, map, Option, Result, Ok, Err, OnOk}
+use Rattle.std.specs.Fmt.{decimal}
+use Rattle.std.specs.Io.KnownBytes.{Appends}
+use Rattle.sector_dev.specs.Disk.{Image}
+use Rattle.sector_dev.specs.Time.{Grows, LeavesOnly, OnlyReads}
+use Rattle.sector_dev.specs.declared.device.SectorDevice.{Ghosts}
+use Rattle.tables.specs.Tables.{Tables}
+use Rattle.tables.specs.Verdict.{after}
+use Rattle.tables.specs.declared.refusal.Refusal as tables
+use Rattle.tables.specs.declared.refusal.Refusal.TheVariants as refusals
+use Rattle.store.specs.declared.compacting.Compaction.{Compaction}
+use Rattle.store.specs.declared.compacting.Compaction.TheVariants.{Nothing}
+use Rattle.store.specs.declared.store.Store.{Store}
+use Rattle.store.specs.Applying.{IsKept}
+use Rattle.store.specs.Calls.{PlainCall, compact_call, PlainReply, nothing, refused, counted}
+use Rattle.store.specs.Compacting.{reply_of, HasStepped, RefusesStep}
+use Rattle.store.specs.Exchanging.{Shrinks}
+use Rattle.store.specs.Fits.{StoreFits, setting_of, book_of, device_of, is_halted, listed_in}
+use Rattle.store.specs.Held.{held_by}
+use Rattle.store.specs.Machine.{Machine, holds}
+use Rattle.store.specs.Reading.{OnlyReadsStore}
+use Rattle.store.specs.Runs.{Run}
+use Rattle.cli_refusals.specs.declared.refusal.Refusal.{Refusal}
+use Rattle.cli_commands.specs.Changing.{Follows}
+
+-- the word `steps`, and how many
+abbrev pub steps_text : ℕ → List ℕ
+steps_text count = codes "steps " ++ decimal count ++ codes "\n"
+
+-- a step that did something: two segments became one, or one lies further in front
+pub record Steps {D : Type 0} {g : Ghosts D} (old : Store D g) (taken : Compaction) (new : Store D g) : Type 0 where
+  pub did : taken ≢ Nothing
+  pub stepped : HasStepped g.size g.story g.tells old taken new
+  pub shrinks : Shrinks (listed_in old) (listed_in new)
+  pub size : g.size (device_of new) ≡ g.size (device_of old)
+
+-- such steps, one after another
+abbrev pub StepsTo : {D : Type 0} {g : Ghosts D} → (old : Store D g) → List Compaction → (new : Store D g) → Type 0
+StepsTo old [] new = new ≡ old
+StepsTo {D} {g} old (taken ∷ others) new = (mid : Store D g) × Steps old taken mid × StepsTo mid others new
+
+-- a step that was refused: its reason, and what it left
+pub record StopsBy {D : Type 0} {g : Ghosts D} (old : Store D g) (r : tables.Refusal) (new : Store D g) : Type 0 where
+  pub told : RefusesStep g.size g.story g.tells (is_halted old) old r new
+  pub kept : IsKept old new
+  pub reads : r ≢ refusals.Device → g.tells ≡ true → OnlyReads (g.story (device_of old)) (g.story (device_of new))
+
+-- the last step: there is nothing to do any more, and the store was only read; or it was refused
+abbrev pub EndsSteps : {D : Type 0} {g : Ghosts D} → (old : Store D g) → Result (Unit {0}) tables.Refusal → (new : Store D g) → Type 0
+EndsSteps {g = g} old (Ok unit) new = HasStepped g.size g.story g.tells old Nothing new × OnlyReadsStore g.size g.story g.failed g.tells nothing old new
+EndsSteps old (Err r) new = StopsBy old r new
+
+-- ---- as calls of the store
+
+abbrev pub last_reply : Result (Unit {0}) tables.Refusal → PlainReply
+last_reply (Ok unit) = nothing
+last_reply (Err r) = refused r
+
+-- a call for each step that did something
+abbrev pub step_calls : List Compaction → List PlainCall
+step_calls taken = map (λ done. compact_call) taken
+
+-- calls of an open store, one after another: some machine goes on with the commands that were settled, and the store stands for it
+pub record RunsOn {D : Type 0} {g : Ghosts D} (base : Tables) (m : Machine) (calls : List PlainCall) (replies : List PlainReply) (old new : Store D g) : Type 0 where
+  pub next : Machine
+  pub settled : next.settled ≡ m.settled
+  pub run : Run (setting_of (g.size (device_of old)) base) calls replies m (g.story (device_of old)) (g.failed (device_of old)) next (g.story (device_of new)) (g.failed (device_of new))
+  pub fits : StoreFits g.size g.story base next new
+
+-- at each moment of a stretch of time a stop leaves a store with these tables
+abbrev pub StaysWith : {D : Type 0} {g : Ghosts D} → Tables → (old new : Store D g) → Type 0
+StaysWith {g = g} t old new =
+    Grows (LeavesOnly (λ (image : Image). held_by (g.size (device_of old)) image ≡ holds t)) (g.story (device_of old)) (g.story (device_of new))
+
+-- ---- a whole compaction
+
+-- these steps did something, and what came behind them was answered so
+pub record Compacted {D : Type 0} {g : Ghosts D} (taken : List Compaction) (answer : Result (Unit {0}) tables.Refusal) (old new : Store D g) : Type 0 where
+  pub mid : Store D g
+  pub steps : StepsTo old taken mid
+  pub ends : EndsSteps mid answer new
+  pub size : g.size (device_of new) ≡ g.size (device_of old)
+  pub count : g.failed (device_of new) ≡ counted (last_reply answer) (g.failed (device_of old))
+  pub book : book_of new ≡ book_of old
+  -- a halted store stays as it is, and a store halts where its device fails
+  pub still : is_halted old ≡ true → (answer ≡ Err refusals.Halted) × (new ≡ old)
+  pub halts : is_halted old ≡ false → (is_halted new ≡ true) ↔ (answer ≡ Err refusals.Device)
+  -- on a store that stands for a machine they are calls that change no table
+  pub goes : g.tells ≡ true → (base : Tables) (m : Machine) → StoreFits g.size g.story base m old
+      → RunsOn base m (step_calls taken ++ compact_call ∷ []) (map reply_of taken ++ last_reply answer ∷ []) old new
+  -- and whenever it stops the tables are those that were
+  pub stays : g.tells ≡ true → (base : Tables) (m : Machine) → StoreFits g.size g.story base m old → is_halted old ≡ false → StaysWith (after base m.settled) old new
+
+-- a compaction that the program answered: how many steps did something is written once there is nothing to do any more, and a refusal is the store's
+pub record Compacts {D : Type 0} {g : Ghosts D} {W : Type 0} (contents : W → Option (List ℕ)) (old new : Store D g) (output output' : W)
+    (result : Result (Unit {0}) Refusal) : Type 0 where
+  pub taken : List Compaction
+  pub answer : Result (Unit {0}) tables.Refusal
+  pub compacted : Compacted taken answer old new
+  pub follows : Follows answer result
+  pub written : OnOk result (Appends (contents output) (contents output') (steps_text (length taken)))

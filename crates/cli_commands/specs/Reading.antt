@@ -1,0 +1,44 @@
+-- What the program answers of commands that read the tables of a store.
+use Rattle.std.specs.Prelude.{◌≡◌, ◌⊎◌, ℕ, Bool, true, List, take, slice_get, Some, Result, Ok, Err}
+use Rattle.std.specs.List.{AllByRecursion}
+use Rattle.sector_dev.specs.Disk.{Image}
+use Rattle.cells.specs.Cell.{PlainTable}
+use Rattle.catalogue.specs.Entries.{PlainCatalogue}
+use Rattle.catalogue.specs.Edits.{entry_of, tables_of}
+use Rattle.tables.specs.declared.refusal.Refusal as tables
+use Rattle.store.specs.Calls.{PlainReply, done, refused}
+use Rattle.store.specs.Listing.{RefusesTables}
+use Rattle.store.specs.Reading.{ReadsTable, RefusesRead}
+use Rattle.cli_refusals.specs.declared.refusal.Refusal.{Refusal}
+use Rattle.cli_refusals.specs.declared.refusal.Refusal.TheVariants.{Io, Store}
+
+-- a refusal of the store, of which this holds; or the output failed, and that holds of what was to be written
+abbrev pub OfStore : (tables.Refusal → Type 0) → (there : Type 0) → Refusal → Type 0
+OfStore P there (Store r) = P r
+OfStore P there Io = there
+OfStore P there _ = ⊥
+
+-- how the store's own calls ended where the program answers so
+abbrev pub refusal_ended : Refusal → PlainReply
+refusal_ended (Store r) = refused r
+refusal_ended _ = done
+
+abbrev pub store_ended : {T : Type 0} → Result T Refusal → PlainReply
+store_ended (Ok x) = done
+store_ended (Err refusal) = refusal_ended refusal
+
+-- the table of a name can be read
+abbrev pub IsReadable : (halted : Bool) → Image → PlainCatalogue → (List ℕ × ℕ) → Type 0
+IsReadable halted image c t = (table : PlainTable) × ReadsTable halted true image (entry_of c t.0) table
+
+-- the first of these tables that can't be read, and why
+pub record FirstUnread (halted : Bool) (image : Image) (c : PlainCatalogue) (listed : List (List ℕ × ℕ)) (refusal : tables.Refusal) : Type 0 where
+  pub place : ℕ
+  pub table : List ℕ × ℕ
+  pub at : slice_get listed place ≡ Some table
+  pub before : AllByRecursion (IsReadable halted image c) (take place listed)
+  pub refuses : RefusesRead halted true image (entry_of c table.0) refusal
+
+-- why not all tables of a store are found to be readable: they are not even listed, or one can't be read
+abbrev pub RefusesCheck : (halted : Bool) → Image → PlainCatalogue → tables.Refusal → Type 0
+RefusesCheck halted image c refusal = RefusesTables halted refusal ⊎ FirstUnread halted image c (tables_of c) refusal

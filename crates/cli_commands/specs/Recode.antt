@@ -1,0 +1,37 @@
+-- What recoding answers and writes.
+use Rattle.std.specs.Prelude.{◌≡◌, ℕ, List, Option, IfSome, Result, Ok, Err}
+use Rattle.std.specs.Io.KnownBytes.{Appends}
+use Rattle.cells.specs.Cell.{PlainTable}
+use Rattle.ipc_message.specs.Header.{supported_codes}
+use Rattle.ipc_stream.specs.Meaning.{meaning}
+use Rattle.canonical_stream.specs.Canonical.{canonical}
+use Rattle.cli_refusals.specs.declared.refusal.Refusal.{Refusal}
+use Rattle.cli_refusals.specs.declared.refusal.Refusal.TheVariants.{Fault, TooManyBytes, Io, BadSize, BadScript, Fields, Text, Query, Opening, Store, OutOfMemory}
+
+-- the answer speaks of the whole input: it has a meaning, or a fault
+abbrev pub IsVerdict : {A : Type 0} → Result A Refusal → Type 0
+IsVerdict (Ok x) = Unit {0}
+IsVerdict (Err (Fault fault)) = Unit {0}
+IsVerdict (Err TooManyBytes) = ⊥
+IsVerdict (Err Io) = ⊥
+IsVerdict (Err BadSize) = ⊥
+IsVerdict (Err (BadScript line)) = ⊥
+IsVerdict (Err (Fields error)) = ⊥
+IsVerdict (Err (Text refused)) = ⊥
+IsVerdict (Err (Query refusal)) = ⊥
+IsVerdict (Err (Opening refusal)) = ⊥
+IsVerdict (Err (Store refusal)) = ⊥
+IsVerdict (Err OutOfMemory) = ⊥
+
+-- the input means a table, and what was written, from `old` to `new`, is the canonical stream of that table and nothing else
+abbrev pub AppendsCanonical : Option (List ℕ) → Option (List ℕ) → List ℕ → Type 0
+AppendsCanonical old new input = (table : PlainTable) × (meaning supported_codes input ≡ Ok table) × Appends old new (canonical table)
+
+-- why an input, which had these bytes left, is not recoded: it has this fault, it is too long, a read or a write failed, or memory was refused. A fault that is
+-- reported is the fault of the input
+abbrev pub IsTrueFault : Refusal → Option (List ℕ) → Type 0
+IsTrueFault (Fault fault) input = IfSome input (λ bytes. meaning supported_codes bytes ≡ Err fault)
+IsTrueFault TooManyBytes input = Unit {0}
+IsTrueFault Io input = Unit {0}
+IsTrueFault OutOfMemory input = Unit {0}
+IsTrueFault _ input = ⊥

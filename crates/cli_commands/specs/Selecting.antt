@@ -1,0 +1,90 @@
+-- What a query asks of a store, and what is printed of it.
+use Rattle.std.specs.Prelude.{◌≡◌, ◌==◌, ℕ, Bool, true, List, [], ◌∷◌, ◌++◌, codes, map, Option, Some, None, option_map, Result, Ok, Err, if◌then◌else◌}
+use Rattle.std.specs.List.{slice_split}
+use Rattle.sector_dev.specs.Disk.{Image}
+use Rattle.arrow_schema.specs.Column.{Column}
+use Rattle.cells.specs.Cell.{Cell, PlainTable}
+use Rattle.catalogue.specs.Entries.{PlainEntry}
+use Rattle.query.specs.Bound as query
+use Rattle.query.specs.ConditionText.{condition_of}
+use Rattle.query.specs.ObjectLine.{are_named_apart, line_in}
+use Rattle.query.specs.Query.{PlainCondition, PlainQuery}
+use Rattle.query.specs.Selection.{all_some, selection}
+use Rattle.query.specs.declared.row_form.RowForm.{RowForm}
+use Rattle.query.specs.declared.row_form.RowForm.TheVariants.{Array, Object}
+use Rattle.tables.specs.declared.refusal.QueryRefusal.{QueryRefusal}
+use Rattle.tables.specs.declared.refusal.QueryRefusal.TheVariants.{UnknownColumn, BadCondition, NotComparable}
+use Rattle.store.specs.Reading.{ReadsTable, RefusesRead}
+use Rattle.cli_refusals.specs.declared.refusal.Refusal.{Refusal}
+use Rattle.cli_refusals.specs.declared.refusal.Refusal.TheVariants.{Io, Query, Store, OutOfMemory}
+
+-- the names that a word has between its commas: an empty word is one empty name; without the word all columns are asked for
+abbrev pub named_columns : Option (List ℕ) → List (List ℕ)
+named_columns None = []
+named_columns (Some word) = slice_split (λ b. b == 44) word
+
+abbrev pub conditions_of : List (List ℕ) → Option (List PlainCondition)
+conditions_of texts = all_some (map condition_of texts)
+
+-- the query that the words of a command line state: none where a text is no condition
+abbrev pub stated_query : List (List ℕ) → Option (List ℕ) → Option ℕ → Option PlainQuery
+stated_query texts columns limit = option_map (λ cs. record { columns = named_columns columns; conditions = cs; limit = limit }) (conditions_of texts)
+
+-- why words state no query
+abbrev pub RefusesWords : {A : Type 0} → Option A → Refusal → Type 0
+RefusesWords stated (Query BadCondition) = stated ≡ None
+RefusesWords stated OutOfMemory = Unit {0}
+RefusesWords stated _ = ⊥
+
+-- a line for each of the rows
+abbrev pub lines_text : RowForm → List Column → List (List Cell) → List ℕ
+lines_text form columns [] = []
+lines_text form columns (row ∷ rows) = line_in form columns row ++ codes "\n" ++ lines_text form columns rows
+
+-- those of a table
+abbrev pub rows_text : RowForm → PlainTable → List ℕ
+rows_text form t = lines_text form t.schema.columns t.rows
+
+-- no two members of an object have the same name
+abbrev pub is_printable : RowForm → PlainTable → Bool
+is_printable Array t = true
+is_printable Object t = are_named_apart t.schema.columns
+
+-- what is selected, where it can be printed so; a name that two columns have names none
+abbrev pub printable : RowForm → Result PlainTable query.Refusal → Result PlainTable query.Refusal
+printable form (Ok selected) = if is_printable form selected then Ok selected else Err query.unknown_column
+printable form (Err refusal) = Err refusal
+
+-- the table whose rows a query prints, or why there is none: the refusals of its selection come first
+abbrev pub printed_selection : RowForm → PlainTable → PlainQuery → Result PlainTable query.Refusal
+printed_selection form t q = printable form (selection t q)
+
+-- these are the lines of what a query selects from a table
+abbrev pub AreLines : RowForm → PlainTable → PlainQuery → List ℕ → Type 0
+AreLines form table q text = (selected : PlainTable) × (printed_selection form table q ≡ Ok selected) × (text ≡ rows_text form selected)
+
+-- a query of the table that reads show has this answer
+pub record QueryAnswers (form : RowForm) (halted tells : Bool) (image : Image) (found : Option PlainEntry) (q : PlainQuery)
+    (answer : Result PlainTable query.Refusal) : Type 0 where
+  pub table : PlainTable
+  pub reads : ReadsTable halted tells image found table
+  pub answers : printed_selection form table q ≡ answer
+
+abbrev pub plain_reason : QueryRefusal → query.Refusal
+plain_reason UnknownColumn = query.unknown_column
+plain_reason BadCondition = query.bad_condition
+plain_reason NotComparable = query.not_comparable
+
+-- why no lines are made of what a query selects from a table: it is refused, or memory was
+abbrev pub RefusesLines : RowForm → PlainTable → PlainQuery → Refusal → Type 0
+RefusesLines form table q (Query refusal) = printed_selection form table q ≡ Err (plain_reason refusal)
+RefusesLines form table q OutOfMemory = Unit {0}
+RefusesLines form table q _ = ⊥
+
+-- why nothing is printed of a query: the table is not read; or it is, and the query is refused or memory was; or there is a selection, and the output failed
+abbrev pub RefusesQuery : RowForm → (halted tells : Bool) → Image → Option PlainEntry → PlainQuery → Refusal → Type 0
+RefusesQuery form halted tells image found q (Store refusal) = RefusesRead halted tells image found refusal
+RefusesQuery form halted tells image found q (Query refusal) = QueryAnswers form halted tells image found q (Err (plain_reason refusal))
+RefusesQuery form halted tells image found q Io = (selected : PlainTable) × QueryAnswers form halted tells image found q (Ok selected)
+RefusesQuery form halted tells image found q OutOfMemory = (table : PlainTable) × ReadsTable halted tells image found table
+RefusesQuery form halted tells image found q _ = ⊥

@@ -1,0 +1,64 @@
+-- Rows of an input that is a text, for a table of a store.
+use Rattle.std.specs.Prelude.{◌≡◌, ◌⊎◌, ℕ, Bool, false, List, Option, None, Some, Result, Ok, Err, IsErrAnd}
+use Rattle.std.specs.Io.KnownBytes.{IsAtEnd}
+use Rattle.cells.specs.Cell.{Cell}
+use Rattle.catalogue.specs.Entries.{PlainEntry}
+use Rattle.text_import.specs.declared.refusal.Refused.{Refused}
+use Rattle.text_import.specs.Form.{rows_of_text}
+use Rattle.text_import.specs.Part.{PlainPart, part_of, refused_part}
+use Rattle.text_import.specs.declared.part.RefusedPart.{RefusedPart}
+use Rattle.arrow_schema.specs.Column.{PlainSchema}
+use Rattle.tables.specs.declared.refusal.Refusal as tables
+use Rattle.cli_refusals.specs.declared.refusal.Refusal.{Refusal}
+use Rattle.cli_refusals.specs.declared.refusal.Refusal.TheVariants.{Text}
+use Rattle.text_import.specs.declared.form.TextForm.{TextForm}
+use Rattle.cli_commands.specs.Given.{IsWholeInput}
+use Rattle.cli_commands.specs.Changing.{Answered, RefusesAppend}
+
+-- all of an input, as a text for the schema of the table that is found, gives this
+pub record InputGives (form : TextForm) (found : Option PlainEntry) (input : Option (List ℕ)) (given : Result (List (List Cell)) Refused) : Type 0 where
+  pub entry : PlainEntry
+  pub is_there : found ≡ Some entry
+  pub bytes : List ℕ
+  pub whole : IsWholeInput input bytes
+  pub gives : rows_of_text form entry.schema bytes ≡ given
+
+-- the rows of all of an input were handed to the store, which gave an answer, and the program's follows it; or it was refused before, and this holds of
+-- the refusal
+abbrev pub HandsRows : TextForm → Option PlainEntry → Option (List ℕ) → (List (List Cell) → Result (Unit {0}) tables.Refusal → Type 0)
+    → (before : Refusal → Type 0) → Result (Unit {0}) Refusal → Type 0
+HandsRows form found input P before result =
+    IsErrAnd result before ⊎ ((rows : List (List Cell)) × InputGives form found input (Ok rows) × Answered (P rows) result)
+
+-- why no rows are handed to the store: all of the input was read, and as a text it is refused; or it is refused as each append is
+abbrev pub RefusesText : {R : Type 0} → (remaining : R → Option (List ℕ)) → TextForm → (halted : Bool) → (found : Option PlainEntry) → (old new : R)
+    → Refusal → Type 0
+RefusesText remaining form halted found old new (Text refused) =
+    (halted ≡ false) × InputGives form found (remaining old) (Err refused) × IsAtEnd (remaining new)
+RefusesText remaining form halted found old new refusal = RefusesAppend remaining halted found old new refusal
+
+-- a refusal of the text is that of all of the input
+abbrev pub IfOfText : TextForm → Option PlainEntry → Option (List ℕ) → Refusal → Type 0
+IfOfText form found input (Text refused) = InputGives form found input (Err refused)
+IfOfText form found input _ = Unit {0}
+
+-- what is hinted of a text that is refused, if anything: the part of the refused record that is
+abbrev pub HintsAt : Option RefusedPart → TextForm → PlainSchema → List ℕ → Option Refused → Type 0
+HintsAt None form schema bytes refused = Unit {0}
+HintsAt (Some part) form schema bytes None = ⊥
+HintsAt (Some part) form schema bytes (Some refused) = refused_part form schema bytes refused.number ≡ Some (part_of part)
+
+-- all of an input is refused, as a text for the schema of the table that is found, and this is the part of the refused record that is
+pub record HintsPart (part : PlainPart) (form : TextForm) (found : Option PlainEntry) (input : Option (List ℕ)) (refused : Refused) : Type 0 where
+  pub entry : PlainEntry
+  pub is_there : found ≡ Some entry
+  pub bytes : List ℕ
+  pub whole : IsWholeInput input bytes
+  pub refuses : rows_of_text form entry.schema bytes ≡ Err refused
+  pub names : refused_part form entry.schema bytes refused.number ≡ Some part
+
+-- nothing is hinted but of a refused text
+abbrev pub IfHinted : Option RefusedPart → TextForm → Option PlainEntry → Option (List ℕ) → Result (Unit {0}) Refusal → Type 0
+IfHinted None form found input result = Unit {0}
+IfHinted (Some part) form found input (Err (Text refused)) = HintsPart (part_of part) form found input refused
+IfHinted (Some part) form found input _ = ⊥

@@ -1,0 +1,92 @@
+// What changes the tables of an open store.
+ghost use Rattle.std.specs.Prelude.{◌≡◌, ◌≢◌, true, codes, IfErr, OnOk};
+ghost use Rattle.std.specs.Io.KnownBytes.{Appends};
+ghost use Rattle.catalogue.specs.Entries.{is_name};
+ghost use Rattle.tables.specs.Commands.{import_stream, append_stream};
+ghost use Rattle.tables.specs.Tables.{Tables};
+ghost use Rattle.tables.specs.declared.refusal.Refusal.TheVariants.{BadName, NoTable};
+ghost use Rattle.tables.specs.View.{command_of};
+ghost use Rattle.store.specs.Applying.{GoesOn};
+ghost use Rattle.store.specs.Calls.{apply_call};
+ghost use Rattle.store.specs.Deciding.{has_entry};
+ghost use Rattle.store.specs.Fits.{StoreFits, listed_in};
+ghost use Rattle.store.specs.Machine.{Machine};
+ghost use Rattle.store.specs.Reading.{ended};
+ghost use Rattle.cli_commands.specs.Changing.{Answered, AnswersCommand, AnswersInput};
+
+use cli_refusals::{Refusal, write_whole};
+use sector_dev::SectorDevice;
+use std::alloc::Global;
+use std::io::{Read, Write};
+use store::Store;
+use tables::Command;
+
+/// Carries out a command, and writes `ok` once it is done.
+///
+/// # Errors
+/// `Store` where the store refuses: then nothing is written, and the tables are as they were; after `Store(Device)` the store is halted, and it is
+/// open whether the command is done. `Io` where the output fails: the command is done all the same.
+pub fn apply_command<D: SectorDevice, W: Write>(
+    alloc: Global,
+    store: &mut Store<D>,
+    command: Command,
+    output: &mut W,
+) -> Result<(), Refusal>
+    // The answer is the store's: done only where it has the command done, and else its refusal.
+    ensures goes { D.tells ≡ true → (base : Tables) (m : Machine) → StoreFits D.size D.story base m store.old
+        → Answered (λ answer. GoesOn D.size D.story D.failed base m (apply_call (command_of command)) (ended answer) store.old store.new) result }
+    // On every store and every device: the store was given the command, and what it answered is reported.
+    ensures told { Answered (λ answer. AnswersCommand D.size D.story D.tells (command_of command) answer store.old store.new) result }
+    ensures written { OnOk result (Appends (W.contents output.old) (W.contents output.new) (codes "ok\n")) }
+    ensures silent { IfErr result (λ refusal. refusal ≢ Refusal.Io → output.new ≡ output.old) }
+{
+    store.apply(alloc, command)?;
+    write_whole(output, b"ok\n")
+}
+
+/// Makes the table that all of the input means as a stream, in place of one of this name, and writes `ok`.
+///
+/// That the store is halted, and then a bad name, is reported before anything is read.
+///
+/// # Errors
+/// `Store`, as [`Store::import_from`] refuses: then nothing is written, and the tables are as they were; after `Store(Device)` the store is halted,
+/// and it is open whether the command is done. `Io` where the output fails: the command is done all the same.
+pub fn import_input<D: SectorDevice, R: Read, W: Write>(
+    alloc: Global,
+    store: &mut Store<D>,
+    name: &str,
+    input: &mut R,
+    output: &mut W,
+) -> Result<(), Refusal>
+    // The answer is the store's: it was given all of the input, or there was a reason before, and nothing is changed.
+    ensures told { Answered (λ answer. AnswersInput D.size D.story D.failed D.tells R.remaining (import_stream name.now) (is_name name.now) BadName
+        input.old input.new answer store.old store.new) result }
+    ensures written { OnOk result (Appends (W.contents output.old) (W.contents output.new) (codes "ok\n")) }
+    ensures silent { IfErr result (λ refusal. refusal ≢ Refusal.Io → output.new ≡ output.old) }
+{
+    store.import_from(alloc, name, input)?;
+    write_whole(output, b"ok\n")
+}
+
+/// Appends the rows that all of the input means as a stream to a table, and writes `ok`.
+///
+/// That the store is halted, and then that there is no such table, is reported before anything is read.
+///
+/// # Errors
+/// `Store`, as [`Store::append_from`] refuses: then nothing is written, and the tables are as they were; after `Store(Device)` the store is halted,
+/// and it is open whether the command is done. `Io` where the output fails: the command is done all the same.
+pub fn append_input<D: SectorDevice, R: Read, W: Write>(
+    alloc: Global,
+    store: &mut Store<D>,
+    name: &str,
+    input: &mut R,
+    output: &mut W,
+) -> Result<(), Refusal>
+    ensures told { Answered (λ answer. AnswersInput D.size D.story D.failed D.tells R.remaining (append_stream name.now)
+        (has_entry (listed_in store.old) name.now) NoTable input.old input.new answer store.old store.new) result }
+    ensures written { OnOk result (Appends (W.contents output.old) (W.contents output.new) (codes "ok\n")) }
+    ensures silent { IfErr result (λ refusal. refusal ≢ Refusal.Io → output.new ≡ output.old) }
+{
+    store.append_from(alloc, name, input)?;
+    write_whole(output, b"ok\n")
+}

@@ -1,0 +1,74 @@
+// All tables of a store, copied into another one.
+ghost use Rattle.std.specs.Prelude.{map, string_bytes, Ok, IfErr, OnOk};
+ghost use Rattle.catalogue.specs.Edits.{tables_of};
+ghost use Rattle.store.specs.Calls.{done};
+ghost use Rattle.store.specs.Fits.{listed_in};
+ghost use Rattle.store.specs.Reading.{OnlyReadsStore};
+ghost use Rattle.cli_commands.specs.Copying.{IsOnlyRead, HasAllOf, ImportsTable, ImportsEach, RefusesTable, StopsCopying, RefusesCopy};
+ghost use Rattle.cli_commands.specs.inner.Copying.{CopiesTable, HasListed};
+
+use sector_dev::SectorDevice;
+use std::alloc::Global;
+use store::Store;
+use tables::{Command, Refusal};
+
+// One table, as the stream that it is exported as. It is freed before the next one.
+fn copy_table<D: SectorDevice, E: SectorDevice>(
+    alloc: Global,
+    from: &mut Store<D>,
+    to: &mut Store<E>,
+    name: &str,
+) -> Result<(), Refusal>
+    ensures copied { OnOk result (CopiesTable name.now from.old from.new to.old to.new) }
+    ensures imports { OnOk result (ImportsTable from.old name.now to.old (Ok tt) to.new) }
+    ensures told { IfErr result (λ r. RefusesTable from.old name.now to.old r to.new) }
+    ensures reads { IsOnlyRead from.old from.new }
+    ensures only { OnOk result (OnlyReadsStore D.size D.story D.failed D.tells done from.old from.new) }
+{
+    let owned = String::from_str(alloc, name)?;
+    let bytes = from.export_bytes(alloc, name)?;
+    to.apply(alloc, Command::ImportStream { name: owned, bytes })
+}
+
+// Some tables, up to the first that is refused.
+fn copy_each<D: SectorDevice, E: SectorDevice>(
+    alloc: Global,
+    from: &mut Store<D>,
+    to: &mut Store<E>,
+    tables: &[(String, u64)],
+) -> Result<(), Refusal>
+    ensures copied { OnOk result (HasListed (map (λ t. (string_bytes t.0, t.1)) tables.now) from.old to.old to.new) }
+    ensures imports { OnOk result (ImportsEach from.old (map (λ t. (string_bytes t.0, t.1)) tables.now) to.old to.new) }
+    ensures told { IfErr result (λ r. StopsCopying from.old (map (λ t. (string_bytes t.0, t.1)) tables.now) to.old r to.new) }
+    ensures reads { IsOnlyRead from.old from.new }
+{
+    for table in tables {
+        match copy_table(alloc, from, to, table.0.as_str()) {
+            Ok(()) => {}
+            Err(refusal) => return Err(refusal),
+        }
+    }
+    Ok(())
+}
+
+/// Copies all tables of a store into another one, which has none: one after another in byte order of the names, each read whole and then imported, which
+/// is acknowledged before the next one is read. One table is in memory at a time.
+///
+/// # Errors
+/// Those of [`Store::tables`], [`Store::export_bytes`] and, as an import, [`Store::apply`]. The tables before are copied then.
+pub fn copy_tables<D: SectorDevice, E: SectorDevice>(
+    alloc: Global,
+    from: &mut Store<D>,
+    to: &mut Store<E>,
+) -> Result<(), Refusal>
+    // Of stores that stand for machines: the one that has no tables has just those of the other one, and each was acknowledged.
+    ensures copied { OnOk result (HasAllOf from.old to.old to.new) }
+    // On any store and any device: the stream of each table that is listed and read was imported; each refusal has its one reason.
+    ensures imports { OnOk result (ImportsEach from.old (tables_of (listed_in from.old)) to.old to.new) }
+    ensures told { IfErr result (λ r. RefusesCopy from.old to.old r to.new) }
+    // The store that is copied is only read.
+    ensures reads { IsOnlyRead from.old from.new }
+{
+    let tables = from.tables(alloc)?;
+    copy_each(alloc, from, to, &tables)
+}

@@ -1,0 +1,91 @@
+// What an open store is asked for, as lines on an output.
+ghost use Rattle.std.specs.Prelude.{◌≡◌, ◌≢◌, ◌++◌, map, option_map, string_bytes, false, Some, IfSome, IsSome, IfOk, IfErr, OnOk};
+ghost use Rattle.std.specs.Fmt.{decimal};
+ghost use Rattle.std.specs.Io.KnownBytes.{Appends};
+ghost use Rattle.arrow_schema.specs.Column.{Column};
+ghost use Rattle.arrow_schema.specs.View.{column_of, schema_of};
+ghost use Rattle.catalogue.specs.Edits.{entry_of, tables_of};
+ghost use Rattle.store.specs.Fits.{listed_in, is_halted};
+ghost use Rattle.store.specs.Listing.{RefusesTables, RefusesSchema};
+ghost use Rattle.cli_commands.specs.Printed.{tables_text, schema_text, RefusesPrinting};
+
+use arrow_schema::Field;
+use cli_refusals::{Refusal, write_whole};
+use field_texts::field_text;
+use sector_dev::SectorDevice;
+use std::alloc::{AllocError, Global};
+use std::fmt::Write as _;
+use std::io::Write;
+use store::Store;
+
+fn push_number(text: &mut String, number: u64) -> Result<(), AllocError>
+    ensures { OnOk result (string_bytes text.new ≡ string_bytes text.old ++ decimal number) }
+{
+    write!(text, "{number}")
+}
+
+/// The lines of these tables: the name of each, and how many rows it has.
+pub fn lines_of_tables(alloc: Global, tables: &[(String, u64)]) -> Result<String, AllocError>
+    ensures { IfOk result (λ text. string_bytes text ≡ tables_text (map (λ t. (string_bytes t.0, t.1)) tables.now)) }
+{
+    let mut text = String::new(alloc);
+    for table in tables {
+        text.push_str(table.0.as_str())?;
+        text.push_str(" ")?;
+        push_number(&mut text, table.1)?;
+        text.push_str("\n")?;
+    }
+    Ok(text)
+}
+
+fn lines_of_fields(alloc: Global, fields: &[Field]) -> Result<String, AllocError>
+    ensures { IfOk result (λ text. string_bytes text ≡ schema_text (map column_of fields.now)) }
+{
+    let mut text = String::new(alloc);
+    for field in fields {
+        text.push_str(field_text(alloc, field)?.as_str())?;
+        text.push_str("\n")?;
+    }
+    Ok(text)
+}
+
+/// Prints a line for each table, in byte order of the names: the name, and how many rows the table has.
+///
+/// # Errors
+/// `Store` with `Halted` or `OutOfMemory`, and `OutOfMemory`: then nothing is written. `Io` where a write fails: some lines may be written.
+pub fn print_tables<D: SectorDevice, W: Write>(
+    alloc: Global,
+    store: &Store<D>,
+    output: &mut W,
+) -> Result<(), Refusal>
+    // What is printed is what the store has, and nothing else.
+    ensures written { OnOk result (Appends (W.contents output.old) (W.contents output.new) (tables_text (tables_of (listed_in store.now)))) }
+    ensures told { IfErr result (RefusesPrinting (RefusesTables (is_halted store.now)) (is_halted store.now ≡ false)) }
+    // Where it is refused nothing is printed, unless a write failed.
+    ensures silent { IfErr result (λ refusal. refusal ≢ Refusal.Io → output.new ≡ output.old) }
+{
+    let tables = store.tables(alloc)?;
+    let text = lines_of_tables(alloc, &tables)?;
+    write_whole(output, text.as_bytes())
+}
+
+/// Prints a line for each field of a table, as a field text whose names are JSON strings.
+///
+/// # Errors
+/// `Store` with `Halted`, `NoTable` or `OutOfMemory`, and `OutOfMemory`: then nothing is written. `Io` where a write fails: some may be written.
+pub fn print_schema<D: SectorDevice, W: Write>(
+    alloc: Global,
+    store: &Store<D>,
+    name: &str,
+    output: &mut W,
+) -> Result<(), Refusal>
+    ensures written { OnOk result ((e : _) × (entry_of (listed_in store.now) name.now ≡ Some e)
+        × Appends (W.contents output.old) (W.contents output.new) (schema_text e.schema.columns)) }
+    ensures told { IfErr result (RefusesPrinting (RefusesSchema (is_halted store.now) (entry_of (listed_in store.now) name.now))
+        ((is_halted store.now ≡ false) × IsSome (entry_of (listed_in store.now) name.now))) }
+    ensures silent { IfErr result (λ refusal. refusal ≢ Refusal.Io → output.new ≡ output.old) }
+{
+    let schema = store.schema(alloc, name)?;
+    let text = lines_of_fields(alloc, &schema.fields)?;
+    write_whole(output, text.as_bytes())
+}

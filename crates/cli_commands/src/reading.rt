@@ -1,0 +1,96 @@
+// What reads the tables of an open store: an export, and a check of all of them.
+ghost use Rattle.std.specs.Prelude.{◌≡◌, ◌≢◌, true, codes, map, string_bytes, IfErr, OnOk};
+ghost use Rattle.std.specs.List.{AllByRecursion};
+ghost use Rattle.std.specs.Io.KnownBytes.{Appends};
+ghost use Rattle.sector_dev.specs.Disk.{now, shown_image};
+ghost use Rattle.cells.specs.Cell.{PlainTable};
+ghost use Rattle.catalogue.specs.Edits.{entry_of, tables_of};
+ghost use Rattle.canonical_stream.specs.Canonical.{canonical};
+ghost use Rattle.store.specs.Fits.{device_of, is_halted, listed_in};
+ghost use Rattle.store.specs.Reading.{ReadsTable, RefusesRead, OnlyReadsStore, ended};
+ghost use Rattle.cli_commands.specs.Reading.{OfStore, store_ended, IsReadable, FirstUnread, RefusesCheck};
+
+use cli_refusals::{Refusal, write_whole};
+use sector_dev::SectorDevice;
+use std::alloc::Global;
+use std::io::Write;
+use store::Store;
+
+/// Writes the canonical stream of the table of a name. Its parts are made before the first byte is written.
+///
+/// # Errors
+/// `Store`, as [`Store::read`] refuses: then nothing is written. `Io` where a write fails: some of the stream may be written.
+pub fn export_table<D: SectorDevice, W: Write>(
+    alloc: Global,
+    store: &mut Store<D>,
+    name: &str,
+    output: &mut W,
+) -> Result<(), Refusal>
+    // What is written is the stream of the table that reads show, and nothing else.
+    ensures written { OnOk result ((t : PlainTable) × ReadsTable (is_halted store.old) D.tells (shown_image (now (D.story (device_of store.old))))
+        (entry_of (listed_in store.old) name.now) t × Appends (W.contents output.old) (W.contents output.new) (canonical t)) }
+    ensures told { IfErr result (OfStore (RefusesRead (is_halted store.old) D.tells (shown_image (now (D.story (device_of store.old))))
+        (entry_of (listed_in store.old) name.now)) ((t : PlainTable) × ReadsTable (is_halted store.old) D.tells
+        (shown_image (now (D.story (device_of store.old)))) (entry_of (listed_in store.old) name.now) t)) }
+    // The store is only read.
+    ensures reads { OnlyReadsStore D.size D.story D.failed D.tells (store_ended result) store.old store.new }
+    // Where it is refused nothing is written, unless a write failed.
+    ensures silent { IfErr result (λ refusal. refusal ≢ Refusal.Io → output.new ≡ output.old) }
+{
+    match store.export(alloc, name, output) {
+        Ok(()) => Ok(()),
+        Err(tables::Refusal::Write) => Err(Refusal::Io),
+        Err(refusal) => Err(Refusal::Store(refusal)),
+    }
+}
+
+// Reads each of some tables, up to the first that can't be read.
+fn read_each<D: SectorDevice>(
+    alloc: Global,
+    store: &mut Store<D>,
+    tables: &[(String, u64)],
+) -> Result<(), tables::Refusal>
+    ensures read { OnOk result (D.tells ≡ true
+        → AllByRecursion (IsReadable (is_halted store.old) (shown_image (now (D.story (device_of store.old)))) (listed_in store.old))
+        (map (λ t. (string_bytes t.0, t.1)) tables.now)) }
+    ensures told { IfErr result (λ refusal. D.tells ≡ true
+        → FirstUnread (is_halted store.old) (shown_image (now (D.story (device_of store.old)))) (listed_in store.old)
+        (map (λ t. (string_bytes t.0, t.1)) tables.now) refusal) }
+    ensures reads { OnlyReadsStore D.size D.story D.failed D.tells (ended result) store.old store.new }
+{
+    for table in tables {
+        match store.read(alloc, table.0.as_str()) {
+            Ok(_) => {}
+            Err(refusal) => return Err(refusal),
+        }
+    }
+    Ok(())
+}
+
+/// Reads each table, in byte order of the names, and writes `ok` where all can be read.
+///
+/// The first table that can't be read is reported as [`Store::read`] reports it, and none after it is read.
+///
+/// # Errors
+/// `Store` where the tables are not listed or one can't be read: then nothing is written. `Io` where a write fails: all tables can be read.
+pub fn check_tables<D: SectorDevice, W: Write>(
+    alloc: Global,
+    store: &mut Store<D>,
+    output: &mut W,
+) -> Result<(), Refusal>
+    ensures written { OnOk result (Appends (W.contents output.old) (W.contents output.new) (codes "ok\n")) }
+    ensures read { OnOk result (D.tells ≡ true
+        → AllByRecursion (IsReadable (is_halted store.old) (shown_image (now (D.story (device_of store.old)))) (listed_in store.old))
+        (tables_of (listed_in store.old))) }
+    ensures told { IfErr result (OfStore (λ refusal. D.tells ≡ true
+        → RefusesCheck (is_halted store.old) (shown_image (now (D.story (device_of store.old)))) (listed_in store.old) refusal)
+        (D.tells ≡ true → AllByRecursion (IsReadable (is_halted store.old) (shown_image (now (D.story (device_of store.old)))) (listed_in store.old))
+        (tables_of (listed_in store.old)))) }
+    // The store is only read.
+    ensures reads { OnlyReadsStore D.size D.story D.failed D.tells (store_ended result) store.old store.new }
+    ensures silent { IfErr result (λ refusal. refusal ≢ Refusal.Io → output.new ≡ output.old) }
+{
+    let tables = store.tables(alloc)?;
+    read_each(alloc, store, &tables)?;
+    write_whole(output, b"ok\n")
+}

@@ -1,0 +1,180 @@
+// Queries of the tables of an open store.
+ghost use Rattle.std.specs.Prelude.{◌≡◌, ◌≢◌, ◌++◌, codes, map, string_bytes, Some, Ok, IfOk, IfErr, OnOk};
+ghost use Rattle.std.specs.Option.{option_copied};
+ghost use Rattle.std.specs.Io.KnownBytes.{Appends};
+ghost use Rattle.sector_dev.specs.Disk.{now, shown_image};
+ghost use Rattle.catalogue.specs.Edits.{entry_of};
+ghost use Rattle.arrow_schema.specs.View.{column_of};
+ghost use Rattle.cells.specs.Cell.{PlainTable};
+ghost use Rattle.values.specs.TableView.{table_of};
+ghost use Rattle.values.specs.Borrowed.{borrowed_cells};
+ghost use Rattle.query.specs.ObjectLine.{line_in};
+ghost use Rattle.query.specs.View.{query_in, condition_in, Reports};
+ghost use Rattle.store.specs.Fits.{device_of, is_halted, listed_in};
+ghost use Rattle.store.specs.Reading.{OnlyReadsStore};
+ghost use Rattle.cli_commands.specs.Reading.{store_ended};
+ghost use Rattle.cli_commands.specs.Selecting.{named_columns, conditions_of, stated_query, RefusesWords, rows_text, is_printable, printed_selection, AreLines, RefusesLines, QueryAnswers, RefusesQuery};
+
+use arrow_schema::Field;
+use cli_refusals::{Refusal, write_whole};
+use query::{Condition, Query, QueryError, RowForm, are_named_apart, line_in};
+use sector_dev::SectorDevice;
+use selection::select;
+use std::alloc::{AllocError, Global};
+use std::io::Write;
+use store::Store;
+use values::{Table, Values};
+
+fn words_between_commas(alloc: Global, word: &str) -> Result<Vec<&str>, AllocError>
+    ensures { IfOk result (λ v. map (λ t. t.now) v.items ≡ named_columns (Some word.now)) }
+{
+    word.split(',').collect(alloc)
+}
+
+fn owned(alloc: Global, words: &[&str]) -> Result<Vec<String>, AllocError>
+    ensures { IfOk result (λ v. map string_bytes v.items ≡ map (λ t. t.now) words.now) }
+{
+    let mut texts = Vec::with_capacity(alloc, words.len())?;
+    for word in words {
+        texts.push(String::from_str(alloc, word)?)?;
+    }
+    Ok(texts)
+}
+
+fn columns_of(alloc: Global, word: Option<&str>) -> Result<Vec<String>, AllocError>
+    ensures { IfOk result (λ v. map string_bytes v.items ≡ named_columns (option_copied word.entry)) }
+{
+    match word {
+        None => Ok(Vec::new(alloc)),
+        Some(word) => owned(alloc, &words_between_commas(alloc, word)?),
+    }
+}
+
+fn conditions_of(alloc: Global, texts: &[&str]) -> Result<Vec<Condition>, Refusal>
+    ensures ok { IfOk result (λ v. conditions_of (map (λ t. t.now) texts.now) ≡ Some (map condition_in v.items)) }
+    ensures refused { IfErr result (RefusesWords (conditions_of (map (λ t. t.now) texts.now))) }
+{
+    let mut conditions = Vec::with_capacity(alloc, texts.len())?;
+    for text in texts {
+        let condition = Condition::parse(alloc, text)?;
+        conditions.push(condition).map_err(AllocError::from)?;
+    }
+    Ok(conditions)
+}
+
+/// The query that words state: conditions, names of columns split by commas, and how many rows at most.
+///
+/// # Errors
+/// `Query` with `BadCondition` where a string has not the shape of a condition; `OutOfMemory`.
+pub fn query_of(
+    alloc: Global,
+    conditions: &[&str],
+    columns: Option<&str>,
+    limit: Option<u64>,
+) -> Result<Query, Refusal>
+    ensures stated { IfOk result (λ q. stated_query (map (λ t. t.now) conditions.now) (option_copied columns.entry) limit ≡ Some (query_in q)) }
+    ensures refused { IfErr result (RefusesWords (stated_query (map (λ t. t.now) conditions.now) (option_copied columns.entry) limit)) }
+{
+    let conditions = conditions_of(alloc, conditions)?;
+    let columns = columns_of(alloc, columns)?;
+    Ok(Query {
+        columns,
+        conditions,
+        limit,
+    })
+}
+
+fn push_line(
+    alloc: Global,
+    text: &mut Vec<u8>,
+    form: RowForm,
+    fields: &[Field],
+    row: Values<'_>,
+) -> Result<(), AllocError>
+    ensures { OnOk result (text.new.items ≡ text.old.items ++ line_in form (map column_of fields.now) (borrowed_cells row.entry) ++ codes "\n") }
+{
+    text.extend_from_slice(&line_in(alloc, form, fields, row)?)?;
+    text.extend_from_slice(b"\n")
+}
+
+fn lines_of_rows(alloc: Global, form: RowForm, table: &Table) -> Result<Vec<u8>, AllocError>
+    ensures { IfOk result (λ v. v.items ≡ rows_text form (table_of table.now)) }
+{
+    let mut text = Vec::new(alloc);
+    let fields = table.schema().fields.as_slice();
+    for row in table.rows() {
+        push_line(alloc, &mut text, form, fields, row)?;
+    }
+    Ok(text)
+}
+
+// An object has a member for each column, so that it must be the only one of its name.
+fn can_be_printed(form: RowForm, table: &Table) -> bool
+    ensures { result ≡ is_printable form (table_of table.now) }
+{
+    match form {
+        RowForm::Array => true,
+        RowForm::Object => are_named_apart(&table.schema().fields),
+    }
+}
+
+// What a query selects from a table, where it can be printed in this form.
+fn selection_to_print(
+    alloc: Global,
+    form: RowForm,
+    table: &Table,
+    query: &Query,
+) -> Result<Table, QueryError>
+    ensures ok { IfOk result (λ selected. printed_selection form (table_of table.now) (query_in query.now) ≡ Ok (table_of selected)) }
+    ensures refused { IfErr result (λ e. Reports e (printed_selection form (table_of table.now) (query_in query.now))) }
+{
+    let selected = select(alloc, table, query)?;
+    if !can_be_printed(form, &selected) {
+        return Err(QueryError::UnknownColumn);
+    }
+    Ok(selected)
+}
+
+// The lines of what a query selects from a table.
+fn lines_of_selection(
+    alloc: Global,
+    form: RowForm,
+    table: &Table,
+    query: &Query,
+) -> Result<Vec<u8>, Refusal>
+    ensures lines { IfOk result (λ v. AreLines form (table_of table.now) (query_in query.now) v.items) }
+    ensures refused { IfErr result (RefusesLines form (table_of table.now) (query_in query.now)) }
+{
+    let selected = selection_to_print(alloc, form, table, query)?;
+    Ok(lines_of_rows(alloc, form, &selected)?)
+}
+
+/// Prints each row that a query selects from a table, as a line of JSON: an array, or an object by the names of the columns. All lines are made before
+/// the first is written.
+///
+/// # Errors
+/// Those of [`Store::read`]; `Query` where the query is refused, or with `UnknownColumn` where two of the chosen columns have the same name and rows are
+/// objects; `Io` where a write fails, and then some lines may be written.
+pub fn print_selection<D: SectorDevice, W: Write>(
+    alloc: Global,
+    store: &mut Store<D>,
+    name: &str,
+    query: &Query,
+    form: RowForm,
+    output: &mut W,
+) -> Result<(), Refusal>
+    // What is written are the lines of the selection of the table that reads show, and nothing else.
+    ensures written { OnOk result ((selected : PlainTable) × QueryAnswers form (is_halted store.old) D.tells (shown_image (now (D.story (device_of store.old))))
+        (entry_of (listed_in store.old) name.now) (query_in query.now) (Ok selected)
+        × Appends (W.contents output.old) (W.contents output.new) (rows_text form selected)) }
+    ensures told { IfErr result (RefusesQuery form (is_halted store.old) D.tells (shown_image (now (D.story (device_of store.old))))
+        (entry_of (listed_in store.old) name.now) (query_in query.now)) }
+    // The store is only read.
+    ensures reads { OnlyReadsStore D.size D.story D.failed D.tells (store_ended result) store.old store.new }
+    // Where it is refused nothing is written, unless a write failed.
+    ensures silent { IfErr result (λ refusal. refusal ≢ Refusal.Io → output.new ≡ output.old) }
+{
+    let table = store.read(alloc, name)?;
+    let text = lines_of_selection(alloc, form, &table, query)?;
+    write_whole(output, &text)
+}

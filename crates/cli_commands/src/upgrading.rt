@@ -1,0 +1,40 @@
+// An open store gets digests.
+ghost use Rattle.std.specs.Prelude.{◌≡◌, ◌≢◌, true, codes, IfErr, OnOk};
+ghost use Rattle.std.specs.Io.KnownBytes.{Appends};
+ghost use Rattle.tables.specs.Tables.{Tables};
+ghost use Rattle.store.specs.Applying.{GoesOn};
+ghost use Rattle.store.specs.Calls.{upgrade_call};
+ghost use Rattle.store.specs.Fits.{StoreFits};
+ghost use Rattle.store.specs.Machine.{Machine};
+ghost use Rattle.store.specs.Upgrading.{upgrade_ended};
+ghost use Rattle.cli_commands.specs.Upgrading.{AnsweredUpgrade, AnswersUpgrade};
+
+use cli_refusals::{Refusal, write_whole};
+use sector_dev::SectorDevice;
+use std::alloc::Global;
+use std::io::Write;
+use store::Store;
+
+/// Gives each segment of a store of version 1 the digest of its bytes, and writes `ok` once it is done, also where the store had digests before.
+///
+/// The tables stay as they are at each moment.
+///
+/// # Errors
+/// `Store` where the store refuses: then nothing is written, and the store is as it was; after `Store(Device)` it is halted. `Io` where the output fails:
+/// the upgrade is done all the same.
+pub fn upgrade_store<D: SectorDevice, W: Write>(
+    alloc: Global,
+    store: &mut Store<D>,
+    output: &mut W,
+) -> Result<(), Refusal>
+    // The answer is the store's: done only where it has digests, and else its refusal.
+    ensures goes { D.tells ≡ true → (base : Tables) (m : Machine) → StoreFits D.size D.story base m store.old
+        → AnsweredUpgrade (λ answer. GoesOn D.size D.story D.failed base m upgrade_call (upgrade_ended answer) store.old store.new) result }
+    // On every store and every device: the store was upgraded, and what it answered is reported.
+    ensures told { AnsweredUpgrade (λ answer. AnswersUpgrade D.size D.story D.tells answer store.old store.new) result }
+    ensures written { OnOk result (Appends (W.contents output.old) (W.contents output.new) (codes "ok\n")) }
+    ensures silent { IfErr result (λ refusal. refusal ≢ Refusal.Io → output.new ≡ output.old) }
+{
+    store.upgrade(alloc)?;
+    write_whole(output, b"ok\n")
+}

@@ -1,0 +1,61 @@
+-- What the errors of the layers are reported as, and of a refusal its code, its name and what it carries, split by spaces.
+use Rattle.std.specs.Prelude.{ℕ, List, ◌++◌, codes}
+use Rattle.std.specs.Fmt.{decimal}
+use Rattle.field_texts.specs.declared.parse.ParseError.{ParseError}
+use Rattle.field_texts.specs.declared.parse.ParseError.TheVariants as fields
+use Rattle.sector_dev.specs.declared.file.FileError.{FileError}
+use Rattle.sector_dev.specs.declared.file.FileError.TheVariants as files
+use Rattle.ipc_message.specs.FaultText.{fault_text}
+use Rattle.ipc_message.specs.declared.error.ImportError.{ImportError}
+use Rattle.ipc_message.specs.declared.error.ImportError.TheVariants as errors
+use Rattle.text_import.specs.RefusalText.{refused_text}
+use Rattle.text_import.specs.declared.refusal.TextError.{TextError}
+use Rattle.text_import.specs.declared.refusal.TextError.TheVariants as texts
+use Rattle.query.specs.declared.errors.QueryError.{QueryError}
+use Rattle.query.specs.declared.errors.QueryError.TheVariants as queries
+use Rattle.tables.specs.declared.refusal.QueryRefusal.TheVariants as reasons
+use Rattle.tables.specs.Refusals as tables
+use Rattle.commit.specs.Told.{opening_text}
+use Rattle.cli_refusals.specs.declared.refusal.Refusal.{Refusal}
+use Rattle.cli_refusals.specs.declared.refusal.Refusal.TheVariants.{Fault, TooManyBytes, Io, BadSize, BadScript, Fields, Text, Query, Opening, Store, OutOfMemory}
+
+-- what an import that failed is reported as
+abbrev pub refusal_of : ImportError → Refusal
+refusal_of (errors.Fault fault) = Fault fault
+refusal_of errors.OutOfMemory = OutOfMemory
+
+-- what a file that was not opened or made is reported as
+abbrev pub file_refusal : FileError → Refusal
+file_refusal files.Io = Io
+file_refusal files.BadSize = BadSize
+
+-- what a text that was not read is reported as
+abbrev pub text_refusal : TextError → Refusal
+text_refusal (texts.Refused refused) = Text refused
+text_refusal texts.OutOfMemory = OutOfMemory
+
+-- what a query that selects nothing is reported as
+abbrev pub query_refusal : QueryError → Refusal
+query_refusal queries.UnknownColumn = Query reasons.UnknownColumn
+query_refusal queries.BadCondition = Query reasons.BadCondition
+query_refusal queries.NotComparable = Query reasons.NotComparable
+query_refusal queries.OutOfMemory = OutOfMemory
+
+abbrev pub fields_text : ParseError → List ℕ
+fields_text (fields.BadText number) = codes "P1 BadText " ++ decimal number
+fields_text fields.Limit = codes "P2 Limit"
+fields_text fields.OutOfMemory = codes "OutOfMemory"
+
+-- code, name and what it carries
+unfoldable pub refusal_text : Refusal → List ℕ
+refusal_text (Fault fault) = fault_text fault
+refusal_text TooManyBytes = codes "S7 TooMany Bytes"
+refusal_text Io = codes "G1 Io"
+refusal_text BadSize = codes "G2 BadSize"
+refusal_text (BadScript line) = codes "G3 BadScript " ++ decimal line
+refusal_text (Fields error) = fields_text error
+refusal_text (Text refused) = refused_text refused
+refusal_text (Query refusal) = tables.query_text refusal
+refusal_text (Opening refusal) = opening_text refusal
+refusal_text (Store refusal) = tables.refusal_text refusal
+refusal_text OutOfMemory = codes "OutOfMemory"

@@ -1,0 +1,9 @@
+-- What is reported of a file that the system does not open or make.
+use Rattle.std.specs.Prelude.{ℕ, ◌++◌, List, codes}
+use Rattle.cli_refusals.specs.declared.unopened.FileReason.{FileReason}
+use Rattle.cli_refusals.specs.declared.unopened.FileReason.TheVariants as reasons
+
+abbrev pub reason_text : FileReason → List ℕ
+reason_text reasons.Locked = codes "is locked by another program"
+reason_text reasons.Exists = codes "exists already"
+reason_text (reasons.System text) = codes "cannot be opened: " ++ text.now

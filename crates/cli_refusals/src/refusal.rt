@@ -1,0 +1,141 @@
+// Why a command was refused.
+ghost use Rattle.std.specs.Prelude.{◌≡◌};
+ghost use Rattle.cli_refusals.specs.declared.refusal.Refusal.TheVariants.{OutOfMemory};
+ghost use Rattle.cli_refusals.specs.declared.refusal.Refusal.TheVariants as refusals;
+ghost use Rattle.cli_refusals.specs.Refusals.{refusal_of, file_refusal, text_refusal, query_refusal};
+
+use commit::OpeningRefusal;
+use field_texts::ParseError;
+use ipc_message::{Fault, ImportError};
+use query::QueryError;
+use sector_dev::FileError;
+use std::alloc::AllocError;
+use std::fmt;
+use tables::QueryRefusal;
+use text_import::{Refused, TextError};
+
+/// Why a command was refused.
+#[derive(Clone, Copy, Debug)]
+pub enum Refusal {
+    /// F: the input has no meaning as a stream.
+    Fault(Fault),
+    /// S7: the input has more bytes than an input may have.
+    TooManyBytes,
+    /// G1: a read or a write failed.
+    Io,
+    /// G2: a store's file is no whole number of sectors, or no store has such a number of them.
+    BadSize,
+    /// G3: the line of a script, counted from 1, is none that is played.
+    BadScript(u64),
+    /// P: the texts of fields state no schema.
+    Fields(ParseError),
+    /// X: a record of the input is no row of the table.
+    Text(Refused),
+    /// Q: the query selects nothing from the table.
+    Query(QueryRefusal),
+    /// C: no store was opened or made.
+    Opening(OpeningRefusal),
+    /// S: the open store refused.
+    Store(tables::Refusal),
+    /// A growth was refused.
+    OutOfMemory,
+}
+
+impl From<AllocError> for Refusal {
+    ghost from_gives = { λ _ refusal. refusal ≡ OutOfMemory };
+
+    fn from(_error: AllocError) -> Refusal {
+        Refusal::OutOfMemory
+    }
+}
+
+impl From<ImportError> for Refusal {
+    ghost from_gives = { λ error refusal. refusal ≡ refusal_of error };
+
+    fn from(error: ImportError) -> Refusal {
+        match error {
+            ImportError::Fault(fault) => Refusal::Fault(fault),
+            ImportError::OutOfMemory => Refusal::OutOfMemory,
+        }
+    }
+}
+
+impl From<FileError> for Refusal {
+    ghost from_gives = { λ error refusal. refusal ≡ file_refusal error };
+
+    fn from(error: FileError) -> Refusal {
+        match error {
+            FileError::Io => Refusal::Io,
+            FileError::BadSize => Refusal::BadSize,
+        }
+    }
+}
+
+impl From<ParseError> for Refusal {
+    ghost from_gives = { λ error refusal. refusal ≡ refusals.Fields error };
+
+    fn from(error: ParseError) -> Refusal {
+        Refusal::Fields(error)
+    }
+}
+
+impl From<TextError> for Refusal {
+    ghost from_gives = { λ error refusal. refusal ≡ text_refusal error };
+
+    fn from(error: TextError) -> Refusal {
+        match error {
+            TextError::Refused(refused) => Refusal::Text(refused),
+            TextError::OutOfMemory => Refusal::OutOfMemory,
+        }
+    }
+}
+
+impl From<QueryError> for Refusal {
+    ghost from_gives = { λ error refusal. refusal ≡ query_refusal error };
+
+    fn from(error: QueryError) -> Refusal {
+        match error {
+            QueryError::UnknownColumn => Refusal::Query(QueryRefusal::UnknownColumn),
+            QueryError::BadCondition => Refusal::Query(QueryRefusal::BadCondition),
+            QueryError::NotComparable => Refusal::Query(QueryRefusal::NotComparable),
+            QueryError::OutOfMemory => Refusal::OutOfMemory,
+        }
+    }
+}
+
+impl From<tables::Refusal> for Refusal {
+    ghost from_gives = { λ error refusal. refusal ≡ refusals.Store error };
+
+    fn from(error: tables::Refusal) -> Refusal {
+        Refusal::Store(error)
+    }
+}
+
+/// Code, name and carried values, split by spaces, as `S7 TooMany Bytes`.
+impl fmt::Display for Refusal {
+    ghost use Rattle.std.specs.Prelude.{Some};
+    ghost use Rattle.cli_refusals.specs.Refusals.{refusal_text};
+
+    ghost output = { λ refusal. Some (refusal_text refusal) };
+
+    #[tactic(auto, unfolding(crate::specs::Refusals::refusal_text))]
+    fn fmt<W: fmt::Write>(&self, f: &mut fmt::Formatter<W>) -> fmt::Result {
+        match self {
+            Refusal::Fault(fault) => write!(f, "{fault}"),
+            Refusal::TooManyBytes => f.write_str("S7 TooMany Bytes"),
+            Refusal::Io => f.write_str("G1 Io"),
+            Refusal::BadSize => f.write_str("G2 BadSize"),
+            Refusal::BadScript(line) => write!(f, "G3 BadScript {line}"),
+            Refusal::Fields(ParseError::BadText(number)) => write!(f, "P1 BadText {number}"),
+            Refusal::Fields(ParseError::Limit) => f.write_str("P2 Limit"),
+            Refusal::Fields(ParseError::OutOfMemory) => f.write_str("OutOfMemory"),
+            Refusal::Text(refused) => write!(f, "{refused}"),
+            Refusal::Query(refusal) => write!(f, "{refusal}"),
+            Refusal::Opening(refusal) => write!(f, "{refusal}"),
+            Refusal::Store(refusal) => write!(f, "{refusal}"),
+            Refusal::OutOfMemory => f.write_str("OutOfMemory"),
+        }
+    }
+}
+
+impl std::error::Error for Refusal {}

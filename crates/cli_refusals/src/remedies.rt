@@ -1,0 +1,250 @@
+// What to do about each refusal: a sentence, which the page of refusals and a terminal show.
+ghost use Rattle.std.specs.Prelude.{◌≡◌};
+ghost use Rattle.cli_refusals.specs.Remedies.{fault_remedy, fields_remedy, text_remedy, query_remedy, opening_remedy, store_remedy, remedy};
+
+use crate::Refusal;
+use commit::OpeningRefusal;
+use field_texts::ParseError;
+use ipc_message::Fault;
+use tables::QueryRefusal;
+
+// ---- F: of a stream
+
+pub const WRITE_AGAIN: &str =
+    "Have the stream written again, by another writer or with other options.";
+
+pub const GIVE_ALL: &str = "Give all of the stream.";
+
+pub const GIVE_A_STREAM: &str =
+    "Give an IPC stream, not an Arrow file and not a stream of an Arrow before 0.15.";
+
+pub const WRITE_V5: &str = "Have the stream written with metadata of version V5.";
+
+pub const LEAVE_OUT_MESSAGES: &str =
+    "Leave tensors out: give a schema, dictionary batches and record batches alone.";
+
+pub const SCHEMA_FIRST: &str = "Give a stream from its beginning, which is its schema.";
+
+pub const ONE_STREAM: &str = "Give each stream by itself.";
+
+pub const LITTLE_ENDIAN: &str = "Have the numbers written as little-endian.";
+
+pub const CONVERT_COLUMN: &str = "Leave the column out, or convert it.";
+
+pub const FEWER_FIELDS: &str = "Leave out fields or metadata.";
+
+pub const NO_COMPRESSION: &str = "Have the stream written without compression.";
+
+pub const SHORTER_BATCHES: &str = "Have the stream written in shorter batches.";
+
+pub const FEWER_ROWS: &str = "Give fewer rows.";
+
+// ---- G and C: of files
+
+pub const SEE_TO_FILES: &str =
+    "See to the file, the input and the output, and look with `tables` what the store has.";
+
+pub const SIZE_OF_A_STORE: &str =
+    "Give `format` 16 to 4,194,304 sectors, and other commands the whole file of a store.";
+
+pub const LINES_OF_A_SCRIPT: &str =
+    "Write each line as `create NAME FIELD ..`, `import NAME FILE`, `append NAME FILE`, `rename FROM TO`, `drop NAME`, `compact` or `reopen`.";
+
+pub const FILE_OF_A_STORE: &str =
+    "Give the file of a store; where `format` was interrupted, delete the file and format again.";
+
+pub const EARLIER_COPY: &str = "Take a copy of the file from before.";
+
+pub const TRY_AGAIN: &str = "See to the disk, and try again.";
+
+// ---- P: of field texts
+
+pub const FORM_OF_A_FIELD: &str =
+    "Write a field as `NAME:TYPE`, or `NAME:TYPE?` where nulls are allowed, as `id:uint64`.";
+
+pub const SMALLER_FIELDS: &str = "Give fewer or shorter fields, with smaller numbers.";
+
+// ---- X: of a text
+
+pub const FIX_RECORD: &str = "Fix the record, and append all of the text again.";
+
+pub const NAMES_FIRST: &str =
+    "Begin the text with the names of the columns in order, which `schema` prints.";
+
+pub const GIVE_JSON_LINES: &str = "Give the rows as JSON Lines.";
+
+pub const GIVE_ARRAYS: &str = "Give arrays in place of objects.";
+
+// ---- Q: of a query
+
+pub const NAMES_OF_COLUMNS: &str =
+    "Ask for columns by their names, which `schema` prints, and for each once.";
+
+pub const FORM_OF_A_CONDITION: &str =
+    "Write a condition as `NAME OP LITERAL`, `NAME is null` or `NAME is not null`, with OP one of = != < <= > >=.";
+
+pub const TEST_FOR_NULL: &str = "Ask `is null` or `is not null` of such a column.";
+
+// ---- S: of an open store
+
+pub const NAME_OF_A_TABLE: &str = "Give the name of a table: `tables` prints them.";
+
+pub const OTHER_NAME: &str = "Take another name, or drop the table that has it.";
+
+pub const FORM_OF_A_NAME: &str = "Take a name of 1 to 64 ASCII letters, digits, `_`, `-` and `.`.";
+
+pub const FIELDS_OF_THE_TABLE: &str =
+    "Give rows with the fields of the table: `schema` prints them.";
+
+pub const FIX_ROW: &str = "Fix the row, and append all rows again.";
+
+pub const GIVE_LESS: &str = "Give less, or use a new store.";
+
+pub const MORE_ROOM: &str = "Drop tables, or use a larger store.";
+
+pub const LOOK_AGAIN: &str = "See to the disk, and look with `tables` whether the command is done.";
+
+pub const IMPORT_AGAIN: &str =
+    "Write what can be read of the table with `salvage`, and drop it or import it again: the others are as they were.";
+
+pub const MORE_MEMORY: &str =
+    "Give the program more memory: a stream needs a small multiple of its size.";
+
+#[tactic(auto, unfolding(crate::specs::Remedies::fault_remedy))]
+fn fault_remedy(fault: Fault) -> &'static str
+    ensures { result.now ≡ fault_remedy fault }
+{
+    match fault {
+        Fault::Truncated => GIVE_ALL,
+        Fault::NoContinuation => GIVE_A_STREAM,
+        Fault::MetadataVersion => WRITE_V5,
+        Fault::HeaderKind => LEAVE_OUT_MESSAGES,
+        Fault::NoSchema => SCHEMA_FIRST,
+        Fault::SecondSchema | Fault::AfterEnd => ONE_STREAM,
+        Fault::BigEndian => LITTLE_ENDIAN,
+        Fault::TypeNotHeld(_) => CONVERT_COLUMN,
+        Fault::SchemaLimit => FEWER_FIELDS,
+        Fault::Compressed => NO_COMPRESSION,
+        Fault::RowCount => SHORTER_BATCHES,
+        Fault::TooHeavy => FEWER_ROWS,
+        Fault::MetadataSize
+        | Fault::FlatBounds
+        | Fault::FlatBudget
+        | Fault::BodyLength
+        | Fault::BadParameter
+        | Fault::NotUtf8
+        | Fault::LayoutCount
+        | Fault::BufferRange
+        | Fault::BufferShort
+        | Fault::NullCount
+        | Fault::Offsets
+        | Fault::NullForbidden
+        | Fault::DictionaryId
+        | Fault::DeltaWithoutBase
+        | Fault::DictionaryIndex
+        | Fault::DictionaryOfNested => WRITE_AGAIN,
+    }
+}
+
+#[tactic(auto, unfolding(crate::specs::Remedies::fields_remedy))]
+fn fields_remedy(error: ParseError) -> &'static str
+    ensures { result.now ≡ fields_remedy error }
+{
+    match error {
+        ParseError::BadText(_) => FORM_OF_A_FIELD,
+        ParseError::Limit => SMALLER_FIELDS,
+        ParseError::OutOfMemory => MORE_MEMORY,
+    }
+}
+
+#[tactic(auto, unfolding(crate::specs::Remedies::text_remedy))]
+fn text_remedy(refusal: text_import::Refusal) -> &'static str
+    ensures { result.now ≡ text_remedy refusal }
+{
+    match refusal {
+        text_import::Refusal::Header => NAMES_FIRST,
+        text_import::Refusal::Nested => GIVE_JSON_LINES,
+        text_import::Refusal::AmbiguousNames => GIVE_ARRAYS,
+        text_import::Refusal::Width
+        | text_import::Refusal::NotUtf8
+        | text_import::Refusal::NotANumber
+        | text_import::Refusal::OutOfRange
+        | text_import::Refusal::NotABool
+        | text_import::Refusal::NotHex
+        | text_import::Refusal::NullMismatch
+        | text_import::Refusal::Json
+        | text_import::Refusal::UnknownName
+        | text_import::Refusal::MissingName
+        | text_import::Refusal::FixedWidth
+        | text_import::Refusal::TooHeavy
+        | text_import::Refusal::DictionaryFull
+        | text_import::Refusal::WrongKind => FIX_RECORD,
+    }
+}
+
+#[tactic(auto, unfolding(crate::specs::Remedies::query_remedy))]
+fn query_remedy(refusal: QueryRefusal) -> &'static str
+    ensures { result.now ≡ query_remedy refusal }
+{
+    match refusal {
+        QueryRefusal::UnknownColumn => NAMES_OF_COLUMNS,
+        QueryRefusal::BadCondition => FORM_OF_A_CONDITION,
+        QueryRefusal::NotComparable => TEST_FOR_NULL,
+    }
+}
+
+#[tactic(auto, unfolding(crate::specs::Remedies::opening_remedy))]
+fn opening_remedy(refusal: OpeningRefusal) -> &'static str
+    ensures { result.now ≡ opening_remedy refusal }
+{
+    match refusal {
+        OpeningRefusal::NotAStore => FILE_OF_A_STORE,
+        OpeningRefusal::AlreadyAStore => SEE_TO_FILES,
+        OpeningRefusal::Damaged(_) => EARLIER_COPY,
+        OpeningRefusal::Device => TRY_AGAIN,
+        OpeningRefusal::OutOfMemory => MORE_MEMORY,
+    }
+}
+
+#[tactic(auto, unfolding(crate::specs::Remedies::store_remedy))]
+fn store_remedy(refusal: tables::Refusal) -> &'static str
+    ensures { result.now ≡ store_remedy refusal }
+{
+    match refusal {
+        tables::Refusal::NoTable => NAME_OF_A_TABLE,
+        tables::Refusal::NameTaken => OTHER_NAME,
+        tables::Refusal::BadName => FORM_OF_A_NAME,
+        tables::Refusal::SchemaMismatch => FIELDS_OF_THE_TABLE,
+        tables::Refusal::Import(fault) => fault_remedy(fault),
+        tables::Refusal::RowUnfit(_) => FIX_ROW,
+        tables::Refusal::TooMany(_) => GIVE_LESS,
+        tables::Refusal::NoRoom(_) => MORE_ROOM,
+        tables::Refusal::Device | tables::Refusal::Halted => LOOK_AGAIN,
+        tables::Refusal::Query(reason) => query_remedy(reason),
+        tables::Refusal::SegmentUnread(_) | tables::Refusal::SegmentDamaged(_) => IMPORT_AGAIN,
+        tables::Refusal::NoExport | tables::Refusal::Read | tables::Refusal::Write => SEE_TO_FILES,
+        tables::Refusal::OutOfMemory => MORE_MEMORY,
+    }
+}
+
+impl Refusal {
+    /// What to do about it, in a sentence.
+    #[tactic(auto, unfolding(crate::specs::Remedies::remedy))]
+    pub fn remedy(self) -> &'static str
+        ensures { result.now ≡ remedy self }
+    {
+        match self {
+            Refusal::Fault(fault) => fault_remedy(fault),
+            Refusal::TooManyBytes => GIVE_LESS,
+            Refusal::Io => SEE_TO_FILES,
+            Refusal::BadSize => SIZE_OF_A_STORE,
+            Refusal::BadScript(_) => LINES_OF_A_SCRIPT,
+            Refusal::Fields(error) => fields_remedy(error),
+            Refusal::Text(refused) => text_remedy(refused.refusal),
+            Refusal::Query(reason) => query_remedy(reason),
+            Refusal::Opening(refusal) => opening_remedy(refusal),
+            Refusal::Store(refusal) => store_remedy(refusal),
+            Refusal::OutOfMemory => MORE_MEMORY,
+        }
+    }
+}

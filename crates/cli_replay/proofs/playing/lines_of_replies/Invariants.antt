@@ -1,0 +1,8 @@
+-- The lines so far, and those of the replies that are left, are the lines of all.
+use Rattle.std.proofs.Common.{◌≡◌, ◌++◌, drop, string_bytes}
+use Rattle.store.specs.Places.{replies_of}
+use Rattle.cli_replay.specs.Playing.{replies_text}
+use Rattle.cli_replay.proofs.playing.lines_of_replies.Given as goal
+
+abbrev pub invariant-loop-reply : goal.invariant-loop-reply
+invariant-loop-reply l = string_bytes l.text ++ replies_text (replies_of (drop l.reply-index l.replies)) ≡ replies_text (replies_of l.replies)

@@ -1,0 +1,35 @@
+use Rattle.std.proofs.Common.{ℕ, List, subst}
+use Rattle.std.proofs.lemmas.Result.{err_from_is_err_and}
+use Rattle.std.specs.Io.KnownBytes.{Appends}
+use Rattle.std.specs.Prelude.{string_bytes, Ok}
+use Rattle.cli_replay.specs.declared.script.ScriptLine.{ScriptLine}
+use Rattle.cli_replay.specs.Plain.{plain_lines}
+use Rattle.cli_replay.specs.Replay.{AreCallsOfLines}
+use Rattle.cli_replay.specs.Script.{IsScript}
+use Rattle.cli_replay.proofs.Opening.{playing_refused}
+use Rattle.cli_replay.proofs.Results.{ok_with}
+use Rattle.cli_replay.proofs.replaying.replay.Goals as goal
+
+pub returns-in_err-text-clause-told : goal.returns-in_err-text-clause-told
+returns-in_err-text-clause-told g c =
+    let p = err_from_is_err_and c.from_residual-in_err-text.result c.from_residual-in_err-text.ensures.1 in
+    let device = c.in_ok-device.ensures in
+    rw (p.1, p.2) (playing_refused g.F.Read.remaining c.args.sectors _ device.in_limits (c.in_err-text.ensures.told c.args.sectors c.args.version device.empty))
+
+pub returns-clause-replays : goal.returns-clause-replays
+returns-clause-replays g c =
+    let old = g.W.Write.contents c.args.output.now in
+    let new = g.W.Write.contents c.write_whole.new.writer in
+    ok_with c.write_whole.result (λ done. Appends old new c.as_bytes.result.now) _ (λ done written. record {
+      script = c.in_ok-script.script.items;
+      of_file = c.in_ok-script.ensures.all;
+      lines = plain_lines c.in_ok-lines.lines.items;
+      parsed = subst (λ (script : List ℕ). IsScript script (Ok (plain_lines c.in_ok-lines.lines.items))) c.deref.ensures.value c.in_ok-lines.ensures.lines;
+      calls = c.in_ok-calls.calls.items;
+      are =
+          subst (λ (lines : List ScriptLine). AreCallsOfLines g.F.Read.remaining (plain_lines lines) c.in_ok-calls.calls.items) c.deref-2.ensures.value
+          c.in_ok-calls.ensures.calls;
+      text = string_bytes c.in_ok-text.text;
+      replay = c.in_ok-text.ensures.replays c.args.sectors c.args.version c.in_ok-device.ensures.empty;
+      written = subst (λ (bytes : List ℕ). Appends old new bytes) c.as_bytes.ensures.value written;
+    }) c.write_whole.ensures.written

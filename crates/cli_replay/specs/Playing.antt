@@ -1,0 +1,80 @@
+-- Lines that are played one after another, on a device that may stop.
+use Rattle.std.specs.Prelude.{◌≡◌, ◌++◌, ℕ, Bool, true, false, List, [], ◌∷◌, length, take, codes, Option, Some, None}
+use Rattle.sector_dev.specs.declared.device.SectorDevice.{Ghosts}
+use Rattle.tables.specs.Tables.{Tables}
+use Rattle.store.specs.declared.call.Call.{Call}
+use Rattle.store.specs.declared.call.Place.{Place}
+use Rattle.store.specs.declared.call.Reply.{Reply}
+use Rattle.store.specs.Calls.{PlainCall, PlainReply, done, counts, refused, shut_by}
+use Rattle.store.specs.Machine.{Machine}
+use Rattle.store.specs.Places.{AreCallsOf, device_in, reply_in, PlaceRuns}
+use Rattle.store.specs.Answering.{AnswersCall}
+use Rattle.cli_refusals.specs.declared.refusal.Refusal.{Refusal}
+use Rattle.cli_refusals.specs.declared.refusal.Refusal.TheVariants.{Opening, Store}
+use Rattle.cli_refusals.specs.Refusals.{refusal_text}
+use Rattle.cli_commands.specs.Printed.{tables_text}
+
+-- the call of a line is answered, and then P holds of the place after it and of the replies to the others
+pub record IsPlayed {D : Type 0} (g : Ghosts D) {R : Type 0} (remaining : R → Option (List ℕ)) (old : Place D g) (call : Call R) (replies : List PlainReply)
+    (P : Place D g → List PlainReply → Type 0) : Type 0 where
+  pub reply : PlainReply
+  pub others : List PlainReply
+  pub are : replies ≡ reply ∷ others
+  pub next : Place D g
+  pub one : AnswersCall g.size g.story g.failed g.tells remaining old call reply next
+  pub rest : P next others
+
+-- no line is played any more
+abbrev pub EndsAt : {D : Type 0} {g : Ghosts D} → Place D g → List PlainReply → Place D g → Type 0
+EndsAt old replies new = (replies ≡ []) × (new ≡ old)
+
+-- a line, where its device has stopped or not
+abbrev pub PlaysLine : {D : Type 0} → (g : Ghosts D) → {R : Type 0} → (over : Bool) → (remaining : R → Option (List ℕ)) → Place D g → Call R → List PlainReply → Place D g
+    → (Place D g → List PlainReply → Type 0) → Type 0
+PlaysLine g true remaining old call replies new P = EndsAt old replies new
+PlaysLine g false remaining old call replies new P = IsPlayed g remaining old call replies P
+
+-- lines one after another, each answered as a call of the place, until the device has stopped
+unfoldable pub Plays : {D : Type 0} → (g : Ghosts D) → {R : Type 0} → (is_over : D → Bool) → (remaining : R → Option (List ℕ)) → Place D g → List (Call R) → List PlainReply → Place D g → Type 0
+Plays g is_over remaining old [] replies new = EndsAt old replies new
+Plays g is_over remaining old (call ∷ calls) replies new =
+    PlaysLine g (is_over (device_in old)) remaining old call replies new (λ next others. Plays g is_over remaining next calls others new)
+
+-- one line of the code, which has no reply where the device has stopped
+abbrev pub IsPlayedLine : {D : Type 0} → (g : Ghosts D) → {R : Type 0} → (is_over : D → Bool) → (remaining : R → Option (List ℕ)) → Place D g → Call R → Option Reply → Place D g → Type 0
+IsPlayedLine g is_over remaining old call None new = (is_over (device_in old) ≡ true) × (new ≡ old)
+IsPlayedLine g is_over remaining old call (Some reply) new =
+    (is_over (device_in old) ≡ false) × AnswersCall g.size g.story g.failed g.tells remaining old call (reply_in reply) new
+
+-- the lines that were played are a run of calls
+pub record ArePlayedAsRun {D : Type 0} (g : Ghosts D) {R : Type 0} (remaining : R → Option (List ℕ)) (base : Tables) (m : Machine) (calls : List (Call R)) (replies : List PlainReply)
+    (old new : Place D g) : Type 0 where
+  pub plains : List PlainCall
+  pub are : AreCallsOf remaining (take (length replies) calls) plains
+  pub runs : PlaceRuns g.size g.story g.failed base m plains replies (device_in old) new
+
+-- ---- what is printed
+
+-- a refusal as a line
+abbrev pub refused_text : Refusal → List ℕ
+refused_text refusal = codes "refused " ++ refusal_text refusal ++ codes "\n"
+
+-- of a line: that it was done, or why not
+abbrev pub reply_text : PlainReply → List ℕ
+reply_text (refused refusal) = refused_text (Store refusal)
+reply_text (shut_by refusal) = refused_text (Opening refusal)
+reply_text _ = codes "ok\n"
+
+abbrev pub replies_text : List PlainReply → List ℕ
+replies_text [] = []
+replies_text (reply ∷ replies) = reply_text reply ++ replies_text replies
+
+abbrev pub stop_text : Bool → List ℕ
+stop_text true = codes "stopped\n"
+stop_text false = []
+
+-- of an opening, and of the list of the tables after it: that list, or why the store was not opened
+abbrev pub FoundText : PlainReply → PlainReply → List ℕ → Type 0
+FoundText done (counts tables) text = text ≡ tables_text tables
+FoundText (shut_by refusal) listing text = text ≡ reply_text (shut_by refusal)
+FoundText _ _ text = ⊥

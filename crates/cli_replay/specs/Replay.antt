@@ -1,0 +1,184 @@
+-- A script that is replayed: on which device, what was answered, what a crash left of it, and what is printed.
+use Rattle.std.specs.Prelude.{◌≡◌, ◌+◌, ◌-◌, ◌^◌, ◌++◌, ℕ, zero, suc, min, true, false, List, [], ◌∷◌, take, length, codes, Option, IfSome, Ok, Err}
+use Rattle.sector_dev.specs.Disk.{now, shown_image}
+use Rattle.sector_dev.specs.Chosen.{IsChosen}
+use Rattle.sector_dev.specs.Faults.{no_faults}
+use Rattle.sector_dev.specs.View.{size_of, failed_of, faults_of, history_of}
+use Rattle.sector_dev.specs.declared.choice.Choice.{Choice}
+use Rattle.sector_dev.specs.declared.device.SectorDevice.{Ghosts}
+use Rattle.sector_dev.specs.declared.model.ModelDevice.{ModelDevice}
+use Rattle.arrow_schema.specs.Column.{PlainSchema}
+use Rattle.tables.specs.Tables.{no_tables, row_counts}
+use Rattle.tables.specs.Verdict.{after}
+use Rattle.tables.specs.Commands as commands
+use Rattle.tables.specs.Commands.{PlainCommand}
+use Rattle.tables.specs.View.{command_of}
+use Rattle.store.specs.declared.store.Store.{Store}
+use Rattle.store.specs.declared.call.Call.{Call}
+use Rattle.store.specs.declared.call.Call.TheVariants as calls
+use Rattle.store.specs.declared.call.Place.{Place}
+use Rattle.store.specs.declared.call.Place.TheVariants as places
+use Rattle.store.specs.Beginning.{IsLeftOf}
+use Rattle.store.specs.Calls.{PlainCall, PlainReply, done, counts}
+use Rattle.store.specs.History.{InOrder, acknowledged, begun}
+use Rattle.store.specs.Fits.{FormatsStore, device_of, resumed}
+use Rattle.store.specs.Places.{AreCallsOf, device_in, ShutFits}
+use Rattle.store.specs.Answering.{AnswersCall}
+use Rattle.commit.specs.Standing.{is_size}
+use Rattle.commit.specs.declared.cause.Cause.TheVariants.{DeviceSize}
+use Rattle.commit.specs.declared.opening_refusal.OpeningRefusal.{OpeningRefusal}
+use Rattle.commit.specs.declared.sector.FormatVersion.{FormatVersion}
+use Rattle.commit.specs.declared.opening_refusal.OpeningRefusal.TheVariants as openings
+use Rattle.cli_refusals.specs.declared.refusal.Refusal.{Refusal}
+use Rattle.cli_refusals.specs.declared.refusal.Refusal.TheVariants.{TooManyBytes, Io, BadScript, Opening, OutOfMemory}
+use Rattle.cli_commands.specs.declared.input.TheConstants.{LARGEST_INPUT}
+use Rattle.cli_commands.specs.Changing.{StateSchema}
+use Rattle.cli_replay.specs.declared.script.ScriptError.TheVariants.{BadLine}
+use Rattle.std.specs.Io.KnownBytes.{Appends}
+use Rattle.cli_replay.specs.Script.{IsScript, PlainLine, create, import_file, append_file, rename, drop, compact, upgrade, reopen}
+use Rattle.cli_replay.specs.Playing.{Plays, replies_text, stop_text, FoundText}
+
+-- ---- lines as calls
+
+-- some file has these bytes, where they are told
+abbrev pub IsOfFile : {F : Type 0} → (remaining : F → Option (List ℕ)) → List ℕ → Type 0
+IsOfFile {F} remaining bytes = (file : F) × IfSome (remaining file) (λ all. bytes ≡ all)
+
+-- as many of them as a stream may have, and one more
+abbrev pub IsFrontOfFile : {F : Type 0} → (remaining : F → Option (List ℕ)) → List ℕ → Type 0
+IsFrontOfFile {F} remaining bytes = (file : F) × IfSome (remaining file) (λ all. bytes ≡ take (LARGEST_INPUT + 1) all)
+
+-- the call of a line
+abbrev pub IsCallOfLine : {F R : Type 0} → (remaining : F → Option (List ℕ)) → PlainLine → Call R → Type 0
+IsCallOfLine remaining (create name texts) (calls.Apply command) = (s : PlainSchema) × StateSchema texts s × (command_of command ≡ commands.create name s)
+IsCallOfLine remaining (import_file name path) (calls.Apply command) = (bytes : List ℕ) × IsFrontOfFile remaining bytes × (command_of command ≡ commands.import_stream name bytes)
+IsCallOfLine remaining (append_file name path) (calls.Apply command) = (bytes : List ℕ) × IsFrontOfFile remaining bytes × (command_of command ≡ commands.append_stream name bytes)
+IsCallOfLine remaining (rename from to) (calls.Apply command) = command_of command ≡ commands.rename from to
+IsCallOfLine remaining (drop name) (calls.Apply command) = command_of command ≡ commands.drop_table name
+IsCallOfLine remaining compact calls.Compact = Unit {0}
+IsCallOfLine remaining upgrade calls.Upgrade = Unit {0}
+IsCallOfLine remaining reopen calls.Open = Unit {0}
+IsCallOfLine remaining _ _ = ⊥
+
+-- one by one
+abbrev pub AreCallsOfLines : {F R : Type 0} → (remaining : F → Option (List ℕ)) → List PlainLine → List (Call R) → Type 0
+AreCallsOfLines remaining [] [] = Unit {0}
+AreCallsOfLines remaining (line ∷ lines) (call ∷ calls) = IsCallOfLine remaining line call × AreCallsOfLines remaining lines calls
+AreCallsOfLines remaining _ _ = ⊥
+
+-- ---- the device
+
+-- a device of this number of sectors, which a store may have, on which an empty store stands; it is what a crash left after a formatting in this version
+pub record IsEmptyStore (g : Ghosts ModelDevice) (sectors : ℕ) (version : FormatVersion) (device : ModelDevice) : Type 0 where
+  pub size : size_of device ≡ sectors
+  pub failed : failed_of device ≡ 0
+  pub stands : ShutFits size_of history_of no_tables resumed device
+  pub new : ModelDevice
+  pub store : Store ModelDevice g
+  pub formatted : FormatsStore size_of history_of version new store
+  pub left : IsLeftOf size_of history_of (device_of store) device
+
+-- a call of this number after the opening, which makes one call; 0: none
+abbrev pub after_opening : ℕ → ℕ
+after_opening zero = 0
+after_opening (suc k) = min (k + 2) (2 ^ 64 - 1)
+
+-- what is printed of the store that an opening finds on a device
+pub record IsFound {D : Type 0} (g : Ghosts D) {R : Type 0} (remaining : R → Option (List ℕ)) (device : D) (text : List ℕ) : Type 0 where
+  pub opened : PlainReply
+  pub found : Place D g
+  pub opens : AnswersCall g.size g.story g.failed g.tells remaining (places.Shut device) calls.Open opened found
+  pub listing : PlainReply
+  pub after : Place D g
+  pub lists : AnswersCall g.size g.story g.failed g.tells remaining found calls.Tables listing after
+  pub printed : FoundText opened listing text
+
+-- what is listed after the crash keeps what was acknowledged: the tables are those of commands of the lines that were played, in their order; all that were
+-- acknowledged are among them, and none but these and those in which the device failed
+pub record IsKept {R : Type 0} (remaining : R → Option (List ℕ)) (lines : List (Call R)) (replies : List PlainReply) (listed : List (List ℕ × ℕ)) : Type 0 where
+  pub plains : List PlainCall
+  pub are : AreCallsOf remaining (take (length replies) lines) plains
+  pub settled : List PlainCommand
+  pub tables : listed ≡ row_counts (after no_tables settled)
+  pub kept : InOrder (acknowledged plains replies) settled
+  pub only : InOrder settled (begun plains replies)
+
+-- ---- all of it
+
+pub record IsReplay (g : Ghosts ModelDevice) {R : Type 0} (remaining : R → Option (List ℕ)) (sectors : ℕ) (version : FormatVersion) (fail stop : ℕ) (choice : Choice)
+    (lines : List (Call R)) (text : List ℕ) : Type 0 where
+  -- a device with an empty store: these calls of it are to fail
+  pub device : ModelDevice
+  pub empty : IsEmptyStore g sectors version device
+  pub faults : faults_of device ≡ record no_faults { fail = after_opening fail; stop = after_opening stop }
+  -- its store is opened, and the lines are played
+  pub begin : Place ModelDevice g
+  pub opening : AnswersCall g.size g.story g.failed g.tells remaining (places.Shut device) calls.Open done begin
+  pub replies : List PlainReply
+  pub end : Place ModelDevice g
+  pub plays : Plays g (λ d. (faults_of d).stopped) remaining begin lines replies end
+  -- what a crash leaves as the choice says
+  pub left : ModelDevice
+  pub crash : IsLeftOf size_of history_of (device_in end) left
+  pub chosen : IsChosen choice (now (history_of (device_in end))) (size_of (device_in end)) (shown_image (now (history_of left)))
+  -- and what is found there
+  pub tables : List ℕ
+  pub found : IsFound g remaining left tables
+  pub kept : found.opened ≡ done → (listed : List (List ℕ × ℕ)) → found.listing ≡ counts listed → IsKept remaining lines replies listed
+  pub printed : text ≡ replies_text replies ++ stop_text (faults_of (device_in end)).stopped ++ codes "after:\n" ++ tables
+
+-- a file has a script, its lines have these calls, and the replay of these is written
+pub record IsReplayOfFile (g : Ghosts ModelDevice) {F R : Type 0} (remaining : F → Option (List ℕ)) (no_reader : R → Option (List ℕ)) (sectors : ℕ)
+    (version : FormatVersion) (fail stop : ℕ) (choice : Choice) (output output' : Option (List ℕ)) : Type 0 where
+  pub script : List ℕ
+  pub of_file : IsOfFile remaining script
+  pub lines : List PlainLine
+  pub parsed : IsScript script (Ok lines)
+  pub calls : List (Call R)
+  pub are : AreCallsOfLines remaining lines calls
+  pub text : List ℕ
+  pub replay : IsReplay g no_reader sectors version fail stop choice calls text
+  pub written : Appends output output' text
+
+-- ---- why nothing is played
+
+-- a file can't be read, or memory is refused
+abbrev pub IsOfReading : Refusal → Type 0
+IsOfReading Io = Unit {0}
+IsOfReading OutOfMemory = Unit {0}
+IsOfReading _ = ⊥
+
+-- why a new device, on which no store stands, does not become one: no store has its size, or memory is refused, to the device too
+abbrev pub IsOfNewDevice : (sectors : ℕ) → OpeningRefusal → Type 0
+IsOfNewDevice sectors (openings.Damaged cause) = (cause ≡ DeviceSize) × (is_size sectors ≡ false)
+IsOfNewDevice sectors openings.Device = Unit {0}
+IsOfNewDevice sectors openings.OutOfMemory = Unit {0}
+IsOfNewDevice sectors _ = ⊥
+
+abbrev pub FailsToFormat : (sectors : ℕ) → Refusal → Type 0
+FailsToFormat sectors (Opening refusal) = IsOfNewDevice sectors refusal
+FailsToFormat sectors OutOfMemory = Unit {0}
+FailsToFormat sectors _ = ⊥
+
+-- lines that can be played are not: memory is refused, to the device too
+abbrev pub IsOfPlaying : Refusal → Type 0
+IsOfPlaying OutOfMemory = Unit {0}
+IsOfPlaying (Opening openings.OutOfMemory) = Unit {0}
+IsOfPlaying (Opening openings.Device) = Unit {0}
+IsOfPlaying _ = ⊥
+
+-- a script of which this line is the first that is none
+abbrev pub RefusesScript : List ℕ → Refusal → Type 0
+RefusesScript script (BadScript number) = IsScript script (Err (BadLine number))
+RefusesScript script OutOfMemory = Unit {0}
+RefusesScript script _ = ⊥
+
+-- the number of sectors is none of a store, which is told first; some file has a script whose line of this number is the first that is none; a file can't be
+-- read, or the output can't be written; or memory is refused
+abbrev pub RefusesReplay : {F : Type 0} → (remaining : F → Option (List ℕ)) → (sectors : ℕ) → Refusal → Type 0
+RefusesReplay remaining sectors (Opening refusal) = IsOfNewDevice sectors refusal
+RefusesReplay remaining sectors (BadScript number) = (is_size sectors ≡ true) × ((script : List ℕ) × IsOfFile remaining script × IsScript script (Err (BadLine number)))
+RefusesReplay remaining sectors Io = is_size sectors ≡ true
+RefusesReplay remaining sectors TooManyBytes = is_size sectors ≡ true
+RefusesReplay remaining sectors OutOfMemory = Unit {0}
+RefusesReplay remaining sectors _ = ⊥

@@ -1,0 +1,90 @@
+// The lines of a script as calls of a store, with the bytes of their files.
+ghost use Rattle.std.specs.Prelude.{◌≡◌, IfOk, IfErr};
+ghost use Rattle.facts.specs.Texts.{text_list};
+ghost use Rattle.cli_commands.specs.Changing.{StateSchema};
+ghost use Rattle.tables.specs.Commands as commands;
+ghost use Rattle.tables.specs.View.{command_of};
+ghost use Rattle.cli_replay.specs.Plain.{plain_line, plain_lines};
+ghost use Rattle.cli_replay.specs.Replay.{IsCallOfLine, AreCallsOfLines, IsOfReading};
+
+use crate::ScriptLine;
+use crate::files::named_input;
+use cli_commands::new_table;
+use cli_refusals::Refusal;
+use std::alloc::{AllocError, Global};
+use std::fs::OpenFile;
+use std::io::Read;
+use std::rt::Files;
+use store::Call;
+use tables::Command;
+
+// The table of a line whose field texts were tested when the script was read: it is refused for want of memory alone.
+fn create(alloc: Global, name: &str, fields: &[&str]) -> Result<Command, AllocError>
+    ensures { IfOk result (λ c. (s : _) × StateSchema (text_list fields.now) s × (command_of c ≡ commands.create name.now s)) }
+{
+    match new_table(alloc, name, fields) {
+        Ok(new) => Ok(Command::Create(new)),
+        Err(_) => Err(AllocError),
+    }
+}
+
+fn rename(alloc: Global, from: &str, to: &str) -> Result<Command, AllocError>
+    ensures { IfOk result (λ c. command_of c ≡ commands.rename from.now to.now) }
+{
+    Ok(Command::Rename {
+        from: String::from_str(alloc, from)?,
+        to: String::from_str(alloc, to)?,
+    })
+}
+
+fn drop_table(alloc: Global, name: &str) -> Result<Command, AllocError>
+    ensures { IfOk result (λ c. command_of c ≡ commands.drop_table name.now) }
+{
+    Ok(Command::Drop {
+        name: String::from_str(alloc, name)?,
+    })
+}
+
+fn call_of<F: Read + OpenFile + Drop, H: Files<File = F> + AllocGlobal>(
+    rt: &H,
+    line: &ScriptLine<'_>,
+) -> Result<Call, Refusal>
+    ensures call { IfOk result (IsCallOfLine F.remaining (plain_line line.now)) }
+    ensures told { IfErr result IsOfReading }
+{
+    let command = match line {
+        ScriptLine::Create { name, fields } => create(rt.alloc(), name, fields)?,
+        ScriptLine::Import { name, file } => {
+            let (name, bytes) = named_input(rt, name, file)?;
+            Command::ImportStream { name, bytes }
+        }
+        ScriptLine::Append { name, file } => {
+            let (name, bytes) = named_input(rt, name, file)?;
+            Command::AppendStream { name, bytes }
+        }
+        ScriptLine::Rename { from, to } => rename(rt.alloc(), from, to)?,
+        ScriptLine::Drop { name } => drop_table(rt.alloc(), name)?,
+        ScriptLine::Compact => return Ok(Call::Compact),
+        ScriptLine::Upgrade => return Ok(Call::Upgrade),
+        ScriptLine::Reopen => return Ok(Call::Open),
+    };
+    Ok(Call::Apply(command))
+}
+
+/// Each line as a call. All files are read.
+pub(crate) fn calls_of<F: Read + OpenFile + Drop, H: Files<File = F> + AllocGlobal>(
+    rt: &H,
+    lines: &[ScriptLine<'_>],
+) -> Result<Vec<Call>, Refusal>
+    ensures calls { IfOk result (λ calls. AreCallsOfLines F.remaining (plain_lines lines.now) calls.items) }
+    ensures told { IfErr result IsOfReading }
+{
+    let mut calls = Vec::with_capacity(rt.alloc(), lines.len())?;
+    for line in lines {
+        let call = call_of(rt, line)?;
+        if let Err(_) = calls.push(call) {
+            return Err(Refusal::OutOfMemory);
+        }
+    }
+    Ok(calls)
+}

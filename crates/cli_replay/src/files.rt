@@ -1,0 +1,65 @@
+// The files that a script needs.
+ghost use Rattle.std.specs.Prelude.{◌≡◌, ◌≢◌, ◌⊎◌, string_bytes, IfOk, IfErr};
+ghost use Rattle.cli_replay.specs.Replay.{IsOfFile, IsFrontOfFile, IsOfReading};
+
+use cli_commands::LARGEST_INPUT;
+use cli_refusals::Refusal;
+use std::fs::{self, OpenFile};
+use std::io::{self, ErrorKind, Read};
+use std::rt::Files;
+
+fn reading_refusal(error: &io::Error) -> Refusal
+    ensures { IsOfReading result }
+{
+    match error.kind() {
+        ErrorKind::OutOfMemory => Refusal::OutOfMemory,
+        _ => Refusal::Io,
+    }
+}
+
+// The bytes of the file at a path; of one that is longer than a stream may be as many as that and one more, by which a store refuses it.
+fn front_of_file<F: Read + OpenFile + Drop, H: Files<File = F> + AllocGlobal>(
+    rt: &H,
+    path: &str,
+) -> Result<Vec<u8>, Refusal>
+    ensures front { IfOk result (λ bytes. IsFrontOfFile F.remaining bytes.items) }
+    ensures told { IfErr result IsOfReading }
+{
+    let Ok(file) = fs::open(rt, path) else {
+        return Err(Refusal::Io);
+    };
+    let mut front = file.take(LARGEST_INPUT as u64 + 1);
+    let mut bytes = Vec::new(rt.alloc());
+    match front.read_to_end(&mut bytes) {
+        Ok(_) => Ok(bytes),
+        Err(error) => Err(reading_refusal(&error)),
+    }
+}
+
+/// All of a script.
+pub(crate) fn read_script<F: Read + OpenFile + Drop, H: Files<File = F> + AllocGlobal>(
+    rt: &H,
+    path: &str,
+) -> Result<Vec<u8>, Refusal>
+    ensures all { IfOk result (λ bytes. IsOfFile F.remaining bytes.items) }
+    ensures told { IfErr result (λ refusal. (refusal ≡ Refusal.TooManyBytes) ⊎ IsOfReading refusal) }
+{
+    let bytes = front_of_file(rt, path)?;
+    if bytes.len() > LARGEST_INPUT {
+        return Err(Refusal::TooManyBytes);
+    }
+    Ok(bytes)
+}
+
+/// A name and the bytes of a file, as a command owns them.
+pub(crate) fn named_input<F: Read + OpenFile + Drop, H: Files<File = F> + AllocGlobal>(
+    rt: &H,
+    name: &str,
+    path: &str,
+) -> Result<(String, Vec<u8>), Refusal>
+    ensures named { IfOk result (λ r. (string_bytes r.0 ≡ name.now) × IsFrontOfFile F.remaining r.1.items) }
+    ensures told { IfErr result IsOfReading }
+{
+    let bytes = front_of_file(rt, path)?;
+    Ok((String::from_str(rt.alloc(), name)?, bytes))
+}

@@ -1,0 +1,110 @@
+// All of a replay.
+ghost use Rattle.std.specs.Prelude.{◌≡◌, ◌≢◌, ◌++◌, ℕ, codes, string_bytes, Ok, IfOk, IfErr, OnOk};
+ghost use Rattle.cli_replay.specs.Playing.{stop_text};
+ghost use Rattle.cli_replay.specs.Plain.{plain_lines};
+ghost use Rattle.cli_replay.specs.Replay.{IsEmptyStore, IsOfPlaying, IsReplay, IsReplayOfFile, RefusesReplay, RefusesScript};
+ghost use Rattle.cli_replay.specs.Script.{IsScript};
+ghost use Rattle.sector_dev.specs.Faults.{no_faults};
+ghost use Rattle.sector_dev.specs.View.{faults_of};
+
+use crate::calls::calls_of;
+use crate::device::{empty_store, found_on, left_by_crash, open, with_faults};
+use crate::files::read_script;
+use crate::playing::{lines_of_replies, play};
+use crate::{ScriptError, ScriptLine, parse_script};
+use cli_refusals::{Refusal, write_whole};
+use commit::FormatVersion;
+use sector_dev::{Choice, ModelDevice, SectorDevice};
+use std::alloc::{AllocError, Global};
+use std::fs::OpenFile;
+use std::io::{Empty, Read, Write};
+use std::rt::Files;
+use store::{Call, acknowledged_commands_are_settled, left_devices_fit};
+
+/// What is to go wrong while a script is played, and what the crash after it leaves. Writes and syncs are counted from 1, the first after the formatting.
+#[derive(Clone, Copy)]
+pub struct Faults {
+    /// The one that fails once; 0: none.
+    pub fail: u64,
+    /// The one in which the device stops; 0: none.
+    pub stop: u64,
+    pub choice: Choice,
+}
+
+// The lines of the replies, whether the device stopped, and what was found on it.
+fn joined_text(lines: String, stopped: bool, found: &str) -> Result<String, AllocError>
+    ensures { IfOk result (λ text. string_bytes text ≡ string_bytes lines ++ stop_text stopped ++ codes "after:\n" ++ found.now) }
+{
+    let mut text = lines;
+    if stopped {
+        text.push_str("stopped\n")?;
+    }
+    text.push_str("after:\n")?;
+    text.push_str(found)?;
+    Ok(text)
+}
+
+/// Plays lines on a device with an empty store, of which no call was to fail, and says what they answered and what a crash left.
+pub(crate) fn play_lines(
+    alloc: Global,
+    device: ModelDevice,
+    lines: Vec<Call>,
+    faults: Faults,
+) -> Result<String, Refusal>
+    requires { faults_of device ≡ no_faults }
+    ensures replays { IfOk result (λ text. (sectors : ℕ) (version : FormatVersion) → IsEmptyStore ⟦<ModelDevice as SectorDevice>⟧ sectors version device
+        → IsReplay ⟦<ModelDevice as SectorDevice>⟧ ⟦<Empty as Read>⟧.remaining sectors version faults.fail faults.stop faults.choice lines.items (string_bytes text)) }
+    ensures told { IfErr result (λ refusal. (sectors : ℕ) (version : FormatVersion) → IsEmptyStore ⟦<ModelDevice as SectorDevice>⟧ sectors version device
+        → IsOfPlaying refusal) }
+{
+    let device = with_faults(device, faults.fail, faults.stop);
+    let place = open(alloc, device)?;
+    let (place, replies) = play(alloc, place, lines)?;
+    let text = lines_of_replies(alloc, &replies)?;
+    let left = left_by_crash(place.device(), faults.choice)?;
+    acknowledged_commands_are_settled();
+    left_devices_fit(place.device(), &left);
+    let found = found_on(alloc, left)?;
+    Ok(joined_text(text, place.device().has_stopped(), &found)?)
+}
+
+// The lines of a script, as the program tells it where one is none.
+fn lines_of(alloc: Global, script: &[u8]) -> Result<Vec<ScriptLine<'_>>, Refusal>
+    ensures lines { IfOk result (λ lines. IsScript script.now (Ok (plain_lines lines.items))) }
+    ensures told { IfErr result (RefusesScript script.now) }
+{
+    match parse_script(alloc, script) {
+        Ok(lines) => Ok(lines),
+        Err(ScriptError::BadLine(number)) => Err(Refusal::BadScript(number)),
+        Err(ScriptError::OutOfMemory) => Err(Refusal::OutOfMemory),
+    }
+}
+
+/// Plays the script at a path on a device in memory of `sectors` sectors with an empty store of this version, and prints what its lines answer, whether the
+/// device stopped, and which tables a crash leaves.
+///
+/// # Errors
+/// `Opening` where no store has that number of sectors; `Io` where a file can't be read; `BadScript` with the first line that is none; `TooManyBytes` of a file;
+/// `OutOfMemory`. Then nothing is printed, unless a write fails.
+pub fn replay<F: Read + OpenFile + Drop, H: Files<File = F> + AllocGlobal, W: Write>(
+    rt: &H,
+    script: &str,
+    sectors: u64,
+    version: FormatVersion,
+    faults: Faults,
+    output: &mut W,
+) -> Result<(), Refusal>
+    ensures replays { OnOk result (IsReplayOfFile ⟦<ModelDevice as SectorDevice>⟧ F.remaining ⟦<Empty as Read>⟧.remaining sectors version
+        faults.fail faults.stop faults.choice (W.contents output.old) (W.contents output.new)) }
+    ensures told { IfErr result (RefusesReplay F.remaining sectors) }
+    // Where it is refused nothing is printed, unless a write failed.
+    ensures silent { IfErr result (λ refusal. refusal ≢ Refusal.Io → output.new ≡ output.old) }
+{
+    let alloc = rt.alloc();
+    let device = empty_store(alloc, sectors, version)?;
+    let script = read_script(rt, script)?;
+    let lines = lines_of(alloc, &script)?;
+    let calls = calls_of(rt, &lines)?;
+    let text = play_lines(alloc, device, calls, faults)?;
+    write_whole(output, text.as_bytes())
+}

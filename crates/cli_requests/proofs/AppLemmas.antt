@@ -1,0 +1,771 @@
+-- What the commands of names alone make of their operands.
+use Rattle.std.proofs.Common.{◌≡◌, ◌⊎◌, ◌∙◌, ◌==◌, ℕ, Bool, true, false, refl, sym, ap, subst, List, [], ◌∷◌, ◌++◌, length, drop, codes, Option, Some, None, inl}
+use Rattle.std.proofs.Common.{inr, eqb-true, true≢false, arith}
+use Rattle.std.specs.Prelude.{IfSome, IfOk, Result, Ok, Err, option_map, unwrap_or}
+use Rattle.std.specs.Borrow.{Bor}
+use Rattle.std.specs.Str.{bytes_eq}
+use Rattle.std.proofs.lemmas.Option.{none-some}
+use Rattle.std.proofs.lemmas.Slice.Eq.{bytes_eq-Decides}
+use Rattle.clap.specs.Walk.{Held, Row, Rule, first_of, one_of, all_of, arg_by_index, finished, rows_of, settled, walked}
+use Rattle.clap.specs.Simple.{App, HasMatchesOf, Shape, app_of, built}
+use Rattle.clap.specs.declared.builder.command.Command.{Command}
+use Rattle.clap.specs.Matches.{first_value, found_of, one_text}
+use Rattle.clap.specs.declared.parser.matches.Found.{Found}
+use Rattle.clap.specs.Kinds.{IsAmong, Kinds, or_else}
+use Rattle.clap.specs.Faults.{fault_of, is_simple_and_free, defaults_fault, check_fault}
+use Rattle.clap.specs.declared.builder.value_parser.ValueParser.{ValueParser}
+use Rattle.clap.specs.Words.{Text}
+use Rattle.clap.specs.declared.error.kind.ErrorKind.{ErrorKind}
+use Rattle.clap.specs.declared.error.kind.ErrorKind.TheVariants.{OutOfMemory}
+use Rattle.clap.specs.declared.parser.matches.ArgMatches.{ArgMatches}
+use Rattle.clap.proofs.OnLiterals.{clap_on_literals}
+use Rattle.clap.proofs.WalkLemmas.{first_value-rows, one_text-rows, raw_values-rows}
+use Rattle.cli_requests.specs.Apps.{info_app, format_app, copy_app, store_app, table_app, rename_app, create_app, append_app, query_app, other_parameters, parameters_of, IsAppWith, IsOwnApp, value_of, values_of}
+use Rattle.cli_requests.specs.Apps.{HasFound, takes_number}
+use Rattle.cli_requests.specs.Asked.{request_word}
+use Rattle.cli_requests.specs.Operands.{number_of, version_named, operands, names_file, names_table, wanted, are_as_many, are_right, IsNamedBy, Names}
+use Rattle.cli_requests.specs.StoreWords.{is_of_store, is_store_word, first_word}
+use Rattle.cli_requests.specs.declared.command_parameters.Parameters.{Parameters}
+use Rattle.cli_requests.specs.declared.command_parameters.Parameters.TheVariants as parameters
+use Rattle.cli_requests.specs.declared.store_words.StoreCommand.TheVariants as commands
+use Rattle.cli_requests.specs.declared.store_words.StoreRequest.{StoreRequest}
+use Rattle.cli_requests.specs.declared.store_words.StoreRequest.TheVariants as requests
+use Rattle.cli_requests.proofs.WordLemmas.{first_of_store}
+use Rattle.cli_requests.proofs.OperandLemmas.{at, ends_options, operands_fault, operands_held, operand_rows, reads_operands, words_held, words_read}
+
+-- ---- the three commands, by what they take after the file
+
+abbrev file_app : Text → App
+file_app name = store_app name
+
+-- none of their positionals ends the options
+file_plain : (name : Text) (p : ℕ) → ends_options (arg_by_index (built (file_app name)).top.rules p) ≡ false
+file_plain name p = by_first (1 == p) refl
+  where
+    by_first : (b : Bool) → (1 == p) ≡ b → ends_options (arg_by_index (built (file_app name)).top.rules p) ≡ false
+    by_first true e = rw e refl
+    by_first false e = rw e refl
+
+info_plain : (name : Text) (p : ℕ) → ends_options (arg_by_index (built (info_app name)).top.rules p) ≡ false
+info_plain name p = by_first (1 == p) refl
+  where
+    by_first : (b : Bool) → (1 == p) ≡ b → ends_options (arg_by_index (built (info_app name)).top.rules p) ≡ false
+    by_first true e = rw e refl
+    by_first false e = rw e refl
+
+table_plain : (name : Text) (p : ℕ) → ends_options (arg_by_index (built (table_app name)).top.rules p) ≡ false
+table_plain name p = by_each (1 == p) (2 == p) refl refl
+  where
+    by_each : (a b : Bool) → (1 == p) ≡ a → (2 == p) ≡ b → ends_options (arg_by_index (built (table_app name)).top.rules p) ≡ false
+    by_each true b d e = rw d refl
+    by_each false true d e = rw (d, e) refl
+    by_each false false d e = rw (d, e) refl
+
+rename_plain : (name : Text) (p : ℕ) → ends_options (arg_by_index (built (rename_app name)).top.rules p) ≡ false
+rename_plain name p = by_each (1 == p) (2 == p) (3 == p) refl refl refl
+  where
+    by_each : (a b c : Bool) → (1 == p) ≡ a → (2 == p) ≡ b → (3 == p) ≡ c → ends_options (arg_by_index (built (rename_app name)).top.rules p) ≡ false
+    by_each true b c d e f = rw d refl
+    by_each false true c d e f = rw (d, e) refl
+    by_each false false true d e f = rw (d, e, f) refl
+    by_each false false false d e f = rw (d, e, f) refl
+
+format_plain : (name : Text) (p : ℕ) → ends_options (arg_by_index (built (format_app name)).top.rules p) ≡ false
+format_plain name p = by_each (1 == p) (2 == p) refl refl
+  where
+    by_each : (a b : Bool) → (1 == p) ≡ a → (2 == p) ≡ b → ends_options (arg_by_index (built (format_app name)).top.rules p) ≡ false
+    by_each true b d e = rw d refl
+    by_each false true d e = rw (d, e) refl
+    by_each false false d e = rw (d, e) refl
+
+copy_plain : (name : Text) (p : ℕ) → ends_options (arg_by_index (built (copy_app name)).top.rules p) ≡ false
+copy_plain name p = by_each (1 == p) (2 == p) (3 == p) refl refl refl
+  where
+    by_each : (a b c : Bool) → (1 == p) ≡ a → (2 == p) ≡ b → (3 == p) ≡ c → ends_options (arg_by_index (built (copy_app name)).top.rules p) ≡ false
+    by_each true b c d e f = rw d refl
+    by_each false true c d e f = rw (d, e) refl
+    by_each false false true d e f = rw (d, e, f) refl
+    by_each false false false d e f = rw (d, e, f) refl
+
+append_plain : (forms : ValueParser) (name : Text) (p : ℕ) → ends_options (arg_by_index (built (append_app forms name)).top.rules p) ≡ false
+append_plain forms name p = by_each (1 == p) (2 == p) refl refl
+  where
+    by_each : (a b : Bool) → (1 == p) ≡ a → (2 == p) ≡ b → ends_options (arg_by_index (built (append_app forms name)).top.rules p) ≡ false
+    by_each true b d e = rw d refl
+    by_each false true d e = rw (d, e) refl
+    by_each false false d e = rw (d, e) refl
+
+create_plain : (name : Text) (p : ℕ) → ends_options (arg_by_index (built (create_app name)).top.rules p) ≡ false
+create_plain name p = by_each (1 == p) (2 == p) (3 == p) refl refl refl
+  where
+    by_each : (a b c : Bool) → (1 == p) ≡ a → (2 == p) ≡ b → (3 == p) ≡ c → ends_options (arg_by_index (built (create_app name)).top.rules p) ≡ false
+    by_each true b c d e f = rw d refl
+    by_each false true c d e f = rw (d, e) refl
+    by_each false false true d e f = rw (d, e, f) refl
+    by_each false false false d e f = rw (d, e, f) refl
+
+query_plain : (name : Text) (p : ℕ) → ends_options (arg_by_index (built (query_app name)).top.rules p) ≡ false
+query_plain name p = by_each (1 == p) (2 == p) (3 == p) refl refl refl
+  where
+    by_each : (a b c : Bool) → (1 == p) ≡ a → (2 == p) ≡ b → (3 == p) ≡ c → ends_options (arg_by_index (built (query_app name)).top.rules p) ≡ false
+    by_each true b c d e f = rw d refl
+    by_each false true c d e f = rw (d, e) refl
+    by_each false false true d e f = rw (d, e, f) refl
+    by_each false false false d e f = rw (d, e, f) refl
+
+some_kind : (k : ErrorKind) (ks : Kinds) → k ∷ ks ≡ [] → ⊥
+some_kind k ks h = let longer : length (k ∷ ks) ≡ 0 = ap (λ (xs : Kinds). length xs) h in absurd (omega (arith, longer))
+
+abbrev file_top : Text → Shape
+file_top name = (built (file_app name)).top
+
+abbrev info_top : Text → Shape
+info_top name = (built (info_app name)).top
+
+abbrev table_top : Text → Shape
+table_top name = (built (table_app name)).top
+
+abbrev rename_top : Text → Shape
+rename_top name = (built (rename_app name)).top
+
+abbrev format_top : Text → Shape
+format_top name = (built (format_app name)).top
+
+abbrev copy_top : Text → Shape
+copy_top name = (built (copy_app name)).top
+
+abbrev append_top : ValueParser → Text → Shape
+append_top forms name = (built (append_app forms name)).top
+
+abbrev create_top : Text → Shape
+create_top name = (built (create_app name)).top
+
+abbrev query_top : Text → Shape
+query_top name = (built (query_app name)).top
+
+-- ---- as many operands as are wanted have no fault, and others have one
+
+full_file : (name : Text) (ops : List Text) → length ops ≡ 1 → operands_fault (file_top name) ops ≡ []
+unfolding clap_on_literals
+full_file name [] e = absurd (omega (arith, e))
+full_file name (a ∷ []) e = refl
+full_file name (a ∷ b ∷ rest) e = absurd (omega (arith, e))
+
+full_table : (name : Text) (ops : List Text) → length ops ≡ 2 → operands_fault (table_top name) ops ≡ []
+unfolding clap_on_literals
+full_table name [] e = absurd (omega (arith, e))
+full_table name (a ∷ []) e = absurd (omega (arith, e))
+full_table name (a ∷ b ∷ []) e = refl
+full_table name (a ∷ b ∷ c ∷ rest) e = absurd (omega (arith, e))
+
+full_rename : (name : Text) (ops : List Text) → length ops ≡ 3 → operands_fault (rename_top name) ops ≡ []
+unfolding clap_on_literals
+full_rename name [] e = absurd (omega (arith, e))
+full_rename name (a ∷ []) e = absurd (omega (arith, e))
+full_rename name (a ∷ b ∷ []) e = absurd (omega (arith, e))
+full_rename name (a ∷ b ∷ c ∷ []) e = refl
+full_rename name (a ∷ b ∷ c ∷ d ∷ rest) e = absurd (omega (arith, e))
+
+abbrev row_value : Text → List Row → Text
+row_value id rows = unwrap_or (first_of id rows) []
+
+file_named : (name : Text) (ops : List Text) → operands_fault (file_top name) ops ≡ [] → ops ≡ row_value (codes "STORE") (operand_rows (file_top name) ops) ∷ []
+unfolding clap_on_literals
+file_named name [] e = absurd (some_kind _ _ e)
+file_named name (a ∷ []) e = refl
+file_named name (a ∷ b ∷ rest) e = absurd (some_kind _ _ e)
+
+info_named : (name : Text) (ops : List Text) → operands_fault (info_top name) ops ≡ [] → ops ≡ row_value (codes "STORE") (operand_rows (info_top name) ops) ∷ []
+unfolding clap_on_literals
+info_named name [] e = absurd (some_kind _ _ e)
+info_named name (a ∷ []) e = refl
+info_named name (a ∷ b ∷ rest) e = absurd (some_kind _ _ e)
+
+-- without its option
+info_alone : (name : Text) (ops : List Text) → operands_fault (info_top name) ops ≡ [] → one_of (codes "json") (operand_rows (info_top name) ops) ≡ Some (codes "false")
+unfolding clap_on_literals
+info_alone name [] e = absurd (some_kind _ _ e)
+info_alone name (a ∷ []) e = refl
+info_alone name (a ∷ b ∷ rest) e = absurd (some_kind _ _ e)
+
+table_named : (name : Text) (ops : List Text) → operands_fault (table_top name) ops ≡ []
+    → ops ≡ row_value (codes "STORE") (operand_rows (table_top name) ops) ∷ row_value (codes "NAME") (operand_rows (table_top name) ops) ∷ []
+unfolding clap_on_literals
+table_named name [] e = absurd (some_kind _ _ e)
+table_named name (a ∷ []) e = absurd (some_kind _ _ e)
+table_named name (a ∷ b ∷ []) e = refl
+table_named name (a ∷ b ∷ c ∷ rest) e = absurd (some_kind _ _ e)
+
+rename_named : (name : Text) (ops : List Text) → operands_fault (rename_top name) ops ≡ []
+    → ops ≡ row_value (codes "STORE") (operand_rows (rename_top name) ops) ∷ row_value (codes "NAME") (operand_rows (rename_top name) ops)
+    ∷ row_value (codes "NEW") (operand_rows (rename_top name) ops) ∷ []
+unfolding clap_on_literals
+rename_named name [] e = absurd (some_kind _ _ e)
+rename_named name (a ∷ []) e = absurd (some_kind _ _ e)
+rename_named name (a ∷ b ∷ []) e = absurd (some_kind _ _ e)
+rename_named name (a ∷ b ∷ c ∷ []) e = refl
+rename_named name (a ∷ b ∷ c ∷ d ∷ rest) e = absurd (some_kind _ _ e)
+
+format_named : (name : Text) (ops : List Text) → operands_fault (format_top name) ops ≡ []
+    → ops ≡ row_value (codes "STORE") (operand_rows (format_top name) ops) ∷ row_value (codes "SECTORS") (operand_rows (format_top name) ops) ∷ []
+unfolding clap_on_literals
+format_named name [] e = absurd (some_kind _ _ e)
+format_named name (a ∷ []) e = absurd (some_kind _ _ e)
+format_named name (a ∷ b ∷ []) e = refl
+format_named name (a ∷ b ∷ c ∷ rest) e = absurd (some_kind _ _ e)
+
+-- without its option
+format_alone : (name : Text) (ops : List Text) → operands_fault (format_top name) ops ≡ []
+    → first_of (codes "format-version") (operand_rows (format_top name) ops) ≡ None
+unfolding clap_on_literals
+format_alone name [] e = absurd (some_kind _ _ e)
+format_alone name (a ∷ []) e = absurd (some_kind _ _ e)
+format_alone name (a ∷ b ∷ []) e = refl
+format_alone name (a ∷ b ∷ c ∷ rest) e = absurd (some_kind _ _ e)
+
+copy_named : (name : Text) (ops : List Text) → operands_fault (copy_top name) ops ≡ []
+    → ops ≡ row_value (codes "STORE") (operand_rows (copy_top name) ops) ∷ row_value (codes "NEW") (operand_rows (copy_top name) ops)
+    ∷ row_value (codes "SECTORS") (operand_rows (copy_top name) ops) ∷ []
+unfolding clap_on_literals
+copy_named name [] e = absurd (some_kind _ _ e)
+copy_named name (a ∷ []) e = absurd (some_kind _ _ e)
+copy_named name (a ∷ b ∷ []) e = absurd (some_kind _ _ e)
+copy_named name (a ∷ b ∷ c ∷ []) e = refl
+copy_named name (a ∷ b ∷ c ∷ d ∷ rest) e = absurd (some_kind _ _ e)
+
+later_fault : (first next : Kinds) → or_else first next ≡ [] → next ≡ []
+later_fault [] next e = e
+later_fault (k ∷ ks) next e = absurd (some_kind k ks e)
+
+-- the last checks, after those of the defaults
+last_fault : (s : Shape) (ops : List Text) → or_else (defaults_fault (settled s.rules (operands_held s ops)).rows s.rules) (check_fault s (finished s.rules (operands_held s ops)) false) ≡ []
+    → check_fault s (finished s.rules (operands_held s ops)) false ≡ []
+last_fault s ops e = later_fault (defaults_fault (settled s.rules (operands_held s ops)).rows s.rules) (check_fault s (finished s.rules (operands_held s ops)) false) e
+
+append_named : (forms : ValueParser) (name : Text) (ops : List Text) → operands_fault (append_top forms name) ops ≡ []
+    → ops ≡ row_value (codes "STORE") (operand_rows (append_top forms name) ops) ∷ row_value (codes "NAME") (operand_rows (append_top forms name) ops) ∷ []
+unfolding clap_on_literals
+append_named forms name [] e = absurd (some_kind _ _ (last_fault (append_top forms name) [] e))
+append_named forms name (a ∷ []) e = absurd (some_kind _ _ (last_fault (append_top forms name) (a ∷ []) e))
+append_named forms name (a ∷ b ∷ []) e = refl
+append_named forms name (a ∷ b ∷ c ∷ rest) e = absurd (some_kind _ _ e)
+
+-- all values of an argument
+abbrev row_values : Text → List Row → List Text
+row_values id rows = unwrap_or (all_of id rows) []
+
+-- the file, the table, and words without end
+abbrev file_and_table : List Rule → Text → Text → List Row
+file_and_table rules a b = (settled rules (record {
+  rows = (settled rules (record { rows = []; pending = Some (codes "STORE", a ∷ []); skip = 0 })).rows;
+  pending = Some (codes "NAME", b ∷ []);
+  skip = 0;
+})).rows
+
+field_met : (name a b : Text) (vs : List Text) (c : Text) → walked (create_top name).rules [] (at (words_held (file_and_table (create_top name).rules a b) (codes "FIELD") vs) true 3 true) c
+    ≡ at (words_held (file_and_table (create_top name).rules a b) (codes "FIELD") (vs ++ c ∷ [])) true 3 true
+unfolding walked clap_on_literals
+field_met name a b vs c = refl
+
+condition_met : (name a b : Text) (vs : List Text) (c : Text)
+    → walked (query_top name).rules [] (at (words_held (file_and_table (query_top name).rules a b) (codes "CONDITION") vs) true 3 true) c
+    ≡ at (words_held (file_and_table (query_top name).rules a b) (codes "CONDITION") (vs ++ c ∷ [])) true 3 true
+unfolding walked clap_on_literals
+condition_met name a b vs c = refl
+
+abbrev named_in : Shape → Text → Held → List Text
+named_in s id h = row_value (codes "STORE") (finished s.rules h) ∷ row_value (codes "NAME") (finished s.rules h) ∷ row_values id (finished s.rules h)
+
+create_named : (name : Text) (ops : List Text) → operands_fault (create_top name) ops ≡ [] → ops ≡ named_in (create_top name) (codes "FIELD") (operands_held (create_top name) ops)
+unfolding walked clap_on_literals
+create_named name [] e = absurd (some_kind _ _ e)
+create_named name (a ∷ []) e = absurd (some_kind _ _ e)
+create_named name (a ∷ b ∷ []) e = refl
+create_named name (a ∷ b ∷ c ∷ rest) e =
+    let s = create_top name in
+    let held = words_read s (codes "FIELD") (file_and_table s.rules a b) (field_met name a b) (c ∷ []) rest in
+    ap (named_in s (codes "FIELD")) (sym held)
+
+query_named : (name : Text) (ops : List Text) → operands_fault (query_top name) ops ≡ []
+    → ops ≡ named_in (query_top name) (codes "CONDITION") (operands_held (query_top name) ops)
+unfolding walked clap_on_literals
+query_named name [] e = absurd (some_kind _ _ e)
+query_named name (a ∷ []) e = absurd (some_kind _ _ e)
+query_named name (a ∷ b ∷ []) e = refl
+query_named name (a ∷ b ∷ c ∷ rest) e =
+    let s = query_top name in
+    let held = words_read s (codes "CONDITION") (file_and_table s.rules a b) (condition_met name a b) (c ∷ []) rest in
+    ap (named_in s (codes "CONDITION")) (sym held)
+
+-- without options
+append_stream : (forms : ValueParser) (name : Text) (ops : List Text) → operands_fault (append_top forms name) ops ≡ []
+    → row_value (codes "as") (operand_rows (append_top forms name) ops) ≡ codes "stream"
+unfolding clap_on_literals
+append_stream forms name [] e = absurd (some_kind _ _ (last_fault (append_top forms name) [] e))
+append_stream forms name (a ∷ []) e = absurd (some_kind _ _ (last_fault (append_top forms name) (a ∷ []) e))
+append_stream forms name (a ∷ b ∷ []) e = refl
+append_stream forms name (a ∷ b ∷ c ∷ rest) e = absurd (some_kind _ _ e)
+
+abbrev options_in : Text → Held → Option Text × Option Text × Option Text × Option Text
+options_in name h =
+    let rows = finished (query_top name).rules h in
+    (first_of (codes "columns") rows, first_of (codes "limit") rows, first_of (codes "save") rows, one_of (codes "objects") rows)
+
+query_alone : (name : Text) (ops : List Text) → operands_fault (query_top name) ops ≡ []
+    → options_in name (operands_held (query_top name) ops) ≡ (None, None, None, Some (codes "false"))
+unfolding walked clap_on_literals
+query_alone name [] e = absurd (some_kind _ _ e)
+query_alone name (a ∷ []) e = absurd (some_kind _ _ e)
+query_alone name (a ∷ b ∷ []) e = refl
+query_alone name (a ∷ b ∷ c ∷ rest) e =
+    let s = query_top name in
+    ap (options_in name) (words_read s (codes "CONDITION") (file_and_table s.rules a b) (condition_met name a b) (c ∷ []) rest)
+
+-- ---- what is read of a command that was made
+
+pub own_of : {E : Type 0} (r : Result Command E) (word : Text) (has b : Parameters) → has ≡ parameters_of word → has ≡ b
+    → IfOk r (λ c. IsAppWith word b (app_of c))
+    → IfOk r (λ c. IsOwnApp word (app_of c))
+own_of (Ok c) word has b e is own = subst (λ (x : Parameters). IsAppWith word x (app_of c)) (sym is ∙ e) own
+own_of (Err x) word has b e is own = tt
+
+-- of one with options nothing is said
+pub own_any : {E : Type 0} (r : Result Command E) (word : Text) (has : Parameters) → has ≡ parameters_of word → has ≡ parameters.ScriptAndFaults
+    → IfOk r (λ c. IsOwnApp word (app_of c))
+own_any (Ok c) word has e is = subst (λ (x : Parameters). IsAppWith word x (app_of c)) (sym is ∙ e) tt
+own_any (Err x) word has e is = tt
+
+-- ---- the names that a request has
+
+-- what was found by a parse that has succeeded
+pub record Parsed (a : App) (words : List Text) (m : ArgMatches) : Type 0 where
+  pub faultless : is_simple_and_free a ≡ true → fault_of a words ≡ []
+  pub matches : HasMatchesOf a words m
+
+found_value : (m : ArgMatches) (rows : List Row) (id : Text) → rows_of (found_of m) ≡ rows → row_value id rows ≡ value_of (found_of m) id
+found_value m rows id e = ap (row_value id) (sym e) ∙ ap (λ (o : Option Text). unwrap_or o []) (sym (first_value-rows (found_of m) id))
+
+found_first : (m : ArgMatches) (rows : List Row) (id : Text) → rows_of (found_of m) ≡ rows → first_of id rows ≡ first_value (found_of m) id
+found_first m rows id e = ap (first_of id) (sym e) ∙ sym (first_value-rows (found_of m) id)
+
+found_one : (m : ArgMatches) (rows : List Row) (id : Text) → rows_of (found_of m) ≡ rows → one_of id rows ≡ one_text (found_of m) id
+found_one m rows id e = ap (one_of id) (sym e) ∙ sym (one_text-rows (found_of m) id)
+
+found_values : (m : ArgMatches) (rows : List Row) (id : Text) → rows_of (found_of m) ≡ rows → row_values id rows ≡ values_of (found_of m) id
+found_values m rows id e = ap (row_values id) (sym e) ∙ ap (λ (o : Option (List Text)). unwrap_or o []) (sym (raw_values-rows (found_of m) id))
+
+-- none of the options of a query was found
+record HasNoOption (found : Found) : Type 0 where
+  pub columns : first_value found (codes "columns") ≡ None
+  pub limit : first_value found (codes "limit") ≡ None
+  pub save : first_value found (codes "save") ≡ None
+  pub objects : one_text found (codes "objects") ≡ Some (codes "false")
+
+module _ (word : Text) (words : List Text) (m : ArgMatches) (a : App) (name : Text) (parsed : Parsed a (word ∷ words) m) where
+  file_found : a ≡ file_app name → (ops : List Text) → operands words ≡ Some ops → ops ≡ value_of (found_of m) (codes "STORE") ∷ []
+  unfolding clap_on_literals
+  file_found is ops e =
+      let reads = reads_operands (file_app name) word words ops e refl refl (file_plain name) in
+      let p : Parsed (file_app name) (word ∷ words) m = subst (λ (x : App). Parsed x (word ∷ words) m) is parsed in
+      let rows = (p.matches refl).0 ∙ reads.rows in
+      file_named name ops (sym reads.fault ∙ p.faultless refl) ∙ ap (λ (v : Text). v ∷ []) (found_value m _ (codes "STORE") rows)
+
+  info_found : a ≡ info_app name → (ops : List Text) → operands words ≡ Some ops
+      → (ops ≡ value_of (found_of m) (codes "STORE") ∷ []) × (one_text (found_of m) (codes "json") ≡ Some (codes "false"))
+  unfolding clap_on_literals
+  info_found is ops e =
+      let reads = reads_operands (info_app name) word words ops e refl refl (info_plain name) in
+      let p : Parsed (info_app name) (word ∷ words) m = subst (λ (x : App). Parsed x (word ∷ words) m) is parsed in
+      let rows = (p.matches refl).0 ∙ reads.rows in
+      let faultless = sym reads.fault ∙ p.faultless refl in (
+        info_named name ops faultless ∙ ap (λ (v : Text). v ∷ []) (found_value m _ (codes "STORE") rows),
+        sym (found_one m _ (codes "json") rows) ∙ info_alone name ops faultless,
+      )
+
+  table_found : a ≡ table_app name → (ops : List Text) → operands words ≡ Some ops
+      → ops ≡ value_of (found_of m) (codes "STORE") ∷ value_of (found_of m) (codes "NAME") ∷ []
+  unfolding clap_on_literals
+  table_found is ops e =
+      let reads = reads_operands (table_app name) word words ops e refl refl (table_plain name) in
+      let p : Parsed (table_app name) (word ∷ words) m = subst (λ (x : App). Parsed x (word ∷ words) m) is parsed in
+      let rows = (p.matches refl).0 ∙ reads.rows in
+      table_named name ops (sym reads.fault ∙ p.faultless refl)
+      ∙ (λ i. found_value m _ (codes "STORE") rows i ∷ found_value m _ (codes "NAME") rows i ∷ [])
+
+  rename_found : a ≡ rename_app name → (ops : List Text) → operands words ≡ Some ops
+      → ops ≡ value_of (found_of m) (codes "STORE") ∷ value_of (found_of m) (codes "NAME") ∷ value_of (found_of m) (codes "NEW") ∷ []
+  unfolding clap_on_literals
+  rename_found is ops e =
+      let reads = reads_operands (rename_app name) word words ops e refl refl (rename_plain name) in
+      let p : Parsed (rename_app name) (word ∷ words) m = subst (λ (x : App). Parsed x (word ∷ words) m) is parsed in
+      let rows = (p.matches refl).0 ∙ reads.rows in
+      rename_named name ops (sym reads.fault ∙ p.faultless refl)
+      ∙ (λ i. found_value m _ (codes "STORE") rows i ∷ found_value m _ (codes "NAME") rows i ∷ found_value m _ (codes "NEW") rows i ∷ [])
+
+  format_found : a ≡ format_app name → (ops : List Text) → operands words ≡ Some ops
+      → ops ≡ value_of (found_of m) (codes "STORE") ∷ value_of (found_of m) (codes "SECTORS") ∷ []
+  unfolding clap_on_literals
+  format_found is ops e =
+      let reads = reads_operands (format_app name) word words ops e refl refl (format_plain name) in
+      let p : Parsed (format_app name) (word ∷ words) m = subst (λ (x : App). Parsed x (word ∷ words) m) is parsed in
+      let rows = (p.matches refl).0 ∙ reads.rows in
+      format_named name ops (sym reads.fault ∙ p.faultless refl)
+      ∙ (λ i. found_value m _ (codes "STORE") rows i ∷ found_value m _ (codes "SECTORS") rows i ∷ [])
+
+  format_default : a ≡ format_app name → (ops : List Text) → operands words ≡ Some ops → first_value (found_of m) (codes "format-version") ≡ None
+  unfolding clap_on_literals
+  format_default is ops e =
+      let reads = reads_operands (format_app name) word words ops e refl refl (format_plain name) in
+      let p : Parsed (format_app name) (word ∷ words) m = subst (λ (x : App). Parsed x (word ∷ words) m) is parsed in
+      let rows = (p.matches refl).0 ∙ reads.rows in
+      sym (found_first m _ (codes "format-version") rows) ∙ format_alone name ops (sym reads.fault ∙ p.faultless refl)
+
+  copy_found : a ≡ copy_app name → (ops : List Text) → operands words ≡ Some ops
+      → ops ≡ value_of (found_of m) (codes "STORE") ∷ value_of (found_of m) (codes "NEW") ∷ value_of (found_of m) (codes "SECTORS") ∷ []
+  unfolding clap_on_literals
+  copy_found is ops e =
+      let reads = reads_operands (copy_app name) word words ops e refl refl (copy_plain name) in
+      let p : Parsed (copy_app name) (word ∷ words) m = subst (λ (x : App). Parsed x (word ∷ words) m) is parsed in
+      let rows = (p.matches refl).0 ∙ reads.rows in
+      copy_named name ops (sym reads.fault ∙ p.faultless refl)
+      ∙ (λ i. found_value m _ (codes "STORE") rows i ∷ found_value m _ (codes "NEW") rows i ∷ found_value m _ (codes "SECTORS") rows i ∷ [])
+
+  append_found : (forms : ValueParser) → a ≡ append_app forms name → (ops : List Text) → operands words ≡ Some ops
+      → ops ≡ value_of (found_of m) (codes "STORE") ∷ value_of (found_of m) (codes "NAME") ∷ []
+  unfolding clap_on_literals
+  append_found forms is ops e =
+      let reads = reads_operands (append_app forms name) word words ops e refl refl (append_plain forms name) in
+      let p : Parsed (append_app forms name) (word ∷ words) m = subst (λ (x : App). Parsed x (word ∷ words) m) is parsed in
+      let rows = (p.matches refl).0 ∙ reads.rows in
+      append_named forms name ops (sym reads.fault ∙ p.faultless refl)
+      ∙ (λ i. found_value m _ (codes "STORE") rows i ∷ found_value m _ (codes "NAME") rows i ∷ [])
+
+  create_found : a ≡ create_app name → (ops : List Text) → operands words ≡ Some ops
+      → ops ≡ value_of (found_of m) (codes "STORE") ∷ value_of (found_of m) (codes "NAME") ∷ values_of (found_of m) (codes "FIELD")
+  unfolding clap_on_literals
+  create_found is ops e =
+      let reads = reads_operands (create_app name) word words ops e refl refl (create_plain name) in
+      let p : Parsed (create_app name) (word ∷ words) m = subst (λ (x : App). Parsed x (word ∷ words) m) is parsed in
+      let rows = (p.matches refl).0 ∙ reads.rows in
+      create_named name ops (sym reads.fault ∙ p.faultless refl)
+      ∙ (λ i. found_value m _ (codes "STORE") rows i ∷ found_value m _ (codes "NAME") rows i ∷ found_values m _ (codes "FIELD") rows i)
+
+  query_found : a ≡ query_app name → (ops : List Text) → operands words ≡ Some ops
+      → ops ≡ value_of (found_of m) (codes "STORE") ∷ value_of (found_of m) (codes "NAME") ∷ values_of (found_of m) (codes "CONDITION")
+  unfolding clap_on_literals
+  query_found is ops e =
+      let reads = reads_operands (query_app name) word words ops e refl refl (query_plain name) in
+      let p : Parsed (query_app name) (word ∷ words) m = subst (λ (x : App). Parsed x (word ∷ words) m) is parsed in
+      let rows = (p.matches refl).0 ∙ reads.rows in
+      query_named name ops (sym reads.fault ∙ p.faultless refl)
+      ∙ (λ i. found_value m _ (codes "STORE") rows i ∷ found_value m _ (codes "NAME") rows i ∷ found_values m _ (codes "CONDITION") rows i)
+
+  append_default : (forms : ValueParser) → a ≡ append_app forms name → (ops : List Text) → operands words ≡ Some ops → value_of (found_of m) (codes "as") ≡ codes "stream"
+  unfolding clap_on_literals
+  append_default forms is ops e =
+      let reads = reads_operands (append_app forms name) word words ops e refl refl (append_plain forms name) in
+      let p : Parsed (append_app forms name) (word ∷ words) m = subst (λ (x : App). Parsed x (word ∷ words) m) is parsed in
+      let rows = (p.matches refl).0 ∙ reads.rows in
+      sym (found_value m _ (codes "as") rows) ∙ append_stream forms name ops (sym reads.fault ∙ p.faultless refl)
+
+  query_options : a ≡ query_app name → (ops : List Text) → operands words ≡ Some ops → HasNoOption (found_of m)
+  unfolding clap_on_literals
+  query_options is ops e =
+      let reads = reads_operands (query_app name) word words ops e refl refl (query_plain name) in
+      let p : Parsed (query_app name) (word ∷ words) m = subst (λ (x : App). Parsed x (word ∷ words) m) is parsed in
+      let rows = (p.matches refl).0 ∙ reads.rows in
+      let none = query_alone name ops (sym reads.fault ∙ p.faultless refl) in
+      record {
+        columns = sym (found_first m _ (codes "columns") rows) ∙ (λ i. (none i).0);
+        limit = sym (found_first m _ (codes "limit") rows) ∙ (λ i. (none i).1);
+        save = sym (found_first m _ (codes "save") rows) ∙ (λ i. (none i).2);
+        objects = sym (found_one m _ (codes "objects") rows) ∙ (λ i. (none i).3);
+      }
+
+no_text : (o : Option (Bor Text)) → option_map (λ s. s.now) o ≡ None → o ≡ None
+no_text None e = refl
+no_text (Some t) e = absurd (none-some t.now (sym e))
+
+if_some : (o : Option (List Text)) (P : List Text → Type 0) → ((ops : List Text) → o ≡ Some ops → P ops) → IfSome o P
+if_some None P h = tt
+if_some (Some ops) P h = h ops refl
+
+module _ (word : Text) (words : List Text) (m : ArgMatches) (a : App) (own : IsOwnApp word a) (parsed : Parsed a (word ∷ words) m) where
+  names_file_only : parameters_of word ≡ parameters.Nothing → (ops : List Text) → operands words ≡ Some ops → ops ≡ value_of (found_of m) (codes "STORE") ∷ []
+  names_file_only is ops e = file_found word words m a word parsed (subst (λ (b : Parameters). IsAppWith word b a) is own) ops e
+
+  names_form : parameters_of word ≡ parameters.FileAndForm → (ops : List Text) → operands words ≡ Some ops
+      → (ops ≡ value_of (found_of m) (codes "STORE") ∷ []) × (one_text (found_of m) (codes "json") ≡ Some (codes "false"))
+  names_form is ops e = info_found word words m a word parsed (subst (λ (b : Parameters). IsAppWith word b a) is own) ops e
+
+  names_one_table : parameters_of word ≡ parameters.Table → (ops : List Text) → operands words ≡ Some ops
+      → ops ≡ value_of (found_of m) (codes "STORE") ∷ value_of (found_of m) (codes "NAME") ∷ []
+  names_one_table is ops e = table_found word words m a word parsed (subst (λ (b : Parameters). IsAppWith word b a) is own) ops e
+
+  names_two : parameters_of word ≡ parameters.TableAndNewName → (ops : List Text) → operands words ≡ Some ops
+      → ops ≡ value_of (found_of m) (codes "STORE") ∷ value_of (found_of m) (codes "NAME") ∷ value_of (found_of m) (codes "NEW") ∷ []
+  names_two is ops e = rename_found word words m a word parsed (subst (λ (b : Parameters). IsAppWith word b a) is own) ops e
+
+  names_sectors : parameters_of word ≡ parameters.Sectors → (ops : List Text) → operands words ≡ Some ops
+      → ops ≡ value_of (found_of m) (codes "STORE") ∷ value_of (found_of m) (codes "SECTORS") ∷ []
+  names_sectors is ops e = format_found word words m a word parsed (subst (λ (b : Parameters). IsAppWith word b a) is own) ops e
+
+  asks_newest : parameters_of word ≡ parameters.Sectors → (ops : List Text) → operands words ≡ Some ops → first_value (found_of m) (codes "format-version") ≡ None
+  asks_newest is ops e = format_default word words m a word parsed (subst (λ (b : Parameters). IsAppWith word b a) is own) ops e
+
+  names_new_store : parameters_of word ≡ parameters.NewStore → (ops : List Text) → operands words ≡ Some ops
+      → ops ≡ value_of (found_of m) (codes "STORE") ∷ value_of (found_of m) (codes "NEW") ∷ value_of (found_of m) (codes "SECTORS") ∷ []
+  names_new_store is ops e = copy_found word words m a word parsed (subst (λ (b : Parameters). IsAppWith word b a) is own) ops e
+
+  names_rows : parameters_of word ≡ parameters.TableAndRows → (ops : List Text) → operands words ≡ Some ops
+      → ops ≡ value_of (found_of m) (codes "STORE") ∷ value_of (found_of m) (codes "NAME") ∷ []
+  names_rows is ops e =
+      let own_app = subst (λ (b : Parameters). IsAppWith word b a) is own in
+      append_found word words m a word parsed own_app.0 own_app.1 ops e
+
+  names_fields : parameters_of word ≡ parameters.TableAndFields → (ops : List Text) → operands words ≡ Some ops
+      → ops ≡ value_of (found_of m) (codes "STORE") ∷ value_of (found_of m) (codes "NAME") ∷ values_of (found_of m) (codes "FIELD")
+  names_fields is ops e = create_found word words m a word parsed (subst (λ (b : Parameters). IsAppWith word b a) is own) ops e
+
+  names_conditions : parameters_of word ≡ parameters.TableAndQuery → (ops : List Text) → operands words ≡ Some ops
+      → ops ≡ value_of (found_of m) (codes "STORE") ∷ value_of (found_of m) (codes "NAME") ∷ values_of (found_of m) (codes "CONDITION")
+  names_conditions is ops e = query_found word words m a word parsed (subst (λ (b : Parameters). IsAppWith word b a) is own) ops e
+
+  asks_stream : parameters_of word ≡ parameters.TableAndRows → (ops : List Text) → operands words ≡ Some ops → bytes_eq (value_of (found_of m) (codes "as")) (codes "stream") ≡ false → ⊥
+  asks_stream is ops e other =
+      let own_app = subst (λ (b : Parameters). IsAppWith word b a) is own in
+      true≢false (ap (λ (form : Text). bytes_eq form (codes "stream")) (sym (append_default word words m a word parsed own_app.0 own_app.1 ops e)) ∙ other)
+
+  asks_all : parameters_of word ≡ parameters.TableAndQuery → (ops : List Text) → operands words ≡ Some ops → HasNoOption (found_of m)
+  asks_all is ops e = query_options word words m a word parsed (subst (λ (b : Parameters). IsAppWith word b a) is own) ops e
+
+  of_word : (w : Text) (b : Parameters) → w ≡ word → parameters_of w ≡ b → parameters_of word ≡ b
+  of_word w b is e = subst (λ (x : Text). parameters_of x ≡ b) is e
+
+  named : (request : StoreRequest) → ((ops : List Text) → operands words ≡ Some ops → IsNamedBy request ops) → IfSome (operands words) (IsNamedBy request)
+  named request h = if_some (operands words) (IsNamedBy request) h
+
+  pub names_command : (request : StoreRequest) → request_word request ≡ word → HasFound (found_of m) request → IfSome (operands words) (IsNamedBy request)
+  unfolding IsNamedBy names_file names_table other_parameters parameters_of
+  names_command (requests.Format file sectors version) is found =
+      named (requests.Format file sectors version)
+      (λ ops e.
+      let taken = of_word (codes "format") parameters.Sectors is refl in (
+        value_of (found_of m) (codes "SECTORS"),
+        names_sectors taken ops e ∙ (λ i. sym found.0 i ∷ value_of (found_of m) (codes "SECTORS") ∷ []),
+        found.1,
+        found.2 ∙ ap version_named (asks_newest taken ops e),
+      ))
+  names_command (requests.Copy file new sectors) is found =
+      named (requests.Copy file new sectors)
+      (λ ops e. (
+        value_of (found_of m) (codes "SECTORS"),
+        names_new_store (of_word (codes "copy") parameters.NewStore is refl) ops e
+            ∙ (λ i. sym found.0 i ∷ sym found.1 i ∷ value_of (found_of m) (codes "SECTORS") ∷ []),
+        found.2,
+      ))
+  names_command (requests.Salvage file name) is found =
+      named (requests.Salvage file name)
+      (λ ops e. names_one_table (of_word (codes "salvage") parameters.Table is refl) ops e ∙ (λ i. sym found.0 i ∷ sym found.1 i ∷ []))
+  names_command (requests.Replay script) is found = named (requests.Replay script) (λ ops e. tt)
+  names_command (requests.Command file commands.Tables) is found =
+      named (requests.Command file commands.Tables)
+      (λ ops e. (names_file_only (of_word (codes "tables") parameters.Nothing is refl) ops e ∙ ap (λ (v : Text). v ∷ []) (sym found.0), tt))
+  names_command (requests.Command file commands.Check) is found =
+      named (requests.Command file commands.Check)
+      (λ ops e. (names_file_only (of_word (codes "check") parameters.Nothing is refl) ops e ∙ ap (λ (v : Text). v ∷ []) (sym found.0), tt))
+  names_command (requests.Command file commands.Compact) is found =
+      named (requests.Command file commands.Compact)
+      (λ ops e. (names_file_only (of_word (codes "compact") parameters.Nothing is refl) ops e ∙ ap (λ (v : Text). v ∷ []) (sym found.0), tt))
+  names_command (requests.Command file (commands.Import name)) is found =
+      named (requests.Command file (commands.Import name))
+      (λ ops e. (names_one_table (of_word (codes "import") parameters.Table is refl) ops e ∙ (λ i. sym found.0 i ∷ sym found.1 i ∷ []), tt))
+  names_command (requests.Command file (commands.Drop name)) is found =
+      named (requests.Command file (commands.Drop name))
+      (λ ops e. (names_one_table (of_word (codes "drop") parameters.Table is refl) ops e ∙ (λ i. sym found.0 i ∷ sym found.1 i ∷ []), tt))
+  names_command (requests.Command file (commands.Schema name)) is found =
+      named (requests.Command file (commands.Schema name))
+      (λ ops e. (names_one_table (of_word (codes "schema") parameters.Table is refl) ops e ∙ (λ i. sym found.0 i ∷ sym found.1 i ∷ []), tt))
+  names_command (requests.Command file (commands.Export name)) is found =
+      named (requests.Command file (commands.Export name))
+      (λ ops e. (names_one_table (of_word (codes "export") parameters.Table is refl) ops e ∙ (λ i. sym found.0 i ∷ sym found.1 i ∷ []), tt))
+  names_command (requests.Command file commands.Upgrade) is found =
+      named (requests.Command file commands.Upgrade)
+      (λ ops e. (names_file_only (of_word (codes "upgrade") parameters.Nothing is refl) ops e ∙ ap (λ (v : Text). v ∷ []) (sym found.0), tt))
+  names_command (requests.Command file (commands.Info as_json)) is found =
+      named (requests.Command file (commands.Info as_json))
+      (λ ops e.
+      let has = names_form (of_word (codes "info") parameters.FileAndForm is refl) ops e in
+      (has.0 ∙ ap (λ (v : Text). v ∷ []) (sym found.0), found.1.lines has.1))
+  names_command (requests.Command file (commands.Rename from to)) is found =
+      named (requests.Command file (commands.Rename from to))
+      (λ ops e. (
+        names_two (of_word (codes "rename") parameters.TableAndNewName is refl) ops e
+            ∙ (λ i. sym found.0 i ∷ sym found.1.0 i ∷ sym found.1.1 i ∷ []),
+        tt,
+      ))
+  names_command (requests.Command file (commands.Create name fields)) is found =
+      named (requests.Command file (commands.Create name fields))
+      (λ ops e. (
+        names_fields (of_word (codes "create") parameters.TableAndFields is refl) ops e
+            ∙ (λ i. sym found.0 i ∷ sym found.1.0 i ∷ sym found.1.1 i),
+        tt,
+      ))
+  names_command (requests.Command file (commands.Append name)) is found =
+      named (requests.Command file (commands.Append name))
+      (λ ops e. (names_rows (of_word (codes "append") parameters.TableAndRows is refl) ops e ∙ (λ i. sym found.0 i ∷ sym found.1 i ∷ []), tt))
+  names_command (requests.Command file (commands.AppendText name form)) is found =
+      named (requests.Command file (commands.AppendText name form))
+      (λ ops e. absurd (asks_stream (of_word (codes "append") parameters.TableAndRows is refl) ops e found.1.1))
+  names_command (requests.Command file (commands.Query name query form)) is found =
+      named (requests.Command file (commands.Query name query form))
+      (λ ops e.
+      let taken = of_word (codes "query") parameters.TableAndQuery is refl in
+      let none = asks_all taken ops e in
+      let has = found.1.1 in (
+        names_conditions taken ops e ∙ (λ i. sym found.0 i ∷ sym found.1.0 i ∷ sym has.conditions i),
+        (no_text query.columns (has.columns ∙ none.columns), has.limit ∙ ap (option_map number_of) none.limit, found.1.2.arrays none.objects),
+      ))
+  names_command (requests.Command file (commands.SaveAs from to query)) is found =
+      named (requests.Command file (commands.SaveAs from to query))
+      (λ ops e.
+      let none = asks_all (of_word (codes "query") parameters.TableAndQuery is refl) ops e in
+      absurd (none-some to.now (sym none.save ∙ sym found.1.1)))
+
+-- ---- arguments that are right
+
+abbrev IsOfNames : Parameters → Text → Type 0
+IsOfNames b word = (parameters_of word ≡ b) × (takes_number word ≡ false)
+
+pub data Right (word : Text) (words : List Text) : Type 0 where
+  of_file : IsOfNames parameters.Nothing word → (ops : List Text) → operands words ≡ Some ops → length ops ≡ 1 → Right word words
+  of_table : IsOfNames parameters.Table word → (ops : List Text) → operands words ≡ Some ops → length ops ≡ 2 → Right word words
+  of_rename : IsOfNames parameters.TableAndNewName word → (ops : List Text) → operands words ≡ Some ops → length ops ≡ 3 → Right word words
+
+as_many : (n : ℕ) (o : Option (List Text)) → are_as_many (Some n) o ≡ true → (ops : List Text) × (o ≡ Some ops) × (length ops ≡ n)
+as_many n None e = absurd (true≢false (sym e))
+as_many n (Some ops) e = (ops, refl, eqb-true (length ops) n e)
+
+named_as : (b : Parameters) (other word : Text) → bytes_eq other word ≡ true → IsOfNames b other → IsOfNames b word
+named_as b other word e is = subst (IsOfNames b) ((bytes_eq-Decides other word).0 e) is
+
+file_number : (word : Text) (tables check compact upgrade : Bool) → bytes_eq (codes "tables") word ≡ tables → bytes_eq (codes "check") word ≡ check
+    → bytes_eq (codes "compact") word ≡ compact → bytes_eq (codes "upgrade") word ≡ upgrade → names_file word ≡ true → IsOfNames parameters.Nothing word
+unfolding names_file names_table other_parameters parameters_of
+file_number word true c m u t e f g is = named_as parameters.Nothing (codes "tables") word t (refl, refl)
+file_number word false true m u t e f g is = named_as parameters.Nothing (codes "check") word e (refl, refl)
+file_number word false false true u t e f g is = named_as parameters.Nothing (codes "compact") word f (refl, refl)
+file_number word false false false true t e f g is = named_as parameters.Nothing (codes "upgrade") word g (refl, refl)
+file_number word false false false false t e f g is = let none : false ≡ true = rw (t, e, f, g) at is in absurd (true≢false (sym none))
+
+table_number : (word : Text) (import drops schema export salvage : Bool) → bytes_eq (codes "import") word ≡ import → bytes_eq (codes "drop") word ≡ drops
+    → bytes_eq (codes "schema") word ≡ schema
+    → bytes_eq (codes "export") word ≡ export → bytes_eq (codes "salvage") word ≡ salvage → names_table word ≡ true → IsOfNames parameters.Table word
+unfolding names_file names_table other_parameters parameters_of
+table_number word true d s x v ei ed es ex ev is = named_as parameters.Table (codes "import") word ei (refl, refl)
+table_number word false true s x v ei ed es ex ev is = named_as parameters.Table (codes "drop") word ed (refl, refl)
+table_number word false false true x v ei ed es ex ev is = named_as parameters.Table (codes "schema") word es (refl, refl)
+table_number word false false false true v ei ed es ex ev is = named_as parameters.Table (codes "export") word ex (refl, refl)
+table_number word false false false false true ei ed es ex ev is = named_as parameters.Table (codes "salvage") word ev (refl, refl)
+table_number word false false false false false ei ed es ex ev is = let none : false ≡ true = rw (ei, ed, es, ex, ev) at is in absurd (true≢false (sym none))
+
+rename_number : (word : Text) → bytes_eq (codes "rename") word ≡ true → IsOfNames parameters.TableAndNewName word
+unfolding names_file names_table other_parameters parameters_of
+rename_number word e = named_as parameters.TableAndNewName (codes "rename") word e (refl, refl)
+
+which : (word : Text) (words : List Text) (file table rename : Bool) → names_file word ≡ file → names_table word ≡ table
+    → bytes_eq (codes "rename") word ≡ rename
+    → are_as_many (wanted word) (operands words) ≡ true → Right word words
+which word words true t r ef et er right =
+    let m = as_many 1 (operands words) (rw ef at right) in
+    of_file (file_number word (bytes_eq (codes "tables") word) (bytes_eq (codes "check") word) (bytes_eq (codes "compact") word) (bytes_eq
+    (codes "upgrade") word) refl refl refl refl ef) m.0 m.1 m.2
+which word words false true r ef et er right =
+    let m = as_many 2 (operands words) (rw (ef, et) at right) in
+    of_table (table_number word (bytes_eq (codes "import") word) (bytes_eq (codes "drop") word) (bytes_eq (codes "schema") word) (bytes_eq
+    (codes "export") word) (bytes_eq (codes "salvage") word) refl refl refl refl refl et) m.0 m.1 m.2
+which word words false false true ef et er right =
+    let m = as_many 3 (operands words) (rw (ef, et, er) at right) in
+    of_rename (rename_number word er) m.0 m.1 m.2
+which word words false false false ef et er right =
+    let none : are_as_many None (operands words) ≡ true = rw (ef, et, er) at right in
+    absurd (true≢false (sym none))
+
+right_of : (word : Text) (words : List Text) → are_as_many (wanted word) (operands words) ≡ true → Right word words
+right_of word words = which word words (names_file word) (names_table word) (bytes_eq (codes "rename") word) refl refl refl
+
+abbrev IsFaultless : App → List Text → Type 0
+IsFaultless a words = (is_simple_and_free a ≡ true) × (fault_of a words ≡ [])
+
+right_faultless : (word : Text) (words : List Text) (a : App) → IsOwnApp word a → Right word words → IsFaultless a (word ∷ words)
+unfolding clap_on_literals
+right_faultless word words a own (of_file is ops e n) =
+    let same : a ≡ file_app word = subst (λ (b : Parameters). IsAppWith word b a) is.0 own in
+    subst (λ (x : App). IsFaultless x (word ∷ words)) (sym same) (
+      refl,
+      (reads_operands (file_app word) word words ops e refl refl (file_plain word)).fault
+          ∙ full_file word ops n,
+    )
+right_faultless word words a own (of_table is ops e n) =
+    let same : a ≡ table_app word = subst (λ (b : Parameters). IsAppWith word b a) is.0 own in
+    subst (λ (x : App). IsFaultless x (word ∷ words)) (sym same) (
+      refl,
+      (reads_operands (table_app word) word words ops e refl refl
+          (table_plain word)).fault ∙ full_table word ops n,
+    )
+right_faultless word words a own (of_rename is ops e n) =
+    let same : a ≡ rename_app word = subst (λ (b : Parameters). IsAppWith word b a) is.0 own in
+    subst (λ (x : App). IsFaultless x (word ∷ words)) (sym same) (
+      refl,
+      (reads_operands (rename_app word) word words ops e refl refl
+          (rename_plain word)).fault ∙ full_rename word ops n,
+    )
+
+right_number : (word : Text) (words : List Text) → Right word words → takes_number word ≡ false
+right_number word words (of_file is ops e n) = is.1
+right_number word words (of_table is ops e n) = is.1
+right_number word words (of_rename is ops e n) = is.1
+
+only_memory : (kind : ErrorKind) (kinds : Kinds) → kinds ≡ [] → (kind ≡ OutOfMemory) ⊎ IsAmong kind kinds → kind ≡ OutOfMemory
+only_memory kind kinds none (inl memory) = memory
+only_memory kind kinds none (inr among) = absurd (subst (IsAmong kind) none among)
+
+-- ---- the arguments of the program
+
+pub names_arguments : (args : List Text) (word : Text) (words : List Text) (m : ArgMatches) (a : App) (request : StoreRequest) → is_of_store args ≡ true
+    → word ≡ first_word args
+    → words ≡ drop 1 args → IsOwnApp word a → Parsed a words m → request_word request ≡ word → HasFound (found_of m) request → Names args request
+unfolding is_of_store first_word
+names_arguments [] word words m a request of_store first after own parsed asks found = absurd (true≢false (sym of_store))
+names_arguments (name ∷ []) word words m a request of_store first after own parsed asks found = absurd (true≢false (sym of_store))
+names_arguments (name ∷ w ∷ rest) word words m a request of_store first after own parsed asks found =
+    let same : words ≡ word ∷ rest = after ∙ ap (λ (x : Text). x ∷ rest) (sym first) in
+    names_command word rest m a own (subst (λ (ws : List Text). Parsed a ws m) same parsed) request asks found
+
+pub named_result : {E : Type 0} (args : List Text) (word : Text) (words : List Text) (m : ArgMatches) (a : App) (r : Result StoreRequest E)
+    → is_of_store args ≡ true → word ≡ first_word args
+    → words ≡ drop 1 args → IsOwnApp word a → (is_simple_and_free a ≡ true → fault_of a words ≡ []) → HasMatchesOf a words m
+    → (is_store_word word ≡ true → IfOk r (λ request. request_word request ≡ word)) → IfOk r (HasFound (found_of m)) → IfOk r (Names args)
+named_result args word words m a (Ok request) of_store first after own faultless matches asks found =
+    let is = subst (λ (w : Text). is_store_word w ≡ true) (sym first) (first_of_store args of_store) in
+    names_arguments args word words m a request of_store first after own (record { faultless = faultless; matches = matches }) (asks is) found
+named_result args word words m a (Err e) of_store first after own faultless matches asks found = tt
+
+pub right_by_memory : (args : List Text) (word : Text) (words : List Text) (a : App) (kind : ErrorKind) → are_right args ≡ true → word ≡ first_word args
+    → words ≡ drop 1 args → IsOwnApp word a
+    → (is_simple_and_free a ≡ true → (kind ≡ OutOfMemory) ⊎ IsAmong kind (fault_of a words)) → kind ≡ OutOfMemory
+unfolding are_right first_word
+right_by_memory [] word words a kind right first after own has = absurd (true≢false (sym right))
+right_by_memory (name ∷ []) word words a kind right first after own has = absurd (true≢false (sym right))
+right_by_memory (name ∷ w ∷ rest) word words a kind right first after own has =
+    let same : words ≡ word ∷ rest = after ∙ ap (λ (x : Text). x ∷ rest) (sym first) in
+    let are : are_as_many (wanted word) (operands rest) ≡ true = subst (λ (x : Text). are_as_many (wanted x) (operands rest) ≡ true) (sym first) right in
+    let faultless = subst (IsFaultless a) (sym same) (right_faultless word rest a own (right_of word rest are)) in
+    only_memory kind (fault_of a words) faultless.1 (has faultless.0)
+
+pub right_takes_no_number : (args : List Text) (word : Text) → are_right args ≡ true → word ≡ first_word args → takes_number word ≡ false
+unfolding are_right first_word
+right_takes_no_number [] word right first = absurd (true≢false (sym right))
+right_takes_no_number (name ∷ []) word right first = absurd (true≢false (sym right))
+right_takes_no_number (name ∷ w ∷ rest) word right first =
+    right_number word rest (right_of word rest (subst (λ (x : Text). are_as_many (wanted x) (operands rest) ≡ true) (sym first) right))

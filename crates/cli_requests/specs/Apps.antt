@@ -1,0 +1,193 @@
+-- What `clap` reads of the commands, and the values that it finds.
+use Rattle.std.specs.Prelude.{◌≡◌, Bool, true, false, ◌||◌, List, [], ◌∷◌, codes, Some, option_map, if◌then◌else◌, unwrap_or}
+use Rattle.std.specs.Str.{bytes_eq}
+use Rattle.clap.specs.Lexer.{usize_max}
+use Rattle.clap.specs.Walk.{texts}
+use Rattle.clap.specs.Words.{App, Rule, Text, new_app, new_rule, with_rule, first_value, matched_of, one_text, raw_values, kind_of}
+use Rattle.clap.specs.declared.builder.action.ArgAction.TheVariants.{SetTrue}
+use Rattle.clap.specs.declared.builder.value_parser.ValueParser.{ValueParser}
+use Rattle.clap.specs.declared.builder.value_parser.ValueParser.TheVariants as parsers
+use Rattle.clap.specs.declared.parser.matches.Found.{Found}
+use Rattle.query.specs.declared.row_form.RowForm.{RowForm}
+use Rattle.query.specs.declared.row_form.RowForm.TheVariants.{Array, Object}
+use Rattle.clap.specs.declared.error.kind.ErrorKind.TheVariants.{OutOfMemory}
+use Rattle.cli_requests.specs.declared.command_parameters.Parameters.{Parameters}
+use Rattle.cli_requests.specs.declared.command_parameters.Parameters.TheVariants as parameters
+use Rattle.cli_requests.specs.Choices.{IsChoice}
+use Rattle.cli_requests.specs.Operands.{names_file, names_table, number_of, version_named}
+use Rattle.cli_requests.specs.declared.store_command_line.Mistake.{Mistake}
+use Rattle.cli_requests.specs.declared.store_command_line.Mistake.TheVariants as mistakes
+use Rattle.cli_requests.specs.declared.store_words.QueryWords.{QueryWords}
+use Rattle.cli_requests.specs.declared.store_words.StoreCommand.{StoreCommand}
+use Rattle.cli_requests.specs.declared.store_words.StoreCommand.TheVariants as commands
+use Rattle.cli_requests.specs.declared.store_words.StoreRequest.{StoreRequest}
+use Rattle.cli_requests.specs.declared.store_words.StoreRequest.TheVariants as requests
+
+abbrev pub required_rule : Text → Rule
+required_rule id = record (new_rule id) { required = true }
+
+-- a command that names the file of its store
+abbrev pub store_app : Text → App
+store_app name = with_rule (new_app name) (required_rule (codes "STORE"))
+
+-- decimal digits of a number of 64 bits
+abbrev pub sectors_rule : Rule
+sectors_rule = record (required_rule (codes "SECTORS")) { parser = Some (parsers.Unsigned 0 18446744073709551615) }
+
+-- one that takes an option without a value
+abbrev pub json_rule : Rule
+json_rule = record (new_rule (codes "json")) { long = Some (codes "json"); action = Some SetTrue }
+
+abbrev pub info_app : Text → App
+info_app name = with_rule (store_app name) json_rule
+
+-- an option with a value
+abbrev pub option_rule : Text → Rule
+option_rule id = record (new_rule id) { long = Some id; value_names = 1 }
+
+-- the version of a store that is made
+abbrev pub version_rule : Rule
+version_rule = record (option_rule (codes "format-version")) { parser = Some (parsers.Unsigned 1 2) }
+
+-- one that takes how many sectors the store has and its version, and one that names a new file before the sectors
+abbrev pub format_app : Text → App
+format_app name = with_rule (with_rule (store_app name) sectors_rule) version_rule
+
+abbrev pub new_file_app : Text → App
+new_file_app name = with_rule (store_app name) (required_rule (codes "NEW"))
+
+abbrev pub copy_app : Text → App
+copy_app name = with_rule (new_file_app name) sectors_rule
+
+-- one that names a table too, and one that gives it another name
+abbrev pub table_app : Text → App
+table_app name = with_rule (store_app name) (required_rule (codes "NAME"))
+
+abbrev pub rename_app : Text → App
+rename_app name = with_rule (table_app name) (required_rule (codes "NEW"))
+
+-- a word that may stand any number of times
+abbrev pub repeated_rule : Text → Rule
+repeated_rule id = record (new_rule id) { range = Some (record { start_inclusive = 0; end_inclusive = usize_max }) }
+
+-- a command that takes the fields of a new table
+abbrev pub create_app : Text → App
+create_app name = with_rule (table_app name) (repeated_rule (codes "FIELD"))
+
+-- one that takes the form of the input, which is a stream where no option says another, and the text of null
+abbrev pub form_rule : ValueParser → Rule
+form_rule forms = record (option_rule (codes "as")) { parser = Some forms; defaults = codes "stream" ∷ [] }
+
+abbrev pub null_rule : Rule
+null_rule = record (option_rule (codes "null")) { defaults = [] ∷ [] }
+
+abbrev pub append_app : ValueParser → Text → App
+append_app forms name = with_rule (with_rule (table_app name) (form_rule forms)) null_rule
+
+-- one that takes a query, and a name to save it under
+abbrev pub limit_rule : Rule
+limit_rule = record (option_rule (codes "limit")) { parser = Some (parsers.Unsigned 0 18446744073709551615) }
+
+-- an option without a value
+abbrev pub objects_rule : Rule
+objects_rule = record (new_rule (codes "objects")) { long = Some (codes "objects"); action = Some SetTrue }
+
+abbrev pub conditions_app : Text → App
+conditions_app name = with_rule (table_app name) (repeated_rule (codes "CONDITION"))
+
+abbrev pub query_app : Text → App
+query_app name = with_rule (with_rule (with_rule (with_rule (conditions_app name) (option_rule (codes "columns"))) limit_rule) (option_rule (codes "save")))
+    objects_rule
+
+-- the command of a name, by what it takes
+abbrev pub IsAppWith : Text → Parameters → App → Type 0
+IsAppWith name parameters.Nothing command = command ≡ store_app name
+IsAppWith name parameters.FileAndForm command = command ≡ info_app name
+IsAppWith name parameters.Table command = command ≡ table_app name
+IsAppWith name parameters.TableAndNewName command = command ≡ rename_app name
+IsAppWith name parameters.Sectors command = command ≡ format_app name
+IsAppWith name parameters.NewStore command = command ≡ copy_app name
+IsAppWith name parameters.TableAndFields command = command ≡ create_app name
+IsAppWith name parameters.TableAndRows command = (forms : ValueParser) × (command ≡ append_app forms name)
+IsAppWith name parameters.TableAndQuery command = command ≡ query_app name
+-- one that is of no store: a script, and options
+IsAppWith name parameters.ScriptAndFaults command = Unit {0}
+
+-- what the command of a word takes
+unfoldable pub other_parameters : Text → Parameters
+other_parameters word =
+    if bytes_eq (codes "format") word then parameters.Sectors
+    else (if bytes_eq (codes "copy") word then parameters.NewStore else (if bytes_eq (codes "create") word then parameters.TableAndFields else (if bytes_eq
+    (codes "append") word then parameters.TableAndRows else (if bytes_eq (codes "replay") word then parameters.ScriptAndFaults else (if bytes_eq
+    (codes "info") word then parameters.FileAndForm else parameters.TableAndQuery)))))
+
+unfoldable pub parameters_of : Text → Parameters
+parameters_of word =
+    if names_file word then parameters.Nothing
+    else (if names_table word then parameters.Table else (if bytes_eq (codes "rename") word then parameters.TableAndNewName else other_parameters word))
+
+-- what is read of it
+abbrev pub IsOwnApp : Text → App → Type 0
+IsOwnApp word command = IsAppWith word (parameters_of word) command
+
+-- the first value of an argument; empty where there is none
+abbrev pub value_of : Found → Text → Text
+value_of found id = unwrap_or (first_value found id) []
+
+-- all values of an argument
+abbrev pub values_of : Found → Text → List Text
+values_of found id = unwrap_or (option_map raw_values (matched_of found id)) []
+
+-- a query has the conditions, the columns and the limit that were found
+pub record HasQuery (found : Found) (query : QueryWords) : Type 0 where
+  pub conditions : texts query.conditions.items ≡ values_of found (codes "CONDITION")
+  pub columns : option_map (λ s. s.now) query.columns ≡ first_value found (codes "columns")
+  pub limit : query.limit ≡ option_map number_of (first_value found (codes "limit"))
+
+-- rows are objects where the option stands
+pub record HasForm (found : Found) (form : RowForm) : Type 0 where
+  pub arrays : one_text found (codes "objects") ≡ Some (codes "false") → form ≡ Array
+  pub objects : one_text found (codes "objects") ≡ Some (codes "true") → form ≡ Object
+
+-- numbers are printed as JSON where the option stands
+pub record HasJson (found : Found) (as_json : Bool) : Type 0 where
+  pub lines : one_text found (codes "json") ≡ Some (codes "false") → as_json ≡ false
+  pub object : one_text found (codes "json") ≡ Some (codes "true") → as_json ≡ true
+
+-- a command has the names that were found
+abbrev pub HasNames : Found → StoreCommand → Type 0
+HasNames found (commands.Import name) = name.now ≡ value_of found (codes "NAME")
+HasNames found (commands.Create name fields) = (name.now ≡ value_of found (codes "NAME")) × (texts fields.items ≡ values_of found (codes "FIELD"))
+HasNames found (commands.Append name) = name.now ≡ value_of found (codes "NAME")
+HasNames found (commands.AppendText name form) = (name.now ≡ value_of found (codes "NAME")) × (bytes_eq (value_of found (codes "as")) (codes "stream") ≡ false)
+HasNames found (commands.Query name query form) = (name.now ≡ value_of found (codes "NAME")) × HasQuery found query × HasForm found form
+HasNames found (commands.SaveAs from to query) =
+    (from.now ≡ value_of found (codes "NAME")) × (Some to.now ≡ first_value found (codes "save")) × HasQuery found query × HasForm found Array
+HasNames found (commands.Drop name) = name.now ≡ value_of found (codes "NAME")
+HasNames found (commands.Schema name) = name.now ≡ value_of found (codes "NAME")
+HasNames found (commands.Export name) = name.now ≡ value_of found (codes "NAME")
+HasNames found (commands.Info as_json) = HasJson found as_json
+HasNames found (commands.Rename from to) = (from.now ≡ value_of found (codes "NAME")) × (to.now ≡ value_of found (codes "NEW"))
+HasNames found _ = Unit {0}
+
+abbrev pub HasFound : Found → StoreRequest → Type 0
+HasFound found (requests.Command path command) = (path.now ≡ value_of found (codes "STORE")) × HasNames found command
+HasFound found (requests.Format path sectors version) =
+    (path.now ≡ value_of found (codes "STORE")) × (sectors ≡ number_of (value_of found (codes "SECTORS")))
+    × (version ≡ version_named (first_value found (codes "format-version")))
+HasFound found (requests.Copy path new sectors) =
+    (path.now ≡ value_of found (codes "STORE")) × (new.now ≡ value_of found (codes "NEW")) × (sectors ≡ number_of (value_of found (codes "SECTORS")))
+HasFound found (requests.Salvage path name) = (path.now ≡ value_of found (codes "STORE")) × (name.now ≡ value_of found (codes "NAME"))
+HasFound found (requests.Replay words) =
+    (words.script.now ≡ value_of found (codes "SCRIPT")) × (words.sectors ≡ number_of (value_of found (codes "sectors")))
+    × (words.fail ≡ number_of (value_of found (codes "fail"))) × (words.stop ≡ number_of (value_of found (codes "stop")))
+    × IsChoice (value_of found (codes "choice")) words.choice × (words.version ≡ version_named (first_value found (codes "format-version")))
+
+-- memory was refused
+abbrev pub IsOfMemory : Mistake → Type 0
+IsOfMemory (mistakes.Words error) = kind_of error ≡ OutOfMemory
+IsOfMemory mistakes.SignedNumber = ⊥
+
+-- the words of commands that take a number
+abbrev pub takes_number : Text → Bool
+takes_number word = bytes_eq (codes "format") word || (bytes_eq (codes "copy") word || (bytes_eq (codes "query") word || bytes_eq (codes "replay") word))

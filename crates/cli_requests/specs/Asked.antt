@@ -1,0 +1,32 @@
+-- The word of a command line that asks for each command.
+use Rattle.std.specs.Prelude.{codes}
+use Rattle.clap.specs.Words.{Text}
+use Rattle.cli_requests.specs.declared.store_words.StoreCommand.{StoreCommand}
+use Rattle.cli_requests.specs.declared.store_words.StoreCommand.TheVariants as commands
+use Rattle.cli_requests.specs.declared.store_words.StoreRequest.{StoreRequest}
+use Rattle.cli_requests.specs.declared.store_words.StoreRequest.TheVariants as requests
+
+-- rows are appended of a stream or of a text, and a query is printed or saved
+abbrev pub command_word : StoreCommand → Text
+command_word (commands.Create name fields) = codes "create"
+command_word (commands.Import name) = codes "import"
+command_word (commands.Append name) = codes "append"
+command_word (commands.AppendText name form) = codes "append"
+command_word (commands.Query name query form) = codes "query"
+command_word (commands.SaveAs from to query) = codes "query"
+command_word (commands.Rename from to) = codes "rename"
+command_word (commands.Drop name) = codes "drop"
+command_word commands.Tables = codes "tables"
+command_word (commands.Schema name) = codes "schema"
+command_word (commands.Export name) = codes "export"
+command_word commands.Check = codes "check"
+command_word (commands.Info as_json) = codes "info"
+command_word commands.Compact = codes "compact"
+command_word commands.Upgrade = codes "upgrade"
+
+abbrev pub request_word : StoreRequest → Text
+request_word (requests.Format path sectors version) = codes "format"
+request_word (requests.Copy path new sectors) = codes "copy"
+request_word (requests.Salvage path name) = codes "salvage"
+request_word (requests.Replay words) = codes "replay"
+request_word (requests.Command path command) = command_word command

@@ -1,0 +1,102 @@
+-- The operands of a command, by the conventions of utilities (POSIX.1, Base Definitions 12.2, guidelines 9 and 10), and the names that they are.
+use Rattle.std.specs.Prelude.{◌≡◌, ◌==◌, ◌||◌, ℕ, Bool, false, if◌then◌else◌, List, [], ◌∷◌, length, drop, codes, Option, Some, None, IfSome, option_map}
+use Rattle.std.specs.Str.{bytes_eq}
+use Rattle.std.specs.Str.Parse.{digits_value, without_leading_plus}
+use Rattle.clap.specs.Walk.{texts}
+use Rattle.clap.specs.Words.{Text}
+use Rattle.commit.specs.declared.sector.FormatVersion.{FormatVersion}
+use Rattle.commit.specs.declared.sector.FormatVersion.TheVariants.{One, Two}
+use Rattle.query.specs.declared.row_form.RowForm.TheVariants.{Array}
+use Rattle.cli_requests.specs.declared.store_words.StoreCommand.{StoreCommand}
+use Rattle.cli_requests.specs.declared.store_words.StoreCommand.TheVariants as commands
+use Rattle.cli_requests.specs.declared.store_words.StoreRequest.{StoreRequest}
+use Rattle.cli_requests.specs.declared.store_words.StoreRequest.TheVariants as requests
+
+-- a hyphen (45), and more after it
+abbrev pub is_option : Text → Bool
+is_option [] = false
+is_option (c ∷ []) = false
+is_option (c ∷ d ∷ rest) = c == 45
+
+-- the operands among the words after a command, where these have no options; what follows a first `--` is an operand, whatever it looks like
+unfoldable pub operands : List Text → Option (List Text)
+operands [] = Some []
+operands (word ∷ rest) = if bytes_eq word (codes "--") then Some rest else (if is_option word then None else option_map (λ others. word ∷ others)
+    (operands rest))
+
+-- the words after the program's name and the command
+abbrev pub words_after_command : List Text → List Text
+words_after_command arguments = drop 2 arguments
+
+-- the commands that name a store alone, and those that name a table in it
+unfoldable pub names_file : Text → Bool
+names_file word =
+    bytes_eq (codes "tables") word || (bytes_eq (codes "check") word || (bytes_eq (codes "compact") word || bytes_eq (codes "upgrade") word))
+
+unfoldable pub names_table : Text → Bool
+names_table word =
+    bytes_eq (codes "import") word || (bytes_eq (codes "drop") word || (bytes_eq (codes "schema") word || (bytes_eq (codes "export") word
+    || bytes_eq (codes "salvage") word)))
+
+-- how many operands these commands take, and the one that gives a table another name
+abbrev pub wanted : Text → Option ℕ
+wanted word = if names_file word then Some 1 else (if names_table word then Some 2 else (if bytes_eq (codes "rename") word then Some 3 else None))
+
+abbrev pub are_as_many : Option ℕ → Option (List Text) → Bool
+are_as_many (Some n) (Some words) = length words == n
+are_as_many _ _ = false
+
+-- the program's name, one of these commands, and as many operands as it takes
+unfoldable pub are_right : List Text → Bool
+are_right [] = false
+are_right (name ∷ []) = false
+are_right (name ∷ word ∷ rest) = are_as_many (wanted word) (operands rest)
+
+-- the number that decimal digits write; a plus sign before them does not count
+abbrev pub number_of : Text → ℕ
+number_of word = digits_value 10 (without_leading_plus word)
+
+-- the version of a store that a word of an option names; without the option the newest
+abbrev pub version_named : Option Text → FormatVersion
+version_named None = Two
+version_named (Some word) = if number_of word == 1 then One else Two
+
+-- the names, fields and conditions that a command has after its file
+abbrev pub names_in : StoreCommand → List Text
+names_in (commands.Create name fields) = name.now ∷ texts fields.items
+names_in (commands.Import name) = name.now ∷ []
+names_in (commands.Append name) = name.now ∷ []
+names_in (commands.AppendText name form) = name.now ∷ []
+names_in (commands.Query name query form) = name.now ∷ texts query.conditions.items
+names_in (commands.SaveAs from to query) = from.now ∷ texts query.conditions.items
+names_in (commands.Rename from to) = from.now ∷ to.now ∷ []
+names_in (commands.Drop name) = name.now ∷ []
+names_in commands.Tables = []
+names_in (commands.Schema name) = name.now ∷ []
+names_in (commands.Export name) = name.now ∷ []
+names_in commands.Check = []
+names_in (commands.Info as_json) = []
+names_in commands.Compact = []
+names_in commands.Upgrade = []
+
+-- what it is without options: rows are appended of a stream, all columns of all rows are printed as arrays, and numbers as lines
+abbrev pub IsWithoutOptions : StoreCommand → Type 0
+IsWithoutOptions (commands.AppendText name form) = ⊥
+IsWithoutOptions (commands.Query name query form) = (query.columns ≡ None) × (query.limit ≡ None) × (form ≡ Array)
+IsWithoutOptions (commands.SaveAs from to query) = ⊥
+IsWithoutOptions (commands.Info as_json) = as_json ≡ false
+IsWithoutOptions _ = Unit {0}
+
+-- a request that names its files and its tables, or how many sectors, by these words; without its option a store is made in the newest version
+unfoldable pub IsNamedBy : StoreRequest → List Text → Type 0
+IsNamedBy (requests.Command path command) words = (words ≡ path.now ∷ names_in command) × IsWithoutOptions command
+IsNamedBy (requests.Format path sectors version) words =
+    (number : Text) × (words ≡ path.now ∷ number ∷ []) × (sectors ≡ number_of number) × (version ≡ Two)
+IsNamedBy (requests.Copy path new sectors) words = (number : Text) × (words ≡ path.now ∷ new.now ∷ number ∷ []) × (sectors ≡ number_of number)
+IsNamedBy (requests.Salvage path name) words = words ≡ path.now ∷ name.now ∷ []
+-- a script is played with options, which are no operands
+IsNamedBy (requests.Replay script) words = Unit {0}
+
+-- what the arguments ask for, where the words after the command are operands
+abbrev pub Names : List Text → StoreRequest → Type 0
+Names arguments request = IfSome (operands (words_after_command arguments)) (IsNamedBy request)

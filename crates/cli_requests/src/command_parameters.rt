@@ -1,0 +1,344 @@
+// What each command of a store takes, as `clap` reads it.
+ghost use Rattle.std.specs.Prelude.{◌≡◌, false, codes, IfOk};
+ghost use Rattle.clap.specs.Words.{app_of, new_app, rule_of, with_rule};
+ghost use Rattle.clap.specs.declared.builder.value_parser.ValueParser.{ValueParser};
+ghost use Rattle.cli_requests.specs.Apps.{required_rule, json_rule, sectors_rule, version_rule, repeated_rule, option_rule, form_rule, null_rule, limit_rule, objects_rule};
+ghost use Rattle.cli_requests.specs.Apps.{store_app, info_app, format_app, new_file_app, copy_app, table_app, rename_app, create_app, append_app, conditions_app, query_app};
+ghost use Rattle.cli_requests.specs.Apps.{other_parameters, parameters_of, IsOwnApp};
+ghost use Rattle.cli_requests.specs.Operands.{names_file, names_table};
+
+use crate::replaying::with_faults;
+use crate::usages::{COMMANDS, Usage, texts_of};
+use clap::builder::ValueParser;
+use clap::{Arg, ArgAction, Command};
+use std::alloc::{AllocError, Global};
+
+// The forms that `append` takes rows in.
+const FORMS: [&str; 3] = ["stream", "csv", "jsonl"];
+
+// What a command takes after the file of the store.
+#[derive(Clone, Copy)]
+enum Parameters {
+    Nothing,
+    FileAndForm,
+    Sectors,
+    NewStore,
+    Table,
+    TableAndFields,
+    TableAndRows,
+    TableAndNewName,
+    TableAndQuery,
+    ScriptAndFaults,
+}
+
+pub(crate) fn required<'a>(alloc: Global, id: &'a str, help: &'a str) -> Arg<'a>
+    ensures { (rule_of result ≡ required_rule id.entry.now) × (result.global ≡ false) }
+{
+    Arg::new(alloc, id).required(true).help(help)
+}
+
+// A word that may stand any number of times.
+fn repeated<'a>(alloc: Global, id: &'a str, help: &'a str) -> Arg<'a>
+    ensures { (rule_of result ≡ repeated_rule id.entry.now) × (result.global ≡ false) }
+{
+    Arg::new(alloc, id).num_args(0..).help(help)
+}
+
+// An option with a value.
+pub(crate) fn option<'a>(alloc: Global, id: &'a str, value: &'a str, help: &'a str) -> Arg<'a>
+    ensures { (rule_of result ≡ option_rule id.entry.now) × (result.global ≡ false) }
+{
+    Arg::new(alloc, id).long(id).value_name(value).help(help)
+}
+
+fn json<'a>(alloc: Global) -> Arg<'a>
+    ensures { (rule_of result ≡ json_rule) × (result.global ≡ false) }
+{
+    Arg::new(alloc, "json")
+        .long("json")
+        .action(ArgAction::SetTrue)
+        .help("Prints one JSON object on one line")
+}
+
+fn sectors<'a>(alloc: Global) -> Arg<'a>
+    ensures { (rule_of result ≡ sectors_rule) × (result.global ≡ false) }
+{
+    required(
+        alloc,
+        "SECTORS",
+        "How many sectors of 512 bytes, 16 to 4194304",
+    )
+    .value_parser(ValueParser::unsigned(0, u64::MAX))
+}
+
+pub(crate) fn format_version<'a>(alloc: Global) -> Arg<'a>
+    ensures { (rule_of result ≡ version_rule) × (result.global ≡ false) }
+{
+    option(
+        alloc,
+        "format-version",
+        "V",
+        "The version of the store: 2, each segment with a digest, which it is without this option; 1 without digests",
+    )
+    .value_parser(ValueParser::unsigned(1, 2))
+}
+
+fn form<'a>(alloc: Global) -> Arg<'a>
+    ensures { ((forms : ValueParser) × (rule_of result ≡ form_rule forms)) × (result.global ≡ false) }
+{
+    option(
+        alloc,
+        "as",
+        "FORM",
+        "What the input is: CSV begins with the names of the columns, JSON Lines has a row on each line",
+    )
+    .value_parser(ValueParser::Names(&FORMS))
+    .default_value("stream")
+}
+
+fn null_text<'a>(alloc: Global) -> Arg<'a>
+    ensures { (rule_of result ≡ null_rule) × (result.global ≡ false) }
+{
+    option(
+        alloc,
+        "null",
+        "TEXT",
+        "In CSV, the text that stands for null where nulls are allowed; without this option the empty one",
+    )
+    .default_value("")
+    .hide_default_value(true)
+}
+
+fn objects<'a>(alloc: Global) -> Arg<'a>
+    ensures { (rule_of result ≡ objects_rule) × (result.global ≡ false) }
+{
+    Arg::new(alloc, "objects")
+        .long("objects")
+        .action(ArgAction::SetTrue)
+        .help("Prints each row as an object by the names of the columns, which then have to differ")
+}
+
+fn limit<'a>(alloc: Global) -> Arg<'a>
+    ensures { (rule_of result ≡ limit_rule) × (result.global ≡ false) }
+{
+    option(alloc, "limit", "N", "How many rows at most").value_parser(ValueParser::unsigned(
+        0,
+        u64::MAX,
+    ))
+}
+
+#[tactic(auto, unfolding(crate::specs::Operands::names_file))]
+fn names_file(word: &str) -> bool
+    ensures { result ≡ names_file word.now }
+{
+    matches!(word, "tables" | "check" | "compact" | "upgrade")
+}
+
+#[tactic(auto, unfolding(crate::specs::Operands::names_table))]
+fn names_table(word: &str) -> bool
+    ensures { result ≡ names_table word.now }
+{
+    matches!(word, "import" | "drop" | "schema" | "export" | "salvage")
+}
+
+#[tactic(auto, unfolding(crate::specs::Apps::other_parameters))]
+fn other_parameters(word: &str) -> Parameters
+    ensures { result ≡ other_parameters word.now }
+{
+    match word {
+        "format" => Parameters::Sectors,
+        "copy" => Parameters::NewStore,
+        "create" => Parameters::TableAndFields,
+        "append" => Parameters::TableAndRows,
+        "replay" => Parameters::ScriptAndFaults,
+        "info" => Parameters::FileAndForm,
+        _ => Parameters::TableAndQuery,
+    }
+}
+
+#[tactic(auto, unfolding(crate::specs::Apps::parameters_of))]
+fn parameters_of(word: &str) -> Parameters
+    ensures { result ≡ parameters_of word.now }
+{
+    if names_file(word) {
+        Parameters::Nothing
+    } else if names_table(word) {
+        Parameters::Table
+    } else if word == "rename" {
+        Parameters::TableAndNewName
+    } else {
+        other_parameters(word)
+    }
+}
+
+// A command with its help, and its first operand.
+pub(crate) fn with_operand<'a>(
+    alloc: Global,
+    name: &'a str,
+    id: &'a str,
+    help: &'a str,
+) -> Result<Command<'a>, AllocError>
+    ensures { IfOk result (λ c. app_of c ≡ with_rule (new_app name.now) (required_rule id.now)) }
+{
+    let (about, example) = texts_of(name);
+    Command::new(alloc, name)
+        .about(about)
+        .after_help(example)
+        .arg(required(alloc, id, help))
+}
+
+// A command that names the store's file.
+fn with_file<'a>(alloc: Global, name: &'a str) -> Result<Command<'a>, AllocError>
+    ensures { IfOk result (λ c. app_of c ≡ store_app name.now) }
+{
+    with_operand(alloc, name, "STORE", "The file of the store")
+}
+
+// One that takes a form of numbers.
+fn with_form<'a>(alloc: Global, name: &'a str) -> Result<Command<'a>, AllocError>
+    ensures { IfOk result (λ c. app_of c ≡ info_app name.now) }
+{
+    with_file(alloc, name)?.arg(json(alloc))
+}
+
+// One that names a table too.
+fn with_table<'a>(alloc: Global, name: &'a str) -> Result<Command<'a>, AllocError>
+    ensures { IfOk result (λ c. app_of c ≡ table_app name.now) }
+{
+    with_file(alloc, name)?.arg(required(alloc, "NAME", "The name of the table"))
+}
+
+fn with_new_name<'a>(alloc: Global, name: &'a str) -> Result<Command<'a>, AllocError>
+    ensures { IfOk result (λ c. app_of c ≡ rename_app name.now) }
+{
+    with_table(alloc, name)?.arg(required(alloc, "NEW", "Its new name"))
+}
+
+// One that takes how many sectors its store has, and its version.
+fn with_sectors<'a>(alloc: Global, name: &'a str) -> Result<Command<'a>, AllocError>
+    ensures { IfOk result (λ c. app_of c ≡ format_app name.now) }
+{
+    with_file(alloc, name)?
+        .arg(sectors(alloc))?
+        .arg(format_version(alloc))
+}
+
+fn with_new_file<'a>(alloc: Global, name: &'a str) -> Result<Command<'a>, AllocError>
+    ensures { IfOk result (λ c. app_of c ≡ new_file_app name.now) }
+{
+    with_file(alloc, name)?.arg(required(alloc, "NEW", "The file of the new store"))
+}
+
+fn with_new_store<'a>(alloc: Global, name: &'a str) -> Result<Command<'a>, AllocError>
+    ensures { IfOk result (λ c. app_of c ≡ copy_app name.now) }
+{
+    with_new_file(alloc, name)?.arg(sectors(alloc))
+}
+
+// One that takes the fields of a new table.
+fn with_fields<'a>(alloc: Global, name: &'a str) -> Result<Command<'a>, AllocError>
+    ensures { IfOk result (λ c. app_of c ≡ create_app name.now) }
+{
+    with_table(alloc, name)?.arg(repeated(
+        alloc,
+        "FIELD",
+        "The fields, each as NAME:TYPE, followed by ? where nulls are allowed",
+    ))
+}
+
+// One that takes the form of its input.
+fn with_rows<'a>(alloc: Global, name: &'a str) -> Result<Command<'a>, AllocError>
+    ensures { IfOk result (λ c. (forms : ValueParser) × (app_of c ≡ append_app forms name.now)) }
+{
+    with_table(alloc, name)?
+        .arg(form(alloc))?
+        .arg(null_text(alloc))
+}
+
+// One that takes conditions.
+fn with_conditions<'a>(alloc: Global, name: &'a str) -> Result<Command<'a>, AllocError>
+    ensures { IfOk result (λ c. app_of c ≡ conditions_app name.now) }
+{
+    with_table(alloc, name)?.arg(repeated(
+        alloc,
+        "CONDITION",
+        "What each row must meet: 'NAME OP LITERAL' with OP one of = != < <= > >=, 'NAME is null' or 'NAME is not null', split by single spaces",
+    ))
+}
+
+/// One that takes a query, and how it is printed or a name to save it under.
+pub(crate) fn with_query<'a>(alloc: Global, name: &'a str) -> Result<Command<'a>, AllocError>
+    ensures { IfOk result (λ c. app_of c ≡ query_app name.now) }
+{
+    let columns = option(
+        alloc,
+        "columns",
+        "A,B",
+        "The columns, in this order; without this option all of them",
+    );
+    let save = option(
+        alloc,
+        "save",
+        "NEW",
+        "Makes a table of this name of them, in place of printing",
+    );
+    with_conditions(alloc, name)?
+        .arg(columns)?
+        .arg(limit(alloc))?
+        .arg(save)?
+        .arg(objects(alloc))
+}
+
+// A command of a store.
+fn command<'a>(alloc: Global, name: &'a str) -> Result<Command<'a>, AllocError>
+    ensures { IfOk result (λ c. IsOwnApp name.now (app_of c)) }
+{
+    match parameters_of(name) {
+        Parameters::Nothing => with_file(alloc, name),
+        Parameters::FileAndForm => with_form(alloc, name),
+        Parameters::Table => with_table(alloc, name),
+        Parameters::TableAndNewName => with_new_name(alloc, name),
+        Parameters::Sectors => with_sectors(alloc, name),
+        Parameters::NewStore => with_new_store(alloc, name),
+        Parameters::TableAndFields => with_fields(alloc, name),
+        Parameters::TableAndRows => with_rows(alloc, name),
+        Parameters::TableAndQuery => with_query(alloc, name),
+        Parameters::ScriptAndFaults => with_faults(alloc, name),
+    }
+}
+
+// A command by itself, as the program that was called by that name has it.
+pub(crate) fn own_command<'a>(
+    alloc: Global,
+    program: &str,
+    word: &'a str,
+) -> Result<Command<'a>, AllocError>
+    ensures { IfOk result (λ c. IsOwnApp word.now (app_of c)) }
+{
+    let name = format!(in alloc; "{program} {word}")?;
+    command(alloc, word)?.bin_name(name.as_str())
+}
+
+fn command_of_usage<'a>(alloc: Global, usage: &Usage) -> Result<Command<'a>, AllocError> {
+    command(alloc, usage.name)
+}
+
+// In the order of the help.
+fn commands_of_stores<'a>(alloc: Global) -> Result<Vec<Command<'a>>, AllocError> {
+    let mut commands = Vec::new(alloc);
+    for usage in &COMMANDS {
+        commands.push(command_of_usage(alloc, usage)?)?;
+    }
+    Ok(commands)
+}
+
+/// The program with all commands of a store.
+///
+/// # Errors
+/// Memory is refused.
+pub fn cli_commands<'a>(alloc: Global) -> Result<Command<'a>, AllocError> {
+    let commands = commands_of_stores(alloc)?;
+    Command::new(alloc, "arrowstore")
+        .subcommand_required(true)
+        .subcommands(commands)
+}

@@ -1,0 +1,140 @@
+// A script that is played on a device in memory, as words of a command line.
+ghost use Rattle.std.specs.Prelude.{◌≡◌, codes, IfSome, IfOk};
+ghost use Rattle.clap.specs.Words.{found_of};
+ghost use Rattle.cli_requests.specs.Apps.{HasFound};
+ghost use Rattle.cli_requests.specs.Asked.{request_word};
+ghost use Rattle.cli_requests.specs.Choices.{IsNumber, IsChoice};
+
+use crate::command_parameters::{format_version, option, with_operand};
+use crate::found_values::{number_in, version_in, word};
+use crate::{Mistake, StoreRequest};
+use clap::builder::ValueParser;
+use clap::error::ErrorKind;
+use clap::{Arg, ArgMatches, Command};
+use commit::FormatVersion;
+use sector_dev::Choice;
+use std::alloc::{AllocError, Global};
+
+/// A script to be played on a device in memory, as words of a command line.
+#[derive(Clone, Copy)]
+pub struct ReplayWords<'a> {
+    /// The path of its file.
+    pub script: &'a str,
+    /// How many sectors of 512 bytes the device has.
+    pub sectors: u64,
+    /// The write or sync that fails once, counted from 1; 0: none.
+    pub fail: u64,
+    /// The one in which the device stops; 0: none.
+    pub stop: u64,
+    /// What a crash leaves then.
+    pub choice: Choice,
+    /// The version of the store on it.
+    pub version: FormatVersion,
+}
+
+// A number in decimal digits alone.
+fn number_of(text: &str) -> Option<u64>
+    ensures { IfSome result (IsNumber text.now) }
+{
+    if text.starts_with('+') {
+        return None;
+    }
+    text.parse::<u64>().ok()
+}
+
+// The sectors that are lost: all, or those of the bits.
+fn lost_of(text: &str) -> Option<Choice>
+    ensures { IfSome result (IsChoice text.now) }
+{
+    if text == "lost" {
+        return Some(Choice::Lost(u64::MAX));
+    }
+    Some(Choice::Lost(number_of(text.strip_prefix("lost:")?)?))
+}
+
+// What a word says that a crash leaves.
+fn choice_of(text: &str) -> Option<Choice>
+    ensures { IfSome result (IsChoice text.now) }
+{
+    match text {
+        "old" => Some(Choice::Old),
+        "new" => Some(Choice::New),
+        _ => match number_of(text) {
+            Some(bits) => Some(Choice::Bits(bits)),
+            None => lost_of(text),
+        },
+    }
+}
+
+fn wrong_choice(alloc: Global) -> Result<Mistake, AllocError> {
+    let mut command = Command::new(alloc, "replay");
+    let error = command.error(
+        ErrorKind::InvalidValue,
+        "the choice is old, new, lost, a number, or lost: and a number",
+    )?;
+    Ok(Mistake::Words(error))
+}
+
+/// The script that the words name, and what goes wrong while it is played.
+///
+/// # Errors
+/// `Words` where the choice is none, `SignedNumber` where a number has a sign.
+pub(crate) fn replay_request<'a>(
+    alloc: Global,
+    words: &ArgMatches<'a>,
+) -> Result<StoreRequest<'a>, Mistake>
+    ensures word { IfOk result (λ request. request_word request ≡ codes "replay") }
+    ensures named { IfOk result (HasFound (found_of words.now)) }
+{
+    let Some(choice) = choice_of(word(words, "choice")) else {
+        return Err(wrong_choice(alloc)?);
+    };
+    Ok(StoreRequest::Replay(ReplayWords {
+        script: word(words, "SCRIPT"),
+        sectors: number_in(words, "sectors")?,
+        fail: number_in(words, "fail")?,
+        stop: number_in(words, "stop")?,
+        choice,
+        version: version_in(words)?,
+    }))
+}
+
+fn number<'a>(alloc: Global, id: &'a str, value: &'a str, help: &'a str) -> Arg<'a> {
+    option(alloc, id, value, help).value_parser(ValueParser::unsigned(0, u64::MAX))
+}
+
+fn choice<'a>(alloc: Global) -> Arg<'a> {
+    option(
+        alloc,
+        "choice",
+        "C",
+        "What the crash leaves of sectors that are not yet synced: old, new, lost, N (new where its bits are 1) or lost:N",
+    )
+    .default_value("old")
+}
+
+/// The command with its script, the size of the device, and what goes wrong on it.
+pub(crate) fn with_faults<'a>(alloc: Global, name: &'a str) -> Result<Command<'a>, AllocError> {
+    with_operand(alloc, name, "SCRIPT", "The file of the script")?
+        .arg(number(
+            alloc,
+            "sectors",
+            "S",
+            "How many sectors of 512 bytes the device has, 16 to 4194304",
+        )
+        .required(true))?
+        .arg(number(
+            alloc,
+            "fail",
+            "K",
+            "The write or sync that fails once; without this option none",
+        ))?
+        .arg(number(
+            alloc,
+            "stop",
+            "K",
+            "The write or sync in which the device stops; without this option none",
+        ))?
+        .arg(choice(alloc))?
+        .arg(format_version(alloc))
+}

@@ -1,0 +1,318 @@
+// How `clap` reads a command line of a store.
+ghost use Rattle.std.specs.Prelude.{◌≡◌, true, false, codes, map, drop, IfOk, IfErr};
+ghost use Rattle.std.specs.Str.{bytes_eq};
+ghost use Rattle.clap.specs.Words.{found_of};
+ghost use Rattle.cli_requests.specs.declared.store_command_line.Mistake.TheVariants as mistakes;
+ghost use Rattle.cli_requests.specs.Apps.{value_of, HasQuery, HasForm, HasJson, HasNames, HasFound, IsOfMemory, takes_number};
+ghost use Rattle.cli_requests.specs.Asked.{command_word, request_word};
+ghost use Rattle.cli_requests.specs.Operands.{are_right, Names};
+ghost use Rattle.cli_requests.specs.StoreWords.{is_store_word, is_of_store, first_word};
+
+use crate::command_parameters::{cli_commands, own_command, with_query};
+use crate::found_values::{limit_of, sectors_of, version_in, word, words_of};
+use crate::replaying::replay_request;
+use crate::{QueryWords, StoreCommand, StoreRequest};
+use clap::error::ErrorKind;
+use clap::{ArgMatches, Error};
+use query::RowForm;
+use std::alloc::{AllocError, Global};
+use std::convert::AsStr;
+use text_import::TextForm;
+
+/// Why a command line asks for nothing.
+#[derive(Drop)]
+pub enum Mistake {
+    /// What `clap` says: it may also ask for help.
+    Words(Error),
+    /// A number has a sign.
+    SignedNumber,
+}
+
+impl From<Error> for Mistake {
+    ghost from_gives = { λ error mistake. mistake ≡ mistakes.Words error };
+
+    fn from(error: Error) -> Mistake {
+        Mistake::Words(error)
+    }
+}
+
+impl From<AllocError> for Mistake {
+    ghost from_gives = { λ _ mistake. IsOfMemory mistake };
+
+    fn from(error: AllocError) -> Mistake {
+        Mistake::Words(Error::from(error))
+    }
+}
+
+/// Reads a command line of a store.
+///
+/// # Errors
+/// [`Mistake::Words`] where `clap` refuses the words, one of them asks for help, or memory is refused; [`Mistake::SignedNumber`] where a number has a sign.
+#[tactic(auto, using(crate::proofs::WordLemmas::first_of_store))]
+pub fn request_of<'a, S: AsStr>(
+    alloc: Global,
+    arguments: &'a [S],
+) -> Result<StoreRequest<'a>, Mistake>
+    // It asks for the command of its first word, whatever the words after it are.
+    ensures asked { is_of_store (map S.text arguments.now) ≡ true
+        → IfOk result (λ request. request_word request ≡ first_word (map S.text arguments.now)) }
+    // Where these are operands alone, they are its files, names, fields, conditions and numbers, and it has no option.
+    ensures named { is_of_store (map S.text arguments.now) ≡ true → IfOk result (Names (map S.text arguments.now)) }
+    // As many operands as a command of names takes are right.
+    ensures taken { are_right (map S.text arguments.now) ≡ true → IfErr result IsOfMemory }
+{
+    let word = first_word(arguments);
+    let command = own_command(alloc, program_name(arguments), word)?;
+    let matches = command.try_get_matches_from(words_from_command(arguments))?;
+    asked(alloc, word, &matches)
+}
+
+/// Looks for the help of the command that follows `help`.
+///
+/// # Errors
+/// Always where a command of a store follows: `clap` gives the help as an error, or memory is refused.
+pub fn help_of_command<S: AsStr>(alloc: Global, arguments: &[S]) -> Result<(), Error> {
+    if let [name, _, command, ..] = arguments {
+        cli_commands(alloc)?.try_get_matches_from(&[name.as_str(), command.as_str(), "--help"])?;
+    }
+    Ok(())
+}
+
+// What a word asks for, with the words after it.
+fn asked<'a>(
+    alloc: Global,
+    command: &str,
+    words: &ArgMatches<'a>,
+) -> Result<StoreRequest<'a>, Mistake>
+    ensures word { is_store_word command.now ≡ true → IfOk result (λ request. request_word request ≡ command.now) }
+    ensures named { IfOk result (HasFound (found_of words.now)) }
+    ensures taken { takes_number command.now ≡ false → IfErr result IsOfMemory }
+{
+    let path = word(words, "STORE");
+    match command {
+        "format" => format_request(path, words),
+        "copy" => copy_request(path, words),
+        "salvage" => Ok(salvage_request(path, words)),
+        "replay" => replay_request(alloc, words),
+        _ => command_request(alloc, path, command, words),
+    }
+}
+
+// A request of a store that is there.
+fn command_request<'a>(
+    alloc: Global,
+    path: &'a str,
+    command: &str,
+    words: &ArgMatches<'a>,
+) -> Result<StoreRequest<'a>, Mistake>
+    requires { path.now ≡ value_of (found_of words.now) (codes "STORE") }
+    ensures word { is_store_word command.now ≡ true → bytes_eq (codes "format") command.now ≡ false → bytes_eq (codes "copy") command.now ≡ false
+        → bytes_eq (codes "salvage") command.now ≡ false → bytes_eq (codes "replay") command.now ≡ false
+        → IfOk result (λ request. request_word request ≡ command.now) }
+    ensures named { IfOk result (HasFound (found_of words.now)) }
+    ensures taken { takes_number command.now ≡ false → IfErr result IsOfMemory }
+{
+    let command = command_of(alloc, command, words)?;
+    Ok(StoreRequest::Command { path, command })
+}
+
+// The word of the command.
+#[tactic(auto, unfolding(crate::specs::StoreWords::first_word))]
+fn first_word<S: AsStr>(arguments: &[S]) -> &str
+    ensures { result.now ≡ first_word (map S.text arguments.now) }
+{
+    match arguments {
+        [_, word, ..] => word.as_str(),
+        _ => "",
+    }
+}
+
+// The name that the program was called by, without its folder.
+fn program_name<S: AsStr>(arguments: &[S]) -> &str {
+    match arguments {
+        [name, ..] => match name.as_str().rsplit_once('/') {
+            Some((_, name)) => name,
+            None => name.as_str(),
+        },
+        _ => "arrowstore",
+    }
+}
+
+// The words after the program's name.
+fn words_from_command<S: AsStr>(arguments: &[S]) -> &[S]
+    ensures { map S.text result.now ≡ drop 1 (map S.text arguments.now) }
+{
+    match arguments {
+        [_, words @ ..] => words,
+        _ => arguments,
+    }
+}
+
+fn format_request<'a>(path: &'a str, words: &ArgMatches<'a>) -> Result<StoreRequest<'a>, Mistake>
+    requires { path.now ≡ value_of (found_of words.now) (codes "STORE") }
+    ensures word { IfOk result (λ request. request_word request ≡ codes "format") }
+    ensures named { IfOk result (HasFound (found_of words.now)) }
+{
+    let sectors = sectors_of(words)?;
+    let version = version_in(words)?;
+    Ok(StoreRequest::Format {
+        path,
+        sectors,
+        version,
+    })
+}
+
+fn copy_request<'a>(path: &'a str, words: &ArgMatches<'a>) -> Result<StoreRequest<'a>, Mistake>
+    requires { path.now ≡ value_of (found_of words.now) (codes "STORE") }
+    ensures word { IfOk result (λ request. request_word request ≡ codes "copy") }
+    ensures named { IfOk result (HasFound (found_of words.now)) }
+{
+    let sectors = sectors_of(words)?;
+    let new = word(words, "NEW");
+    Ok(StoreRequest::Copy { path, new, sectors })
+}
+
+fn salvage_request<'a>(path: &'a str, words: &ArgMatches<'a>) -> StoreRequest<'a>
+    requires { path.now ≡ value_of (found_of words.now) (codes "STORE") }
+    ensures word { request_word result ≡ codes "salvage" }
+    ensures named { HasFound (found_of words.now) result }
+{
+    StoreRequest::Salvage {
+        path,
+        name: word(words, "NAME"),
+    }
+}
+
+fn text_form<'a>(form: &str, words: &ArgMatches<'a>) -> TextForm<'a> {
+    match form {
+        "csv" => TextForm::Csv {
+            null_text: word(words, "null"),
+        },
+        _ => TextForm::JsonLines,
+    }
+}
+
+// Rows are appended from a stream, or from a text.
+fn append_command<'a>(name: &'a str, words: &ArgMatches<'a>) -> StoreCommand<'a>
+    requires { name.now ≡ value_of (found_of words.now) (codes "NAME") }
+    ensures word { command_word result ≡ codes "append" }
+    ensures named { HasNames (found_of words.now) result }
+{
+    let form = word(words, "as");
+    if form == "stream" {
+        return StoreCommand::Append { name };
+    }
+    StoreCommand::AppendText {
+        name,
+        form: text_form(form, words),
+    }
+}
+
+fn query_words<'a>(alloc: Global, words: &ArgMatches<'a>) -> Result<QueryWords<'a>, Mistake>
+    ensures { IfOk result (HasQuery (found_of words.now)) }
+{
+    Ok(QueryWords {
+        conditions: words_of(alloc, words, "CONDITION")?,
+        columns: words.get_str("columns"),
+        limit: limit_of(words)?,
+    })
+}
+
+fn row_form(words: &ArgMatches<'_>) -> RowForm
+    ensures { HasForm (found_of words.now) result }
+{
+    if words.get_flag("objects") {
+        RowForm::Object
+    } else {
+        RowForm::Array
+    }
+}
+
+fn saved_objects(alloc: Global) -> Result<Mistake, AllocError> {
+    let mut command = with_query(alloc, "query")?.bin_name("arrowstore query")?;
+    let error = command.error(
+        ErrorKind::ArgumentConflict,
+        "the argument '--objects' cannot be used with '--save <NEW>'",
+    )?;
+    Ok(Mistake::Words(error))
+}
+
+// What is selected is printed, or saved as a table.
+fn query_command<'a>(
+    alloc: Global,
+    name: &'a str,
+    words: &ArgMatches<'a>,
+) -> Result<StoreCommand<'a>, Mistake>
+    requires { name.now ≡ value_of (found_of words.now) (codes "NAME") }
+    ensures word { IfOk result (λ command. command_word command ≡ codes "query") }
+    ensures named { IfOk result (HasNames (found_of words.now)) }
+{
+    let query = query_words(alloc, words)?;
+    let form = row_form(words);
+    match (words.get_str("save"), form) {
+        (None, _) => Ok(StoreCommand::Query { name, query, form }),
+        (Some(to), RowForm::Array) => Ok(StoreCommand::SaveAs {
+            from: name,
+            to,
+            query,
+        }),
+        // A table that is saved is not printed.
+        (Some(_), RowForm::Object) => Err(saved_objects(alloc)?),
+    }
+}
+
+fn create_command<'a>(
+    alloc: Global,
+    name: &'a str,
+    words: &ArgMatches<'a>,
+) -> Result<StoreCommand<'a>, AllocError>
+    requires { name.now ≡ value_of (found_of words.now) (codes "NAME") }
+    ensures word { IfOk result (λ command. command_word command ≡ codes "create") }
+    ensures named { IfOk result (HasNames (found_of words.now)) }
+{
+    Ok(StoreCommand::Create {
+        name,
+        fields: words_of(alloc, words, "FIELD")?,
+    })
+}
+
+// Whether numbers are printed as JSON.
+fn asks_json(words: &ArgMatches<'_>) -> bool
+    ensures { HasJson (found_of words.now) result }
+{
+    words.get_flag("json")
+}
+
+fn command_of<'a>(
+    alloc: Global,
+    command: &str,
+    words: &ArgMatches<'a>,
+) -> Result<StoreCommand<'a>, Mistake>
+    ensures word { is_store_word command.now ≡ true → bytes_eq (codes "format") command.now ≡ false → bytes_eq (codes "copy") command.now ≡ false
+        → bytes_eq (codes "salvage") command.now ≡ false → bytes_eq (codes "replay") command.now ≡ false
+        → IfOk result (λ asked. command_word asked ≡ command.now) }
+    ensures named { IfOk result (HasNames (found_of words.now)) }
+    ensures taken { takes_number command.now ≡ false → IfErr result IsOfMemory }
+{
+    let name = word(words, "NAME");
+    match command {
+        "create" => Ok(create_command(alloc, name, words)?),
+        "import" => Ok(StoreCommand::Import { name }),
+        "append" => Ok(append_command(name, words)),
+        "query" => query_command(alloc, name, words),
+        "rename" => Ok(StoreCommand::Rename {
+            from: name,
+            to: word(words, "NEW"),
+        }),
+        "drop" => Ok(StoreCommand::Drop { name }),
+        "schema" => Ok(StoreCommand::Schema { name }),
+        "export" => Ok(StoreCommand::Export { name }),
+        "check" => Ok(StoreCommand::Check),
+        "info" => Ok(StoreCommand::Info {
+            as_json: asks_json(words),
+        }),
+        "compact" => Ok(StoreCommand::Compact),
+        "upgrade" => Ok(StoreCommand::Upgrade),
+        _ => Ok(StoreCommand::Tables),
+    }
+}

@@ -1,0 +1,51 @@
+-- What a run of the program leaves on its output and on standard error.
+use Rattle.std.specs.Prelude.{◌≡◌, ◌≢◌, ◌<◌, ℕ, List, [], length, Option, IsTrue}
+use Rattle.std.specs.Io.KnownBytes.{Appends}
+use Rattle.cli_refusals.specs.declared.hint.Hint.{Hint}
+use Rattle.cli_refusals.specs.declared.refusal.Refusal.{Refusal}
+use Rattle.cli_refusals.specs.declared.refusal.Refusal.TheVariants.{Io, OutOfMemory}
+use Rattle.cli_texts.specs.declared.status.Ended.{Ended}
+use Rattle.cli_texts.specs.declared.status.Status.{Status}
+use Rattle.cli_texts.specs.declared.status.Status.TheVariants.{Done, PartlyDone, Refused, WrongArguments}
+use Rattle.cli_texts.specs.declared.telling.Audience.{Audience}
+use Rattle.cli_texts.specs.LeftOut.{left_out_text}
+use Rattle.cli_texts.specs.Reported.{IfRefused}
+use Rattle.cli_texts.specs.Told.{told}
+
+-- why a text of the program's own is not written: the output failed, or memory was refused
+abbrev pub IsOfOutput : Refusal → Type 0
+IsOfOutput Io = Unit {0}
+IsOfOutput OutOfMemory = Unit {0}
+IsOfOutput _ = ⊥
+
+-- a run that is asked for such a text gives it, unless its output fails or memory is refused
+abbrev pub GivesText : (given : Type 0) → Status → Type 0
+GivesText given Done = given
+GivesText given PartlyDone = ⊥
+GivesText given (Refused refusal) = IsOfOutput refusal
+GivesText given WrongArguments = ⊥
+
+-- a text is written, and nothing else
+abbrev pub GivesSome : (contents contents' : Option (List ℕ)) → Type 0
+GivesSome contents contents' = (text : List ℕ) × (0 < length text) × Appends contents contents' text
+
+-- what is reported of a refusal, where standard error takes what it is given
+abbrev pub TellsRefusal : (tells : Refusal → List ℕ) → Ended → Option (List ℕ) → Option (List ℕ) → Type 0
+TellsRefusal tells ended errors errors' = IfRefused ended.status (λ refusal. IsTrue ended.is_reported → Appends errors errors' (tells refusal))
+
+-- a read or a write failed
+abbrev pub IsIo : Refusal → Type 0
+IsIo refusal = refusal ≡ Io
+
+-- a run that has ended, whatever it was asked for: what was reported to an audience, with a hint, which segments were left out, and after which refusals some
+-- output may be written
+pub record HasReported {W E : Type 0} (contents : E → Option (List ℕ)) (audience : Audience) (hint : Option Hint) (left : List (ℕ × ℕ))
+    (writes_part : Refusal → Type 0) (output output' : W) (errors errors' : E) (ended : Ended) : Type 0 where
+  -- of what is done nothing is left out and nothing is reported, and so all of it is
+  pub silent : ended.status ≡ Done → (left ≡ []) × (errors' ≡ errors) × IsTrue ended.is_reported
+  -- of what is partly done that which is left out is reported
+  pub listed : ended.status ≡ PartlyDone → (left ≢ []) × (IsTrue ended.is_reported → Appends (contents errors) (contents errors') (left_out_text audience left))
+  pub nothing_written : ended.status ≡ WrongArguments → output' ≡ output
+  -- what is refused has written nothing, but after these refusals
+  pub quiet : IfRefused ended.status (λ refusal. ¬ writes_part refusal → output' ≡ output)
+  pub line : TellsRefusal (told audience hint) ended (contents errors) (contents errors')

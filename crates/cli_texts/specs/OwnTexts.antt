@@ -1,0 +1,34 @@
+-- Texts of the program's own: its version, and what each refusal means.
+use Rattle.std.specs.Prelude.{ℕ, Bool, ◌||◌, ◌&&◌, if◌then◌else◌, List, [], Option, Some, None, codes, slice_get}
+use Rattle.std.specs.Str.{bytes_eq}
+use Rattle.clap.specs.Words.{Text}
+use Rattle.cli_refusals.specs.Page.{refusals_page}
+use Rattle.cli_texts.specs.declared.own_texts.TheConstants.{VERSION}
+
+abbrev pub word_or_none : Option Text → Text
+word_or_none None = []
+word_or_none (Some word) = word
+
+-- the word at a place of a command line, which is empty where there is none
+abbrev pub word_at : List Text → ℕ → Text
+word_at arguments place = word_or_none (slice_get arguments place)
+
+unfoldable pub is_version_word : Text → Bool
+is_version_word word = bytes_eq (codes "--version") word || bytes_eq (codes "-V") word
+
+unfoldable pub is_refusals_topic : (word topic : Text) → Bool
+is_refusals_topic word topic = bytes_eq (codes "help") word && bytes_eq (codes "refusals") topic
+
+-- after the program's name, whatever follows
+unfoldable pub asks_version : List Text → Bool
+asks_version arguments = is_version_word (word_at arguments 1)
+
+unfoldable pub asks_refusals : List Text → Bool
+asks_refusals arguments = is_refusals_topic (word_at arguments 1) (word_at arguments 2)
+
+unfoldable pub is_own : List Text → Bool
+is_own arguments = asks_version arguments || asks_refusals arguments
+
+-- the text that they ask for
+unfoldable pub own_text : List Text → Text
+own_text arguments = if asks_version arguments then VERSION.now else refusals_page

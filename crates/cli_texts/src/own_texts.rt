@@ -1,0 +1,76 @@
+// Texts of the program's own: its version, and what each refusal means.
+ghost use Rattle.std.specs.Prelude.{◌≡◌, ◌≢◌, map, IfErr, OnOk};
+ghost use Rattle.std.specs.Io.KnownBytes.{Appends};
+ghost use Rattle.cli_texts.specs.Ending.{IsOfOutput};
+ghost use Rattle.cli_texts.specs.OwnTexts.{word_at, is_version_word, is_refusals_topic, asks_version, asks_refusals, is_own, own_text};
+
+use cli_refusals::{Refusal, refusals_page, write_whole};
+use std::alloc::Global;
+use std::convert::AsStr;
+use std::io::Write;
+
+/// The line of `--version`.
+pub const VERSION: &str = "arrowstore 0.1.0\n";
+
+#[tactic(auto, unfolding(crate::specs::OwnTexts::is_version_word))]
+fn is_version_word(word: &str) -> bool
+    ensures { result ≡ is_version_word word.now }
+{
+    word == "--version" || word == "-V"
+}
+
+#[tactic(auto, unfolding(crate::specs::OwnTexts::is_refusals_topic))]
+fn is_refusals_topic(word: &str, topic: &str) -> bool
+    ensures { result ≡ is_refusals_topic word.now topic.now }
+{
+    word == "help" && topic == "refusals"
+}
+
+// The word at a place of a command line, which is empty where there is none.
+fn word_at<S: AsStr>(arguments: &[S], place: usize) -> &str
+    ensures { result.now ≡ word_at (map S.text arguments.now) place }
+{
+    match arguments.get(place) {
+        Some(word) => word.as_str(),
+        None => "",
+    }
+}
+
+#[tactic(auto, unfolding(crate::specs::OwnTexts::asks_version))]
+fn asks_version<S: AsStr>(arguments: &[S]) -> bool
+    ensures { result ≡ asks_version (map S.text arguments.now) }
+{
+    is_version_word(word_at(arguments, 1))
+}
+
+#[tactic(auto, unfolding(crate::specs::OwnTexts::asks_refusals))]
+fn asks_refusals<S: AsStr>(arguments: &[S]) -> bool
+    ensures { result ≡ asks_refusals (map S.text arguments.now) }
+{
+    is_refusals_topic(word_at(arguments, 1), word_at(arguments, 2))
+}
+
+/// Whether the arguments, of which the program's name is the first, ask for a text of the program's own.
+#[tactic(auto, unfolding(crate::specs::OwnTexts::is_own))]
+pub fn is_own<S: AsStr>(arguments: &[S]) -> bool
+    ensures { result ≡ is_own (map S.text arguments.now) }
+{
+    asks_version(arguments) || asks_refusals(arguments)
+}
+
+/// Writes the text that such arguments ask for, and nothing else.
+#[tactic(auto, unfolding(crate::specs::OwnTexts::own_text))]
+pub fn write_own_text<S: AsStr, W: Write>(
+    alloc: Global,
+    arguments: &[S],
+    output: &mut W,
+) -> Result<(), Refusal>
+    ensures written { OnOk result (Appends (W.contents output.old) (W.contents output.new) (own_text (map S.text arguments.now))) }
+    ensures refused { IfErr result IsOfOutput }
+    ensures silent { IfErr result (λ refusal. refusal ≢ Refusal.Io → output.new ≡ output.old) }
+{
+    if asks_version(arguments) {
+        return write_whole(output, VERSION.as_bytes());
+    }
+    write_whole(output, refusals_page(alloc)?.as_bytes())
+}

@@ -1,0 +1,100 @@
+// What is reported of a run that was refused, of wrong arguments and of a request for help.
+ghost use Rattle.std.specs.Prelude.{◌≡◌, ◌≢◌, ◌⊎◌, [], None, IsOk, IsTrue, IfErr, OnOk};
+ghost use Rattle.clap.specs.Words.{kind_of};
+ghost use Rattle.cli_texts.specs.Reported.{IsRequest, IsWrong};
+ghost use Rattle.cli_texts.specs.Ending.{GivesSome, IsIo, IsOfOutput, TellsRefusal, HasReported};
+ghost use Rattle.cli_texts.specs.Told.{told};
+
+use crate::telling::tell;
+use crate::{Audience, Ended, Status};
+use clap::error::ErrorKind;
+use cli_refusals::{Hint, Refusal, write_whole};
+use std::alloc::Global;
+use std::io::Write;
+
+// Writes a text of help. `clap` promises no text, so that there is one is tested.
+fn write_help<W: Write>(alloc: Global, error: &clap::Error, output: &mut W) -> Result<(), Refusal>
+    ensures written { OnOk result (GivesSome (W.contents output.old) (W.contents output.new)) }
+    ensures refused { IfErr result IsOfOutput }
+    ensures silent { IfErr result (λ refusal. refusal ≢ Refusal.Io → output.new ≡ output.old) }
+{
+    let help = format!(in alloc; "{error}")?;
+    if help.is_empty() {
+        return Err(Refusal::Io);
+    }
+    write_whole(output, help.as_bytes())
+}
+
+/// Reports why the arguments ask for nothing: what is wrong with them goes to `errors`, and help to `output`.
+pub fn report_arguments<W: Write, E: Write>(
+    alloc: Global,
+    error: &clap::Error,
+    output: &mut W,
+    errors: &mut E,
+    audience: Audience,
+) -> Ended
+    ensures request { IsRequest (kind_of error.now) ⊎ (IsWrong result.status × (output.new ≡ output.old)) }
+    // Help that is asked for is written, and nothing else.
+    ensures helps { result.status ≡ Status.Done → GivesSome (W.contents output.old) (W.contents output.new) }
+    ensures memory { kind_of error.now ≡ ErrorKind.OutOfMemory → (result.status ≡ Status.Refused Refusal.OutOfMemory) × (output.new ≡ output.old) }
+    ensures reports { HasReported E.contents audience None [] IsIo output.old output.new errors.old errors.new result }
+{
+    match error.kind() {
+        ErrorKind::DisplayHelp | ErrorKind::DisplayVersion => {
+            end(write_help(alloc, error, output), None, audience, errors)
+        }
+        _ => report_wrong_arguments(error, errors, audience),
+    }
+}
+
+/// Reports that arguments are wrong, or that memory for what is wrong with them is refused.
+pub fn report_wrong_arguments<E: Write>(
+    error: &clap::Error,
+    errors: &mut E,
+    audience: Audience,
+) -> Ended
+    ensures wrong { IsWrong result.status }
+    ensures memory { kind_of error.now ≡ ErrorKind.OutOfMemory → result.status ≡ Status.Refused Refusal.OutOfMemory }
+    ensures line { TellsRefusal (told audience None) result (E.contents errors.old) (E.contents errors.new) }
+{
+    match error.kind() {
+        ErrorKind::OutOfMemory => end(Err(Refusal::OutOfMemory), None, audience, errors),
+        _ => Ended {
+            status: Status::WrongArguments,
+            is_reported: write!(errors, "{error}").is_ok(),
+        },
+    }
+}
+
+/// Reports that a number has a sign, which is a wrong argument.
+pub fn report_signed_number<E: Write>(errors: &mut E) -> Ended
+    ensures { result.status ≡ Status.WrongArguments }
+{
+    Ended {
+        status: Status::WrongArguments,
+        is_reported: writeln!(errors, "error: a number is decimal digits, without a sign").is_ok(),
+    }
+}
+
+/// Reports a refusal, with what is refused where more of it is known.
+pub fn end<E: Write>(
+    done: Result<(), Refusal>,
+    hint: Option<Hint<'_>>,
+    audience: Audience,
+    errors: &mut E,
+) -> Ended
+    ensures done { IsOk done → (result.status ≡ Status.Done) × (errors.new ≡ errors.old) × IsTrue result.is_reported }
+    ensures refused { IfErr done (λ refusal. result.status ≡ Status.Refused refusal) }
+    ensures line { TellsRefusal (told audience hint.entry) result (E.contents errors.old) (E.contents errors.new) }
+{
+    match done {
+        Ok(()) => Ended {
+            status: Status::Done,
+            is_reported: true,
+        },
+        Err(refusal) => Ended {
+            status: Status::Refused(refusal),
+            is_reported: tell(refusal, hint, audience, errors).is_ok(),
+        },
+    }
+}

@@ -1,0 +1,30 @@
+// Arguments that can't be read.
+ghost use Rattle.std.specs.Prelude.{◌≡◌, ◌≢◌, None};
+ghost use Rattle.std.specs.IoError.{error_kind};
+ghost use Rattle.cli_texts.specs.Ending.{TellsRefusal};
+ghost use Rattle.cli_texts.specs.Told.{told};
+
+use crate::reports::end;
+use crate::{Audience, Ended, Status};
+use cli_refusals::Refusal;
+use std::io;
+use std::io::{ErrorKind, Write};
+
+/// Reports that the arguments could not be read: memory is out, or one is not UTF-8.
+pub fn report_unreadable_arguments<E: Write>(
+    error: &io::Error,
+    errors: &mut E,
+    audience: Audience,
+) -> Ended
+    ensures memory { error_kind error.now ≡ ErrorKind.OutOfMemory → result.status ≡ Status.Refused Refusal.OutOfMemory }
+    ensures text { error_kind error.now ≢ ErrorKind.OutOfMemory → result.status ≡ Status.WrongArguments }
+    ensures line { TellsRefusal (told audience None) result (E.contents errors.old) (E.contents errors.new) }
+{
+    if error.kind() == ErrorKind::OutOfMemory {
+        return end(Err(Refusal::OutOfMemory), None, audience, errors);
+    }
+    Ended {
+        status: Status::WrongArguments,
+        is_reported: writeln!(errors, "error: an argument is not UTF-8").is_ok(),
+    }
+}

@@ -1,7 +1,0 @@
-use Rattle.std.proofs.Common.{take}
-use Rattle.replay.specs.Plain.{plain_lines}
-use Rattle.replay.specs.Replay.{AreCallsOfLines}
-use Rattle.replay.proofs.calls.calls_of.Given as goal
-
-abbrev pub invariant-loop-line : goal.invariant-loop-line
-invariant-loop-line g l = AreCallsOfLines g.F.Read.remaining (plain_lines (take l.line-index l.lines)) l.calls.items
