@@ -18,8 +18,7 @@ use Rattle.commit.specs.declared.sector.FormatVersion.{FormatVersion}
 use Rattle.cli_refusals.specs.declared.refusal.Refusal.{Refusal}
 use Rattle.cli_refusals.specs.declared.refusal.Refusal.TheVariants.{Io, Opening}
 use Rattle.cli_refusals.specs.Refusals.{file_refusal}
-use Rattle.cli_texts.specs.declared.status.Status.{Status}
-use Rattle.cli_texts.specs.declared.status.Status.TheVariants.{Done, PartlyDone, Refused}
+use Rattle.cli_texts.specs.declared.status.Status.TheVariants.{Done, PartlyDone}
 use Rattle.cli_texts.specs.declared.status.Ended.{Ended}
 use Rattle.cli_texts.specs.Ending.{HasReported, TellsRefusal}
 use Rattle.cli_texts.specs.LeftOut.{left_out_text}
@@ -87,10 +86,10 @@ silent_but_io word output output' (Ok unit) silent = tt
 silent_but_io word output output' (Err e) silent = λ whole. silent (λ io. whole (inl io))
 
 -- nor where a salvage was broken off
-pub silent_but_broken_off : {W : Type 0} (output output' : W) (done : Result (Unit {0}) Refusal) → IfErr done (λ refusal. ¬ IsBrokenOff refusal → output' ≡ output)
-    → IfErr done (λ refusal. ¬ WritesPart (codes "salvage") refusal → output' ≡ output)
-silent_but_broken_off output output' (Ok unit) silent = tt
-silent_but_broken_off output output' (Err e) silent = λ whole. silent (λ broken. whole (inr (refl, broken)))
+pub silent_but_broken_off : {W : Type 0} (word : List ℕ) (output output' : W) (done : Result (Unit {0}) Refusal) → word ≡ codes "salvage"
+    → IfErr done (λ refusal. ¬ IsBrokenOff refusal → output' ≡ output) → IfErr done (λ refusal. ¬ WritesPart word refusal → output' ≡ output)
+silent_but_broken_off word output output' (Ok unit) is silent = tt
+silent_but_broken_off word output output' (Err e) is silent = λ whole. silent (λ broken. whole (inr (is, broken)))
 
 -- what is reported of a request that was done, in part or whole, or refused
 pub has_reported : {W E : Type 0} (contents : E → Option (List ℕ)) (audience : Audience) (hint : Option Hint) (left : List (ℕ × ℕ)) (word : List ℕ) (output output' : W) (errors errors' : E)

@@ -27,8 +27,8 @@ returns-in-Ok-clause-salvages g c = record {
   reads = c.in-Ok.ensures.reads;
 }
 
-pub returns-in-Err-clause-salvages : goal.returns-in-Err-clause-salvages
-returns-in-Err-clause-salvages g c = (
+pub returns-clause-salvages : goal.returns-clause-salvages
+returns-clause-salvages g c = (
   inr (record {
     store = c.in_ok-store.store;
     opens = c.in_ok-store.ensures.opened;

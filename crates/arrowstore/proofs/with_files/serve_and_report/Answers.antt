@@ -8,11 +8,11 @@ returns-in-Some-clause-serves g c = let e = c.end_whole_or_partly.ensures in rec
   part = c.serve-done.new.hint;
   left = plain_left c.serve-done.new.left_out.items;
   result = c.serve-done.result;
-  serves = c.serve-done.ensures.serves;
-  ends = e.ends;
+  serves = rw c.new-left_out.ensures.items at c.serve-done.ensures.serves;
+  ends = rw (← c.deref.ensures.value) e.ends;
   hint = Some c.in-Some.hint;
   hints = c.in-Some.ensures;
-  told = has_reported _ _ _ _ _ _ _ _ _ c.serve-done.result c.end_whole_or_partly.result e.ends c.serve-done.ensures.silent e.silent e.lines e.line;
+  told = rw (← c.deref.ensures.value) (has_reported _ _ _ _ _ _ _ _ _ c.serve-done.result c.end_whole_or_partly.result e.ends c.serve-done.ensures.silent e.silent e.lines e.line);
 }
 
 pub returns-clause-serves : goal.returns-clause-serves
@@ -20,9 +20,9 @@ returns-clause-serves g c = let e = c.end_of_request.ensures in record {
   part = c.serve-done.new.hint;
   left = plain_left c.serve-done.new.left_out.items;
   result = c.serve-done.result;
-  serves = c.serve-done.ensures.serves;
-  ends = e.ends;
+  serves = rw c.new-left_out.ensures.items at c.serve-done.ensures.serves;
+  ends = rw (← c.deref-in-None.ensures.value) e.ends;
   hint = e.line.0;
   hints = e.line.1 ∙ c.in-None.ensures;
-  told = has_reported _ _ _ _ _ _ _ _ _ c.serve-done.result c.end_of_request.result e.ends c.serve-done.ensures.silent e.silent e.lines e.line.2;
+  told = rw (← c.deref-in-None.ensures.value) (has_reported _ _ _ _ _ _ _ _ _ c.serve-done.result c.end_of_request.result e.ends c.serve-done.ensures.silent e.silent e.lines e.line.2);
 }
