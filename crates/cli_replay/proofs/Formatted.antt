@@ -1,8 +1,10 @@
 -- An empty store on a device that is shut, and why none is made on a new one.
-use Rattle.std.proofs.Common.{◌≡◌, ◌∙◌, ℕ, Bool, false, [], ◌∷◌, None, Some, replicate, refl, ap, ap2, sym, subst}
+use Rattle.std.proofs.Common.{◌≡◌, ◌∙◌, ℕ, Bool, false, [], ◌∷◌, None, Option, Some, replicate, refl, ap, sym, subst}
 use Rattle.commit.specs.Ruling.{newer, ruling}
+use Rattle.commit.specs.Sector.{commit_at}
 use Rattle.commit.specs.declared.opening_refusal.OpeningRefusal.{OpeningRefusal}
 use Rattle.commit.specs.declared.opening_refusal.OpeningRefusal.TheVariants as openings
+use Rattle.commit.specs.declared.sector.Commit.{Commit}
 use Rattle.commit.specs.declared.sector.FormatVersion.{FormatVersion}
 use Rattle.commit.specs.laws.Sectors.{none_begins}
 use Rattle.sector_dev.specs.Disk.{Story, MayLeave, now, shown_image}
@@ -84,7 +86,8 @@ zeros_rule_none : (s : Story) → s ≡ all_synced (λ _. Some zeros) ∷ [] →
 unfolding newer ruling all_synced zeros
 zeros_rule_none s is =
     ap (λ (x : Story). ruling (shown_image (now x))) is
-    ∙ ap2 newer (none_begins 0 0 (replicate 511 0) refl) (none_begins 1 0 (replicate 511 0) refl)
+    ∙ ap (λ (c : Option Commit). newer c (commit_at 1 (Some zeros))) (none_begins 0 0 (replicate 511 0) refl)
+    ∙ none_begins 1 0 (replicate 511 0) refl
 
 -- why a device of zeros is not formatted
 pub new_refused : (sectors : ℕ) (device : ModelDevice) (r : OpeningRefusal) → size_of device ≡ sectors → history_of device ≡ all_synced (λ _. Some zeros) ∷ []

@@ -13,6 +13,6 @@ returns-in-Ok-clause-empty c =
     c.in_ok-device.ensures.size left.ensures.size left.ensures.failed
     c.left_devices_fit.ensures.goes_on (record { same = left.ensures.size; synced = left.ensures.synced; allowed = left.ensures.allowed })
 
-pub returns-in-Err-clause-told : goal.returns-in-Err-clause-told
-returns-in-Err-clause-told c =
+pub returns-clause-told : goal.returns-clause-told
+returns-clause-told c =
     new_refused c.args.sectors c.in_ok-device.device c.in-Err.refusal c.in_ok-device.ensures.size c.in_ok-device.ensures.zeros (c.in-Err.ensures.told refl)
