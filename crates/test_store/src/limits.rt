@@ -100,7 +100,7 @@ const AT_THE_LIMIT: Steps = &[
 ];
 
 fn wrong_when_heavy(alloc: Global, steps: Steps) -> Result<Option<usize>, NotMade> {
-    play(alloc, &mut new_slot(alloc, 90_000)?, steps, Way::EachCall)
+    play(alloc, &mut new_slot(alloc, 100_000)?, steps, Way::EachCall)
 }
 
 #[test]
