@@ -3,7 +3,7 @@ _arrowstore() {
     local word=${COMP_WORDS[COMP_CWORD]} before=${COMP_WORDS[COMP_CWORD-1]} flags=
     COMPREPLY=()
     if [ $COMP_CWORD -eq 1 ]; then
-        COMPREPLY=($(compgen -W 'format create import append query export rename drop tables schema check info compact upgrade copy replay recode help -h --help --version' -- "$word"))
+        COMPREPLY=($(compgen -W 'format create import append query export rename drop tables schema check salvage info compact upgrade copy replay recode help -h --help --version' -- "$word"))
         return
     fi
     case "${COMP_WORDS[1]} $before" in
@@ -24,20 +24,21 @@ _arrowstore() {
     create) flags='-h --help' ;;
     import) flags='-h --help' ;;
     append) flags='--as --null -h --help' ;;
-    query) flags='--columns --limit --save -h --help' ;;
+    query) flags='--columns --limit --save --objects -h --help' ;;
     export) flags='-h --help' ;;
     rename) flags='-h --help' ;;
     drop) flags='-h --help' ;;
     tables) flags='-h --help' ;;
     schema) flags='-h --help' ;;
     check) flags='-h --help' ;;
+    salvage) flags='-h --help' ;;
     info) flags='--json -h --help' ;;
     compact) flags='-h --help' ;;
     upgrade) flags='-h --help' ;;
     copy) flags='-h --help' ;;
     replay) flags='--sectors --fail --stop --choice --format-version -h --help' ;;
     recode) flags='-h --help' ;;
-    help) [ $COMP_CWORD -eq 2 ] && COMPREPLY=($(compgen -W 'format create import append query export rename drop tables schema check info compact upgrade copy replay recode refusals' -- "$word")); return ;;
+    help) [ $COMP_CWORD -eq 2 ] && COMPREPLY=($(compgen -W 'format create import append query export rename drop tables schema check salvage info compact upgrade copy replay recode refusals' -- "$word")); return ;;
     esac
     if [ "${word#-}" != "$word" ]; then
         COMPREPLY=($(compgen -W "$flags" -- "$word"))

@@ -13,6 +13,7 @@ complete -c arrowstore -n __fish_use_subcommand -a drop -d 'Removes a table with
 complete -c arrowstore -n __fish_use_subcommand -a tables -d 'Prints a line for each table: its name, and how many rows it has'
 complete -c arrowstore -n __fish_use_subcommand -a schema -d 'Prints a line for each field of a table'
 complete -c arrowstore -n __fish_use_subcommand -a check -d 'Reads all tables, and prints ok where each can be read'
+complete -c arrowstore -n __fish_use_subcommand -a salvage -d 'Writes the stream of the rows of a damaged table that can be read, and tells what is left out'
 complete -c arrowstore -n __fish_use_subcommand -a info -d 'Prints the store in numbers'
 complete -c arrowstore -n __fish_use_subcommand -a compact -d 'Joins small segments, moves the last ones forward, and prints how many steps that took'
 complete -c arrowstore -n __fish_use_subcommand -a upgrade -d 'Gives each segment of a store of version 1 the digest of its bytes'
@@ -35,6 +36,7 @@ complete -c arrowstore -n '__fish_seen_subcommand_from query; and test (count (c
 complete -c arrowstore -n '__fish_seen_subcommand_from query' -l columns -x -d 'The columns, in this order; without this option all of them'
 complete -c arrowstore -n '__fish_seen_subcommand_from query' -l limit -x -d 'How many rows at most'
 complete -c arrowstore -n '__fish_seen_subcommand_from query' -l save -x -d 'Makes a table of this name of them, in place of printing'
+complete -c arrowstore -n '__fish_seen_subcommand_from query' -l objects -d 'Prints each row as an object by the names of the columns, which then have to differ'
 complete -c arrowstore -n '__fish_seen_subcommand_from query' -s h -l help -d 'Print help'
 complete -c arrowstore -n '__fish_seen_subcommand_from export; and test (count (commandline -opc)) -eq 2' -F
 complete -c arrowstore -n '__fish_seen_subcommand_from export' -s h -l help -d 'Print help'
@@ -48,6 +50,8 @@ complete -c arrowstore -n '__fish_seen_subcommand_from schema; and test (count (
 complete -c arrowstore -n '__fish_seen_subcommand_from schema' -s h -l help -d 'Print help'
 complete -c arrowstore -n '__fish_seen_subcommand_from check; and test (count (commandline -opc)) -eq 2' -F
 complete -c arrowstore -n '__fish_seen_subcommand_from check' -s h -l help -d 'Print help'
+complete -c arrowstore -n '__fish_seen_subcommand_from salvage; and test (count (commandline -opc)) -eq 2' -F
+complete -c arrowstore -n '__fish_seen_subcommand_from salvage' -s h -l help -d 'Print help'
 complete -c arrowstore -n '__fish_seen_subcommand_from info; and test (count (commandline -opc)) -eq 2' -F
 complete -c arrowstore -n '__fish_seen_subcommand_from info' -l json -d 'Prints one JSON object on one line'
 complete -c arrowstore -n '__fish_seen_subcommand_from info' -s h -l help -d 'Print help'
@@ -65,4 +69,4 @@ complete -c arrowstore -n '__fish_seen_subcommand_from replay' -l choice -x -d '
 complete -c arrowstore -n '__fish_seen_subcommand_from replay' -l format-version -x -d 'The version of the store: 2, each segment with a digest, which it is without this option; 1 without digests'
 complete -c arrowstore -n '__fish_seen_subcommand_from replay' -s h -l help -d 'Print help'
 complete -c arrowstore -n '__fish_seen_subcommand_from recode' -s h -l help -d 'Print help'
-complete -c arrowstore -n '__fish_seen_subcommand_from help' -a 'format create import append query export rename drop tables schema check info compact upgrade copy replay recode refusals'
+complete -c arrowstore -n '__fish_seen_subcommand_from help' -a 'format create import append query export rename drop tables schema check salvage info compact upgrade copy replay recode refusals'
