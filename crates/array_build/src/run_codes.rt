@@ -49,8 +49,10 @@ fn code_at(
 ) -> Result<Option<usize>, AllocError>
     requires { (c : Cell) × IsNumber (seen_cells entries.old) number c }
     ensures seen { OnOk result (seen_cells entries.new ≡ seen_cells entries.old) }
-    ensures entries { OnOk result ((c : Cell) → IsNumber (seen_cells entries.old) number c → named_cells entries.new ≡ with_entry (named_cells entries.old) c) }
-    ensures code { IfOk result (λ code. (c : Cell) → IsNumber (seen_cells entries.old) number c → code ≡ code_in (named_cells entries.new) c) }
+    ensures entries { OnOk result ((c : Cell) → IsNumber (seen_cells entries.old) number c
+        → named_cells entries.new ≡ with_entry (named_cells entries.old) c) }
+    ensures code { IfOk result (λ code. (c : Cell) → IsNumber (seen_cells entries.old) number c
+        → code ≡ code_in (named_cells entries.new) c) }
 {
     match number {
         Some(number) => Ok(Some(entries.place_of(number)?)),

@@ -22,14 +22,16 @@ pub record IsOpened {D : Type 0} {g : Ghosts D} (device : D) (store : Store D g)
   pub on : is_halted store ≡ false
   pub found : g.tells ≡ true → FindsStore g.size g.story device store
   -- it stands for a machine that allows what the device has
-  pub opens : g.tells ≡ true → (base : Tables) (m : Machine) → DeviceFits g.size g.story base m device → Opens g.size g.story g.failed base m open_call device store
+  pub opens : g.tells ≡ true → (base : Tables) (m : Machine) → DeviceFits g.size g.story base m device
+      → Opens g.size g.story g.failed base m open_call device store
 
 -- a device that was not opened, for this reason: nothing was written to it
 pub record StaysShut {D : Type 0} (g : Ghosts D) (device : D) (refusal : OpeningRefusal) (back : D) : Type 0 where
   pub leaves : LeavesUnopened g.size g.story g.tells device refusal back
   pub size : g.size back ≡ g.size device
   pub count : g.failed back ≡ counted (shut_by refusal) (g.failed device)
-  pub shuts : g.tells ≡ true → (base : Tables) (m : Machine) → DeviceFits g.size g.story base m device → Shuts g.size g.story g.failed base m open_call device refusal back
+  pub shuts : g.tells ≡ true → (base : Tables) (m : Machine) → DeviceFits g.size g.story base m device
+      → Shuts g.size g.story g.failed base m open_call device refusal back
 
 -- why no store is opened on a device, and as what it is given back
 unfoldable pub RefusesOpening : {D : Type 0} → (g : Ghosts D) → (device back : D) → Refusal → Type 0
@@ -49,4 +51,5 @@ pub record ServesOpened {D : Type 0} (g : Ghosts D) {R W : Type 0} (remaining : 
 abbrev pub ServesDevice : {D : Type 0} → (g : Ghosts D) → {R W : Type 0} → (remaining : R → Option (List ℕ)) → (contents : W → Option (List ℕ)) → OpenCommand
     → (device back : D) → (before after : Channels R W) → Result (Unit {0}) Refusal → Type 0
 ServesDevice g remaining contents command device back before after result =
-    IsErrAnd result (λ refusal. RefusesOpening g device back refusal × (after ≡ before)) ⊎ ServesOpened g remaining contents command device back before after result
+    IsErrAnd result (λ refusal. RefusesOpening g device back refusal × (after ≡ before))
+    ⊎ ServesOpened g remaining contents command device back before after result

@@ -131,7 +131,8 @@ pub record CopiesInto {D : Type 0} (g : Ghosts D) (sectors : ℕ) (from : Store 
 
 -- why no copy is made: no new store is made, or some table is not copied into it
 abbrev pub FailsToCopy : {D : Type 0} → (g : Ghosts D) → (sectors : ℕ) → (from : Store D g) → Refusal → Type 0
-FailsToCopy g sectors from refusal = RefusesFormat g sectors (commit_of from).version refusal ⊎ ((r : tables.Refusal) × (refusal ≡ refusals.Store r) × CopiesInto g sectors from (Err r))
+FailsToCopy g sectors from refusal = RefusesFormat g sectors (commit_of from).version refusal
+    ⊎ ((r : tables.Refusal) × (refusal ≡ refusals.Store r) × CopiesInto g sectors from (Err r))
 
 -- why a store is not copied: it is not opened, or it is and no copy is made
 abbrev pub RefusesCopying : {D : Type 0} → (g : Ghosts D) → (is_opened : D → Type 0) → (sectors : ℕ) → Refusal → Type 0
@@ -148,7 +149,8 @@ pub record MakesCopy {D : Type 0} (g : Ghosts D) (is_opened : D → Type 0) {W :
   pub failed : IfErr result (λ refusal. refusal ≡ refusals.Io)
 
 -- or why not, and then nothing is written
-abbrev pub CopiesStore : {D : Type 0} → (g : Ghosts D) → (is_opened : D → Type 0) → {W : Type 0} → (contents : W → Option (List ℕ)) → (sectors : ℕ) → (output output' : W)
+abbrev pub CopiesStore : {D : Type 0} → (g : Ghosts D) → (is_opened : D → Type 0) → {W : Type 0} → (contents : W → Option (List ℕ)) → (sectors : ℕ)
+    → (output output' : W)
     → Result (Unit {0}) Refusal → Type 0
 CopiesStore g is_opened contents sectors output output' result =
     IsErrAnd result (λ refusal. RefusesCopying g is_opened sectors refusal × (output' ≡ output)) ⊎ MakesCopy g is_opened contents sectors output output' result
@@ -156,7 +158,8 @@ CopiesStore g is_opened contents sectors output output' result =
 -- ---- a salvage of a table of the store of a file
 
 -- a store was opened and its table of this name was salvaged, which left these segments out; the store was only read
-pub record SalvagesOpened {D : Type 0} (g : Ghosts D) (is_opened : D → Type 0) {W : Type 0} (contents : W → Option (List ℕ)) (name : List ℕ) (output output' : W)
+pub record SalvagesOpened {D : Type 0} (g : Ghosts D) (is_opened : D → Type 0) {W : Type 0} (contents : W → Option (List ℕ)) (name : List ℕ)
+    (output output' : W)
     (left : List (ℕ × ℕ)) : Type 0 where
   pub store : Store D g
   pub opens : OpensStore g is_opened store
@@ -173,7 +176,8 @@ pub record FailsToSalvage {D : Type 0} (g : Ghosts D) (is_opened : D → Type 0)
   pub reads : OnlyReadsStore g.size g.story g.failed g.tells (refusal_ended refusal) store after_it
 
 -- what a salvage leaves out; where it is refused since no store is opened, nothing is written
-abbrev pub SalvagesFile : {D : Type 0} → (g : Ghosts D) → (is_opened : D → Type 0) → {W : Type 0} → (contents : W → Option (List ℕ)) → (name : List ℕ) → (output output' : W)
+abbrev pub SalvagesFile : {D : Type 0} → (g : Ghosts D) → (is_opened : D → Type 0) → {W : Type 0} → (contents : W → Option (List ℕ)) → (name : List ℕ)
+    → (output output' : W)
     → (left left' : List (ℕ × ℕ)) → Result (Unit {0}) Refusal → Type 0
 SalvagesFile g is_opened contents name output output' left left' (Ok unit) = SalvagesOpened g is_opened contents name output output' left'
 SalvagesFile g is_opened contents name output output' left left' (Err refusal) =
@@ -182,7 +186,8 @@ SalvagesFile g is_opened contents name output output' left left' (Err refusal) =
 -- ---- a script
 
 -- the script of some file was played on a device in memory, and what is printed is what came of it; or why not
-abbrev pub Replays : (g : Ghosts ModelDevice) → {F R W : Type 0} → (of_file : F → Option (List ℕ)) → (of_none : R → Option (List ℕ)) → (contents : W → Option (List ℕ))
+abbrev pub Replays : (g : Ghosts ModelDevice) → {F R W : Type 0} → (of_file : F → Option (List ℕ)) → (of_none : R → Option (List ℕ))
+    → (contents : W → Option (List ℕ))
     → ReplayWords → (output output' : W) → Result (Unit {0}) Refusal → Type 0
 Replays g of_file of_none contents words output output' result =
     OnOk result (IsReplayOfFile g of_file of_none words.sectors words.version words.fail words.stop words.choice (contents output) (contents output'))
@@ -230,18 +235,21 @@ abbrev pub ends_of : {R W E : Type 0} → R → W → E → Ends R W E
 ends_of input output errors = record { input = input; output = output; errors = errors }
 
 -- what a run of the command of this word ended with, and what it left out, was reported to an audience, with a hint
-abbrev pub HasTold : {W E : Type 0} → (reported : E → Option (List ℕ)) → Audience → (word : List ℕ) → (left : List (ℕ × ℕ)) → (output output' : W) → (errors errors' : E)
+abbrev pub HasTold : {W E : Type 0} → (reported : E → Option (List ℕ)) → Audience → (word : List ℕ) → (left : List (ℕ × ℕ)) → (output output' : W)
+    → (errors errors' : E)
     → Ended → Option Hint → Type 0
 HasTold reported audience word left output output' errors errors' ended hint =
     HasReported reported audience hint left (WritesPart word) output output' errors errors' ended
 
 -- a request was served, and what is left out or hinted is reported
 pub record ServesTold {D : Type 0} (g : Ghosts D) (is_opened : D → Type 0) {R W E : Type 0} (remaining : R → Option (List ℕ)) (contents : W → Option (List ℕ))
-    (replays : ReplayWords → W → W → Result (Unit {0}) Refusal → Type 0) (reported : E → Option (List ℕ)) (audience : Audience) (request : StoreRequest) (before after : Ends R W E) (ended : Ended) : Type 0 where
+    (replays : ReplayWords → W → W → Result (Unit {0}) Refusal → Type 0) (reported : E → Option (List ℕ)) (audience : Audience) (request : StoreRequest)
+    (before after : Ends R W E) (ended : Ended) : Type 0 where
   pub part : Option RefusedPart
   pub left : List (ℕ × ℕ)
   pub result : Result (Unit {0}) Refusal
-  pub serves : ServesRequest g is_opened remaining contents replays request (channels before.input before.output None) (channels after.input after.output part) [] left result
+  pub serves : ServesRequest g is_opened remaining contents replays request (channels before.input before.output None)
+      (channels after.input after.output part) [] left result
   pub ends : ended.status ≡ status_of result left
   pub hint : Option Hint
   -- what is hinted of the input is the part that is refused, and else none is
@@ -254,7 +262,8 @@ IsAskedBy arguments request = (request_word request ≡ first_word arguments) ×
 
 -- it was served
 pub record ServesAsked {D : Type 0} (g : Ghosts D) (is_opened : D → Type 0) {R W E : Type 0} (remaining : R → Option (List ℕ)) (contents : W → Option (List ℕ))
-    (replays : ReplayWords → W → W → Result (Unit {0}) Refusal → Type 0) (reported : E → Option (List ℕ)) (audience : Audience) (arguments : List (List ℕ)) (before after : Ends R W E) (ended : Ended) : Type 0 where
+    (replays : ReplayWords → W → W → Result (Unit {0}) Refusal → Type 0) (reported : E → Option (List ℕ)) (audience : Audience) (arguments : List (List ℕ))
+    (before after : Ends R W E) (ended : Ended) : Type 0 where
   pub request : StoreRequest
   pub asks : IsAskedBy arguments request
   pub served : ServesTold g is_opened remaining contents replays reported audience request before after ended

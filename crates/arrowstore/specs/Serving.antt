@@ -10,7 +10,7 @@ use Rattle.text_import.specs.declared.form.TextForm.{TextForm}
 use Rattle.text_import.specs.declared.part.RefusedPart.{RefusedPart}
 use Rattle.catalogue.specs.Entries.{PlainEntry, is_name}
 use Rattle.catalogue.specs.Edits.{entry_of, tables_of}
-use Rattle.canonical_stream.specs.Canonical.{canonical}
+use Rattle.ipc_canonical.specs.Canonical.{canonical}
 use Rattle.tables.specs.Tables.{Tables}
 use Rattle.tables.specs.Commands.{PlainCommand, import_stream, append_stream, append_rows}
 use Rattle.tables.specs.View.{command_of}
@@ -125,9 +125,11 @@ Serves remaining contents (opened.AppendText name form) old new before after res
     CarriesText contents (remaining before.input) form name.now
     (RefusesText remaining form (is_halted old) (entry_of (listed_in old) name.now) before.input after.input) old new before after result
 Serves {g = g} remaining contents (opened.Select name query form) old new before after result =
-    Prints ((selected : PlainTable) × QueryAnswers form (is_halted old) g.tells (image_of old) (entry_of (listed_in old) name.now) (query_in query) (Ok selected)
+    Prints ((selected : PlainTable) × QueryAnswers form (is_halted old) g.tells (image_of old) (entry_of (listed_in old) name.now) (query_in query)
+    (Ok selected)
     × Appends (contents before.output) (contents after.output) (rows_text form selected))
-    (RefusesQuery form (is_halted old) g.tells (image_of old) (entry_of (listed_in old) name.now) (query_in query)) (OnlyRead result old new) before after result
+    (RefusesQuery form (is_halted old) g.tells (image_of old) (entry_of (listed_in old) name.now) (query_in query))
+    (OnlyRead result old new) before after result
 Serves remaining contents opened.Tables old new before after result =
     Prints (Appends (contents before.output) (contents after.output) (tables_text (tables_of (listed_in old))))
     (RefusesPrinting (RefusesTables (is_halted old)) (is_halted old ≡ false)) (new ≡ old) before after result

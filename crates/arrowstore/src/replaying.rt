@@ -16,7 +16,8 @@ pub(crate) fn serve_replay<F: Read + OpenFile + Drop, H: Files<File = F> + Alloc
     words: &ReplayWords<'_>,
     output: &mut W,
 ) -> Result<(), Refusal>
-    ensures replays { Replays ⟦<ModelDevice as SectorDevice>⟧ F.remaining ⟦<Empty as Read>⟧.remaining W.contents words.now output.old output.new result }
+    ensures replays { Replays ⟦<ModelDevice as SectorDevice>⟧ F.remaining ⟦<Empty as Read>⟧.remaining W.contents words.now
+        output.old output.new result }
     ensures silent { IfErr result (λ refusal. refusal ≢ Refusal.Io → output.new ≡ output.old) }
 {
     let faults = Faults {

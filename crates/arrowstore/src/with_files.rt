@@ -86,7 +86,8 @@ fn end_of_request<E: Write>(
     ensures silent { result.status ≡ Done → (errors.new ≡ errors.old) × IsTrue result.is_reported }
     ensures lines { result.status ≡ PartlyDone → IsTrue result.is_reported
         → Appends (E.contents errors.old) (E.contents errors.new) (left_out_text audience (plain_left left_out.now)) }
-    ensures line { (hint : Option Hint) × (hinted_part hint ≡ None) × TellsRefusal (told audience hint) result (E.contents errors.old) (E.contents errors.new) }
+    ensures line { (hint : Option Hint) × (hinted_part hint ≡ None)
+        × TellsRefusal (told audience hint) result (E.contents errors.old) (E.contents errors.new) }
 {
     match file {
         Some(file) => end_whole_or_partly(done, left_out, Some(file.hint()), audience, errors),
@@ -236,7 +237,8 @@ pub fn run_with_files<
         ⊎ (is_of_store (map S.text arguments.now) ≡ true) ⊎ GivesSome (W.contents output.old) (W.contents output.new) }
     // What is on `errors`: the report of a refusal to such an audience, the segments that are left out, and nothing where all is done. Only of commands of a
     // store more is hinted, or something left out.
-    ensures reports { (hint : Option Hint) × (left : List (ℕ × ℕ)) × ((is_of_store (map S.text arguments.now) ≡ true) ⊎ ((hint ≡ None) × (left ≡ [])))
+    ensures reports { (hint : Option Hint) × (left : List (ℕ × ℕ))
+        × ((is_of_store (map S.text arguments.now) ≡ true) ⊎ ((hint ≡ None) × (left ≡ [])))
         × HasTold E.contents audience (first_word (map S.text arguments.now)) left output.old output.new errors.old errors.new result hint }
 {
     if is_of_store(arguments) {

@@ -18,7 +18,7 @@ use Rattle.ipc_message.specs.Header.{supported_codes}
 use Rattle.ipc_stream.specs.Meaning.{meaning}
 use Rattle.catalogue.specs.Entries.{PlainEntry, PlainCatalogue}
 use Rattle.catalogue.specs.Edits.{entry_of, tables_of}
-use Rattle.canonical_stream.specs.Canonical.{canonical}
+use Rattle.ipc_canonical.specs.Canonical.{canonical}
 use Rattle.tables.specs.declared.refusal.Refusal.{Refusal}
 use Rattle.tables.specs.Commands.{PlainCommand, import_stream}
 use Rattle.tables.specs.Tables.{Tables, no_tables, table_at, with_table}

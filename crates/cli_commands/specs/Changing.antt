@@ -48,8 +48,10 @@ pub record AnswersCommand {D : Type 0} {g : Ghosts D} (size : D → ℕ) (story 
 
 -- a store answers a command that has all of an input so: what `Store::import_from` and `Store::append_from` promise of every store and every device,
 -- where `passes` is the test that comes before anything is read, and `why` is told where it fails
-pub record AnswersInput {D : Type 0} {g : Ghosts D} {R : Type 0} (size : D → ℕ) (story : D → Story) (failed : D → ℕ) (tells : Bool) (remaining : R → Option (List ℕ))
-    (command : List ℕ → PlainCommand) (passes : Bool) (why : tables.Refusal) (input left : R) (answer : Result (Unit {0}) tables.Refusal) (old new : stores.Store D g) : Type 0 where
+pub record AnswersInput {D : Type 0} {g : Ghosts D} {R : Type 0} (size : D → ℕ) (story : D → Story) (failed : D → ℕ) (tells : Bool)
+    (remaining : R → Option (List ℕ))
+    (command : List ℕ → PlainCommand) (passes : Bool) (why : tables.Refusal) (input left : R) (answer : Result (Unit {0}) tables.Refusal)
+    (old new : stores.Store D g) : Type 0 where
   pub takes : TakesInput size story failed tells (remaining input) command old answer new
   pub reads : ReadsFrom remaining (is_halted old) passes why input left (new ≡ old) answer
 

@@ -62,10 +62,12 @@ abbrev pub step_calls : List Compaction → List PlainCall
 step_calls taken = map (λ done. compact_call) taken
 
 -- calls of an open store, one after another: some machine goes on with the commands that were settled, and the store stands for it
-pub record RunsOn {D : Type 0} {g : Ghosts D} (base : Tables) (m : Machine) (calls : List PlainCall) (replies : List PlainReply) (old new : Store D g) : Type 0 where
+pub record RunsOn {D : Type 0} {g : Ghosts D} (base : Tables) (m : Machine) (calls : List PlainCall) (replies : List PlainReply)
+    (old new : Store D g) : Type 0 where
   pub next : Machine
   pub settled : next.settled ≡ m.settled
-  pub run : Run (setting_of (g.size (device_of old)) base) calls replies m (g.story (device_of old)) (g.failed (device_of old)) next (g.story (device_of new)) (g.failed (device_of new))
+  pub run : Run (setting_of (g.size (device_of old)) base) calls replies m (g.story (device_of old)) (g.failed (device_of old)) next
+      (g.story (device_of new)) (g.failed (device_of new))
   pub fits : StoreFits g.size g.story base next new
 
 -- at each moment of a stretch of time a stop leaves a store with these tables
@@ -90,7 +92,8 @@ pub record Compacted {D : Type 0} {g : Ghosts D} (taken : List Compaction) (answ
   pub goes : g.tells ≡ true → (base : Tables) (m : Machine) → StoreFits g.size g.story base m old
       → RunsOn base m (step_calls taken ++ compact_call ∷ []) (map reply_of taken ++ last_reply answer ∷ []) old new
   -- and whenever it stops the tables are those that were
-  pub stays : g.tells ≡ true → (base : Tables) (m : Machine) → StoreFits g.size g.story base m old → is_halted old ≡ false → StaysWith (after base m.settled) old new
+  pub stays : g.tells ≡ true → (base : Tables) (m : Machine) → StoreFits g.size g.story base m old → is_halted old ≡ false
+      → StaysWith (after base m.settled) old new
 
 -- a compaction that the program answered: how many steps did something is written once there is nothing to do any more, and a refusal is the store's
 pub record Compacts {D : Type 0} {g : Ghosts D} {W : Type 0} (contents : W → Option (List ℕ)) (old new : Store D g) (output output' : W)

@@ -4,7 +4,7 @@ use Rattle.sector_dev.specs.Disk.{now, shown_image}
 use Rattle.sector_dev.specs.declared.device.SectorDevice.{Ghosts}
 use Rattle.cells.specs.Cell.{PlainTable}
 use Rattle.catalogue.specs.Edits.{entry_of, tables_of}
-use Rattle.canonical_stream.specs.Canonical.{canonical}
+use Rattle.ipc_canonical.specs.Canonical.{canonical}
 use Rattle.tables.specs.Commands.{PlainCommand, import_stream}
 use Rattle.tables.specs.Tables.{Tables, no_tables}
 use Rattle.tables.specs.Verdict.{after}
@@ -24,7 +24,8 @@ pub record ComesTo {D : Type 0} {g : Ghosts D} (base : Tables) (m : Machine) (ta
   pub next : Machine
   pub commands : List PlainCommand
   pub settled : next.settled ≡ m.settled ++ commands
-  pub run : Run (setting_of (g.size (device_of old)) base) (map apply_call commands) (map (λ c. done) commands) m (g.story (device_of old)) (g.failed (device_of old))
+  pub run : Run (setting_of (g.size (device_of old)) base) (map apply_call commands) (map (λ c. done) commands) m (g.story (device_of old))
+      (g.failed (device_of old))
       next (g.story (device_of new)) (g.failed (device_of new))
   pub fits : StoreFits g.size g.story base next new
   pub tables_are : after base next.settled ≡ tables
@@ -38,7 +39,8 @@ HasAllOf {g = g} {h = h} from old new =
 -- ---- on any store and any device
 
 -- the stream of a table that reads of one store show was given to another one to be imported, which answered so; the first store was only read up to then
-pub record ImportsTable {D E : Type 0} {g : Ghosts D} {h : Ghosts E} (from : Store D g) (name : List ℕ) (old : Store E h) (answer : Result (Unit {0}) Refusal) (new : Store E h) : Type 0 where
+pub record ImportsTable {D E : Type 0} {g : Ghosts D} {h : Ghosts E} (from : Store D g) (name : List ℕ) (old : Store E h)
+    (answer : Result (Unit {0}) Refusal) (new : Store E h) : Type 0 where
   pub source : Store D g
   pub reads : OnlyReadsStore g.size g.story g.failed g.tells done from source
   pub table : PlainTable
@@ -57,11 +59,13 @@ pub record FailsToRead {D : Type 0} {g : Ghosts D} (from : Store D g) (name : Li
   pub refuses : RefusesRead (is_halted source) g.tells (shown_image (now (g.story (device_of source)))) (entry_of (listed_in source) name) r
 
 -- why a table is not copied: memory is refused, it is not read, or its import is refused
-abbrev pub RefusesTable : {D E : Type 0} {g : Ghosts D} {h : Ghosts E} → (from : Store D g) → (name : List ℕ) → (old : Store E h) → Refusal → (new : Store E h) → Type 0
+abbrev pub RefusesTable : {D E : Type 0} {g : Ghosts D} {h : Ghosts E} → (from : Store D g) → (name : List ℕ) → (old : Store E h) → Refusal
+    → (new : Store E h) → Type 0
 RefusesTable from name old r new = (((r ≡ OutOfMemory) ⊎ FailsToRead from name r) × (new ≡ old)) ⊎ ImportsTable from name old (Err r) new
 
 -- the table of a place is the first that is not copied, and those before it are
-pub record StopsCopying {D E : Type 0} {g : Ghosts D} {h : Ghosts E} (from : Store D g) (listed : List (List ℕ × ℕ)) (old : Store E h) (r : Refusal) (new : Store E h) : Type 0 where
+pub record StopsCopying {D E : Type 0} {g : Ghosts D} {h : Ghosts E} (from : Store D g) (listed : List (List ℕ × ℕ)) (old : Store E h) (r : Refusal)
+    (new : Store E h) : Type 0 where
   pub place : ℕ
   pub table : List ℕ × ℕ
   pub at : slice_get listed place ≡ Some table

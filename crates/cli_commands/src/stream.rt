@@ -10,8 +10,8 @@ ghost use Rattle.cli_commands.specs.Recode.{IsVerdict, AppendsCanonical, IsTrueF
 
 use crate::LARGEST_INPUT;
 use crate::input::read_input;
-use canonical_write::{WriteError, encode_to};
 use cli_refusals::Refusal;
+use ipc_encode::{WriteError, encode_to};
 use ipc_stream::decode;
 use std::alloc::Global;
 use std::io::{Read, Write};

@@ -51,8 +51,10 @@ IsFrontOfFile {F} remaining bytes = (file : F) × IfSome (remaining file) (λ al
 -- the call of a line
 abbrev pub IsCallOfLine : {F R : Type 0} → (remaining : F → Option (List ℕ)) → PlainLine → Call R → Type 0
 IsCallOfLine remaining (create name texts) (calls.Apply command) = (s : PlainSchema) × StateSchema texts s × (command_of command ≡ commands.create name s)
-IsCallOfLine remaining (import_file name path) (calls.Apply command) = (bytes : List ℕ) × IsFrontOfFile remaining bytes × (command_of command ≡ commands.import_stream name bytes)
-IsCallOfLine remaining (append_file name path) (calls.Apply command) = (bytes : List ℕ) × IsFrontOfFile remaining bytes × (command_of command ≡ commands.append_stream name bytes)
+IsCallOfLine remaining (import_file name path) (calls.Apply command) = (bytes : List ℕ) × IsFrontOfFile remaining bytes
+    × (command_of command ≡ commands.import_stream name bytes)
+IsCallOfLine remaining (append_file name path) (calls.Apply command) = (bytes : List ℕ) × IsFrontOfFile remaining bytes
+    × (command_of command ≡ commands.append_stream name bytes)
 IsCallOfLine remaining (rename from to) (calls.Apply command) = command_of command ≡ commands.rename from to
 IsCallOfLine remaining (drop name) (calls.Apply command) = command_of command ≡ commands.drop_table name
 IsCallOfLine remaining compact calls.Compact = Unit {0}
@@ -105,7 +107,8 @@ pub record IsKept {R : Type 0} (remaining : R → Option (List ℕ)) (lines : Li
 
 -- ---- all of it
 
-pub record IsReplay (g : Ghosts ModelDevice) {R : Type 0} (remaining : R → Option (List ℕ)) (sectors : ℕ) (version : FormatVersion) (fail stop : ℕ) (choice : Choice)
+pub record IsReplay (g : Ghosts ModelDevice) {R : Type 0} (remaining : R → Option (List ℕ)) (sectors : ℕ) (version : FormatVersion) (fail stop : ℕ)
+    (choice : Choice)
     (lines : List (Call R)) (text : List ℕ) : Type 0 where
   -- a device with an empty store: these calls of it are to fail
   pub device : ModelDevice
@@ -177,7 +180,8 @@ RefusesScript script _ = ⊥
 -- read, or the output can't be written; or memory is refused
 abbrev pub RefusesReplay : {F : Type 0} → (remaining : F → Option (List ℕ)) → (sectors : ℕ) → Refusal → Type 0
 RefusesReplay remaining sectors (Opening refusal) = IsOfNewDevice sectors refusal
-RefusesReplay remaining sectors (BadScript number) = (is_size sectors ≡ true) × ((script : List ℕ) × IsOfFile remaining script × IsScript script (Err (BadLine number)))
+RefusesReplay remaining sectors (BadScript number) = (is_size sectors ≡ true)
+    × ((script : List ℕ) × IsOfFile remaining script × IsScript script (Err (BadLine number)))
 RefusesReplay remaining sectors Io = is_size sectors ≡ true
 RefusesReplay remaining sectors TooManyBytes = is_size sectors ≡ true
 RefusesReplay remaining sectors OutOfMemory = Unit {0}

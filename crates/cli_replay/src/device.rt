@@ -74,9 +74,10 @@ pub(crate) fn with_faults(device: ModelDevice, fail: u64, stop: u64) -> ModelDev
 
 /// Opens the store of a device.
 pub(crate) fn open(alloc: Global, device: ModelDevice) -> Result<Place<ModelDevice>, Refusal>
-    ensures opened { IfOk result (λ place. AnswersCall ⟦<ModelDevice as SectorDevice>⟧.size ⟦<ModelDevice as SectorDevice>⟧.story ⟦<ModelDevice as SectorDevice>⟧.failed
-        ⟦<ModelDevice as SectorDevice>⟧.tells ⟦<Empty as Read>⟧.remaining (Shut device) calls.Open done place) }
-    ensures told { IfErr result (λ refusal. (sectors : ℕ) (version : FormatVersion) → IsEmptyStore ⟦<ModelDevice as SectorDevice>⟧ sectors version device
+    ensures opened { IfOk result (λ place. AnswersCall ⟦<ModelDevice as SectorDevice>⟧.size ⟦<ModelDevice as SectorDevice>⟧.story
+        ⟦<ModelDevice as SectorDevice>⟧.failed ⟦<ModelDevice as SectorDevice>⟧.tells ⟦<Empty as Read>⟧.remaining (Shut device) calls.Open done place) }
+    ensures told { IfErr result (λ refusal. (sectors : ℕ) (version : FormatVersion)
+        → IsEmptyStore ⟦<ModelDevice as SectorDevice>⟧ sectors version device
         → IsOfPlaying refusal) }
 {
     let call: Call = Call::Open;

@@ -52,9 +52,12 @@ pub(crate) fn play_lines(
     faults: Faults,
 ) -> Result<String, Refusal>
     requires { faults_of device ≡ no_faults }
-    ensures replays { IfOk result (λ text. (sectors : ℕ) (version : FormatVersion) → IsEmptyStore ⟦<ModelDevice as SectorDevice>⟧ sectors version device
-        → IsReplay ⟦<ModelDevice as SectorDevice>⟧ ⟦<Empty as Read>⟧.remaining sectors version faults.fail faults.stop faults.choice lines.items (string_bytes text)) }
-    ensures told { IfErr result (λ refusal. (sectors : ℕ) (version : FormatVersion) → IsEmptyStore ⟦<ModelDevice as SectorDevice>⟧ sectors version device
+    ensures replays { IfOk result (λ text. (sectors : ℕ) (version : FormatVersion)
+        → IsEmptyStore ⟦<ModelDevice as SectorDevice>⟧ sectors version device
+        → IsReplay ⟦<ModelDevice as SectorDevice>⟧ ⟦<Empty as Read>⟧.remaining sectors version faults.fail faults.stop faults.choice
+        lines.items (string_bytes text)) }
+    ensures told { IfErr result (λ refusal. (sectors : ℕ) (version : FormatVersion)
+        → IsEmptyStore ⟦<ModelDevice as SectorDevice>⟧ sectors version device
         → IsOfPlaying refusal) }
 {
     let device = with_faults(device, faults.fail, faults.stop);

@@ -16,7 +16,7 @@ use Rattle.values.specs.Table.{IsTable}
 use Rattle.ipc_message.specs.Header.{supported_codes}
 use Rattle.ipc_stream.specs.Meaning.{meaning}
 use Rattle.table_cut.specs.CutRows.{joined}
-use Rattle.canonical_stream.specs.Canonical.{stream_parts}
+use Rattle.ipc_canonical.specs.Canonical.{stream_parts}
 use Rattle.catalogue.specs.declared.entry.Segment.{Segment}
 use Rattle.catalogue.specs.Entries.{PlainEntry, PlainCatalogue, IsCatalogue, is_entry, runs_in_segments}
 use Rattle.catalogue.specs.Edits.{entry_of}

@@ -15,7 +15,7 @@ use Rattle.segments.specs.laws.Usages.{same_itself, same_run_is, same_or_not, ti
 use Rattle.arrow_schema.specs.Column.{PlainSchema}
 use Rattle.cells.specs.Cell.{Cell}
 use Rattle.ipc_write.specs.Written.{end_of_stream}
-use Rattle.canonical_stream.specs.Canonical.{rows_messages, stream_parts}
+use Rattle.ipc_canonical.specs.Canonical.{rows_messages, stream_parts}
 use Rattle.catalogue.specs.declared.entry.Segment.{Segment}
 use Rattle.catalogue.specs.Entries.{PlainEntry, PlainCatalogue, is_segment, is_entry, page_runs, runs_in_segments, runs_in, runs_of, segment_count}
 use Rattle.catalogue.specs.Edits.{entry_of}

@@ -8,8 +8,8 @@ use Rattle.std.proofs.lemmas.List.{length-map, length-append, map-append, drop_a
 use Rattle.std.proofs.lemmas.Slice.Eq.{bytes_eq-Decides}
 use Rattle.sector_dev.specs.Disk.{Disk, Image, synced_image}
 use Rattle.array_build.specs.declared.batch.Buffer.{Buffer}
-use Rattle.canonical_write.specs.View.{joined_parts, streams_in}
-use Rattle.canonical_write.specs.declared.encoder.EncodedPieces.{EncodedPieces}
+use Rattle.ipc_encode.specs.View.{joined_parts, streams_in}
+use Rattle.ipc_encode.specs.declared.encoder.EncodedPieces.{EncodedPieces}
 use Rattle.segments.specs.declared.errors.TakeError.{TakeError}
 use Rattle.segments.specs.declared.errors.TakeError.TheVariants as takings
 use Rattle.segments.specs.declared.run.Run.{Run}

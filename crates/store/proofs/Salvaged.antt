@@ -10,7 +10,7 @@ use Rattle.arrow_schema.specs.Column.{PlainSchema}
 use Rattle.cells.specs.Cell.{Cell}
 use Rattle.ipc_write.specs.Written.{schema_message, end_of_stream}
 use Rattle.table_cut.specs.CutRows.{joined}
-use Rattle.canonical_stream.specs.Canonical.{rows_messages, stream_parts}
+use Rattle.ipc_canonical.specs.Canonical.{rows_messages, stream_parts}
 use Rattle.catalogue.specs.declared.entry.Segment.{Segment}
 use Rattle.catalogue.specs.Entries.{PlainEntry}
 use Rattle.tables.specs.declared.refusal.Refusal.{Refusal}

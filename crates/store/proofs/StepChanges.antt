@@ -14,7 +14,7 @@ use Rattle.segments.specs.declared.run.Run.{Run}
 use Rattle.arrow_schema.specs.Column.{PlainSchema}
 use Rattle.cells.specs.Cell.{Cell, PlainTable}
 use Rattle.values.specs.Table.{IsTable}
-use Rattle.canonical_write.specs.Pieces.{IsPiece, piece_stream, piece_streams, piece_counts}
+use Rattle.ipc_encode.specs.Pieces.{IsPiece, piece_stream, piece_streams, piece_counts}
 use Rattle.table_cut.specs.Cut.{pieces, pieces_from}
 use Rattle.table_cut.specs.Piece.{pieces_of, within_piece}
 use Rattle.catalogue.specs.declared.entry.Segment.{Segment}

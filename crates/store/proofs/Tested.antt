@@ -15,7 +15,7 @@ use Rattle.ipc_message.specs.declared.fault.Fault.{Fault}
 use Rattle.ipc_message.specs.Header.{supported_codes}
 use Rattle.table_cut.specs.Piece.{pieces_of}
 use Rattle.ipc_stream.specs.Meaning.{meaning}
-use Rattle.canonical_write.specs.Pieces.{piece_streams, piece_counts, IsPiece}
+use Rattle.ipc_encode.specs.Pieces.{piece_streams, piece_counts, IsPiece}
 use Rattle.store.specs.laws.Pieces.{pieces_each, pieces_some, pieces_few}
 use Rattle.ipc_message.specs.laws.Accepted.{first_none}
 use Rattle.store.specs.Changes.{put, move, remove, HasEntry, IsEdit, IsChange, new_entry, rows_under}

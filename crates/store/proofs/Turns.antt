@@ -8,7 +8,7 @@ use Rattle.std.proofs.lemmas.List.{drop_more, map-append}
 use Rattle.facts.specs.laws.Lists.{drop-item, flat_map-push}
 use Rattle.array_build.specs.Batch.{buffer_bytes}
 use Rattle.array_build.specs.declared.batch.Buffer.{Buffer}
-use Rattle.canonical_write.specs.View.{joined_parts, streams_behind}
+use Rattle.ipc_encode.specs.View.{joined_parts, streams_behind}
 use Rattle.segments.specs.declared.piece.Part.{Part}
 use Rattle.segments.specs.declared.piece.Part.TheVariants.{Borrowed}
 use Rattle.segments.specs.declared.piece.Piece.{Piece}

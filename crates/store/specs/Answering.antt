@@ -4,7 +4,7 @@ use Rattle.sector_dev.specs.Disk.{Story, Image, now, shown_image}
 use Rattle.sector_dev.specs.Time.{Grows, OnlyReads}
 use Rattle.sector_dev.specs.declared.device.SectorDevice.{Ghosts}
 use Rattle.cells.specs.Cell.{PlainTable}
-use Rattle.canonical_stream.specs.Canonical.{canonical}
+use Rattle.ipc_canonical.specs.Canonical.{canonical}
 use Rattle.catalogue.specs.Entries.{PlainEntry}
 use Rattle.catalogue.specs.Edits.{entry_of, tables_of}
 use Rattle.commit.specs.Standing.{is_size}

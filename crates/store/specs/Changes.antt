@@ -13,7 +13,7 @@ use Rattle.arrow_schema.specs.Limits.{IsWithinLimits}
 use Rattle.ipc_write.specs.Written.{schema_message}
 use Rattle.cells.specs.Cell.{Cell, PlainTable}
 use Rattle.values.specs.Table.{table_from}
-use Rattle.canonical_write.specs.Pieces.{piece_streams, piece_counts}
+use Rattle.ipc_encode.specs.Pieces.{piece_streams, piece_counts}
 use Rattle.commit.specs.Placing.{AreShort}
 use Rattle.commit.specs.declared.sector.FormatVersion.{FormatVersion}
 use Rattle.commit.specs.declared.sector.FormatVersion.TheVariants.{One, Two}

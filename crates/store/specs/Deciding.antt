@@ -8,7 +8,7 @@ use Rattle.arrow_schema.specs.Column.{PlainSchema}
 use Rattle.cells.specs.Cell.{Cell, PlainTable}
 use Rattle.ipc_message.specs.Header.{supported_codes}
 use Rattle.ipc_stream.specs.Meaning.{meaning}
-use Rattle.canonical_write.specs.Pieces.{piece_streams, piece_counts}
+use Rattle.ipc_encode.specs.Pieces.{piece_streams, piece_counts}
 use Rattle.query.specs.Query.{PlainQuery}
 use Rattle.query.specs.Selection.{selection}
 use Rattle.catalogue.specs.Entries.{PlainEntry, PlainCatalogue}

@@ -6,7 +6,7 @@ use Rattle.segments.specs.Usages.{PinsAll, UnpinsAll}
 use Rattle.arrow_schema.specs.Column.{PlainSchema}
 use Rattle.cells.specs.Cell.{Cell}
 use Rattle.ipc_write.specs.Written.{schema_message, end_of_stream}
-use Rattle.canonical_stream.specs.Canonical.{rows_messages}
+use Rattle.ipc_canonical.specs.Canonical.{rows_messages}
 use Rattle.catalogue.specs.declared.entry.Segment.{Segment}
 use Rattle.catalogue.specs.Entries.{PlainEntry, runs_in_segments}
 use Rattle.export_book.specs.Book.{PlainExport, PlainBook, is_full, with_open, with_given, without}

@@ -11,7 +11,7 @@ use Rattle.values.specs.Table.{Refusal, table_from}
 use Rattle.ipc_message.specs.declared.fault.Fault.{Fault}
 use Rattle.ipc_message.specs.Header.{supported_codes}
 use Rattle.ipc_write.specs.Written.{schema_message}
-use Rattle.canonical_stream.specs.Canonical.{stream_parts}
+use Rattle.ipc_canonical.specs.Canonical.{stream_parts}
 use Rattle.ipc_stream.specs.Meaning.{meaning}
 use Rattle.catalogue.specs.declared.entry.Segment.{Segment}
 use Rattle.catalogue.specs.Entries.{PlainEntry, PlainCatalogue}

@@ -5,7 +5,7 @@ use Rattle.sector_dev.specs.Disk.{Image}
 use Rattle.arrow_schema.specs.Column.{PlainSchema}
 use Rattle.cells.specs.Cell.{Cell}
 use Rattle.table_cut.specs.CutRows.{joined}
-use Rattle.canonical_stream.specs.Canonical.{stream_parts}
+use Rattle.ipc_canonical.specs.Canonical.{stream_parts}
 use Rattle.catalogue.specs.declared.entry.Segment.{Segment}
 use Rattle.catalogue.specs.Entries.{PlainEntry}
 use Rattle.tables.specs.declared.refusal.Refusal.{Refusal}

@@ -2,7 +2,7 @@
 use Rattle.std.specs.Prelude.{Option, Some, None}
 use Rattle.arrow_schema.specs.View.{schema_of}
 use Rattle.arrow_schema.specs.declared.types.Schema.{Schema}
-use Rattle.canonical_write.specs.View.{with_schema}
+use Rattle.ipc_encode.specs.View.{with_schema}
 use Rattle.cells.specs.Cell.{PlainTable}
 use Rattle.values.specs.TableView.{table_of}
 use Rattle.values.specs.declared.table.Table.{Table}

@@ -4,7 +4,7 @@ ghost use Rattle.std.specs.List.{list_all};
 ghost use Rattle.segments.specs.Usages.{IsUsedIn, SameUsages, GivesAll};
 ghost use Rattle.segments.specs.Pieces.{bytes_of_parts, plain_pieces};
 ghost use Rattle.segments.specs.Writing.{runs_of};
-ghost use Rattle.canonical_write.specs.View.{joined_parts, streams_in};
+ghost use Rattle.ipc_encode.specs.View.{joined_parts, streams_in};
 ghost use Rattle.catalogue.specs.declared.limits.TheConstants.{MAX_SEGMENTS};
 ghost use Rattle.catalogue.specs.Entries.{is_segment, IsCatalogue, segment_count};
 ghost use Rattle.catalogue.specs.View.{catalogue_of};
@@ -19,9 +19,9 @@ use crate::Store;
 use crate::change::{Change, Edit};
 use crate::editing::{edited, given_up, in_runs, segments_after, unplaced, version_after};
 use array_build::Buffer;
-use canonical_write::EncodedPieces;
 use catalogue::{MAX_SEGMENTS, Segment, one_page_each};
 use commit::{CatalogueKind, Commit, Opened, Places, Plan, place, plan_next, publish};
+use ipc_encode::EncodedPieces;
 use pages::{
     Layout, StoredCatalogue, kept_catalogues_are_read, layout_of, pages_hold_what_was_read,
 };
@@ -94,11 +94,15 @@ fn ask(
     requires sound { IsChange (catalogue_of stored.now.list) (change_of change.now) }
     requires segments { segments.now ≡ unplaced commit.version (change_of change.now).streams (change_of change.now).counts }
     requires stands { IsCatalogue (outline commit.version (catalogue_of stored.now.list) (change_of change.now)) }
-    ensures kind { IfOk result (λ asked. asked.layout.kind ≡ kind_of (outline commit.version (catalogue_of stored.now.list) (change_of change.now))) }
-    ensures pages { IfOk result (λ asked. asked.layout.pages.items ≡ page_sizes (outline commit.version (catalogue_of stored.now.list) (change_of change.now))) }
-    ensures text { IfOk result (λ asked. asked.layout.text_bytes ≡ text_size (outline commit.version (catalogue_of stored.now.list) (change_of change.now))) }
+    ensures kind { IfOk result (λ asked.
+        asked.layout.kind ≡ kind_of (outline commit.version (catalogue_of stored.now.list) (change_of change.now))) }
+    ensures pages { IfOk result (λ asked.
+        asked.layout.pages.items ≡ page_sizes (outline commit.version (catalogue_of stored.now.list) (change_of change.now))) }
+    ensures text { IfOk result (λ asked.
+        asked.layout.text_bytes ≡ text_size (outline commit.version (catalogue_of stored.now.list) (change_of change.now))) }
     ensures back { IfOk result (λ asked. asked.back.items
-        ≡ given_up (catalogue_of stored.now.list) (change_of change.now).edit (unplaced commit.version (change_of change.now).streams (change_of change.now).counts)
+        ≡ given_up (catalogue_of stored.now.list) (change_of change.now).edit
+        (unplaced commit.version (change_of change.now).streams (change_of change.now).counts)
         ++ (dropped_pages (outline commit.version (catalogue_of stored.now.list) (change_of change.now)) ++ commit.catalogue.run ∷ [])) }
 {
     let list = edited(alloc, &stored.list, &change.edit, segments)?;
@@ -123,12 +127,18 @@ fn next_catalogue<'a>(
     requires sound { list_all is_segment (in_runs (runs_of (plain_pieces pieces.now)) segments.now) ≡ true }
     requires edit { (streams : List (List ℕ)) × IsEdit (catalogue_of stored.now.list) (edit_of edit.now) streams }
     requires stands { IsCatalogue (edited (catalogue_of stored.now.list) (edit_of edit.now) (in_runs (runs_of (plain_pieces pieces.now)) segments.now)) }
-    requires kind { kind ≡ kind_of (edited (catalogue_of stored.now.list) (edit_of edit.now) (in_runs (runs_of (plain_pieces pieces.now)) segments.now)) }
-    requires pages { ArePageRuns (edited (catalogue_of stored.now.list) (edit_of edit.now) (in_runs (runs_of (plain_pieces pieces.now)) segments.now)) pages.now }
-    ensures catalogue { IfOk result (λ next. catalogue_of next.0.list ≡ settled (edited (catalogue_of stored.now.list) (edit_of edit.now) (in_runs (runs_of (plain_pieces pieces.now)) segments.now)) pages.now) }
+    requires kind { kind ≡ kind_of (edited (catalogue_of stored.now.list) (edit_of edit.now)
+        (in_runs (runs_of (plain_pieces pieces.now)) segments.now)) }
+    requires pages { ArePageRuns (edited (catalogue_of stored.now.list) (edit_of edit.now)
+        (in_runs (runs_of (plain_pieces pieces.now)) segments.now)) pages.now }
+    ensures catalogue { IfOk result (λ next. catalogue_of next.0.list
+        ≡ settled (edited (catalogue_of stored.now.list) (edit_of edit.now)
+        (in_runs (runs_of (plain_pieces pieces.now)) segments.now)) pages.now) }
     ensures texts { IfOk result (λ next. plain_contents next.1.items
-        ≡ page_texts (edited (catalogue_of stored.now.list) (edit_of edit.now) (in_runs (runs_of (plain_pieces pieces.now)) segments.now))
-        ++ settled_text (edited (catalogue_of stored.now.list) (edit_of edit.now) (in_runs (runs_of (plain_pieces pieces.now)) segments.now)) pages.now ∷ []) }
+        ≡ page_texts (edited (catalogue_of stored.now.list) (edit_of edit.now)
+        (in_runs (runs_of (plain_pieces pieces.now)) segments.now))
+        ++ settled_text (edited (catalogue_of stored.now.list) (edit_of edit.now)
+        (in_runs (runs_of (plain_pieces pieces.now)) segments.now)) pages.now ∷ []) }
 {
     let placed = in_runs(alloc, segments, pieces)?;
     let list = edited(alloc, &stored.list, edit, &placed)?;

@@ -1,13 +1,13 @@
 // What a command changes, before its new segments have places.
 ghost use Rattle.std.specs.Prelude.{◌≡◌, ◌∷◌, [], IfOk};
-ghost use Rattle.canonical_write.specs.View.{streams_in};
+ghost use Rattle.ipc_encode.specs.View.{streams_in};
 ghost use Rattle.commit.specs.Placing.{AreShort};
 ghost use Rattle.store.specs.Under.{table_under};
 ghost use Rattle.values.specs.Table.{IsTable};
 
 use array_build::Buffer;
 use arrow_schema::Schema;
-use canonical_write::{EncodedPieces, encode_own_pieces, encode_pieces};
+use ipc_encode::{EncodedPieces, encode_own_pieces, encode_pieces};
 use std::alloc::{AllocError, Global};
 use values::Table;
 
@@ -69,7 +69,7 @@ pub struct Change {
 }
 
 impl SegmentRows {
-    ghost use Rattle.canonical_write.specs.Pieces.{piece_streams, piece_counts};
+    ghost use Rattle.ipc_encode.specs.Pieces.{piece_streams, piece_counts};
     ghost use Rattle.store.specs.Changes.{rows_table};
 
     // The pieces of the rows.

@@ -14,8 +14,8 @@ ghost use Rattle.store.specs.inner.Tests.{Tests, decision_of};
 
 use crate::change::{Change, Edit, NewSegments, SegmentRows};
 use arrow_schema::{Schema, one_shape_is_decided, same_shape};
-use canonical_write::pieces_are_tables;
 use catalogue::{Catalogue, MAX_TABLES, counts_after_changes, is_name};
+use ipc_encode::pieces_are_tables;
 use ipc_stream::decode;
 use std::alloc::{AllocError, Global};
 use tables::{Limit, MAX_IMPORT_BYTES, NewTable, Refusal};

@@ -34,7 +34,7 @@ ghost use Rattle.store.specs.Since.{story_at, IsLeftFrom};
 ghost use Rattle.store.specs.Halting.{phase_where, tells_halt_while_open};
 ghost use Rattle.store.specs.History.{any_change, begun, acknowledged, Settles, SettlesAll, Keeps, tells_damage, tells_no_store};
 
-use canonical_write::pieces_are_tables;
+use ipc_encode::pieces_are_tables;
 use ipc_stream::meaning_is_a_table;
 use pages::pages_hold_what_was_read;
 use query::{rows_refuse_no_query, selection_is_a_table};

@@ -1,4 +1,4 @@
-// Streams of tables that are made of rows (canonical_write, ipc_stream). What the built program shows of streams is tested by scripts, without
+// Streams of tables that are made of rows (ipc_encode, ipc_stream). What the built program shows of streams is tested by scripts, without
 // a proof (tests/program, tests/refused_memory).
 use crate::made::{
     NotMade, assert_no_row, has_rows, is_one_well, schema_of_columns, table_of_cells, table_of_rows,
@@ -8,7 +8,7 @@ use crate::stream_bytes::{
     batch, joined,
 };
 use arrow_schema::same_shape;
-use canonical_write::{encode, encode_to};
+use ipc_encode::{encode, encode_to};
 use ipc_stream::decode;
 use std::alloc::{AllocError, Global};
 use std::io::{self, Write};

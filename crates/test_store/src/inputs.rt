@@ -5,8 +5,8 @@ ghost use Rattle.arrow_schema.specs.Limits.{IsWithinLimits};
 
 use crate::made::NotMade;
 use arrow_schema::Schema;
-use canonical_write::encode;
 use field_texts::parse_fields;
+use ipc_encode::encode;
 use ipc_write::{BatchContents, write_batch, write_end, write_schema};
 use std::alloc::{AllocError, Global};
 use values::{Row, Table, Value};

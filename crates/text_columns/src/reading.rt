@@ -86,7 +86,8 @@ pub(crate) fn read_lines(
     schema: &Schema,
     text: &[u8],
 ) -> Result<Option<Columns>, AllocError>
-    ensures { IfOk result (λ found. IfSome found (λ c. HasRows (schema_of schema.now) (jsonl_rows_of (schema_of schema.now) text.now) c.read c.builders.items)) }
+    ensures { IfOk result (λ found. IfSome found (λ c.
+        HasRows (schema_of schema.now) (jsonl_rows_of (schema_of schema.now) text.now) c.read c.builders.items)) }
 {
     let Some(mut builders) = no_rows(alloc, &schema.fields)? else {
         return Ok(None);

@@ -13,7 +13,7 @@ use Rattle.ipc_stream.specs.Meaning.{meaning}
 use Rattle.query.specs.Bound.{Refusal}
 use Rattle.query.specs.Query.{PlainQuery}
 use Rattle.query.specs.Selection.{selection}
-use Rattle.canonical_write.specs.Pieces.{piece_streams, piece_counts}
+use Rattle.ipc_encode.specs.Pieces.{piece_streams, piece_counts}
 use Rattle.catalogue.specs.Entries.{PlainCatalogue, IsCatalogue}
 use Rattle.commit.specs.declared.sector.Commit.{Commit}
 use Rattle.commit.specs.Standing.{is_size}

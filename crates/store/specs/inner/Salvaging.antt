@@ -5,7 +5,7 @@ use Rattle.std.specs.Io.KnownBytes.{Appends}
 use Rattle.sector_dev.specs.Disk.{Image}
 use Rattle.arrow_schema.specs.Column.{PlainSchema}
 use Rattle.cells.specs.Cell.{Cell}
-use Rattle.canonical_stream.specs.Canonical.{rows_messages}
+use Rattle.ipc_canonical.specs.Canonical.{rows_messages}
 use Rattle.catalogue.specs.declared.entry.Segment.{Segment}
 use Rattle.tables.specs.declared.refusal.Refusal.{Refusal}
 use Rattle.tables.specs.declared.refusal.Refusal.TheVariants as refusals

@@ -5,7 +5,7 @@ use Rattle.std.proofs.Common.{inl, inr, ⊎_elim, sym, ap, ◌∙◌, arith}
 use Rattle.std.proofs.lemmas.Bool.{and_parts, leb-true}
 use Rattle.sector_dev.specs.Disk.{Image}
 use Rattle.segments.specs.declared.run.Run.{Run}
-use Rattle.canonical_stream.specs.Canonical.{stream_parts}
+use Rattle.ipc_canonical.specs.Canonical.{stream_parts}
 use Rattle.commit.specs.Standing.{is_on_device, all_on_device, InSome}
 use Rattle.export_book.specs.Book.{PlainExport, runs_kept}
 use Rattle.catalogue.specs.Entries.{runs_in_segments}

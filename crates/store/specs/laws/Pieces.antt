@@ -9,7 +9,7 @@ use Rattle.arrow_schema.specs.Column.{PlainSchema}
 use Rattle.cells.specs.Cell.{Cell, PlainTable}
 use Rattle.table_cut.specs.Piece.{pieces_of}
 use Rattle.table_cut.specs.CutRows.{joined}
-use Rattle.canonical_write.specs.Pieces.{piece_stream, piece_streams, piece_counts, IsPiece}
+use Rattle.ipc_encode.specs.Pieces.{piece_stream, piece_streams, piece_counts, IsPiece}
 use Rattle.catalogue.specs.declared.limits.TheConstants.{MAX_SEGMENT_ROWS}
 use Rattle.catalogue.specs.Entries.{is_between}
 use Rattle.store.specs.Held.{rows_where, rows_in_bytes, joined_rows}

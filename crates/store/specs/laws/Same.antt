@@ -3,7 +3,7 @@ use Rattle.std.specs.Prelude.{◌≡◌, ℕ, true, List, [], ◌∷◌, Option,
 use Rattle.std.proofs.Common.{sym, ap, ◌∙◌}
 use Rattle.sector_dev.specs.Disk.{Image}
 use Rattle.cells.specs.Cell.{Cell}
-use Rattle.canonical_write.specs.Pieces.{piece_streams, piece_counts}
+use Rattle.ipc_encode.specs.Pieces.{piece_streams, piece_counts}
 use Rattle.catalogue.specs.declared.entry.Segment.{Segment}
 use Rattle.catalogue.specs.Entries.{PlainEntry, PlainCatalogue}
 use Rattle.catalogue.specs.Edits.{entry_of, from_place}

@@ -1,5 +1,5 @@
 use Rattle.std.proofs.Common.{◌≡◌, ◌≤◌, ◌+◌, ◌++◌, drop, length, vec_len, vec_capacity}
-use Rattle.canonical_write.specs.View.{joined_parts}
+use Rattle.ipc_encode.specs.View.{joined_parts}
 use Rattle.segments.specs.Pieces.{bytes_of_parts}
 use Rattle.store.proofs.carrying.borrowed_parts.Given as goal
 

@@ -1,5 +1,5 @@
 use Rattle.std.proofs.Common.{◌≡◌, ◌≤◌, ◌++◌, drop, length, vec_len, vec_capacity}
-use Rattle.canonical_write.specs.View.{streams_behind, streams_in}
+use Rattle.ipc_encode.specs.View.{streams_behind, streams_in}
 use Rattle.commit.specs.Placing.{plain_contents}
 use Rattle.store.proofs.carrying.borrowed_streams.Given as goal
 

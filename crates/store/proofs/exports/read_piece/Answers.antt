@@ -4,7 +4,7 @@ use Rattle.sector_dev.specs.Disk.{now, shown_image}
 use Rattle.arrow_schema.specs.Column.{PlainSchema}
 use Rattle.cells.specs.Cell.{Cell}
 use Rattle.values.specs.TableView.{table_of}
-use Rattle.canonical_stream.specs.Canonical.{rows_messages}
+use Rattle.ipc_canonical.specs.Canonical.{rows_messages}
 use Rattle.tables.specs.declared.refusal.Refusal.{Refusal}
 use Rattle.tables.specs.declared.refusal.Refusal.TheVariants.{OutOfMemory}
 use Rattle.store.specs.Calls.{is_failure}

@@ -1,7 +1,7 @@
 use Rattle.std.proofs.Common.{Option, sym, ap, ◌∙◌}
 use Rattle.std.proofs.lemmas.Result.{IfOk-weaker}
 use Rattle.arrow_schema.specs.declared.types.Schema.{Schema}
-use Rattle.canonical_write.specs.Pieces.{piece_streams, piece_counts}
+use Rattle.ipc_encode.specs.Pieces.{piece_streams, piece_counts}
 use Rattle.store.specs.Under.{table_under}
 use Rattle.store.proofs.change.SegmentRows.pieces.Goals as goal
 

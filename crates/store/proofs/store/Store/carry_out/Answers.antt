@@ -28,7 +28,7 @@ use Rattle.store.specs.Reading.{ended}
 use Rattle.store.proofs.Prepared.{placed_is, failed_usages, placed_then, fit_then, uses_then}
 use Rattle.tables.specs.declared.refusal.Refusal.{Refusal}
 use Rattle.tables.specs.declared.refusal.Refusal.TheVariants as refusals
-use Rattle.canonical_write.specs.View.{streams_in}
+use Rattle.ipc_encode.specs.View.{streams_in}
 use Rattle.store.proofs.Carried.{made_change, stands_then, can_publish, taking, has_carried, carries}
 use Rattle.store.proofs.store.Store.carry_out.Goals as goal
 

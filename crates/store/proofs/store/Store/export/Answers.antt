@@ -2,9 +2,9 @@ use Rattle.std.specs.Prelude.{◌≢◌}
 use Rattle.std.proofs.Common.{◌≡◌, refl}
 use Rattle.sector_dev.specs.Disk.{now, shown_image}
 use Rattle.catalogue.specs.Edits.{entry_of}
-use Rattle.canonical_stream.specs.Canonical.{canonical}
-use Rattle.canonical_write.specs.declared.writing.WriteError.{WriteError}
-use Rattle.canonical_write.specs.declared.writing.WriteError.TheVariants as errors
+use Rattle.ipc_canonical.specs.Canonical.{canonical}
+use Rattle.ipc_encode.specs.declared.writing.WriteError.{WriteError}
+use Rattle.ipc_encode.specs.declared.writing.WriteError.TheVariants as errors
 use Rattle.values.specs.TableView.{table_of}
 use Rattle.tables.specs.declared.refusal.Refusal.TheVariants.{Write, OutOfMemory}
 use Rattle.store.specs.Calls.{refused}

@@ -1,7 +1,7 @@
 use Rattle.std.specs.Prelude.{Ok}
 use Rattle.std.proofs.Common.{◌≡◌, refl}
 use Rattle.catalogue.specs.laws.Kept.{catalogue_is}
-use Rattle.canonical_stream.specs.Canonical.{canonical}
+use Rattle.ipc_canonical.specs.Canonical.{canonical}
 use Rattle.ipc_message.specs.Header.{supported_codes}
 use Rattle.ipc_stream.specs.Meaning.{meaning}
 use Rattle.values.specs.TableView.{table_of}

@@ -1,5 +1,0 @@
-use Rattle.canonical_stream.proofs.Joined.{whole_means_its_table}
-use Rattle.canonical_stream.proofs.laws.canonical_means_its_table.Goals as goal
-
-pub returns : goal.returns
-returns c t table = whole_means_its_table c.joined_parts_mean_their_table.ensures t table

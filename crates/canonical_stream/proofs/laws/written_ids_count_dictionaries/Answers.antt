@@ -1,5 +1,0 @@
-use Rattle.canonical_stream.proofs.Ids.{ids_of_schema, own}
-use Rattle.canonical_stream.proofs.laws.written_ids_count_dictionaries.Goals as goal
-
-pub returns : goal.returns
-returns c = record { ids = ids_of_schema; own = own }

@@ -1,6 +1,0 @@
-use Rattle.std.proofs.Common.{◌≡◌, ◌++◌, drop}
-use Rattle.canonical_write.specs.View.{joined_parts}
-use Rattle.canonical_write.proofs.stream.join.Given as goal
-
-abbrev pub invariant-loop-part : goal.invariant-loop-part
-invariant-loop-part l = l.bytes.items ++ joined_parts (drop l.part-index l.parts) ≡ joined_parts l.parts

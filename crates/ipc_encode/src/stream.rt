@@ -1,0 +1,170 @@
+// A stream as it is written: buffers of some size are parts of it by themselves, so that none is copied, and all else is put together.
+ghost use Rattle.std.specs.Prelude.{◌≡◌, ◌+◌, ◌++◌, ◌<◌, ◌^◌, [], OnOk, IfOk, IfSome, length};
+ghost use Rattle.array_build.specs.Batch.{buffer_bytes, buffers_in};
+ghost use Rattle.ipc_encode.specs.View.{joined_parts};
+ghost use Rattle.ipc_encode.specs.inner.Stream.{stream_in};
+ghost use Rattle.arrow_schema.specs.Limits.{IsWithinLimits};
+ghost use Rattle.arrow_schema.specs.View.{schema_of};
+ghost use Rattle.ipc_write.specs.Written.{body, end_of_stream, padded, schema_message};
+
+use array_build::Buffer;
+use arrow_schema::Schema;
+use ipc_write::{write_end, write_padding, write_schema};
+use std::alloc::{AllocError, Global};
+use std::mem;
+
+/// The least size of a part by itself: below it a copy costs less than a part.
+const LEAST_PART: usize = 4096;
+
+/// The parts so far, and the bytes after them.
+#[derive(Drop)]
+pub(crate) struct Stream<'a> {
+    pub(crate) parts: Vec<Buffer<'a>>,
+    pub(crate) last: Vec<u8>,
+}
+
+/// The message of a schema.
+pub(crate) fn schema_bytes(alloc: Global, schema: &Schema) -> Result<Vec<u8>, AllocError>
+    requires { IsWithinLimits (schema_of schema.now) }
+    ensures { IfOk result (λ bytes. bytes.items ≡ schema_message (schema_of schema.now)) }
+{
+    let mut bytes = Vec::new(alloc);
+    write_schema(alloc, &mut bytes, schema)?;
+    Ok(bytes)
+}
+
+/// A stream that begins with these bytes.
+#[tactic(auto, unfolding(crate::specs::inner::Stream::stream_in))]
+pub(crate) fn begin_stream<'a>(alloc: Global, first: Vec<u8>) -> Stream<'a>
+    ensures { stream_in result ≡ first.items }
+{
+    Stream {
+        parts: Vec::new(alloc),
+        last: first,
+    }
+}
+
+/// Adds the end of stream.
+#[tactic(auto, unfolding(crate::specs::inner::Stream::stream_in))]
+pub(crate) fn end_stream(stream: &mut Stream<'_>) -> Result<(), AllocError>
+    ensures { OnOk result (stream_in stream.new ≡ stream_in stream.old ++ end_of_stream) }
+{
+    write_end(&mut stream.last)
+}
+
+// Adds a part, after the bytes put together so far.
+#[tactic(auto, unfolding(crate::specs::inner::Stream::stream_in))]
+fn push_part<'a>(
+    alloc: Global,
+    stream: &mut Stream<'a>,
+    buffer: Buffer<'a>,
+) -> Result<(), AllocError>
+    ensures { OnOk result (stream_in stream.new ≡ stream_in stream.old ++ buffer_bytes buffer.entry) }
+{
+    let last = mem::replace(&mut stream.last, Vec::new(alloc));
+    stream.parts.push(Buffer::Made(last))?;
+    stream.parts.push(buffer)?;
+    Ok(())
+}
+
+// Adds a buffer.
+#[tactic(auto, unfolding(crate::specs::inner::Stream::stream_in))]
+fn push_buffer<'a>(
+    alloc: Global,
+    stream: &mut Stream<'a>,
+    buffer: Buffer<'a>,
+) -> Result<(), AllocError>
+    ensures { OnOk result (stream_in stream.new ≡ stream_in stream.old ++ buffer_bytes buffer.entry) }
+{
+    if buffer.bytes().len() < LEAST_PART {
+        return stream.last.extend_from_slice(buffer.bytes());
+    }
+    push_part(alloc, stream, buffer)
+}
+
+// Adds a buffer, and zeros up to a multiple of 8.
+#[tactic(auto, unfolding(crate::specs::inner::Stream::stream_in))]
+fn push_padded<'a>(
+    alloc: Global,
+    stream: &mut Stream<'a>,
+    buffer: Buffer<'a>,
+) -> Result<(), AllocError>
+    ensures { OnOk result (stream_in stream.new ≡ stream_in stream.old ++ padded (buffer_bytes buffer.entry)) }
+{
+    let length = buffer.bytes().len();
+    push_buffer(alloc, stream, buffer)?;
+    write_padding(&mut stream.last, length)
+}
+
+/// Adds the body of a message.
+pub(crate) fn push_body<'a>(
+    alloc: Global,
+    stream: &mut Stream<'a>,
+    buffers: Vec<Buffer<'a>>,
+) -> Result<(), AllocError>
+    ensures { OnOk result (stream_in stream.new ≡ stream_in stream.old ++ body (buffers_in buffers.entry.items)) }
+{
+    for buffer in buffers {
+        push_padded(alloc, stream, buffer)?;
+    }
+    Ok(())
+}
+
+// How many bytes the parts have after n others, where a number of 64 bits says it.
+fn count_bytes(before: usize, parts: &[Buffer<'_>]) -> Option<usize>
+    ensures { IfSome result (λ count. count ≡ before + length (joined_parts parts.now)) }
+{
+    let mut count = before;
+    for part in parts {
+        let Some(more) = count.checked_add(part.bytes().len()) else {
+            return None;
+        };
+        count = more;
+    }
+    Some(count)
+}
+
+// Parts one after another, and then more bytes.
+fn join(alloc: Global, parts: &[Buffer<'_>], last: &[u8]) -> Result<Vec<u8>, AllocError>
+    ensures { IfOk result (λ bytes. bytes.items ≡ joined_parts parts.now ++ last.now) }
+{
+    let Some(size) = count_bytes(last.len(), parts) else {
+        return Err(AllocError);
+    };
+    let mut bytes = Vec::with_capacity(alloc, size)?;
+    for part in parts {
+        bytes.extend_from_slice(part.bytes())?;
+    }
+    bytes.extend_from_slice(last)?;
+    Ok(bytes)
+}
+
+/// The whole stream in one.
+#[tactic(auto, unfolding(crate::specs::inner::Stream::stream_in))]
+pub(crate) fn into_bytes(alloc: Global, stream: Stream<'_>) -> Result<Vec<u8>, AllocError>
+    ensures { IfOk result (λ bytes. bytes.items ≡ stream_in stream.entry) }
+{
+    let Stream { parts, last } = stream;
+    if parts.is_empty() {
+        return Ok(last);
+    }
+    join(alloc, &parts, &last)
+}
+
+/// The parts of the whole stream, which stands after n other bytes. Bytes that a number of 64 bits cannot count are refused as a growth is.
+#[tactic(auto, unfolding(crate::specs::inner::Stream::stream_in))]
+pub(crate) fn into_parts<'a>(
+    before: usize,
+    stream: Stream<'a>,
+) -> Result<Vec<Buffer<'a>>, AllocError>
+    ensures parts { IfOk result (λ parts. joined_parts parts.items ≡ stream_in stream.entry) }
+    ensures short { IfOk result (λ parts. before + length (joined_parts parts.items) < 2 ^ 64) }
+{
+    let Stream { parts, last } = stream;
+    let mut parts = parts;
+    parts.push(Buffer::Made(last))?;
+    match count_bytes(before, &parts) {
+        Some(_) => Ok(parts),
+        None => Err(AllocError),
+    }
+}

@@ -1,0 +1,87 @@
+// The stream of a table is written to a writer.
+ghost use Rattle.std.specs.Prelude.{◌≡◌, ◌≢◌, IfErr, OnOk};
+ghost use Rattle.std.specs.Io.KnownBytes.{Appends};
+ghost use Rattle.ipc_canonical.specs.Canonical.{canonical};
+ghost use Rattle.ipc_encode.specs.declared.writing.WriteError.TheVariants.{Io, OutOfMemory};
+ghost use Rattle.ipc_encode.specs.View.{joined_parts};
+ghost use Rattle.ipc_encode.specs.inner.Stream.{stream_in};
+ghost use Rattle.values.specs.TableView.{table_of};
+
+use crate::encoder::encode_table;
+use crate::stream::Stream;
+use array_build::Buffer;
+use std::alloc::{AllocError, Global};
+use std::io::{self, Write};
+use values::Table;
+
+/// Why a stream was not written.
+#[derive(Clone, Copy, Debug, PartialEq, Eq)]
+pub enum WriteError {
+    /// The writer failed, also a `Vec` that finds no memory. Some of the stream may be written.
+    Io,
+    /// A growth was refused, before anything was written.
+    OutOfMemory,
+}
+
+impl From<io::Error> for WriteError {
+    ghost from_gives = { λ _ e. e ≡ Io };
+
+    fn from(_: io::Error) -> WriteError {
+        WriteError::Io
+    }
+}
+
+impl From<AllocError> for WriteError {
+    ghost from_gives = { λ _ e. e ≡ OutOfMemory };
+
+    fn from(_: AllocError) -> WriteError {
+        WriteError::OutOfMemory
+    }
+}
+
+// Writes all of the bytes, and nothing else.
+fn write_part<W: Write>(writer: &mut W, bytes: &[u8]) -> Result<(), WriteError>
+    ensures written { OnOk result (Appends (W.contents writer.old) (W.contents writer.new) bytes.now) }
+    ensures io { IfErr result (λ e. e ≡ WriteError.Io) }
+{
+    writer.write_all(bytes)?;
+    Ok(())
+}
+
+// Writes all parts one after another, and nothing else.
+fn write_parts<W: Write>(writer: &mut W, parts: &[Buffer<'_>]) -> Result<(), WriteError>
+    ensures written { OnOk result (Appends (W.contents writer.old) (W.contents writer.new) (joined_parts parts.now)) }
+    ensures io { IfErr result (λ e. e ≡ WriteError.Io) }
+{
+    for part in parts {
+        write_part(writer, part.bytes())?;
+    }
+    Ok(())
+}
+
+// Writes all of a stream, and nothing else, and flushes.
+#[tactic(auto, unfolding(crate::specs::inner::Stream::stream_in))]
+fn write_stream<W: Write>(writer: &mut W, stream: &Stream<'_>) -> Result<(), WriteError>
+    ensures written { OnOk result (Appends (W.contents writer.old) (W.contents writer.new) (stream_in stream.now)) }
+    ensures io { IfErr result (λ e. e ≡ WriteError.Io) }
+{
+    write_parts(writer, &stream.parts)?;
+    write_part(writer, &stream.last)?;
+    writer.flush()?;
+    Ok(())
+}
+
+/// Writes the one stream of a table, that of [`crate::encode`], and flushes.
+///
+/// A buffer of a piece that stands in the table's bytes as it is written is written from where it stands, and no copy of it is made, but for small ones.
+/// All others are made before the first byte is written: it takes the memory of these, and time linear in the stream and in the cells of the table.
+///
+/// # Errors
+/// `OutOfMemory` only where a growth was refused, and then nothing is written; `Io` where the writer fails.
+pub fn encode_to<W: Write>(alloc: Global, table: &Table, writer: &mut W) -> Result<(), WriteError>
+    ensures written { OnOk result (Appends (W.contents writer.old) (W.contents writer.new) (canonical (table_of table.now))) }
+    ensures silent { IfErr result (λ e. e ≢ WriteError.Io → writer.new ≡ writer.old) }
+{
+    let stream = encode_table(alloc, table)?;
+    write_stream(writer, &stream)
+}
