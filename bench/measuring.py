@@ -2,6 +2,7 @@
 import os
 import random
 import shutil
+import struct
 import sys
 
 sys.path.insert(0, os.path.join(os.path.dirname(os.path.abspath(__file__)), "..", "tests"))
@@ -33,14 +34,30 @@ def ratio(seconds, plain):
     return f"{seconds / plain:.1f}" if plain else "-"
 
 
-def write_integers(path, size, most):
-    """Writes about so many bytes of a stream of one int32 column, of numbers below a limit. Batch by batch: what this process ever held counts as
-    memory of the programs that it starts."""
-    pick = random.Random(1)
-    values = b"".join(pick.randrange(most).to_bytes(4, "little") for _ in range(ROWS_IN_BATCH))
-    batch = streams.record_batch(ROWS_IN_BATCH, [values])
+def write_again(path, size, fields, batch):
+    """Writes a record batch again and again, up to about so many bytes. Batch by batch: what this process ever held counts as memory of the programs
+    that it starts."""
     with open(path, "wb") as out:
-        out.write(streams.schema([streams.field("a", False, 2, streams.integer("int32"))]))
+        out.write(streams.schema(fields))
         for _ in range(size // len(batch)):
             out.write(batch)
         out.write(streams.END)
+
+
+def write_integers(path, size, most):
+    """Writes about so many bytes of a stream of one int32 column, of numbers below a limit."""
+    pick = random.Random(1)
+    values = b"".join(pick.randrange(most).to_bytes(4, "little") for _ in range(ROWS_IN_BATCH))
+    write_again(path, size, [streams.field("a", False, 2, streams.integer("int32"))], streams.record_batch(ROWS_IN_BATCH, [values]))
+
+
+def write_texts(path, size, count):
+    """Writes about so many bytes of a stream of an int32 column `a` and a column `s` of so many different texts."""
+    pick = random.Random(1)
+    texts = [f"text number {pick.randrange(count)}".encode() for _ in range(ROWS_IN_BATCH)]
+    ends = [0]
+    for text in texts:
+        ends.append(ends[-1] + len(text))
+    buffers = [b"", pick.randbytes(4 * ROWS_IN_BATCH), b"", struct.pack(f"<{ROWS_IN_BATCH + 1}i", *ends), b"".join(texts)]
+    fields = [streams.field("a", False, 2, streams.integer("int32")), streams.field("s", False, 5, streams.Table())]
+    write_again(path, size, fields, streams.rows(ROWS_IN_BATCH, [(ROWS_IN_BATCH, 0)] * 2, buffers))
