@@ -9,16 +9,23 @@ use values::Table;
 /// What is asked of a place. `R` is the reader of the commands whose bytes come from one; a list without such commands is of `Call`.
 #[derive(Drop)]
 pub enum Call<R = Empty> {
+    /// A command on the tables.
     Apply(Command),
     /// The table that all of a reader's bytes mean as a stream, at this name.
     ImportFrom { name: String, reader: R },
     /// The rows that they mean, after those of this table.
     AppendFrom { name: String, reader: R },
+    /// A new store, in version 2 of the format, on a device that holds none.
     Format,
+    /// The store that stands on the device.
     Open,
+    /// The store is closed; its device stays.
     Close,
+    /// The name of each table, and how many rows it has.
     Tables,
+    /// The schema of the table of this name.
     Schema(String),
+    /// The table of this name.
     Read(String),
     /// The canonical stream of a table.
     Export(String),
@@ -26,6 +33,7 @@ pub enum Call<R = Empty> {
     OpenExport(String),
     /// The next piece of the export of this id.
     ExportNext(u64),
+    /// The export of this id gives no more, and the sectors that it alone kept are free.
     CloseExport(u64),
     /// One step of a compaction.
     Compact,
