@@ -1,8 +1,9 @@
 /* Loaded before the C library: refuses one allocation of a program, the one whose number is in REFUSED, or fails one read of its
    standard input, the one whose number is in FAILED_READ, or one write to its standard output, that in FAILED_WRITE, or one write to a
-   file or sync of one, that in FAILED_CHANGE, with the error CALL_ERROR, where 0 is a call that moves no byte; all are counted from 1.
-   Where MOST is set, a read or write of these streams moves at most so many bytes. At its end the program's numbers of allocations, of
-   such reads, of such writes and of such changes are written into the file COUNTS, where that is set. */
+   file or sync of one, that in FAILED_CHANGE, or the reads of files from that in FAILED_FILE_READ on, with the error CALL_ERROR, where
+   0 is a call that moves no byte; all are counted from 1. Where MOST is set, a read of standard input or a write to standard output
+   moves at most so many bytes. At its end the program's numbers of allocations, and of such reads, writes, changes and reads of files,
+   are written into the file COUNTS, where that is set. */
 #define _GNU_SOURCE
 #include <errno.h>
 #include <stdio.h>
@@ -14,7 +15,7 @@
 extern void *__libc_malloc(size_t), *__libc_calloc(size_t, size_t), *__libc_realloc(void *, size_t);
 extern void *__libc_memalign(size_t, size_t);
 
-static long allocations, refused, reads, failed_read, writes, failed_write, changes, failed_change, error, most;
+static long allocations, refused, reads, failed_read, writes, failed_write, changes, failed_change, file_reads, failed_file_read, error, most;
 
 static long number(const char *name) {
     const char *given = getenv(name);
@@ -26,16 +27,17 @@ __attribute__((constructor)) static void begin(void) {
     failed_read = number("FAILED_READ");
     failed_write = number("FAILED_WRITE");
     failed_change = number("FAILED_CHANGE");
+    failed_file_read = number("FAILED_FILE_READ");
     error = number("CALL_ERROR");
     most = number("MOST");
-    allocations = reads = writes = changes = 0;
+    allocations = reads = writes = changes = file_reads = 0;
 }
 
 __attribute__((destructor)) static void end(void) {
     const char *path = getenv("COUNTS");
     FILE *out = path ? fopen(path, "w") : NULL;
     if (out) {
-        fprintf(out, "%ld %ld %ld %ld\n", allocations, reads, writes, changes);
+        fprintf(out, "%ld %ld %ld %ld %ld\n", allocations, reads, writes, changes, file_reads);
         fclose(out);
     }
 }
@@ -86,7 +88,7 @@ static size_t taken(size_t size) {
 
 ssize_t read(int file, void *to, size_t size) {
     if (file != STDIN_FILENO)
-        return syscall(SYS_read, file, to, size);
+        return ++file_reads >= failed_file_read && failed_file_read ? failed() : syscall(SYS_read, file, to, size);
     return ++reads == failed_read ? failed() : syscall(SYS_read, file, to, taken(size));
 }
 
