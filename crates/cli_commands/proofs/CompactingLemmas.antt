@@ -95,7 +95,7 @@ is_on false never = refl
 err_differs : {A E : Type 0} (x : A) (e : E) → Ok x ≡ Err e → ⊥
 err_differs x e is = absurd (cc is)
 
--- so many steps are fewer than a number of 64 bits counts
+-- n steps are fewer than a number of 64 bits counts
 few : (s p count : ℕ) → s ≤ MAX_SEGMENTS → p ≤ MOST_SECTORS → count ≤ s * (s * p + 1) → count < 2 ^ 64 - 1
 few s p count segments sectors le =
     let inner : s * p ≤ MAX_SEGMENTS * MOST_SECTORS = mul-le s p MAX_SEGMENTS MOST_SECTORS segments sectors in
@@ -122,7 +122,7 @@ module _ {D : Type 0} {g : Ghosts D} where
   few_sectors : (s : Store D g) → g.size (device_of s) ≤ MOST_SECTORS
   few_sectors s = leb-true _ _ (and_parts _ _ s.in_limits).1
 
-  -- the catalogues behind the steps
+  -- the catalogues after the steps
   abbrev behind : (old : Store D g) (taken : List Compaction) (new : Store D g) → StepsTo old taken new → List PlainCatalogue
   behind old [] new steps = []
   behind old (t ∷ ts) new steps = listed_in steps.0 ∷ behind steps.0 ts new steps.2
@@ -195,7 +195,7 @@ module _ {D : Type 0} {g : Ghosts D} where
     };
   }
 
-  -- a call behind the steps so far
+  -- a call after the steps so far
   run_more : (base : Tables) (m next : Machine) (taken : List Compaction) (reply : PlainReply) (old mid new : Store D g) → g.size (device_of mid) ≡ g.size (device_of old) → GoneOn base m taken old mid
       → Goes (setting_of (g.size (device_of mid)) base) m compact_call reply (g.story (device_of mid)) (g.story (device_of new)) (g.failed (device_of mid)) (g.failed (device_of new)) next
       → Run (setting_of (g.size (device_of old)) base) (step_calls taken ++ compact_call ∷ []) (map reply_of taken ++ reply ∷ []) m (g.story (device_of old)) (g.failed (device_of old)) next
@@ -326,7 +326,7 @@ module _ {D : Type 0} {g : Ghosts D} where
     },
   )
 
--- how many steps are told
+-- how many steps are reported
 pub written_steps : {W : Type 0} (contents : W → Option (List ℕ)) (old new : W) (count : ℕ) (taken : List Compaction) (r : Result (Unit {0}) Refusal) → length taken ≡ count
     → OnOk r (Appends (contents old) (contents new) (steps_text count)) → OnOk r (Appends (contents old) (contents new) (steps_text (length taken)))
 written_steps contents old new count taken r is written = subst (λ (n : ℕ). OnOk r (Appends (contents old) (contents new) (steps_text n))) (sym is) written

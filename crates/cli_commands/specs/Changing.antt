@@ -33,7 +33,7 @@ Answered P result = (answer : Result (Unit {0}) tables.Refusal) × P answer × F
 -- a store answers a command so: what `Store::apply` promises of every store and every device
 pub record AnswersCommand {D : Type 0} {g : Ghosts D} (size : D → ℕ) (story : D → Story) (tells : Bool) (command : PlainCommand)
     (answer : Result (Unit {0}) tables.Refusal) (old new : stores.Store D g) : Type 0 where
-  -- what is decided of the command is carried out or told
+  -- what is decided of the command is carried out or reported
   pub applied : is_halted old ≡ false → IsApplied size story tells old command answer new
   -- a refusal leaves the commit, the catalogue and the runs; it has only read, unless the device failed
   pub kept : IfErr answer (λ e. IsKept old new)
@@ -47,7 +47,7 @@ pub record AnswersCommand {D : Type 0} {g : Ghosts D} (size : D → ℕ) (story 
   pub written : OnOk answer (tells ≡ true → IsOnDisk size story old → IsDoneOnDisk size story old command new)
 
 -- a store answers a command that has all of an input so: what `Store::import_from` and `Store::append_from` promise of every store and every device,
--- where `passes` is the test that comes before anything is read, and `why` is told where it fails
+-- where `passes` is the test that comes before anything is read, and `why` is reported where it fails
 pub record AnswersInput {D : Type 0} {g : Ghosts D} {R : Type 0} (size : D → ℕ) (story : D → Story) (failed : D → ℕ) (tells : Bool)
     (remaining : R → Option (List ℕ))
     (command : List ℕ → PlainCommand) (passes : Bool) (why : tables.Refusal) (input left : R) (answer : Result (Unit {0}) tables.Refusal)

@@ -77,7 +77,7 @@ StaysWith {g = g} t old new =
 
 -- ---- a whole compaction
 
--- these steps did something, and what came behind them was answered so
+-- these steps did something, and what came after them was answered so
 pub record Compacted {D : Type 0} {g : Ghosts D} (taken : List Compaction) (answer : Result (Unit {0}) tables.Refusal) (old new : Store D g) : Type 0 where
   pub mid : Store D g
   pub steps : StepsTo old taken mid

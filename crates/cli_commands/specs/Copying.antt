@@ -19,7 +19,7 @@ use Rattle.store.specs.Reading.{OnlyReadsStore, RefusesRead, ReadsTable}
 use Rattle.store.specs.Runs.{Run}
 use Rattle.cli_commands.specs.Changing.{AnswersCommand}
 
--- commands of an open store that were acknowledged, one after another, with these tables behind them: some machine goes on, and the store stands for it
+-- commands of an open store that were acknowledged, one after another, with these tables after them: some machine goes on, and the store stands for it
 pub record ComesTo {D : Type 0} {g : Ghosts D} (base : Tables) (m : Machine) (tables : Tables) (old new : Store D g) : Type 0 where
   pub next : Machine
   pub commands : List PlainCommand

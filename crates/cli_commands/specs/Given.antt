@@ -1,4 +1,4 @@
--- Why an input is not read whole, as the program tells it.
+-- Why an input is not read whole, as the program reports it.
 use Rattle.std.specs.Prelude.{ℕ, List, ◌≡◌, ◌+◌, ◌≤◌, length, Option, IfSome, Result, Ok, Err}
 use Rattle.store.specs.Input.{HasGiven, HasGivenAtMost}
 use Rattle.cli_commands.specs.declared.input.TheConstants.{LARGEST_INPUT}

@@ -40,7 +40,7 @@ use Rattle.cli_replay.specs.Playing.{Plays, replies_text, stop_text, FoundText}
 
 -- ---- lines as calls
 
--- some file has these bytes, where they are told
+-- some file has these bytes, where they are known
 abbrev pub IsOfFile : {F : Type 0} → (remaining : F → Option (List ℕ)) → List ℕ → Type 0
 IsOfFile {F} remaining bytes = (file : F) × IfSome (remaining file) (λ all. bytes ≡ all)
 
@@ -176,7 +176,7 @@ RefusesScript script (BadScript number) = IsScript script (Err (BadLine number))
 RefusesScript script OutOfMemory = Unit {0}
 RefusesScript script _ = ⊥
 
--- the number of sectors is none of a store, which is told first; some file has a script whose line of this number is the first that is none; a file can't be
+-- the number of sectors is none of a store, which is reported first; some file has a script whose line of this number is the first that is none; a file can't be
 -- read, or the output can't be written; or memory is refused
 abbrev pub RefusesReplay : {F : Type 0} → (remaining : F → Option (List ℕ)) → (sectors : ℕ) → Refusal → Type 0
 RefusesReplay remaining sectors (Opening refusal) = IsOfNewDevice sectors refusal

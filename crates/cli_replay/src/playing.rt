@@ -1,4 +1,4 @@
-// Lines are played one after another, and what they answer is told.
+// Lines are played one after another, and what they answer is reported.
 ghost use Rattle.std.specs.Prelude.{◌≡◌, ◌++◌, string_bytes, IfOk, OnOk};
 ghost use Rattle.sector_dev.specs.View.{faults_of};
 ghost use Rattle.store.specs.Places.{reply_in, replies_of};

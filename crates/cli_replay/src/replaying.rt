@@ -71,7 +71,7 @@ pub(crate) fn play_lines(
     Ok(joined_text(text, place.device().has_stopped(), &found)?)
 }
 
-// The lines of a script, as the program tells it where one is none.
+// The lines of a script, as the program reports it where one is none.
 fn lines_of(alloc: Global, script: &[u8]) -> Result<Vec<ScriptLine<'_>>, Refusal>
     ensures lines { IfOk result (λ lines. IsScript script.now (Ok (plain_lines lines.items))) }
     ensures told { IfErr result (RefusesScript script.now) }

@@ -1,4 +1,4 @@
-// What goes on while work takes more than a second, told on a terminal.
+// What goes on while work takes more than a second, shown on a terminal.
 use arrowstore::Audience;
 use std::cell::Cell;
 use std::io::{self, Write};
@@ -12,13 +12,13 @@ pub use files::ProgressFiles;
 pub use reader::ProgressReader;
 pub use writer::ProgressWriter;
 
-// Fewer bytes are 0 MB, and none to tell of.
+// Fewer bytes are 0 MB, and none to report.
 const LEAST_TOLD: u64 = 1_000_000;
 
-// So many bytes are told of, however fast they were read: what is made of them may take longer.
+// n bytes are reported, however fast they were read: what is made of them may take longer.
 const LONG_WORK: u64 = 32_000_000;
 
-/// What the line tells of.
+/// What the line reports.
 #[derive(Clone, Copy, Debug, PartialEq, Eq)]
 pub enum Stage {
     /// The input is read.
@@ -35,7 +35,7 @@ pub enum Stage {
 
 /// One line on a terminal, written over itself about once a second, and cleared before anything else is written there.
 ///
-/// That it can't be written, or the clock not be read, is no fault of the work: nothing is told then.
+/// That it can't be written, or the clock not be read, is no fault of the work: nothing is reported then.
 #[derive(Drop)]
 pub struct ProgressLine<'a, C: Clock, T> {
     clock: &'a C,
@@ -60,14 +60,14 @@ impl<'a, C: Clock, T: Write + Copy> ProgressLine<'a, C, T> {
         })
     }
 
-    /// Tells of so many bytes, where a second has passed since the line was last written.
+    /// Reports n bytes, where a second has passed since the line was last written.
     pub fn tell(&self, stage: Stage, bytes: u64) {
         if self.is_due() {
             self.show(stage, bytes);
         }
     }
 
-    /// Tells of so many bytes.
+    /// Reports n bytes.
     pub fn show(&self, stage: Stage, bytes: u64) {
         let _ = self.write_line(stage, bytes / 1_000_000);
     }

@@ -94,7 +94,7 @@ module _ (tells : Bool) (image : Image) (e : PlainEntry) (table : PlainTable) (r
       by_refusal (refusals.SegmentDamaged other) u = (subst (λ (n : ℕ). n < length e.segments) (sym u.0) inside, λ told. absurd (not_damaged told (u.1 told)))
       by_refusal _ u = absurd u
 
--- ---- the first so many tables
+-- ---- the first n tables
 
 pub tables_more : (tells : Bool) (image : Image) (c : PlainCatalogue) (count : ℕ) (x : PlainEntry) → slice_get c count ≡ Some x → AreRead tells image c count → ((table : PlainTable) × IsRead tells image x table) → AreRead tells image c (count + 1)
 tables_more tells image c count x at read next number e lt found =

@@ -66,7 +66,7 @@ whole_below size (r ∷ rs) on =
     let own = on_device_is size r parts.0 in
     omega (arith, own.within, whole_below size rs parts.1, sum_by-cons (λ (r : Run). r.count) r rs)
 
--- runs on the device that share no sector fit behind the commit sectors
+-- runs on the device that share no sector fit after the commit sectors
 pub apart_fit : (size : ℕ) (rs : List Run) → 2 ≤ size → all_on_device size rs ≡ true → are_apart rs ≡ true → 2 + sum_by (λ (r : Run). r.count) rs ≤ size
 apart_fit size rs some on apart = omega (arith, some, few_below size (size - 2) rs apart on size (omega (arith, some)), whole_below size rs on)
 

@@ -99,7 +99,7 @@ pub take_next : (segments : List Segment) (place : ℕ) (segment : Segment) → 
 take_next segments place segment inside is =
     (take_more segments place segment inside ∙ ap (λ (x : Segment). take place segments ++ x ∷ []) (sym is))
 
--- a table of which the rows of a segment don't go behind those before it is not held
+-- a table of which the rows of a segment don't go after those before it is not held
 past_not_held : TableLaws → (image : Image) (e : PlainEntry) (place : ℕ) (table : PlainTable) (segment : Segment) (rows : List (List Cell)) → IsWithinLimits e.schema → slice_get e.segments place ≡ Some segment
     → rows_held e.schema (take place e.segments) image ≡ Some rows → ArePast e.schema rows (segment_rows e.schema segment image) → table_held image e ≡ Some table → ⊥
 past_not_held laws image e place table segment rows within at before is_past is = by_rows (segment_rows e.schema segment image) refl is_past
@@ -178,7 +178,7 @@ count_step segments place segment so_far all inside is own more =
     let next = ap (sum_by rows_of) (take_next segments place segment inside is) ∙ sum_by-append rows_of (take place segments) (segment ∷ []) in
     omega (arith, own, more, next)
 
--- why a segment's rows don't go after those before it, as told of its table
+-- why a segment's rows don't go after those before it, as reported of its table
 pub unreads_step : (tells : Bool) (image other_image : Image) (e : PlainEntry) (other : PlainSchema) (rows : List (List Cell)) (segment : Segment) (place : ℕ) (r : Told) → other ≡ e.schema → (tells ≡ true → other_image ≡ image) → place < length e.segments
     → segment ≡ get_or e.segments place segment → table_weight other rows ≤ MAX_TABLE_WEIGHT → (tells ≡ true → rows_held e.schema (take place e.segments) image ≡ Some rows) → UnreadsSegment tells other_image other rows segment place r → Unreads tells image e r
 unreads_step tells image other_image e other rows segment place refusals.Device same at inside is light held u = tt

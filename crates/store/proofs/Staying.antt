@@ -301,7 +301,7 @@ module _ {D : Type 0} {g : Ghosts D} (size : D → ℕ) (story : D → Story) (f
   refusal_goes few refusals.OutOfMemory count carried halts kept quiet carries = refused_stays refusals.OutOfMemory (staying.memory s m on) refl count halts kept (quiet (λ is. cc is))
   refusal_goes few _ count carried halts kept quiet carries = absurd carried
 
--- ---- behind the reads
+-- ---- after the reads
 
 module _ {D : Type 0} {g : Ghosts D} (size : D → ℕ) (story : D → Story) (failed : D → ℕ) (base : Tables) (m : Machine) (tells : Bool) (told : tells ≡ true) (old mid new : Store D g) (call : PlainCall) (staying : Staying call) (ends reply : PlainReply) where
   -- one that goes on from where reads left the store

@@ -88,7 +88,7 @@ module _ (tells : Bool) (a b : Image) (same : tells ≡ true → b ≡ a) where
     is = m.is;
   }
 
--- ---- the first so many, and one more
+-- ---- the first n, and one more
 
 pub below_or_at : (j i : ℕ) → j < i + 1 → (j < i) ⊎ (j ≡ i)
 below_or_at zero zero lt = inr refl

@@ -75,7 +75,7 @@ upgrade_behind size story failed tells told old mid ends reads change is =
     subst (λ (o : Opened StoredCatalogue). IsUpgrade tells (shown_image (now (story mid.device))) (catalogue_of o.catalogue.list) change) (sym reads.kept)
     (subst (λ (d : Disk). IsUpgrade tells (shown_image d) (listed_in old) change) (sym later) is)
 
--- ---- it was carried out, or refused behind the reads
+-- ---- it was carried out, or refused after the reads
 
 made_step : (s : Setting) (m : Machine) → m.phase ≡ running → m.started ≡ true → Step s m upgrade_call done true m
 unfolding Step

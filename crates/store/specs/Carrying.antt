@@ -50,12 +50,12 @@ placed version c change places =
 abbrev pub commit_placed : Commit → PlainCatalogue → PlainChange → Run → Commit
 commit_placed k c change text = next_commit k (version_after change.edit k.version) (kind_of (outline k.version c change)) text (text_size (outline k.version c change))
 
--- an epoch behind this one has 64 bits
+-- an epoch after this one has 64 bits
 abbrev pub HasNext : Commit → Type 0
 HasNext k = k.epoch < 2 ^ 64 - 1
 
 -- how a change of this catalogue ends, beside these runs in use, and which commit and catalogue rule then; each refusal has its one reason, tested in
--- order, and the device is written to only behind these tests
+-- order, and the device is written to only after these tests
 abbrev pub IsCarried : (size : ℕ) → (used : Run → Type 0) → Commit → PlainCatalogue → PlainChange → Result (Unit {0}) Refusal → Commit → PlainCatalogue → Type 0
 IsCarried size used k c change (Ok unit) k' c' =
     HasNext k × (segment_count (outline k.version c change) ≤ MAX_SEGMENTS)

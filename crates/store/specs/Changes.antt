@@ -193,7 +193,7 @@ MakesOf t change new = Makes t change.edit change.streams change.counts new
 
 -- ---- the new segments
 
--- the version behind an edit: digests are those of version 2, and all else keeps it
+-- the version after an edit: digests are those of version 2, and all else keeps it
 abbrev pub version_after : PlainEdit → FormatVersion → FormatVersion
 version_after (put name schema) version = version
 version_after (extend name) version = version
@@ -215,7 +215,7 @@ placed_segments version (run ∷ runs) (stream ∷ streams) [] = []
 placed_segments version (run ∷ runs) (stream ∷ streams) (count ∷ counts) =
     record { place = record { run = run; bytes = length stream }; rows = count; digest = digest_for version stream } ∷ placed_segments version runs streams counts
 
--- an image has these streams in these segments, which have so many rows, and their digests if they have any
+-- an image has these streams in these segments, which have these numbers of rows, and their digests if they have any
 abbrev pub HoldsStreams : Image → List Segment → (streams : List (List ℕ)) → (counts : List ℕ) → Type 0
 HoldsStreams image [] streams counts = streams ≡ []
 HoldsStreams image (g ∷ gs) [] counts = ⊥

@@ -66,13 +66,13 @@ pub record IsMerge (tells : Bool) (image : Image) (c : PlainCatalogue) (change :
 
 -- ---- the last segment
 
--- the segment of a place in the table of a number: no other one starts behind it
+-- the segment of a place in the table of a number: no other one starts after it
 pub record IsLast (c : PlainCatalogue) (number place : ℕ) (entry : PlainEntry) (segment : Segment) : Type 0 where
   pub found : slice_get c number ≡ Some entry
   pub at : slice_get entry.segments place ≡ Some segment
   pub most : (other : ℕ) (e : PlainEntry) (p : ℕ) (g : Segment) → slice_get c other ≡ Some e → slice_get e.segments p ≡ Some g → g.place.run.start ≤ segment.place.run.start
 
--- a change moves it, byte for byte as it was read, into the lowest free run that fits it, which starts in front of it
+-- a change moves it, byte for byte as it was read, into the lowest free run that fits it, which starts before it
 pub record IsMove (tells : Bool) (image : Image) (size : ℕ) (used : Run → Type 0) (c : PlainCatalogue) (change : PlainChange) : Type 0 where
   pub number : ℕ
   pub place : ℕ
@@ -86,7 +86,7 @@ pub record IsMove (tells : Bool) (image : Image) (size : ℕ) (used : Run → Ty
   pub copy : IsCopy tells image segment bytes
   pub is : change ≡ record { edit = exchange entry.name place 1; streams = bytes ∷ []; counts = segment.rows ∷ [] }
 
--- no free run that fits it starts in front of it
+-- no free run that fits it starts before it
 pub record IsLastStill (size : ℕ) (used : Run → Type 0) (c : PlainCatalogue) : Type 0 where
   pub number : ℕ
   pub place : ℕ

@@ -52,7 +52,7 @@ abbrev pub HasRows : (tells : Bool) → Image → PlainSchema → Segment → Op
 HasRows tells image schema g piece =
     (rows : List (List Cell)) × HasRead tells image schema g rows × (piece ≡ Some (rows_messages schema rows))
 
--- a piece of a segment; behind the segments the end of stream, and then none
+-- a piece of a segment; after the segments the end of stream, and then none
 abbrev pub OfSegment : (tells : Bool) → Image → PlainExport → Option Segment → (place : ℕ) → Option (List ℕ) → Type 0
 OfSegment tells image e (Some g) place piece = HasRows tells image e.schema g piece
 OfSegment tells image e None place piece = piece ≡ (if place == length e.segments then Some end_of_stream else None)

@@ -26,7 +26,7 @@ pub record IsCopy (tells : Bool) (image : Image) (g : Segment) (bytes : List ℕ
   pub undamaged : is_undamaged g.digest (Some bytes) ≡ true
   pub held : tells ≡ true → bytes_of g image ≡ Some bytes
 
--- why the bytes of the segment at a place are not given: a sector can't be read, or they have another digest. Only its own number is told
+-- why the bytes of the segment at a place are not given: a sector can't be read, or they have another digest. Only its own number is reported
 abbrev pub LacksBytes : (tells : Bool) → Image → Segment → (place : ℕ) → Refusal → Type 0
 LacksBytes tells image g place refusals.Device = Unit {0}
 LacksBytes tells image g place refusals.OutOfMemory = Unit {0}
@@ -57,7 +57,7 @@ HaveRead tells image schema (g ∷ gs) rows =
 
 -- ---- a table
 
--- behind these rows a segment has none that can be read, or rows that are too heavy together with them
+-- after these rows a segment has none that can be read, or rows that are too heavy together with them
 abbrev pub ArePast : PlainSchema → List (List Cell) → Option (List (List Cell)) → Type 0
 ArePast schema rows None = Unit {0}
 ArePast schema rows (Some more) = MAX_TABLE_WEIGHT < table_weight schema (rows ++ more)

@@ -13,12 +13,12 @@ use Rattle.store.specs.declared.store.Store.{Store}
 use Rattle.store.specs.declared.summary.Summary.{Summary}
 use Rattle.store.specs.Fits.{book_of, commit_of, listed_in}
 
--- the largest free run has so many sectors; 0 where no sector is free
+-- the largest free run has n sectors; 0 where no sector is free
 pub record IsLargest (size : ℕ) (used : Run → Type 0) (count : ℕ) : Type 0 where
   pub none_larger : (run : Run) → IsFree size used run → run.count ≤ count
   pub some : 1 ≤ count → (run : Run) × (run.count ≡ count) × IsFree size used run
 
--- so many sectors have the runs that are kept and are not in use, each once; and no run of these and of those in use shares a sector with another
+-- n sectors have the runs that are kept and are not in use, each once; and no run of these and of those in use shares a sector with another
 pub record CountsKept (used kept : List Run) (count : ℕ) : Type 0 where
   pub runs : List Run
   pub each : (run : Run) → is_among runs run ≡ (is_among kept run && not (is_among used run))

@@ -25,7 +25,7 @@ use Rattle.store.specs.Applying.{EndsAs}
 abbrev pub segments_of : PlainCatalogue → List Segment
 segments_of c = flat_map (λ (e : PlainEntry). e.segments) c
 
--- these are the SHA-256 of the bytes that were read of segments: of the bytes alone, without the zeros behind them in their last sector
+-- these are the SHA-256 of the bytes that were read of segments: of the bytes alone, without the zeros after them in their last sector
 abbrev pub AreDigests : (tells : Bool) → Image → List Segment → List (List ℕ) → Type 0
 AreDigests tells image [] digests = digests ≡ []
 AreDigests tells image (g ∷ gs) [] = ⊥

@@ -58,7 +58,7 @@ impl<D: SectorDevice> Store<D> {
     /// Does what a command asks for, or refuses it. After Ok it is safe: each later stop leaves it.
     ///
     /// # Errors
-    /// Those of the command, in the order of its tests, where an append reads the table for the last one, and a query that is saved reads its table behind
+    /// Those of the command, in the order of its tests, where an append reads the table for the last one, and a query that is saved reads its table after
     /// all of them: `SegmentUnread` and `SegmentDamaged` as [`Store::read`], and `Device`; then `TooMany(Epochs)`, `TooMany(Segments)`, `NoRoom` and
     /// `Device`. After `Device` the store is halted, and whether the command is done is known once the device was opened again; `Halted` before all else
     /// where it is halted; `OutOfMemory`. After any but `Device` nothing has changed.

@@ -292,7 +292,7 @@ pub(crate) fn segments_after(catalogue: &Catalogue, edit: &Edit, new: u64) -> u6
     }
 }
 
-// The version behind an edit.
+// The version after an edit.
 pub(crate) fn version_after(edit: &Edit, version: FormatVersion) -> FormatVersion
     ensures { result ≡ version_after (edit_of edit.now) version }
 {
@@ -323,7 +323,7 @@ fn digest_for(version: FormatVersion, parts: &[Part<'_>]) -> Option<[u8; 32]>
     }
 }
 
-// The segments of streams, with so many rows each, that have no places yet.
+// The segments of streams, with a number of rows each, that have no places yet.
 pub(crate) fn unplaced(
     alloc: Global,
     version: FormatVersion,

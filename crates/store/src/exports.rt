@@ -288,7 +288,7 @@ impl<D: SectorDevice> Store<D> {
     /// with it where its bytes have another digest than the catalogue had of them when the export was opened; `OutOfMemory`. After any the same piece is
     /// the next one.
     pub fn export_next(&mut self, alloc: Global, id: u64) -> Result<Option<Vec<u8>>, Refusal>
-        // Of a store that stands for a machine: the piece behind those that were given.
+        // Of a store that stands for a machine: the piece after those that were given.
         ensures goes { IfOk result (λ piece. D.tells ≡ true → (base : Tables) (m : Machine) → StoreFits D.size D.story base m self.old
             → GoesOn D.size D.story D.failed base m (export_next_call id) (piece_is (option_map (λ v. v.items) piece)) self.old self.new) }
         ensures refused { IfErr result (λ e. D.tells ≡ true → (base : Tables) (m : Machine) → StoreFits D.size D.story base m self.old

@@ -57,7 +57,7 @@ impl<D: SectorDevice> Store<D> {
             → Opens D.size D.story D.failed base m format_call device store) }
         ensures refused { IfErr result (λ e. D.tells ≡ true → (base : Tables) (m : Machine) → DeviceFits D.size D.story base m device
             → Shuts D.size D.story D.failed base m format_call device e.0 e.1) }
-        // On any device: what is told is so, and no moment has anything but what was there, no store or the empty one.
+        // On any device: what is reported is so, and no moment has anything but what was there, no store or the empty one.
         ensures formatted { IfOk result (λ store. D.tells ≡ true → FormatsStore D.size D.story Two device store) }
         ensures told { IfErr result (λ e. D.tells ≡ true → TellsFormatting e.0 (D.size device) (ruling (shown_image (now (D.story device))))) }
         ensures untouched { IfErr result (λ e. D.tells ≡ true → ruling (shown_image (now (D.story device))) ≢ None
@@ -95,7 +95,7 @@ impl<D: SectorDevice> Store<D> {
             → Opens D.size D.story D.failed base m format_call device store) }
         ensures refused { IfErr result (λ e. D.tells ≡ true → (base : Tables) (m : Machine) → DeviceFits D.size D.story base m device
             → Shuts D.size D.story D.failed base m format_call device e.0 e.1) }
-        // On any device: what is told is so, and no moment has anything but what was there, no store or the empty one.
+        // On any device: what is reported is so, and no moment has anything but what was there, no store or the empty one.
         ensures formatted { IfOk result (λ store. D.tells ≡ true → FormatsStore D.size D.story version device store) }
         ensures told { IfErr result (λ e. D.tells ≡ true → TellsFormatting e.0 (D.size device) (ruling (shown_image (now (D.story device))))) }
         ensures untouched { IfErr result (λ e. D.tells ≡ true → ruling (shown_image (now (D.story device))) ≢ None

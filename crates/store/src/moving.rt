@@ -127,7 +127,7 @@ fn fits_below(free: &FreeMap, segment: Segment) -> bool
     }
 }
 
-/// The segment that starts last moves to the lowest free run that fits it, where this one starts in front of it. It only reads.
+/// The segment that starts last moves to the lowest free run that fits it, where this one starts before it. It only reads.
 ///
 /// # Errors
 /// `SegmentUnread` where a sector can't be read, `SegmentDamaged` where its bytes have another digest than the catalogue has of them, `Device`,

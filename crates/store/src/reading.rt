@@ -78,7 +78,7 @@ pub(crate) fn read_bytes<D: SectorDevice>(
     }
 }
 
-// The table of so many rows that some bytes hold, if they begin with the message of its schema.
+// The table of n rows that some bytes hold, if they begin with the message of its schema.
 fn table_in_bytes(
     alloc: Global,
     front: &[u8],
@@ -142,7 +142,7 @@ pub(crate) fn read_segment<D: SectorDevice>(
     }
 }
 
-// Why the rows of the segment at a place don't go behind others: they are too heavy, or there is no memory.
+// Why the rows of the segment at a place don't go after others: they are too heavy, or there is no memory.
 fn joining_refusal(error: TableError, place: usize) -> Refusal
     ensures memory { error ≡ TableError.OutOfMemory → result ≡ Refusal.OutOfMemory }
     ensures segment { error ≢ TableError.OutOfMemory → result ≡ Refusal.SegmentUnread place }

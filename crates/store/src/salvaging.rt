@@ -33,7 +33,7 @@ pub struct LeftOut {
     pub rows: u64,
 }
 
-// Whether it is told of one segment alone: the others may be read all the same.
+// Whether it is reported of one segment alone: the others may be read all the same.
 fn is_of_segment(refusal: Refusal) -> bool
     ensures { result ≡ is_of_segment refusal }
 {

@@ -64,7 +64,7 @@ fn segment_digests<D: SectorDevice>(
     Ok(digests)
 }
 
-// The digests of a table's segments. Its rows are read before, so that it is told as by a reading why one can't be taken.
+// The digests of a table's segments. Its rows are read before, so that it is reported as by a reading why one can't be taken.
 fn entry_digests<D: SectorDevice>(
     alloc: Global,
     device: &mut D,

@@ -84,10 +84,10 @@ const CHANGED_SECOND: Steps = &[
 
 const OF_VERSION_2: &[Row] = &[
     (Two, STORED, (3, 304, 5), Choice::New, CHANGED_FIRST),
-    // It is told before anything is said of what its bytes mean.
+    // It is reported before anything is said of what its bytes mean.
     (Two, STORED, (3, 0, 1), Choice::New, CHANGED_FIRST),
     (Two, STORED, (2, 304, 5), Choice::New, CHANGED_SECOND),
-    // What stands behind the bytes of a segment is not looked at.
+    // What stands after the bytes of a segment is not looked at.
     (
         Two,
         STORED,

@@ -10,7 +10,7 @@ use std::path::PathBuf;
 use std::rt::Files;
 use std::time::Clock;
 
-/// The files of `files`. While one is read or written, the line tells how much that was.
+/// The files of `files`. While one is read or written, the line says how much that was.
 #[derive(Drop)]
 pub struct ProgressFiles<'a, C: Clock, T, H> {
     files: &'a H,
@@ -126,7 +126,7 @@ impl<'a, C: Clock, T: Write + Copy, H: Files> Files for ProgressFiles<'a, C, T, 
     }
 }
 
-/// A file of which is told how much was read and written.
+/// A file of which is reported how much was read and written.
 #[derive(Drop)]
 pub struct ProgressFile<'a, C: Clock, T, F> {
     file: F,
@@ -136,10 +136,10 @@ pub struct ProgressFile<'a, C: Clock, T, F> {
 }
 
 impl<C: Clock, T: Write + Copy, F> ProgressFile<'_, C, T, F> {
-    // So many bytes more than before, in all, were read or written.
+    // This many bytes more than before, in all, were read or written.
     fn tell(&self, stage: Stage, before: u64, bytes: u64) {
         if let Some(line) = self.line {
-            // No end is told of what is read of a store, behind which the work may go on for long.
+            // No end is reported of what is read of a store, after which the work may go on for long.
             if before / LONG_WORK < bytes / LONG_WORK {
                 line.show(stage, bytes);
             } else {

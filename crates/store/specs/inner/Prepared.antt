@@ -48,7 +48,7 @@ CanGive (remove name) e = Unit {0}
 CanGive (exchange name place count) e = place + count ≤ length e.segments
 CanGive (digest digests) e = Unit {0}
 
--- why no run is taken, as it is told of a command
+-- why no run is taken, as it is reported of a command
 abbrev pub taking_refusal : TakeError → Refusal
 taking_refusal (takings.NoRoom count) = refusals.NoRoom count
 taking_refusal takings.OutOfMemory = refusals.OutOfMemory

@@ -10,7 +10,7 @@ use Rattle.tables.specs.declared.refusal.Refusal.TheVariants as refusals
 use Rattle.store.specs.Held.{is_undamaged, bytes_of, segment_rows}
 use Rattle.store.specs.Reading.{ArePast}
 
--- why the rows of the segment at a place don't go behind these rows
+-- why the rows of the segment at a place don't go after these rows
 abbrev pub UnreadsSegment : (tells : Bool) → Image → PlainSchema → List (List Cell) → Segment → (place : ℕ) → Refusal → Type 0
 UnreadsSegment tells image schema rows segment place refusals.Device = Unit {0}
 UnreadsSegment tells image schema rows segment place refusals.OutOfMemory = Unit {0}

@@ -118,7 +118,7 @@ module _ (size : ℕ) (image : Image) where
       (λ i. page_in form size image (length (segments i)) p) ∙ h p (sym page ∙ here) ∙ (λ i. Ok (sym schema i, sym segments i)))
       one c edit streams segments k can holds
 
-  -- also in the form of the version behind the edit
+  -- also in the form of the version after the edit
   pub edited_holds : (v : FormatVersion) → OneSchema → (c : PlainCatalogue) (edit : PlainEdit) (streams : List (List ℕ)) (segments : List Segment) → IsCatalogue c → IsEdit c edit streams → HoldsPages (form_of v) size image c
       → HoldsPages (form_of (version_after edit v)) size image (edited c edit segments)
   edited_holds v one c (put name schema) streams segments k can holds = same_form (form_of v) one c (put name schema) streams segments k can holds

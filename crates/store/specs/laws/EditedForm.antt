@@ -35,7 +35,7 @@ module _ (v : FormatVersion) where
       let first = parts_have front (gone ++ rest) (ap (has_digests form) (sym (parted segments place count)) ∙ all) in
       both_have front (others ++ rest) first.0 (both_have others rest each (parts_have gone rest first.1).1)
 
-  -- the form of the version behind the edit
+  -- the form of the version after the edit
   pub edited_form : (c : PlainCatalogue) (edit : PlainEdit) (streams : List (List ℕ)) (segments : List Segment) → IsEdit c edit streams → has_form form c ≡ true → has_digests form segments ≡ true
       → has_form (form_of (version_after edit v)) (edited c edit segments) ≡ true
   edited_form c (put name schema) streams segments can all each = with_all entry_has c (new_entry name schema segments (page_instead (entry_of c name) schema segments)) all each

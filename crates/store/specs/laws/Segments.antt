@@ -90,7 +90,7 @@ placed_sound v size (r ∷ rs) (s ∷ ss) (n ∷ ns) limit took are rows =
     and_from (is_segment segment) (list_all is_segment (placed_segments v rs ss ns)) (segment_is segment (omega (arith, within, limit)) are.0.1 are.0.0 took.0.count_is parts.0 (digest_is v s))
     (placed_sound v size rs ss ns limit took.1 are.1 parts.1)
 
--- runs behind them make no difference
+-- runs after them make no difference
 pub placed_front : (v : FormatVersion) (places more : List Run) (streams : List (List ℕ)) (counts : List ℕ) → length places ≡ length streams → placed_segments v places streams counts ≡ placed_segments v (places ++ more) streams counts
 placed_front v [] [] [] counts same = refl
 placed_front v [] (m ∷ ms) [] counts same = refl

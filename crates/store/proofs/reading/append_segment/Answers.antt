@@ -20,7 +20,7 @@ use Rattle.store.specs.laws.Digests.{read_rows, copy_undamaged}
 use Rattle.store.proofs.ReadTables.{reads_ended}
 use Rattle.store.proofs.reading.append_segment.Goals as goal
 
--- rows that are not given don't go behind others
+-- rows that are not given don't go after others
 lacks_unread : (tells : Bool) (image : Image) (schema : PlainSchema) (rows : List (List Cell)) (segment : Segment) (place : ℕ) (r : Refusal) → LacksRows tells image schema segment place r
     → UnreadsSegment tells image schema rows segment place r
 lacks_unread tells image schema rows segment place refusals.Device u = tt
@@ -48,7 +48,7 @@ joins_unread tells image schema rows more segment place errors.Weight r memory u
 pub append-requires-clause-schema : goal.append-requires-clause-schema
 append-requires-clause-schema g c = c.in-Ok.ensures.schema (gathered_table c.args.gathered).schema c.requires.limits c.requires.message
 
--- ---- the rows go behind those before them
+-- ---- the rows go after those before them
 
 pub returns-in-Ok-append-clause-schema : goal.returns-in-Ok-append-clause-schema
 returns-in-Ok-append-clause-schema g c = ap (λ (t : PlainTable). t.schema) c.in-Ok-append.ensures.joined
