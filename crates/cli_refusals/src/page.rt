@@ -129,6 +129,7 @@ imported or appended. A fault without a remedy of its own lies with the program 
   DeviceSize: the file is shorter or longer than its store says.
   CatalogueRange: the list of tables would lie past the end of the file or in its first two sectors, or
   has an impossible length.
+  CatalogueUnreadable: a sector of the list of tables can't be read.
   CatalogueText: what lies there is no list of tables.
   RunRange: rows would lie past the end of the file or in its first two sectors.
   RunOverlap: rows would lie where other rows lie, or the list of tables.
@@ -240,6 +241,8 @@ appended. A refusal without a remedy of its own lies with that record.
   ",
     LOOK_AGAIN,
     "
+- S10 Halted: the device failed before, so the store takes no command until it is opened again. Only
+  `replay` answers so: after a failure its script goes on, up to `reopen`.
 - S12 Query REASON: the query of `query --save` is refused, for this reason (Q).
 - S13 SegmentUnread N: the segment N of the table, counted from 0, can't be read: its bytes were changed.
   `check` reads all tables, in byte order of their names, and is refused so at the first that can't be

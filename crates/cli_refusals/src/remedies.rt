@@ -42,13 +42,13 @@ pub const FEWER_ROWS: &str = "Give fewer rows.";
 // ---- G and C: of files
 
 pub const SEE_TO_FILES: &str =
-    "See to the file, the input and the output, and look with `tables` what the store has.";
+    "See to the file, the input and the output, and look with `tables` what a store has.";
 
 pub const SIZE_OF_A_STORE: &str =
     "Give `format` 16 to 4,194,304 sectors, and other commands the whole file of a store.";
 
 pub const LINES_OF_A_SCRIPT: &str =
-    "Write each line as `create NAME FIELD ..`, `import NAME FILE`, `append NAME FILE`, `rename FROM TO`, `drop NAME`, `compact` or `reopen`.";
+    "Write each line as `create NAME FIELD ..`, `import NAME FILE`, `append NAME FILE`, `rename FROM TO`, `drop NAME`, `compact`, `upgrade` or `reopen`.";
 
 pub const FILE_OF_A_STORE: &str =
     "Give the file of a store; where `format` was interrupted, delete the file and format again.";
@@ -78,7 +78,7 @@ pub const GIVE_ARRAYS: &str = "Give arrays in place of objects.";
 // ---- Q: of a query
 
 pub const NAMES_OF_COLUMNS: &str =
-    "Ask for columns by their names, which `schema` prints, and for each once.";
+    "Ask for columns by their names, which `schema` prints, each once, and as objects for columns of different names.";
 
 pub const FORM_OF_A_CONDITION: &str =
     "Write a condition as `NAME OP LITERAL`, `NAME is null` or `NAME is not null`, with OP one of = != < <= > >=.";
@@ -100,7 +100,8 @@ pub const FIX_ROW: &str = "Fix the row, and append all rows again.";
 
 pub const GIVE_LESS: &str = "Give less, or use a new store.";
 
-pub const MORE_ROOM: &str = "Drop tables, or use a larger store.";
+pub const MORE_ROOM: &str =
+    "Drop tables, bring free sectors together with `compact`, or use a larger store.";
 
 pub const LOOK_AGAIN: &str = "See to the disk, and look with `tables` whether the command is done.";
 
