@@ -303,9 +303,20 @@ set_known seen own known n code h is m k some =
     ]
 
 pub noted_known : (seen own : List Cell) (known : List (Option ℕ)) (z : ℤ) (code : Option ℕ) → AreKnown seen own known
-    → IsNumber (with_entry seen (entry_at own z)) code (entry_at own z) → AreKnown (with_entry seen (entry_at own z)) own (noted known (named_number z) code)
-noted_known seen own known (pos n) code h is = set_known seen own known n code h is
+    → ((k : ℕ) → code ≡ Some k → is_entry (entry_at own z) (get_or (with_entry seen (entry_at own z)) k null) ≡ true)
+    → AreKnown (with_entry seen (entry_at own z)) own (noted known (named_number z) code)
+noted_known seen own known (pos n) None h is = known_more seen own known (entry_at own (pos n)) h
+noted_known seen own known (pos n) (Some k) h is = set_known seen own known n (Some k) h (is k refl)
 noted_known seen own known (negsuc n) code h is = known_more seen own known null h
+
+-- of a number only a small one is noted
+pub small_number : (seen : List Cell) (c : Cell) (named small : Option ℕ) → IfSome small (λ k. named ≡ Some k) → IsNumber seen named c
+    → (k : ℕ) → small ≡ Some k → is_entry c (get_or seen k null) ≡ true
+small_number seen c named None h is k e = cc
+small_number seen c named (Some j) h is k e =
+    let same : j ≡ k = cc in
+    let own : is_entry c (get_or seen j null) ≡ true = subst (λ (o : Option ℕ). IsNumber seen o c) h is in
+    ap (λ (n : ℕ). is_entry c (get_or seen n null)) (sym same) ∙ own
 
 -- ---- the node and the buffers of codes
 

@@ -26,6 +26,7 @@ mod RunParts
 mod RunSlots
 mod RunValues
 mod Sized
+mod Stamped
 mod Turns
 mod Unset
 mod Written

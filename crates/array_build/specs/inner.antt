@@ -9,4 +9,5 @@ pub mod RunParts
 pub mod Runs
 pub mod Same
 pub mod Seen
+pub mod Stamped
 pub mod Stored

@@ -3,7 +3,8 @@ ghost use Rattle.std.specs.Prelude.{◌≡◌, true};
 ghost use Rattle.array_build.specs.inner.Codes.{own_entries};
 ghost use Rattle.array_build.specs.inner.Known.{dictionary_entries};
 
-use crate::same_dictionary::{Compared, is_same_dictionary};
+use crate::same_dictionary::{Compared, are_alike, is_same_dictionary};
+use crate::stamped_numbers::StampedNumbers;
 use arrow_schema::{DataType, Field};
 use columns::{ArrayView, KnownArrays};
 
@@ -13,7 +14,7 @@ pub struct KnownDictionary<'a> {
     pub(crate) data_type: &'a DataType,
     pub(crate) bytes: &'a [u8],
     pub(crate) arrays: KnownArrays<'a>,
-    pub(crate) numbers: Vec<Option<usize>>,
+    pub(crate) numbers: StampedNumbers,
 }
 
 impl<'a> KnownDictionary<'a> {
@@ -28,5 +29,10 @@ impl<'a> KnownDictionary<'a> {
         };
         self.data_type.equals(&field.data_type)
             && is_same_dictionary(compared, self.arrays, array.dictionary())
+    }
+
+    /// Whether it may be the dictionary of an array, by the places of its arrays: no byte is compared.
+    pub(crate) fn may_be_of(&self, array: ArrayView<'_>) -> bool {
+        are_alike(self.arrays, array.dictionary())
     }
 }

@@ -1,6 +1,6 @@
 // The entries of dictionaries that were seen, and which of them the slots of a column name.
 ghost use Rattle.std.proofs.Props.{props};
-ghost use Rattle.std.specs.Prelude.{◌≡◌, ◌<◌, ◌++◌, ◌∷◌, ℕ, [], true, List, Option, IfOk, IfSome, OnErr, OnOk, length, map, get_or, set, slice_get, Some, None};
+ghost use Rattle.std.specs.Prelude.{◌≡◌, ◌<◌, ◌++◌, ◌∷◌, ◌^◌, ℕ, [], true, List, Option, IfOk, IfSome, OnErr, OnOk, length, map, get_or, set, slice_get, Some, None};
 ghost use Rattle.array_build.specs.inner.Codes.{AreKnown, IsNumber, code_in, own_entries};
 ghost use Rattle.array_build.specs.inner.Known.{AreAllKnown, dictionary_entries};
 ghost use Rattle.array_build.specs.inner.Seen.{AreDistinct, ArePlaces, HavePlaces};
@@ -11,6 +11,7 @@ ghost use Rattle.values.specs.Borrowed.{borrowed_cell};
 
 use crate::dictionary_cells::{cell_of, number_of};
 use crate::known_dictionary::KnownDictionary;
+use crate::stamped_numbers::StampedNumbers;
 use arrow_schema::Field;
 use cells::Entry;
 use columns::{ArrayView, entry_count};
@@ -18,7 +19,7 @@ use indexmap::IndexSet;
 use std::alloc::{AllocError, Global};
 use values::ValueRef;
 
-// How many entries a slot pays for: room for these is made at once, and costs less than to look up again one that was named before.
+// How many entries of a dictionary a slot pays for: their places are made at once, which costs less than to look up again one that was named before.
 const ENTRIES_PER_SLOT: usize = 32;
 
 // How many bytes of a dictionary a slot pays for, when it is compared with those that are known.
@@ -29,7 +30,7 @@ const MOST_DICTIONARIES: usize = 64;
 
 const MOST_NUMBERS: usize = 1_048_576;
 
-// More entries than these are forgotten; and where dictionaries change, more than the fewer.
+// More entries than these are forgotten, unless the dictionaries that are known have as many; and where dictionaries change, more than the fewer.
 const MOST_SEEN: usize = 262_144;
 
 const MOST_SEEN_BEFORE: usize = 16_384;
@@ -43,6 +44,8 @@ pub struct KnownEntries<'a> {
     pub(crate) named: Vec<usize>,
     pub(crate) dictionaries: Vec<KnownDictionary<'a>>,
     pub(crate) are_new: bool,
+    // For how many entries more the slots that were gone through pay.
+    pub(crate) paid: usize,
     pub ghost count: { length places.items ≡ length seen.keys },
     pub ghost distinct: { AreDistinct (map entry_cell seen.keys) },
     pub ghost placed: { HavePlaces places.items named.items } by { Prim.hlevel props },
@@ -50,21 +53,30 @@ pub struct KnownEntries<'a> {
     pub ghost known: { AreAllKnown (map entry_cell seen.keys) dictionaries.items } by { Prim.hlevel props },
 }
 
-// Room for the number of each entry of an array's dictionary: none where it has many more entries than there are slots to be gone through.
-fn unknown(
-    alloc: Global,
-    array: ArrayView<'_>,
-    slots: usize,
-) -> Result<Vec<Option<usize>>, AllocError>
-    ensures { IfOk result (λ known. (seen own : List Cell) → AreKnown seen own known.items) }
+// Places for n entries of which none is known.
+fn unknown(alloc: Global, entries: usize) -> Result<StampedNumbers, AllocError>
+    ensures { IfOk result (λ known. (seen own : List Cell) → AreKnown seen own known) }
 {
-    let mut known = Vec::new(alloc);
-    let entries = entry_count(array.dictionary());
-    let most = slots.saturating_mul(ENTRIES_PER_SLOT);
-    if entries <= most as u128 {
-        known.resize(entries as usize, None)?;
+    StampedNumbers::none(alloc, entries)
+}
+
+// The same places, where none is known any more.
+fn doubted(numbers: StampedNumbers) -> StampedNumbers
+    ensures { (seen own : List Cell) → AreKnown seen own result }
+{
+    let mut numbers = numbers;
+    numbers.clear();
+    numbers
+}
+
+// Whether a cell is the entry that was seen under a number.
+fn is_seen_as(seen: &IndexSet<Entry<'_>>, cell: ValueRef<'_>, number: usize) -> bool
+    ensures { result ≡ true → is_entry (borrowed_cell cell.entry) (get_or (map entry_cell seen.now.keys) number null) ≡ true }
+{
+    match (cell.as_entry(), seen.get_index(number)) {
+        (Some(own), Some(entry)) => own == *entry,
+        _ => false,
     }
-    Ok(known)
 }
 
 fn place_at(places: &[Option<usize>], number: usize) -> Option<usize>
@@ -175,16 +187,24 @@ impl<'a> KnownEntries<'a> {
             named: Vec::new(alloc),
             dictionaries: Vec::new(alloc),
             are_new: false,
+            paid: 0,
         }
     }
 
-    /// The number of a cell that is an entry, which is seen.
-    pub(crate) fn number_of(&mut self, cell: ValueRef<'a>) -> Result<Option<usize>, AllocError>
+    /// The number of a cell that is an entry, which is seen. It is looked up only where the guess is wrong.
+    pub(crate) fn number_of(
+        &mut self,
+        cell: ValueRef<'a>,
+        guess: Option<usize>,
+    ) -> Result<Option<usize>, AllocError>
         ensures number { IfOk result (λ number. IsNumber (seen_cells self.new) number (borrowed_cell cell.entry)) }
         ensures seen { OnOk result (seen_cells self.new ≡ with_entry (seen_cells self.old) (borrowed_cell cell.entry)) }
         ensures named { OnOk result (named_cells self.new ≡ named_cells self.old) }
     {
-        see(&mut self.seen, &mut self.places, cell)
+        match guess {
+            Some(number) if is_seen_as(&self.seen, cell, number) => Ok(Some(number)),
+            _ => see(&mut self.seen, &mut self.places, cell),
+        }
     }
 
     /// The place that an entry of this number has among those that are named, of which it is one now.
@@ -246,7 +266,7 @@ impl<'a> KnownEntries<'a> {
         let most = if self.are_new {
             MOST_SEEN_BEFORE
         } else {
-            MOST_SEEN
+            count_numbers(&self.dictionaries).max(MOST_SEEN)
         };
         if self.seen.len() > most {
             self.forget();
@@ -269,15 +289,64 @@ impl<'a> KnownEntries<'a> {
         None
     }
 
-    /// What is known of the dictionary of an array, of which n slots are gone through.
+    // Which of the dictionaries may be that of an array, by its place.
+    fn find_place(&self, array: ArrayView<'_>) -> Option<usize>
+        ensures { IfSome result (λ i. i < length self.now.dictionaries.items) }
+    {
+        for (i, dictionary) in self.dictionaries.iter().enumerate() {
+            if dictionary.may_be_of(array) {
+                return Some(i);
+            }
+        }
+        None
+    }
+
+    // Whether the slots that were gone through, and n more, pay for places for so many entries.
+    fn pay(&mut self, entries: u128, slots: usize) -> bool
+        ensures most { result ≡ true → entries < 2 ^ 64 }
+        ensures seen { seen_cells self.new ≡ seen_cells self.old }
+        ensures named { named_cells self.new ≡ named_cells self.old }
+    {
+        self.paid = self
+            .paid
+            .saturating_add(slots.saturating_mul(ENTRIES_PER_SLOT));
+        if entries > self.paid as u128 {
+            return false;
+        }
+        self.paid -= entries as usize;
+        true
+    }
+
+    // Places for the entries of the dictionary of an array of which nothing is known, if the slots pay for them.
+    fn begin_numbers(
+        &mut self,
+        alloc: Global,
+        array: ArrayView<'_>,
+        slots: usize,
+    ) -> Result<StampedNumbers, AllocError>
+        ensures known { IfOk result (λ numbers. (seen own : List Cell) → AreKnown seen own numbers) }
+        ensures seen { seen_cells self.new ≡ seen_cells self.old }
+        ensures named { named_cells self.new ≡ named_cells self.old }
+    {
+        self.are_new = true;
+        let entries = entry_count(array.dictionary());
+        if self.pay(entries, slots) {
+            unknown(alloc, entries as usize)
+        } else {
+            unknown(alloc, 0)
+        }
+    }
+
+    /// What is known of the dictionary of an array, of which n slots are gone through. Of a large one that stands where an earlier one stood, the numbers of
+    /// its entries are guesses.
     pub(crate) fn take_numbers(
         &mut self,
         alloc: Global,
         field: &Field,
         array: ArrayView<'_>,
         slots: usize,
-    ) -> Result<Vec<Option<usize>>, AllocError>
-        ensures known { IfOk result (λ numbers. AreKnown (seen_cells self.old) (own_entries field.now array.entry) numbers.items) }
+    ) -> Result<StampedNumbers, AllocError>
+        ensures known { IfOk result (λ numbers. AreKnown (seen_cells self.old) (own_entries field.now array.entry) numbers) }
         ensures seen { seen_cells self.new ≡ seen_cells self.old }
         ensures named { named_cells self.new ≡ named_cells self.old }
     {
@@ -285,8 +354,11 @@ impl<'a> KnownEntries<'a> {
             let known = self.dictionaries.remove(i);
             return Ok(known.numbers);
         }
-        self.are_new = true;
-        unknown(alloc, array, slots)
+        if let Some(i) = self.find_place(array) {
+            let known = self.dictionaries.remove(i);
+            return Ok(doubted(known.numbers));
+        }
+        self.begin_numbers(alloc, array, slots)
     }
 
     // Makes room for one dictionary more, of n entries.
@@ -305,13 +377,13 @@ impl<'a> KnownEntries<'a> {
         &mut self,
         field: &'a Field,
         array: ArrayView<'a>,
-        numbers: Vec<Option<usize>>,
+        numbers: StampedNumbers,
     ) -> Result<(), AllocError>
-        requires { AreKnown (seen_cells self.old) (own_entries field.now array) numbers.items }
+        requires { AreKnown (seen_cells self.old) (own_entries field.now array) numbers }
         ensures seen { OnOk result (seen_cells self.new ≡ seen_cells self.old) }
         ensures named { OnOk result (named_cells self.new ≡ named_cells self.old) }
     {
-        if numbers.is_empty() {
+        if numbers.len() == 0 {
             return Ok(());
         }
         self.make_room(numbers.len());

@@ -37,6 +37,7 @@ mod run_parts;
 mod run_slots;
 mod run_values;
 mod same_dictionary;
+mod stamped_numbers;
 mod valid_bits;
 mod value_bytes;
 mod widths;

@@ -1,6 +1,6 @@
 // The places of cells among the entries of a dictionary, of runs of slots. An entry of an array's own dictionary is looked up once, and then known by its
 // number.
-ghost use Rattle.std.specs.Prelude.{◌≡◌, ◌≤◌, ◌+◌, ◌-◌, ◌*◌, ◌/◌, ◌++◌, true, false, OnOk, IfOk, Some, drop, is_some, length, replicate, set, take};
+ghost use Rattle.std.specs.Prelude.{◌≡◌, ◌≤◌, ◌+◌, ◌-◌, ◌*◌, ◌/◌, ◌++◌, true, false, OnOk, IfOk, IfSome, Some, drop, is_some, length, replicate, set, take};
 ghost use Rattle.std.specs.List.{list_all};
 ghost use Rattle.arrow_schema.specs.View.{bits_of, column_of, index_of};
 ghost use Rattle.array_build.specs.inner.Codes.{AreCodedSlots, AreKnown, HasPlace, IsCodedSlot, IsNumber, IsPut, IsWritten, code_in, coded_cell, known_at, noted, own_entries, sized_code};
@@ -18,27 +18,47 @@ use crate::dictionary_cells::put_code;
 use crate::known_entries::KnownEntries;
 use crate::run_cells::slot_cell;
 use crate::run_slots::run_len;
+use crate::stamped_numbers::StampedNumbers;
 use arrow_schema::{BitWidth, DictSpec, Field};
 use columns::{ArrayView, CodedSlots, SlotRun};
 use std::alloc::{AllocError, Global};
 
 #[inline]
-fn known_code(known: &[Option<usize>], number: Option<u64>) -> Option<usize>
+fn known_code(known: &StampedNumbers, number: Option<u64>) -> Option<usize>
     ensures { result ≡ known_at known.now number }
 {
     match number {
-        Some(number) if number < known.len() as u64 => known[number as usize],
+        Some(number) if number < known.len() as u64 => known.get(number as usize),
         _ => None,
     }
 }
 
-fn note_code(known: &mut [Option<usize>], number: Option<u64>, code: Option<usize>)
+// What an entry was known by before it was doubted.
+fn guessed_code(known: &StampedNumbers, number: Option<u64>) -> Option<usize> {
+    match number {
+        Some(number) if number < known.len() as u64 => known.last_at(number as usize),
+        _ => None,
+    }
+}
+
+// A code of 32 bits. Larger ones are not noted.
+fn small_code(code: Option<usize>) -> Option<u32>
+    ensures { IfSome result (λ small. code ≡ Some small) }
+{
+    match code {
+        Some(code) if code <= u32::MAX as usize => Some(code as u32),
+        _ => None,
+    }
+}
+
+fn note_code(known: &mut StampedNumbers, number: Option<u64>, code: Option<u32>)
     ensures { known.new ≡ noted known.old number code }
 {
-    if let Some(number) = number {
-        if number < known.len() as u64 {
-            known[number as usize] = code;
+    match (number, code) {
+        (Some(number), Some(code)) if number < known.len() as u64 => {
+            known.set(number as usize, code)
         }
+        _ => (),
     }
 }
 
@@ -63,7 +83,7 @@ fn code_at(
 // The code of a slot that is valid, and whose entry is not known.
 fn new_code<'a>(
     entries: &mut KnownEntries<'a>,
-    known: &mut [Option<usize>],
+    known: &mut StampedNumbers,
     field: &'a Field,
     slots: CodedSlots<'a>,
     i: usize,
@@ -76,8 +96,9 @@ fn new_code<'a>(
     ensures known { OnOk result (AreKnown (seen_cells entries.new) (own_entries field.now slots.entry.view) known.new) }
 {
     let place = slots.number(i);
-    let number = entries.number_of(slot_cell(field, slots.view, i))?;
-    note_code(known, place, number);
+    let guess = guessed_code(known, place);
+    let number = entries.number_of(slot_cell(field, slots.view, i), guess)?;
+    note_code(known, place, small_code(number));
     code_at(entries, number)
 }
 
@@ -103,7 +124,7 @@ fn put_at<const SIZE: usize>(
 #[inline(never)]
 fn put_new_code<'a, const SIZE: usize>(
     entries: &mut KnownEntries<'a>,
-    known: &mut [Option<usize>],
+    known: &mut StampedNumbers,
     indices: &mut [u8],
     valid: &mut [bool],
     field: &'a Field,
@@ -129,7 +150,7 @@ fn put_new_code<'a, const SIZE: usize>(
 #[inline]
 fn put_slot_code<'a, const SIZE: usize, const SIGNED: bool>(
     entries: &mut KnownEntries<'a>,
-    known: &mut [Option<usize>],
+    known: &mut StampedNumbers,
     indices: &mut [u8],
     valid: &mut [bool],
     field: &'a Field,
@@ -163,7 +184,7 @@ fn put_slot_code<'a, const SIZE: usize, const SIGNED: bool>(
 // Writes the indices of n bytes, with a sign or without, of some slots of an array, and whether each slot has one, where there is room for just these.
 fn put_sized_codes<'a, const SIZE: usize, const SIGNED: bool>(
     entries: &mut KnownEntries<'a>,
-    known: &mut [Option<usize>],
+    known: &mut StampedNumbers,
     indices: &mut [u8],
     valid: &mut [bool],
     field: &'a Field,
@@ -193,7 +214,7 @@ fn put_sized_codes<'a, const SIZE: usize, const SIGNED: bool>(
 // The same, by a loop for indices with a sign and one for those without.
 fn put_codes_of_size<'a, const SIZE: usize>(
     entries: &mut KnownEntries<'a>,
-    known: &mut [Option<usize>],
+    known: &mut StampedNumbers,
     indices: &mut [u8],
     valid: &mut [bool],
     field: &'a Field,
@@ -221,7 +242,7 @@ fn put_codes_of_size<'a, const SIZE: usize>(
 // The same, by loops for each size of an index.
 fn put_slot_codes<'a>(
     entries: &mut KnownEntries<'a>,
-    known: &mut [Option<usize>],
+    known: &mut StampedNumbers,
     indices: &mut [u8],
     valid: &mut [bool],
     field: &'a Field,
@@ -279,7 +300,7 @@ fn put_array_codes<'a>(
     let slots = CodedSlots::new(spec, array);
     put_slot_codes(
         entries,
-        known.as_mut_slice(),
+        &mut known,
         indices,
         valid,
         field,

@@ -31,7 +31,7 @@ fn is_same_layout(bytes: Compared<'_>, a: &PlacedLayout, b: &PlacedLayout) -> bo
         (PlacedLayout::Bits(a), PlacedLayout::Bits(b)) => is_same_span(bytes, *a, *b),
         (PlacedLayout::Fixed(a), PlacedLayout::Fixed(b)) => is_same_span(bytes, *a, *b),
         (PlacedLayout::Binary(a, contents), PlacedLayout::Binary(b, others)) => {
-            is_same_span(bytes, *a, *b) && is_same_span(bytes, *contents, *others)
+            is_same_span(bytes, *contents, *others) && is_same_span(bytes, *a, *b)
         }
         _ => false,
     }
@@ -44,6 +44,35 @@ fn is_same_array(bytes: Compared<'_>, a: &PlacedArray, b: &PlacedArray) -> bool
     a.slots == b.slots
         && is_same_span(bytes, a.validity, b.validity)
         && is_same_layout(bytes, &a.layout, &b.layout)
+}
+
+fn is_at(a: Span, b: Span) -> bool {
+    a.start == b.start && a.len == b.len
+}
+
+// Whether the values of two arrays stand at the same places, each in its own bytes.
+fn is_alike(a: &PlacedArray, b: &PlacedArray) -> bool {
+    match (&a.layout, &b.layout) {
+        (PlacedLayout::Bits(a), PlacedLayout::Bits(b)) => is_at(*a, *b),
+        (PlacedLayout::Fixed(a), PlacedLayout::Fixed(b)) => is_at(*a, *b),
+        (PlacedLayout::Binary(a, contents), PlacedLayout::Binary(b, others)) => {
+            is_at(*a, *b) && is_at(*contents, *others)
+        }
+        _ => false,
+    }
+}
+
+/// Whether two dictionaries stand at the same places, each in its own bytes: within the same bytes they are one.
+pub fn are_alike(own: KnownArrays<'_>, others: KnownArrays<'_>) -> bool {
+    if own.arrays.len() != others.arrays.len() {
+        return false;
+    }
+    for (i, array) in own.arrays.iter().enumerate() {
+        if !is_alike(array, &others.arrays[i]) {
+            return false;
+        }
+    }
+    true
 }
 
 /// Whether two dictionaries are known to be one: large ones are not compared.

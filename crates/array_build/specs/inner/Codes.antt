@@ -76,7 +76,8 @@ known_at known (Some n) = get_or known n None
 
 abbrev pub noted : List (Option ℕ) → Option ℕ → Option ℕ → List (Option ℕ)
 noted known None code = known
-noted known (Some n) code = set known n code
+noted known (Some n) None = known
+noted known (Some n) (Some k) = set known n (Some k)
 
 -- each entry is the one that was seen under the number that is known for it
 abbrev pub AreKnown : (seen own : List Cell) → (known : List (Option ℕ)) → Type 0

@@ -13,4 +13,4 @@ dictionary_entries d = entries_of_kind (kind_of d.data_type.now) (placed_diction
 
 -- of each what is known is so
 abbrev pub AreAllKnown : (seen : List Cell) → List KnownDictionary → Type 0
-AreAllKnown seen dictionaries = All (λ d. AreKnown seen (dictionary_entries d) d.numbers.items) dictionaries
+AreAllKnown seen dictionaries = All (λ d. AreKnown seen (dictionary_entries d) d.numbers) dictionaries

@@ -3,7 +3,7 @@ use Rattle.std.proofs.Common.{◌≡◌, ℕ, List, ap, subst, sym, ◌∙◌}
 use Rattle.std.proofs.lemmas.Result.{on_ok_weaker}
 use Rattle.arrow_schema.specs.View.{index_of}
 use Rattle.array_build.proofs.CodedRuns.{valid_cell}
-use Rattle.array_build.proofs.Codes.{noted_known}
+use Rattle.array_build.proofs.Codes.{noted_known, small_number}
 use Rattle.array_build.proofs.run_codes.new_code.Goals as goal
 use Rattle.array_build.specs.inner.Codes.{AreKnown, IsNumber, noted, own_entries}
 use Rattle.array_build.specs.inner.Named.{seen_cells}
@@ -25,8 +25,9 @@ returns-clause-known c =
     let number : IsNumber (with_entry before (entry_at own z)) c.in_ok-number.number (entry_at own z) =
     subst (λ (x : Cell). IsNumber (with_entry before (entry_at own z)) c.in_ok-number.number x) cell
     (subst (λ (xs : List Cell). IsNumber xs c.in_ok-number.number (borrowed_cell c.slot_cell.result)) seen c.in_ok-number.ensures.number) in
-    let items = c.note_code.ensures ∙ ap (λ (place : Option ℕ). noted c.args.known.now place c.in_ok-number.number) c.number-place.ensures in
-    let all = noted_known before own c.args.known.now z c.in_ok-number.number c.requires.known number in
+    let items = c.note_code.ensures ∙ ap (λ (place : Option ℕ). noted c.args.known.now place c.small_code.result) c.number-place.ensures in
+    let small = small_number (with_entry before (entry_at own z)) (entry_at own z) c.in_ok-number.number c.small_code.result c.small_code.ensures number in
+    let all = noted_known before own c.args.known.now z c.small_code.result c.requires.known small in
     on_ok_weaker c.code_at.result
     (λ same. subst (λ (xs : List Cell). AreKnown xs own c.note_code.new.known) (sym (same ∙ seen)) (λ n k some. all n k (some ∙ ap (λ (ks : List (Option ℕ)). get_or ks n None) items)))
     c.code_at.ensures.seen

@@ -1,7 +1,6 @@
-use Rattle.std.specs.Prelude.{None, Option, Some, get_or}
+use Rattle.std.specs.Prelude.{Some, get_or}
 use Rattle.std.specs.List.{list_all}
-use Rattle.std.proofs.Common.{◌≡◌, ◌≤◌, ◌+◌, ◌-◌, ◌/◌, ◌∙◌, ℕ, Bool, List, arith, ap, drop, length, refl, subst, sym}
-use Rattle.std.proofs.lemmas.List.{take_at}
+use Rattle.std.proofs.Common.{◌≡◌, ◌≤◌, ◌+◌, ◌-◌, ◌/◌, ◌∙◌, ℕ, Bool, List, arith, ap, refl, subst, sym}
 use Rattle.std.proofs.lemmas.Bool.{and_parts, leb-true}
 use Rattle.std.proofs.lemmas.Result.{on_ok_weaker}
 use Rattle.arrow_schema.specs.Column.{Column}
@@ -60,15 +59,13 @@ put_slot_codes-requires-clause-known c = λ n k some.
     let seen : List Cell = seen_cells c.args.entries.now in
     ap (λ (xs : List Cell). is_entry (get_or (own_entries c.args.field.now c.new-slots.result.view) n null) (get_or xs k null)) c.in_ok-known.ensures.seen
     ∙ ap (λ (v : ArrayView). is_entry (get_or (own_entries c.args.field.now v) n null) (get_or seen k null)) c.new-slots.ensures.view
-    ∙ c.in_ok-known.ensures.known n k (some ∙ ap (λ (ks : List (Option ℕ)). get_or ks n None) c.as_mut_slice.ensures.value)
+    ∙ c.in_ok-known.ensures.known n k some
 
 pub keep_numbers-requires : goal.keep_numbers-requires
 keep_numbers-requires c = λ n k some.
     let seen : List Cell = seen_cells c.put_slot_codes.new.entries in
-    let whole = take_at c.put_slot_codes.new.known (drop (length c.put_slot_codes.new.known) c.in_ok-known.known.items) c.in_ok-known.known.len
-    (omega (arith, c.put_slot_codes.auto.known, c.as_mut_slice.ensures.len)) in
     ap (λ (v : ArrayView). is_entry (get_or (own_entries c.args.field.now v) n null) (get_or seen k null)) (sym c.new-slots.ensures.view)
-    ∙ c.in_ok-put_slot_codes.ensures.known n k (some ∙ ap (λ (ks : List (Option ℕ)). get_or ks n None) whole)
+    ∙ c.in_ok-put_slot_codes.ensures.known n k some
 
 pub returns : goal.returns
 returns c =

@@ -21,8 +21,8 @@ invariant_of-self-clause-known c = λ k d within n number some.
     let is = c.args.self.now.known k d within n number some in
     ap (is_entry _) (c.see.ensures.stay number (is_within (seen_cells c.args.self.now) _ number is)) ∙ is
 
-pub returns-clause-named : goal.returns-clause-named
-returns-clause-named c =
+pub returns-in_default-clause-named : goal.returns-in_default-clause-named
+returns-in_default-clause-named c =
     let count : length c.args.self.now.places.items ≡ length (seen_cells c.args.self.now) = c.args.self.now.count ∙ sym (length-map c.args.self.now.seen.keys entry_cell) in
     on_ok_weaker c.see.result
     (λ seen. cells_stay (seen_cells c.args.self.now) _ c.args.self.now.places.items c.args.self.now.named.items count c.args.self.now.placed c.see.ensures.stay)
