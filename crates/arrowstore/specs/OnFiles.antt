@@ -34,7 +34,8 @@ use Rattle.cli_texts.specs.declared.status.Ended.{Ended}
 use Rattle.cli_texts.specs.declared.status.Status.{Status}
 use Rattle.cli_texts.specs.declared.status.Status.TheVariants.{Done, PartlyDone, Refused}
 use Rattle.cli_requests.specs.Asked.{request_word}
-use Rattle.cli_requests.specs.Operands.{are_right, Names}
+use Rattle.cli_requests.specs.Operands.{Names}
+use Rattle.cli_requests.specs.Right.{AreRightWords, IsReadFrom}
 use Rattle.cli_requests.specs.StoreWords.{first_word, ask_for_help}
 use Rattle.sector_dev.specs.declared.model.ModelDevice.{ModelDevice}
 use Rattle.cli_replay.specs.Replay.{IsReplayOfFile, RefusesReplay}
@@ -256,9 +257,10 @@ pub record ServesTold {D : Type 0} (g : Ghosts D) (is_opened : D → Type 0) {R 
   pub hints : hinted_part hint ≡ part
   pub told : HasTold reported audience (request_word request) left before.output after.output before.errors after.errors ended hint
 
--- the request that the words state: the command of the first one, and where operands alone follow, the file and the tables that they name
+-- the request that the words state: the command of the first one, where operands alone follow the file and the tables that they name, and all that `clap`
+-- finds, options too
 abbrev pub IsAskedBy : (arguments : List (List ℕ)) → StoreRequest → Type 0
-IsAskedBy arguments request = (request_word request ≡ first_word arguments) × Names arguments request
+IsAskedBy arguments request = (request_word request ≡ first_word arguments) × Names arguments request × IsReadFrom arguments request
 
 -- it was served
 pub record ServesAsked {D : Type 0} (g : Ghosts D) (is_opened : D → Type 0) {R W E : Type 0} (remaining : R → Option (List ℕ)) (contents : W → Option (List ℕ))
@@ -276,7 +278,7 @@ GivesHelpOrWrong contents asks_for_help output output' status =
 -- no command is served: some word asks for help, or the words are wrong; right ones are served unless memory is refused
 abbrev pub AsksForNone : {W : Type 0} → (contents : W → Option (List ℕ)) → (arguments : List (List ℕ)) → (output output' : W) → Status → Type 0
 AsksForNone contents arguments output output' status =
-    GivesHelpOrWrong contents (ask_for_help arguments) output output' status × (are_right arguments ≡ true → status ≡ Refused refusals.OutOfMemory)
+    GivesHelpOrWrong contents (ask_for_help arguments) output output' status × (AreRightWords arguments → status ≡ Refused refusals.OutOfMemory)
 
 -- arguments for a store: no command of them is served, and nothing is read; or the request that they state was served
 abbrev pub RunsOnStore : {D : Type 0} → (g : Ghosts D) → (is_opened : D → Type 0) → {R W E : Type 0} → (remaining : R → Option (List ℕ))

@@ -1,29 +1,28 @@
 -- What the commands of names alone make of their operands.
-use Rattle.std.proofs.Common.{◌≡◌, ◌⊎◌, ◌∙◌, ◌==◌, ℕ, Bool, true, false, refl, sym, ap, subst, List, [], ◌∷◌, ◌++◌, length, drop, codes, Option, Some, None, inl}
-use Rattle.std.proofs.Common.{inr, eqb-true, true≢false, arith}
+use Rattle.std.proofs.Common.{◌≡◌, ◌∙◌, ◌==◌, ℕ, Bool, true, false, refl, sym, ap, subst, List, [], ◌∷◌, ◌++◌, length, drop, codes, Option, Some, None}
+use Rattle.std.proofs.Common.{true≢false, arith}
 use Rattle.std.specs.Prelude.{IfSome, IfOk, Result, Ok, Err, option_map, unwrap_or}
 use Rattle.std.specs.Borrow.{Bor}
 use Rattle.std.specs.Str.{bytes_eq}
+use Rattle.std.specs.Str.Parse.{digits_value}
 use Rattle.std.proofs.lemmas.Option.{none-some}
-use Rattle.std.proofs.lemmas.Slice.Eq.{bytes_eq-Decides}
 use Rattle.clap.specs.Walk.{Held, Row, Rule, first_of, one_of, all_of, arg_by_index, finished, rows_of, settled, walked}
 use Rattle.clap.specs.Simple.{App, HasMatchesOf, Shape, app_of, built}
 use Rattle.clap.specs.declared.builder.command.Command.{Command}
 use Rattle.clap.specs.Matches.{first_value, found_of, one_text}
 use Rattle.clap.specs.declared.parser.matches.Found.{Found}
-use Rattle.clap.specs.Kinds.{IsAmong, Kinds, or_else}
+use Rattle.clap.specs.Kinds.{Kinds, or_else}
 use Rattle.clap.specs.Faults.{fault_of, is_simple_and_free, defaults_fault, check_fault}
 use Rattle.clap.specs.declared.builder.value_parser.ValueParser.{ValueParser}
 use Rattle.clap.specs.Words.{Text}
 use Rattle.clap.specs.declared.error.kind.ErrorKind.{ErrorKind}
-use Rattle.clap.specs.declared.error.kind.ErrorKind.TheVariants.{OutOfMemory}
 use Rattle.clap.specs.declared.parser.matches.ArgMatches.{ArgMatches}
 use Rattle.clap.proofs.OnLiterals.{clap_on_literals}
 use Rattle.clap.proofs.WalkLemmas.{first_value-rows, one_text-rows, raw_values-rows}
 use Rattle.cli_requests.specs.Apps.{info_app, format_app, copy_app, store_app, table_app, rename_app, create_app, append_app, query_app, other_parameters, parameters_of, IsAppWith, IsOwnApp, value_of, values_of}
-use Rattle.cli_requests.specs.Apps.{HasFound, takes_number}
+use Rattle.cli_requests.specs.Apps.{HasFound}
 use Rattle.cli_requests.specs.Asked.{request_word}
-use Rattle.cli_requests.specs.Operands.{number_of, version_named, operands, names_file, names_table, wanted, are_as_many, are_right, IsNamedBy, Names}
+use Rattle.cli_requests.specs.Operands.{version_named, operands, names_file, names_table, IsNamedBy, Names}
 use Rattle.cli_requests.specs.StoreWords.{is_of_store, is_store_word, first_word}
 use Rattle.cli_requests.specs.declared.command_parameters.Parameters.{Parameters}
 use Rattle.cli_requests.specs.declared.command_parameters.Parameters.TheVariants as parameters
@@ -35,25 +34,25 @@ use Rattle.cli_requests.proofs.OperandLemmas.{at, ends_options, operands_fault, 
 
 -- ---- the three commands, by what they take after the file
 
-abbrev file_app : Text → App
+abbrev pub file_app : Text → App
 file_app name = store_app name
 
 -- none of their positionals ends the options
-file_plain : (name : Text) (p : ℕ) → ends_options (arg_by_index (built (file_app name)).top.rules p) ≡ false
+pub file_plain : (name : Text) (p : ℕ) → ends_options (arg_by_index (built (file_app name)).top.rules p) ≡ false
 file_plain name p = by_first (1 == p) refl
   where
     by_first : (b : Bool) → (1 == p) ≡ b → ends_options (arg_by_index (built (file_app name)).top.rules p) ≡ false
     by_first true e = rw e refl
     by_first false e = rw e refl
 
-info_plain : (name : Text) (p : ℕ) → ends_options (arg_by_index (built (info_app name)).top.rules p) ≡ false
+pub info_plain : (name : Text) (p : ℕ) → ends_options (arg_by_index (built (info_app name)).top.rules p) ≡ false
 info_plain name p = by_first (1 == p) refl
   where
     by_first : (b : Bool) → (1 == p) ≡ b → ends_options (arg_by_index (built (info_app name)).top.rules p) ≡ false
     by_first true e = rw e refl
     by_first false e = rw e refl
 
-table_plain : (name : Text) (p : ℕ) → ends_options (arg_by_index (built (table_app name)).top.rules p) ≡ false
+pub table_plain : (name : Text) (p : ℕ) → ends_options (arg_by_index (built (table_app name)).top.rules p) ≡ false
 table_plain name p = by_each (1 == p) (2 == p) refl refl
   where
     by_each : (a b : Bool) → (1 == p) ≡ a → (2 == p) ≡ b → ends_options (arg_by_index (built (table_app name)).top.rules p) ≡ false
@@ -61,7 +60,7 @@ table_plain name p = by_each (1 == p) (2 == p) refl refl
     by_each false true d e = rw (d, e) refl
     by_each false false d e = rw (d, e) refl
 
-rename_plain : (name : Text) (p : ℕ) → ends_options (arg_by_index (built (rename_app name)).top.rules p) ≡ false
+pub rename_plain : (name : Text) (p : ℕ) → ends_options (arg_by_index (built (rename_app name)).top.rules p) ≡ false
 rename_plain name p = by_each (1 == p) (2 == p) (3 == p) refl refl refl
   where
     by_each : (a b c : Bool) → (1 == p) ≡ a → (2 == p) ≡ b → (3 == p) ≡ c → ends_options (arg_by_index (built (rename_app name)).top.rules p) ≡ false
@@ -70,7 +69,7 @@ rename_plain name p = by_each (1 == p) (2 == p) (3 == p) refl refl refl
     by_each false false true d e f = rw (d, e, f) refl
     by_each false false false d e f = rw (d, e, f) refl
 
-format_plain : (name : Text) (p : ℕ) → ends_options (arg_by_index (built (format_app name)).top.rules p) ≡ false
+pub format_plain : (name : Text) (p : ℕ) → ends_options (arg_by_index (built (format_app name)).top.rules p) ≡ false
 format_plain name p = by_each (1 == p) (2 == p) refl refl
   where
     by_each : (a b : Bool) → (1 == p) ≡ a → (2 == p) ≡ b → ends_options (arg_by_index (built (format_app name)).top.rules p) ≡ false
@@ -78,7 +77,7 @@ format_plain name p = by_each (1 == p) (2 == p) refl refl
     by_each false true d e = rw (d, e) refl
     by_each false false d e = rw (d, e) refl
 
-copy_plain : (name : Text) (p : ℕ) → ends_options (arg_by_index (built (copy_app name)).top.rules p) ≡ false
+pub copy_plain : (name : Text) (p : ℕ) → ends_options (arg_by_index (built (copy_app name)).top.rules p) ≡ false
 copy_plain name p = by_each (1 == p) (2 == p) (3 == p) refl refl refl
   where
     by_each : (a b c : Bool) → (1 == p) ≡ a → (2 == p) ≡ b → (3 == p) ≡ c → ends_options (arg_by_index (built (copy_app name)).top.rules p) ≡ false
@@ -87,7 +86,7 @@ copy_plain name p = by_each (1 == p) (2 == p) (3 == p) refl refl refl
     by_each false false true d e f = rw (d, e, f) refl
     by_each false false false d e f = rw (d, e, f) refl
 
-append_plain : (forms : ValueParser) (name : Text) (p : ℕ) → ends_options (arg_by_index (built (append_app forms name)).top.rules p) ≡ false
+pub append_plain : (forms : ValueParser) (name : Text) (p : ℕ) → ends_options (arg_by_index (built (append_app forms name)).top.rules p) ≡ false
 append_plain forms name p = by_each (1 == p) (2 == p) refl refl
   where
     by_each : (a b : Bool) → (1 == p) ≡ a → (2 == p) ≡ b → ends_options (arg_by_index (built (append_app forms name)).top.rules p) ≡ false
@@ -95,7 +94,7 @@ append_plain forms name p = by_each (1 == p) (2 == p) refl refl
     by_each false true d e = rw (d, e) refl
     by_each false false d e = rw (d, e) refl
 
-create_plain : (name : Text) (p : ℕ) → ends_options (arg_by_index (built (create_app name)).top.rules p) ≡ false
+pub create_plain : (name : Text) (p : ℕ) → ends_options (arg_by_index (built (create_app name)).top.rules p) ≡ false
 create_plain name p = by_each (1 == p) (2 == p) (3 == p) refl refl refl
   where
     by_each : (a b c : Bool) → (1 == p) ≡ a → (2 == p) ≡ b → (3 == p) ≡ c → ends_options (arg_by_index (built (create_app name)).top.rules p) ≡ false
@@ -104,7 +103,7 @@ create_plain name p = by_each (1 == p) (2 == p) (3 == p) refl refl refl
     by_each false false true d e f = rw (d, e, f) refl
     by_each false false false d e f = rw (d, e, f) refl
 
-query_plain : (name : Text) (p : ℕ) → ends_options (arg_by_index (built (query_app name)).top.rules p) ≡ false
+pub query_plain : (name : Text) (p : ℕ) → ends_options (arg_by_index (built (query_app name)).top.rules p) ≡ false
 query_plain name p = by_each (1 == p) (2 == p) (3 == p) refl refl refl
   where
     by_each : (a b c : Bool) → (1 == p) ≡ a → (2 == p) ≡ b → (3 == p) ≡ c → ends_options (arg_by_index (built (query_app name)).top.rules p) ≡ false
@@ -116,57 +115,36 @@ query_plain name p = by_each (1 == p) (2 == p) (3 == p) refl refl refl
 some_kind : (k : ErrorKind) (ks : Kinds) → k ∷ ks ≡ [] → ⊥
 some_kind k ks h = let longer : length (k ∷ ks) ≡ 0 = ap (λ (xs : Kinds). length xs) h in absurd (omega (arith, longer))
 
-abbrev file_top : Text → Shape
+abbrev pub file_top : Text → Shape
 file_top name = (built (file_app name)).top
 
-abbrev info_top : Text → Shape
+abbrev pub info_top : Text → Shape
 info_top name = (built (info_app name)).top
 
-abbrev table_top : Text → Shape
+abbrev pub table_top : Text → Shape
 table_top name = (built (table_app name)).top
 
-abbrev rename_top : Text → Shape
+abbrev pub rename_top : Text → Shape
 rename_top name = (built (rename_app name)).top
 
-abbrev format_top : Text → Shape
+abbrev pub format_top : Text → Shape
 format_top name = (built (format_app name)).top
 
-abbrev copy_top : Text → Shape
+abbrev pub copy_top : Text → Shape
 copy_top name = (built (copy_app name)).top
 
-abbrev append_top : ValueParser → Text → Shape
+abbrev pub append_top : ValueParser → Text → Shape
 append_top forms name = (built (append_app forms name)).top
 
-abbrev create_top : Text → Shape
+abbrev pub create_top : Text → Shape
 create_top name = (built (create_app name)).top
 
-abbrev query_top : Text → Shape
+abbrev pub query_top : Text → Shape
 query_top name = (built (query_app name)).top
 
--- ---- as many operands as are wanted have no fault, and others have one
+-- ---- operands that are no fault
 
-full_file : (name : Text) (ops : List Text) → length ops ≡ 1 → operands_fault (file_top name) ops ≡ []
-unfolding clap_on_literals
-full_file name [] e = absurd (omega (arith, e))
-full_file name (a ∷ []) e = refl
-full_file name (a ∷ b ∷ rest) e = absurd (omega (arith, e))
-
-full_table : (name : Text) (ops : List Text) → length ops ≡ 2 → operands_fault (table_top name) ops ≡ []
-unfolding clap_on_literals
-full_table name [] e = absurd (omega (arith, e))
-full_table name (a ∷ []) e = absurd (omega (arith, e))
-full_table name (a ∷ b ∷ []) e = refl
-full_table name (a ∷ b ∷ c ∷ rest) e = absurd (omega (arith, e))
-
-full_rename : (name : Text) (ops : List Text) → length ops ≡ 3 → operands_fault (rename_top name) ops ≡ []
-unfolding clap_on_literals
-full_rename name [] e = absurd (omega (arith, e))
-full_rename name (a ∷ []) e = absurd (omega (arith, e))
-full_rename name (a ∷ b ∷ []) e = absurd (omega (arith, e))
-full_rename name (a ∷ b ∷ c ∷ []) e = refl
-full_rename name (a ∷ b ∷ c ∷ d ∷ rest) e = absurd (omega (arith, e))
-
-abbrev row_value : Text → List Row → Text
+abbrev pub row_value : Text → List Row → Text
 row_value id rows = unwrap_or (first_of id rows) []
 
 file_named : (name : Text) (ops : List Text) → operands_fault (file_top name) ops ≡ [] → ops ≡ row_value (codes "STORE") (operand_rows (file_top name) ops) ∷ []
@@ -255,19 +233,19 @@ abbrev row_values : Text → List Row → List Text
 row_values id rows = unwrap_or (all_of id rows) []
 
 -- the file, the table, and words without end
-abbrev file_and_table : List Rule → Text → Text → List Row
+abbrev pub file_and_table : List Rule → Text → Text → List Row
 file_and_table rules a b = (settled rules (record {
   rows = (settled rules (record { rows = []; pending = Some (codes "STORE", a ∷ []); skip = 0 })).rows;
   pending = Some (codes "NAME", b ∷ []);
   skip = 0;
 })).rows
 
-field_met : (name a b : Text) (vs : List Text) (c : Text) → walked (create_top name).rules [] (at (words_held (file_and_table (create_top name).rules a b) (codes "FIELD") vs) true 3 true) c
+pub field_met : (name a b : Text) (vs : List Text) (c : Text) → walked (create_top name).rules [] (at (words_held (file_and_table (create_top name).rules a b) (codes "FIELD") vs) true 3 true) c
     ≡ at (words_held (file_and_table (create_top name).rules a b) (codes "FIELD") (vs ++ c ∷ [])) true 3 true
 unfolding walked clap_on_literals
 field_met name a b vs c = refl
 
-condition_met : (name a b : Text) (vs : List Text) (c : Text)
+pub condition_met : (name a b : Text) (vs : List Text) (c : Text)
     → walked (query_top name).rules [] (at (words_held (file_and_table (query_top name).rules a b) (codes "CONDITION") vs) true 3 true) c
     ≡ at (words_held (file_and_table (query_top name).rules a b) (codes "CONDITION") (vs ++ c ∷ [])) true 3 true
 unfolding walked clap_on_literals
@@ -329,12 +307,6 @@ pub own_of : {E : Type 0} (r : Result Command E) (word : Text) (has b : Paramete
 own_of (Ok c) word has b e is own = subst (λ (x : Parameters). IsAppWith word x (app_of c)) (sym is ∙ e) own
 own_of (Err x) word has b e is own = tt
 
--- of one with options nothing is said
-pub own_any : {E : Type 0} (r : Result Command E) (word : Text) (has : Parameters) → has ≡ parameters_of word → has ≡ parameters.ScriptAndFaults
-    → IfOk r (λ c. IsOwnApp word (app_of c))
-own_any (Ok c) word has e is = subst (λ (x : Parameters). IsAppWith word x (app_of c)) (sym is ∙ e) tt
-own_any (Err x) word has e is = tt
-
 -- ---- the names that a request has
 
 -- what was found by a parse that has succeeded
@@ -345,17 +317,17 @@ pub record Parsed (a : App) (words : List Text) (m : ArgMatches) : Type 0 where
 found_value : (m : ArgMatches) (rows : List Row) (id : Text) → rows_of (found_of m) ≡ rows → row_value id rows ≡ value_of (found_of m) id
 found_value m rows id e = ap (row_value id) (sym e) ∙ ap (λ (o : Option Text). unwrap_or o []) (sym (first_value-rows (found_of m) id))
 
-found_first : (m : ArgMatches) (rows : List Row) (id : Text) → rows_of (found_of m) ≡ rows → first_of id rows ≡ first_value (found_of m) id
+pub found_first : (m : ArgMatches) (rows : List Row) (id : Text) → rows_of (found_of m) ≡ rows → first_of id rows ≡ first_value (found_of m) id
 found_first m rows id e = ap (first_of id) (sym e) ∙ sym (first_value-rows (found_of m) id)
 
-found_one : (m : ArgMatches) (rows : List Row) (id : Text) → rows_of (found_of m) ≡ rows → one_of id rows ≡ one_text (found_of m) id
+pub found_one : (m : ArgMatches) (rows : List Row) (id : Text) → rows_of (found_of m) ≡ rows → one_of id rows ≡ one_text (found_of m) id
 found_one m rows id e = ap (one_of id) (sym e) ∙ sym (one_text-rows (found_of m) id)
 
 found_values : (m : ArgMatches) (rows : List Row) (id : Text) → rows_of (found_of m) ≡ rows → row_values id rows ≡ values_of (found_of m) id
 found_values m rows id e = ap (row_values id) (sym e) ∙ ap (λ (o : Option (List Text)). unwrap_or o []) (sym (raw_values-rows (found_of m) id))
 
 -- none of the options of a query was found
-record HasNoOption (found : Found) : Type 0 where
+pub record HasNoOption (found : Found) : Type 0 where
   pub columns : first_value found (codes "columns") ≡ None
   pub limit : first_value found (codes "limit") ≡ None
   pub save : first_value found (codes "save") ≡ None
@@ -506,14 +478,14 @@ module _ (word : Text) (words : List Text) (m : ArgMatches) (a : App) (own : IsO
       → ops ≡ value_of (found_of m) (codes "STORE") ∷ value_of (found_of m) (codes "NAME") ∷ value_of (found_of m) (codes "NEW") ∷ []
   names_two is ops e = rename_found word words m a word parsed (subst (λ (b : Parameters). IsAppWith word b a) is own) ops e
 
-  names_sectors : parameters_of word ≡ parameters.Sectors → (ops : List Text) → operands words ≡ Some ops
+  pub names_sectors : parameters_of word ≡ parameters.Sectors → (ops : List Text) → operands words ≡ Some ops
       → ops ≡ value_of (found_of m) (codes "STORE") ∷ value_of (found_of m) (codes "SECTORS") ∷ []
   names_sectors is ops e = format_found word words m a word parsed (subst (λ (b : Parameters). IsAppWith word b a) is own) ops e
 
-  asks_newest : parameters_of word ≡ parameters.Sectors → (ops : List Text) → operands words ≡ Some ops → first_value (found_of m) (codes "format-version") ≡ None
+  pub asks_newest : parameters_of word ≡ parameters.Sectors → (ops : List Text) → operands words ≡ Some ops → first_value (found_of m) (codes "format-version") ≡ None
   asks_newest is ops e = format_default word words m a word parsed (subst (λ (b : Parameters). IsAppWith word b a) is own) ops e
 
-  names_new_store : parameters_of word ≡ parameters.NewStore → (ops : List Text) → operands words ≡ Some ops
+  pub names_new_store : parameters_of word ≡ parameters.NewStore → (ops : List Text) → operands words ≡ Some ops
       → ops ≡ value_of (found_of m) (codes "STORE") ∷ value_of (found_of m) (codes "NEW") ∷ value_of (found_of m) (codes "SECTORS") ∷ []
   names_new_store is ops e = copy_found word words m a word parsed (subst (λ (b : Parameters). IsAppWith word b a) is own) ops e
 
@@ -521,7 +493,7 @@ module _ (word : Text) (words : List Text) (m : ArgMatches) (a : App) (own : IsO
       → ops ≡ value_of (found_of m) (codes "STORE") ∷ value_of (found_of m) (codes "NAME") ∷ []
   names_rows is ops e =
       let own_app = subst (λ (b : Parameters). IsAppWith word b a) is own in
-      append_found word words m a word parsed own_app.0 own_app.1 ops e
+      append_found word words m a word parsed own_app.0 own_app.2 ops e
 
   names_fields : parameters_of word ≡ parameters.TableAndFields → (ops : List Text) → operands words ≡ Some ops
       → ops ≡ value_of (found_of m) (codes "STORE") ∷ value_of (found_of m) (codes "NAME") ∷ values_of (found_of m) (codes "FIELD")
@@ -534,9 +506,9 @@ module _ (word : Text) (words : List Text) (m : ArgMatches) (a : App) (own : IsO
   asks_stream : parameters_of word ≡ parameters.TableAndRows → (ops : List Text) → operands words ≡ Some ops → bytes_eq (value_of (found_of m) (codes "as")) (codes "stream") ≡ false → ⊥
   asks_stream is ops e other =
       let own_app = subst (λ (b : Parameters). IsAppWith word b a) is own in
-      true≢false (ap (λ (form : Text). bytes_eq form (codes "stream")) (sym (append_default word words m a word parsed own_app.0 own_app.1 ops e)) ∙ other)
+      true≢false (ap (λ (form : Text). bytes_eq form (codes "stream")) (sym (append_default word words m a word parsed own_app.0 own_app.2 ops e)) ∙ other)
 
-  asks_all : parameters_of word ≡ parameters.TableAndQuery → (ops : List Text) → operands words ≡ Some ops → HasNoOption (found_of m)
+  pub asks_all : parameters_of word ≡ parameters.TableAndQuery → (ops : List Text) → operands words ≡ Some ops → HasNoOption (found_of m)
   asks_all is ops e = query_options word words m a word parsed (subst (λ (b : Parameters). IsAppWith word b a) is own) ops e
 
   of_word : (w : Text) (b : Parameters) → w ≡ word → parameters_of w ≡ b → parameters_of word ≡ b
@@ -554,7 +526,7 @@ module _ (word : Text) (words : List Text) (m : ArgMatches) (a : App) (own : IsO
         value_of (found_of m) (codes "SECTORS"),
         names_sectors taken ops e ∙ (λ i. sym found.0 i ∷ value_of (found_of m) (codes "SECTORS") ∷ []),
         found.1,
-        found.2 ∙ ap version_named (asks_newest taken ops e),
+        found.2.1 ∙ ap version_named (asks_newest taken ops e),
       ))
   names_command (requests.Copy file new sectors) is found =
       named (requests.Copy file new sectors)
@@ -613,7 +585,7 @@ module _ (word : Text) (words : List Text) (m : ArgMatches) (a : App) (own : IsO
       ))
   names_command (requests.Command file (commands.Append name)) is found =
       named (requests.Command file (commands.Append name))
-      (λ ops e. (names_rows (of_word (codes "append") parameters.TableAndRows is refl) ops e ∙ (λ i. sym found.0 i ∷ sym found.1 i ∷ []), tt))
+      (λ ops e. (names_rows (of_word (codes "append") parameters.TableAndRows is refl) ops e ∙ (λ i. sym found.0 i ∷ sym found.1.0 i ∷ []), tt))
   names_command (requests.Command file (commands.AppendText name form)) is found =
       named (requests.Command file (commands.AppendText name form))
       (λ ops e. absurd (asks_stream (of_word (codes "append") parameters.TableAndRows is refl) ops e found.1.1))
@@ -624,111 +596,13 @@ module _ (word : Text) (words : List Text) (m : ArgMatches) (a : App) (own : IsO
       let none = asks_all taken ops e in
       let has = found.1.1 in (
         names_conditions taken ops e ∙ (λ i. sym found.0 i ∷ sym found.1.0 i ∷ sym has.conditions i),
-        (no_text query.columns (has.columns ∙ none.columns), has.limit ∙ ap (option_map number_of) none.limit, found.1.2.arrays none.objects),
+        (no_text query.columns (has.columns ∙ none.columns), has.limit ∙ ap (option_map (digits_value 10)) none.limit, found.1.2.arrays none.objects),
       ))
   names_command (requests.Command file (commands.SaveAs from to query)) is found =
       named (requests.Command file (commands.SaveAs from to query))
       (λ ops e.
       let none = asks_all (of_word (codes "query") parameters.TableAndQuery is refl) ops e in
       absurd (none-some to.now (sym none.save ∙ sym found.1.1)))
-
--- ---- arguments that are right
-
-abbrev IsOfNames : Parameters → Text → Type 0
-IsOfNames b word = (parameters_of word ≡ b) × (takes_number word ≡ false)
-
-pub data Right (word : Text) (words : List Text) : Type 0 where
-  of_file : IsOfNames parameters.Nothing word → (ops : List Text) → operands words ≡ Some ops → length ops ≡ 1 → Right word words
-  of_table : IsOfNames parameters.Table word → (ops : List Text) → operands words ≡ Some ops → length ops ≡ 2 → Right word words
-  of_rename : IsOfNames parameters.TableAndNewName word → (ops : List Text) → operands words ≡ Some ops → length ops ≡ 3 → Right word words
-
-as_many : (n : ℕ) (o : Option (List Text)) → are_as_many (Some n) o ≡ true → (ops : List Text) × (o ≡ Some ops) × (length ops ≡ n)
-as_many n None e = absurd (true≢false (sym e))
-as_many n (Some ops) e = (ops, refl, eqb-true (length ops) n e)
-
-named_as : (b : Parameters) (other word : Text) → bytes_eq other word ≡ true → IsOfNames b other → IsOfNames b word
-named_as b other word e is = subst (IsOfNames b) ((bytes_eq-Decides other word).0 e) is
-
-file_number : (word : Text) (tables check compact upgrade : Bool) → bytes_eq (codes "tables") word ≡ tables → bytes_eq (codes "check") word ≡ check
-    → bytes_eq (codes "compact") word ≡ compact → bytes_eq (codes "upgrade") word ≡ upgrade → names_file word ≡ true → IsOfNames parameters.Nothing word
-unfolding names_file names_table other_parameters parameters_of
-file_number word true c m u t e f g is = named_as parameters.Nothing (codes "tables") word t (refl, refl)
-file_number word false true m u t e f g is = named_as parameters.Nothing (codes "check") word e (refl, refl)
-file_number word false false true u t e f g is = named_as parameters.Nothing (codes "compact") word f (refl, refl)
-file_number word false false false true t e f g is = named_as parameters.Nothing (codes "upgrade") word g (refl, refl)
-file_number word false false false false t e f g is = let none : false ≡ true = rw (t, e, f, g) at is in absurd (true≢false (sym none))
-
-table_number : (word : Text) (import drops schema export salvage : Bool) → bytes_eq (codes "import") word ≡ import → bytes_eq (codes "drop") word ≡ drops
-    → bytes_eq (codes "schema") word ≡ schema
-    → bytes_eq (codes "export") word ≡ export → bytes_eq (codes "salvage") word ≡ salvage → names_table word ≡ true → IsOfNames parameters.Table word
-unfolding names_file names_table other_parameters parameters_of
-table_number word true d s x v ei ed es ex ev is = named_as parameters.Table (codes "import") word ei (refl, refl)
-table_number word false true s x v ei ed es ex ev is = named_as parameters.Table (codes "drop") word ed (refl, refl)
-table_number word false false true x v ei ed es ex ev is = named_as parameters.Table (codes "schema") word es (refl, refl)
-table_number word false false false true v ei ed es ex ev is = named_as parameters.Table (codes "export") word ex (refl, refl)
-table_number word false false false false true ei ed es ex ev is = named_as parameters.Table (codes "salvage") word ev (refl, refl)
-table_number word false false false false false ei ed es ex ev is = let none : false ≡ true = rw (ei, ed, es, ex, ev) at is in absurd (true≢false (sym none))
-
-rename_number : (word : Text) → bytes_eq (codes "rename") word ≡ true → IsOfNames parameters.TableAndNewName word
-unfolding names_file names_table other_parameters parameters_of
-rename_number word e = named_as parameters.TableAndNewName (codes "rename") word e (refl, refl)
-
-which : (word : Text) (words : List Text) (file table rename : Bool) → names_file word ≡ file → names_table word ≡ table
-    → bytes_eq (codes "rename") word ≡ rename
-    → are_as_many (wanted word) (operands words) ≡ true → Right word words
-which word words true t r ef et er right =
-    let m = as_many 1 (operands words) (rw ef at right) in
-    of_file (file_number word (bytes_eq (codes "tables") word) (bytes_eq (codes "check") word) (bytes_eq (codes "compact") word) (bytes_eq
-    (codes "upgrade") word) refl refl refl refl ef) m.0 m.1 m.2
-which word words false true r ef et er right =
-    let m = as_many 2 (operands words) (rw (ef, et) at right) in
-    of_table (table_number word (bytes_eq (codes "import") word) (bytes_eq (codes "drop") word) (bytes_eq (codes "schema") word) (bytes_eq
-    (codes "export") word) (bytes_eq (codes "salvage") word) refl refl refl refl refl et) m.0 m.1 m.2
-which word words false false true ef et er right =
-    let m = as_many 3 (operands words) (rw (ef, et, er) at right) in
-    of_rename (rename_number word er) m.0 m.1 m.2
-which word words false false false ef et er right =
-    let none : are_as_many None (operands words) ≡ true = rw (ef, et, er) at right in
-    absurd (true≢false (sym none))
-
-right_of : (word : Text) (words : List Text) → are_as_many (wanted word) (operands words) ≡ true → Right word words
-right_of word words = which word words (names_file word) (names_table word) (bytes_eq (codes "rename") word) refl refl refl
-
-abbrev IsFaultless : App → List Text → Type 0
-IsFaultless a words = (is_simple_and_free a ≡ true) × (fault_of a words ≡ [])
-
-right_faultless : (word : Text) (words : List Text) (a : App) → IsOwnApp word a → Right word words → IsFaultless a (word ∷ words)
-unfolding clap_on_literals
-right_faultless word words a own (of_file is ops e n) =
-    let same : a ≡ file_app word = subst (λ (b : Parameters). IsAppWith word b a) is.0 own in
-    subst (λ (x : App). IsFaultless x (word ∷ words)) (sym same) (
-      refl,
-      (reads_operands (file_app word) word words ops e refl refl (file_plain word)).fault
-          ∙ full_file word ops n,
-    )
-right_faultless word words a own (of_table is ops e n) =
-    let same : a ≡ table_app word = subst (λ (b : Parameters). IsAppWith word b a) is.0 own in
-    subst (λ (x : App). IsFaultless x (word ∷ words)) (sym same) (
-      refl,
-      (reads_operands (table_app word) word words ops e refl refl
-          (table_plain word)).fault ∙ full_table word ops n,
-    )
-right_faultless word words a own (of_rename is ops e n) =
-    let same : a ≡ rename_app word = subst (λ (b : Parameters). IsAppWith word b a) is.0 own in
-    subst (λ (x : App). IsFaultless x (word ∷ words)) (sym same) (
-      refl,
-      (reads_operands (rename_app word) word words ops e refl refl
-          (rename_plain word)).fault ∙ full_rename word ops n,
-    )
-
-right_number : (word : Text) (words : List Text) → Right word words → takes_number word ≡ false
-right_number word words (of_file is ops e n) = is.1
-right_number word words (of_table is ops e n) = is.1
-right_number word words (of_rename is ops e n) = is.1
-
-only_memory : (kind : ErrorKind) (kinds : Kinds) → kinds ≡ [] → (kind ≡ OutOfMemory) ⊎ IsAmong kind kinds → kind ≡ OutOfMemory
-only_memory kind kinds none (inl memory) = memory
-only_memory kind kinds none (inr among) = absurd (subst (IsAmong kind) none among)
 
 -- ---- the arguments of the program
 
@@ -750,22 +624,3 @@ named_result args word words m a (Ok request) of_store first after own faultless
     let is = subst (λ (w : Text). is_store_word w ≡ true) (sym first) (first_of_store args of_store) in
     names_arguments args word words m a request of_store first after own (record { faultless = faultless; matches = matches }) (asks is) found
 named_result args word words m a (Err e) of_store first after own faultless matches asks found = tt
-
-pub right_by_memory : (args : List Text) (word : Text) (words : List Text) (a : App) (kind : ErrorKind) → are_right args ≡ true → word ≡ first_word args
-    → words ≡ drop 1 args → IsOwnApp word a
-    → (is_simple_and_free a ≡ true → (kind ≡ OutOfMemory) ⊎ IsAmong kind (fault_of a words)) → kind ≡ OutOfMemory
-unfolding are_right first_word
-right_by_memory [] word words a kind right first after own has = absurd (true≢false (sym right))
-right_by_memory (name ∷ []) word words a kind right first after own has = absurd (true≢false (sym right))
-right_by_memory (name ∷ w ∷ rest) word words a kind right first after own has =
-    let same : words ≡ word ∷ rest = after ∙ ap (λ (x : Text). x ∷ rest) (sym first) in
-    let are : are_as_many (wanted word) (operands rest) ≡ true = subst (λ (x : Text). are_as_many (wanted x) (operands rest) ≡ true) (sym first) right in
-    let faultless = subst (IsFaultless a) (sym same) (right_faultless word rest a own (right_of word rest are)) in
-    only_memory kind (fault_of a words) faultless.1 (has faultless.0)
-
-pub right_takes_no_number : (args : List Text) (word : Text) → are_right args ≡ true → word ≡ first_word args → takes_number word ≡ false
-unfolding are_right first_word
-right_takes_no_number [] word right first = absurd (true≢false (sym right))
-right_takes_no_number (name ∷ []) word right first = absurd (true≢false (sym right))
-right_takes_no_number (name ∷ w ∷ rest) word right first =
-    right_number word rest (right_of word rest (subst (λ (x : Text). are_as_many (wanted x) (operands rest) ≡ true) (sym first) right))

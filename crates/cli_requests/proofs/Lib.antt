@@ -1,3 +1,5 @@
 mod WordLemmas
 pub mod OperandLemmas
 pub mod AppLemmas
+pub mod RightLemmas
+mod NumberLemmas

@@ -163,7 +163,7 @@ operands_fault s ops =
     or_else (walk_fault s [] (at nothing_held false 1 true) ops) (or_else (settle_fault s.rules s.args_override_self end)
     (or_else (defaults_fault (settled s.rules end).rows s.rules) (check_fault s (finished s.rules end) false)))
 
-abbrev level_with : Shape → Kinds → Held → Kinds
+abbrev pub level_with : Shape → Kinds → Held → Kinds
 level_with s turns end = or_else turns (or_else (settle_fault s.rules s.args_override_self end)
     (or_else (defaults_fault (settled s.rules end).rows s.rules) (check_fault s (finished s.rules end) false)))
 
@@ -200,3 +200,12 @@ words_read s id rows met vs [] = ap (words_held rows id) (sym (append-nil vs))
 words_read s id rows met vs (c ∷ rest) =
     ap (λ (w : Walk). (fold (walked s.rules []) w rest).held) (met vs c) ∙ words_read s id rows met (vs ++ c ∷ []) rest
     ∙ ap (words_held rows id) (append_assoc vs (c ∷ []) rest)
+
+pub words_faultless : (s : Shape) (id : Text) (rows : List Row)
+    → ((vs : List Text) (c : Text) → walked s.rules [] (at (words_held rows id vs) true 3 true) c ≡ at (words_held rows id (vs ++ c ∷ [])) true 3 true)
+    → ((vs : List Text) (c : Text) → turn_fault s [] (at (words_held rows id vs) true 3 true) c ≡ [])
+    → (vs rest : List Text) → walk_fault s [] (at (words_held rows id vs) true 3 true) rest ≡ []
+unfolding walk_fault
+words_faultless s id rows met free vs [] = refl
+words_faultless s id rows met free vs (c ∷ rest) =
+    ap₂ or_else (free vs c) (ap (λ (w : Walk). walk_fault s [] w rest) (met vs c) ∙ words_faultless s id rows met free (vs ++ c ∷ []) rest)

@@ -1,27 +1,34 @@
 -- What `clap` reads of the commands, and the values that it finds.
-use Rattle.std.specs.Prelude.{◌≡◌, Bool, true, false, ◌||◌, List, [], ◌∷◌, codes, Some, option_map, if◌then◌else◌, unwrap_or}
+use Rattle.std.specs.Prelude.{◌≡◌, ◌≢◌, Bool, true, false, ◌||◌, List, [], ◌∷◌, codes, Some, option_map, if◌then◌else◌, unwrap_or}
 use Rattle.std.specs.Str.{bytes_eq}
+use Rattle.std.specs.Str.Parse.{digits_value}
 use Rattle.clap.specs.Lexer.{usize_max}
+use Rattle.clap.specs.ValueTests.{accepts}
 use Rattle.clap.specs.Walk.{texts}
 use Rattle.clap.specs.Words.{App, Rule, Text, new_app, new_rule, with_rule, first_value, matched_of, one_text, raw_values, kind_of}
 use Rattle.clap.specs.declared.builder.action.ArgAction.TheVariants.{SetTrue}
 use Rattle.clap.specs.declared.builder.value_parser.ValueParser.{ValueParser}
 use Rattle.clap.specs.declared.builder.value_parser.ValueParser.TheVariants as parsers
 use Rattle.clap.specs.declared.parser.matches.Found.{Found}
+use Rattle.commit.specs.declared.sector.FormatVersion.{FormatVersion}
 use Rattle.query.specs.declared.row_form.RowForm.{RowForm}
 use Rattle.query.specs.declared.row_form.RowForm.TheVariants.{Array, Object}
 use Rattle.clap.specs.declared.error.kind.ErrorKind.TheVariants.{OutOfMemory}
 use Rattle.cli_requests.specs.declared.command_parameters.Parameters.{Parameters}
 use Rattle.cli_requests.specs.declared.command_parameters.Parameters.TheVariants as parameters
 use Rattle.cli_requests.specs.Choices.{IsChoice}
-use Rattle.cli_requests.specs.Operands.{names_file, names_table, number_of, version_named}
+use Rattle.cli_requests.specs.Numbers.{IsNumber, IsNumberOrZero, is_number_if_any}
+use Rattle.cli_requests.specs.Operands.{names_file, names_table, version_named}
 use Rattle.cli_requests.specs.declared.store_command_line.Mistake.{Mistake}
 use Rattle.cli_requests.specs.declared.store_command_line.Mistake.TheVariants as mistakes
+use Rattle.cli_requests.specs.declared.replaying.ReplayWords.{ReplayWords}
 use Rattle.cli_requests.specs.declared.store_words.QueryWords.{QueryWords}
 use Rattle.cli_requests.specs.declared.store_words.StoreCommand.{StoreCommand}
 use Rattle.cli_requests.specs.declared.store_words.StoreCommand.TheVariants as commands
 use Rattle.cli_requests.specs.declared.store_words.StoreRequest.{StoreRequest}
 use Rattle.cli_requests.specs.declared.store_words.StoreRequest.TheVariants as requests
+use Rattle.text_import.specs.declared.form.TextForm.{TextForm}
+use Rattle.text_import.specs.declared.form.TextForm.TheVariants as text_forms
 
 abbrev pub required_rule : Text → Rule
 required_rule id = record (new_rule id) { required = true }
@@ -99,6 +106,30 @@ abbrev pub query_app : Text → App
 query_app name = with_rule (with_rule (with_rule (with_rule (conditions_app name) (option_rule (codes "columns"))) limit_rule) (option_rule (codes "save")))
     objects_rule
 
+-- a script, and what goes wrong while it is played
+abbrev pub number_rule : Text → Rule
+number_rule id = record (option_rule id) { parser = Some (parsers.Unsigned 0 18446744073709551615) }
+
+abbrev pub size_rule : Rule
+size_rule = record (number_rule (codes "sectors")) { required = true }
+
+abbrev pub choice_rule : Rule
+choice_rule = record (option_rule (codes "choice")) { defaults = codes "old" ∷ [] }
+
+abbrev pub script_app : Text → App
+script_app name = with_rule (with_rule (new_app name) (required_rule (codes "SCRIPT"))) size_rule
+
+abbrev pub replay_app : Text → App
+replay_app name = with_rule (with_rule (with_rule (with_rule (script_app name) (number_rule (codes "fail"))) (number_rule (codes "stop"))) choice_rule)
+    version_rule
+
+-- the forms of an input, and no others
+abbrev pub is_form : Text → Bool
+is_form word = bytes_eq (codes "stream") word || (bytes_eq (codes "csv") word || bytes_eq (codes "jsonl") word)
+
+abbrev pub AreForms : ValueParser → Type 0
+AreForms forms = (word : Text) → accepts false forms word ≡ is_form word
+
 -- the command of a name, by what it takes
 abbrev pub IsAppWith : Text → Parameters → App → Type 0
 IsAppWith name parameters.Nothing command = command ≡ store_app name
@@ -108,10 +139,9 @@ IsAppWith name parameters.TableAndNewName command = command ≡ rename_app name
 IsAppWith name parameters.Sectors command = command ≡ format_app name
 IsAppWith name parameters.NewStore command = command ≡ copy_app name
 IsAppWith name parameters.TableAndFields command = command ≡ create_app name
-IsAppWith name parameters.TableAndRows command = (forms : ValueParser) × (command ≡ append_app forms name)
+IsAppWith name parameters.TableAndRows command = (forms : ValueParser) × AreForms forms × (command ≡ append_app forms name)
 IsAppWith name parameters.TableAndQuery command = command ≡ query_app name
--- one that is of no store: a script, and options
-IsAppWith name parameters.ScriptAndFaults command = Unit {0}
+IsAppWith name parameters.ScriptAndFaults command = command ≡ replay_app name
 
 -- what the command of a word takes
 unfoldable pub other_parameters : Text → Parameters
@@ -142,7 +172,8 @@ values_of found id = unwrap_or (option_map raw_values (matched_of found id)) []
 pub record HasQuery (found : Found) (query : QueryWords) : Type 0 where
   pub conditions : texts query.conditions.items ≡ values_of found (codes "CONDITION")
   pub columns : option_map (λ s. s.now) query.columns ≡ first_value found (codes "columns")
-  pub limit : query.limit ≡ option_map number_of (first_value found (codes "limit"))
+  pub is_limit : is_number_if_any (first_value found (codes "limit")) ≡ true
+  pub limit : query.limit ≡ option_map (digits_value 10) (first_value found (codes "limit"))
 
 -- rows are objects where the option stands
 pub record HasForm (found : Found) (form : RowForm) : Type 0 where
@@ -154,12 +185,18 @@ pub record HasJson (found : Found) (as_json : Bool) : Type 0 where
   pub lines : one_text found (codes "json") ≡ Some (codes "false") → as_json ≡ false
   pub object : one_text found (codes "json") ≡ Some (codes "true") → as_json ≡ true
 
+-- the form of a text is the one that was found; in CSV that text stands for null
+abbrev pub HasTextForm : Found → TextForm → Type 0
+HasTextForm found (text_forms.Csv null_text) = (value_of found (codes "as") ≡ codes "csv") × (null_text.now ≡ value_of found (codes "null"))
+HasTextForm found text_forms.JsonLines = value_of found (codes "as") ≢ codes "csv"
+
 -- a command has the names that were found
 abbrev pub HasNames : Found → StoreCommand → Type 0
 HasNames found (commands.Import name) = name.now ≡ value_of found (codes "NAME")
 HasNames found (commands.Create name fields) = (name.now ≡ value_of found (codes "NAME")) × (texts fields.items ≡ values_of found (codes "FIELD"))
-HasNames found (commands.Append name) = name.now ≡ value_of found (codes "NAME")
-HasNames found (commands.AppendText name form) = (name.now ≡ value_of found (codes "NAME")) × (bytes_eq (value_of found (codes "as")) (codes "stream") ≡ false)
+HasNames found (commands.Append name) = (name.now ≡ value_of found (codes "NAME")) × (bytes_eq (value_of found (codes "as")) (codes "stream") ≡ true)
+HasNames found (commands.AppendText name form) =
+    (name.now ≡ value_of found (codes "NAME")) × (bytes_eq (value_of found (codes "as")) (codes "stream") ≡ false) × HasTextForm found form
 HasNames found (commands.Query name query form) = (name.now ≡ value_of found (codes "NAME")) × HasQuery found query × HasForm found form
 HasNames found (commands.SaveAs from to query) =
     (from.now ≡ value_of found (codes "NAME")) × (Some to.now ≡ first_value found (codes "save")) × HasQuery found query × HasForm found Array
@@ -170,24 +207,31 @@ HasNames found (commands.Info as_json) = HasJson found as_json
 HasNames found (commands.Rename from to) = (from.now ≡ value_of found (codes "NAME")) × (to.now ≡ value_of found (codes "NEW"))
 HasNames found _ = Unit {0}
 
+-- the version of a store that is made, in the word of its option if there is one
+abbrev pub HasVersion : Found → FormatVersion → Type 0
+HasVersion found version =
+    (is_number_if_any (first_value found (codes "format-version")) ≡ true) × (version ≡ version_named (first_value found (codes "format-version")))
+
+-- what is played, and what goes wrong then
+pub record HasScript (found : Found) (words : ReplayWords) : Type 0 where
+  pub script : words.script.now ≡ value_of found (codes "SCRIPT")
+  pub sectors : IsNumberOrZero (first_value found (codes "sectors")) words.sectors
+  pub fail : IsNumberOrZero (first_value found (codes "fail")) words.fail
+  pub stop : IsNumberOrZero (first_value found (codes "stop")) words.stop
+  pub choice : IsChoice (value_of found (codes "choice")) words.choice
+  pub version : HasVersion found words.version
+
+-- a request has all that was found
 abbrev pub HasFound : Found → StoreRequest → Type 0
 HasFound found (requests.Command path command) = (path.now ≡ value_of found (codes "STORE")) × HasNames found command
 HasFound found (requests.Format path sectors version) =
-    (path.now ≡ value_of found (codes "STORE")) × (sectors ≡ number_of (value_of found (codes "SECTORS")))
-    × (version ≡ version_named (first_value found (codes "format-version")))
+    (path.now ≡ value_of found (codes "STORE")) × IsNumber (value_of found (codes "SECTORS")) sectors × HasVersion found version
 HasFound found (requests.Copy path new sectors) =
-    (path.now ≡ value_of found (codes "STORE")) × (new.now ≡ value_of found (codes "NEW")) × (sectors ≡ number_of (value_of found (codes "SECTORS")))
+    (path.now ≡ value_of found (codes "STORE")) × (new.now ≡ value_of found (codes "NEW")) × IsNumber (value_of found (codes "SECTORS")) sectors
 HasFound found (requests.Salvage path name) = (path.now ≡ value_of found (codes "STORE")) × (name.now ≡ value_of found (codes "NAME"))
-HasFound found (requests.Replay words) =
-    (words.script.now ≡ value_of found (codes "SCRIPT")) × (words.sectors ≡ number_of (value_of found (codes "sectors")))
-    × (words.fail ≡ number_of (value_of found (codes "fail"))) × (words.stop ≡ number_of (value_of found (codes "stop")))
-    × IsChoice (value_of found (codes "choice")) words.choice × (words.version ≡ version_named (first_value found (codes "format-version")))
+HasFound found (requests.Replay words) = HasScript found words
 
 -- memory was refused
 abbrev pub IsOfMemory : Mistake → Type 0
 IsOfMemory (mistakes.Words error) = kind_of error ≡ OutOfMemory
 IsOfMemory mistakes.SignedNumber = ⊥
-
--- the words of commands that take a number
-abbrev pub takes_number : Text → Bool
-takes_number word = bytes_eq (codes "format") word || (bytes_eq (codes "copy") word || (bytes_eq (codes "query") word || bytes_eq (codes "replay") word))

@@ -1,12 +1,13 @@
 -- The operands of a command, by the conventions of utilities (POSIX.1, Base Definitions 12.2, guidelines 9 and 10), and the names that they are.
-use Rattle.std.specs.Prelude.{◌≡◌, ◌==◌, ◌||◌, ℕ, Bool, false, if◌then◌else◌, List, [], ◌∷◌, length, drop, codes, Option, Some, None, IfSome, option_map}
+use Rattle.std.specs.Prelude.{◌≡◌, ◌==◌, ◌||◌, Bool, false, if◌then◌else◌, List, [], ◌∷◌, drop, codes, Option, Some, None, IfSome, option_map}
 use Rattle.std.specs.Str.{bytes_eq}
-use Rattle.std.specs.Str.Parse.{digits_value, without_leading_plus}
+use Rattle.std.specs.Str.Parse.{digits_value}
 use Rattle.clap.specs.Walk.{texts}
 use Rattle.clap.specs.Words.{Text}
 use Rattle.commit.specs.declared.sector.FormatVersion.{FormatVersion}
 use Rattle.commit.specs.declared.sector.FormatVersion.TheVariants.{One, Two}
 use Rattle.query.specs.declared.row_form.RowForm.TheVariants.{Array}
+use Rattle.cli_requests.specs.Numbers.{IsNumber}
 use Rattle.cli_requests.specs.declared.store_words.StoreCommand.{StoreCommand}
 use Rattle.cli_requests.specs.declared.store_words.StoreCommand.TheVariants as commands
 use Rattle.cli_requests.specs.declared.store_words.StoreRequest.{StoreRequest}
@@ -38,28 +39,10 @@ names_table word =
     bytes_eq (codes "import") word || (bytes_eq (codes "drop") word || (bytes_eq (codes "schema") word || (bytes_eq (codes "export") word
     || bytes_eq (codes "salvage") word)))
 
--- how many operands these commands take, and the one that gives a table another name
-abbrev pub wanted : Text → Option ℕ
-wanted word = if names_file word then Some 1 else (if names_table word then Some 2 else (if bytes_eq (codes "rename") word then Some 3 else None))
-
-abbrev pub are_as_many : Option ℕ → Option (List Text) → Bool
-are_as_many (Some n) (Some words) = length words == n
-are_as_many _ _ = false
-
--- the program's name, one of these commands, and as many operands as it takes
-unfoldable pub are_right : List Text → Bool
-are_right [] = false
-are_right (name ∷ []) = false
-are_right (name ∷ word ∷ rest) = are_as_many (wanted word) (operands rest)
-
--- the number that decimal digits write; a plus sign before them does not count
-abbrev pub number_of : Text → ℕ
-number_of word = digits_value 10 (without_leading_plus word)
-
 -- the version of a store that a word of an option names; without the option the newest
 abbrev pub version_named : Option Text → FormatVersion
 version_named None = Two
-version_named (Some word) = if number_of word == 1 then One else Two
+version_named (Some word) = if digits_value 10 word == 1 then One else Two
 
 -- the names, fields and conditions that a command has after its file
 abbrev pub names_in : StoreCommand → List Text
@@ -91,8 +74,8 @@ IsWithoutOptions _ = Unit {0}
 unfoldable pub IsNamedBy : StoreRequest → List Text → Type 0
 IsNamedBy (requests.Command path command) words = (words ≡ path.now ∷ names_in command) × IsWithoutOptions command
 IsNamedBy (requests.Format path sectors version) words =
-    (number : Text) × (words ≡ path.now ∷ number ∷ []) × (sectors ≡ number_of number) × (version ≡ Two)
-IsNamedBy (requests.Copy path new sectors) words = (number : Text) × (words ≡ path.now ∷ new.now ∷ number ∷ []) × (sectors ≡ number_of number)
+    (number : Text) × (words ≡ path.now ∷ number ∷ []) × IsNumber number sectors × (version ≡ Two)
+IsNamedBy (requests.Copy path new sectors) words = (number : Text) × (words ≡ path.now ∷ new.now ∷ number ∷ []) × IsNumber number sectors
 IsNamedBy (requests.Salvage path name) words = words ≡ path.now ∷ name.now ∷ []
 -- a script is played with options, which are no operands
 IsNamedBy (requests.Replay script) words = Unit {0}

@@ -4,7 +4,7 @@ ghost use Rattle.clap.specs.Words.{app_of, new_app, rule_of, with_rule};
 ghost use Rattle.clap.specs.declared.builder.value_parser.ValueParser.{ValueParser};
 ghost use Rattle.cli_requests.specs.Apps.{required_rule, json_rule, sectors_rule, version_rule, repeated_rule, option_rule, form_rule, null_rule, limit_rule, objects_rule};
 ghost use Rattle.cli_requests.specs.Apps.{store_app, info_app, format_app, new_file_app, copy_app, table_app, rename_app, create_app, append_app, conditions_app, query_app};
-ghost use Rattle.cli_requests.specs.Apps.{other_parameters, parameters_of, IsOwnApp};
+ghost use Rattle.cli_requests.specs.Apps.{AreForms, other_parameters, parameters_of, IsOwnApp};
 ghost use Rattle.cli_requests.specs.Operands.{names_file, names_table};
 
 use crate::replaying::with_faults;
@@ -84,7 +84,7 @@ pub(crate) fn format_version<'a>(alloc: Global) -> Arg<'a>
 }
 
 fn form<'a>(alloc: Global) -> Arg<'a>
-    ensures { ((forms : ValueParser) × (rule_of result ≡ form_rule forms)) × (result.global ≡ false) }
+    ensures { ((forms : ValueParser) × AreForms forms × (rule_of result ≡ form_rule forms)) × (result.global ≡ false) }
 {
     option(
         alloc,
@@ -248,7 +248,7 @@ fn with_fields<'a>(alloc: Global, name: &'a str) -> Result<Command<'a>, AllocErr
 
 // One that takes the form of its input.
 fn with_rows<'a>(alloc: Global, name: &'a str) -> Result<Command<'a>, AllocError>
-    ensures { IfOk result (λ c. (forms : ValueParser) × (app_of c ≡ append_app forms name.now)) }
+    ensures { IfOk result (λ c. (forms : ValueParser) × AreForms forms × (app_of c ≡ append_app forms name.now)) }
 {
     with_table(alloc, name)?
         .arg(form(alloc))?

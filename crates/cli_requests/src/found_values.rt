@@ -1,27 +1,39 @@
 // The values that `clap` has found of the arguments of a command.
-ghost use Rattle.std.specs.Prelude.{◌≡◌, ◌==◌, codes, option_map, IfOk, if◌then◌else◌};
+ghost use Rattle.std.specs.Prelude.{◌≡◌, ◌==◌, true, codes, option_map, IfOk, IfSome, IsOk, IsSome, if◌then◌else◌};
+ghost use Rattle.std.specs.Str.Parse.{digits_value};
 ghost use Rattle.clap.specs.Walk.{texts};
 ghost use Rattle.clap.specs.Words.{first_value, found_of};
 ghost use Rattle.commit.specs.declared.sector.FormatVersion.TheVariants.{One, Two};
-ghost use Rattle.cli_requests.specs.Apps.{value_of, values_of};
-ghost use Rattle.cli_requests.specs.Operands.{number_of, version_named};
+ghost use Rattle.cli_requests.specs.Apps.{value_of, values_of, HasVersion};
+ghost use Rattle.cli_requests.specs.Numbers.{is_number, is_number_if_any, IsNumber, IsNumberOrZero};
 
 use crate::Mistake;
 use clap::ArgMatches;
 use commit::FormatVersion;
 use std::alloc::{AllocError, Global};
-use std::str::FromStr;
 
-// Numbers are decimal digits alone. `clap` takes a plus sign before them, and has refused all else.
-fn number(text: &str) -> Result<u64, Mistake>
-    ensures { IfOk result (λ n. n ≡ number_of text.now) }
+/// A number in decimal digits alone.
+pub(crate) fn number_of(text: &str) -> Option<u64>
+    ensures read { IfSome result (IsNumber text.now) }
+    ensures taken { is_number text.now ≡ true → IsSome result }
 {
     if text.starts_with('+') {
-        return Err(Mistake::SignedNumber);
+        return None;
     }
-    match u64::from_str(text) {
-        Ok(n) => Ok(n),
-        Err(_) => Err(Mistake::SignedNumber),
+    match text.parse::<u64>() {
+        Ok(n) => Some(n),
+        Err(_) => None,
+    }
+}
+
+// `clap` takes a plus sign before a number, and has refused all else.
+fn number(text: &str) -> Result<u64, Mistake>
+    ensures read { IfOk result (IsNumber text.now) }
+    ensures taken { is_number text.now ≡ true → IsOk result }
+{
+    match number_of(text) {
+        Some(n) => Ok(n),
+        None => Err(Mistake::SignedNumber),
     }
 }
 
@@ -49,14 +61,16 @@ pub(crate) fn words_of<'a>(
 }
 
 pub(crate) fn sectors_of(words: &ArgMatches<'_>) -> Result<u64, Mistake>
-    ensures { IfOk result (λ sectors. sectors ≡ number_of (value_of (found_of words.now) (codes "SECTORS"))) }
+    ensures read { IfOk result (IsNumber (value_of (found_of words.now) (codes "SECTORS"))) }
+    ensures taken { is_number (value_of (found_of words.now) (codes "SECTORS")) ≡ true → IsOk result }
 {
     number(word(words, "SECTORS"))
 }
 
 /// The number of an argument; 0 where there is none.
 pub(crate) fn number_in(words: &ArgMatches<'_>, id: &str) -> Result<u64, Mistake>
-    ensures { IfOk result (λ n. n ≡ number_of (value_of (found_of words.now) id.now)) }
+    ensures read { IfOk result (IsNumberOrZero (first_value (found_of words.now) id.now)) }
+    ensures taken { is_number_if_any (first_value (found_of words.now) id.now) ≡ true → IsOk result }
 {
     match words.get_str(id) {
         Some(text) => number(text),
@@ -65,7 +79,9 @@ pub(crate) fn number_in(words: &ArgMatches<'_>, id: &str) -> Result<u64, Mistake
 }
 
 pub(crate) fn limit_of(words: &ArgMatches<'_>) -> Result<Option<u64>, Mistake>
-    ensures { IfOk result (λ limit. limit ≡ option_map number_of (first_value (found_of words.now) (codes "limit"))) }
+    ensures read { IfOk result (λ limit. (is_number_if_any (first_value (found_of words.now) (codes "limit")) ≡ true)
+        × (limit ≡ option_map (digits_value 10) (first_value (found_of words.now) (codes "limit")))) }
+    ensures taken { is_number_if_any (first_value (found_of words.now) (codes "limit")) ≡ true → IsOk result }
 {
     match words.get_str("limit") {
         Some(text) => Ok(Some(number(text)?)),
@@ -85,7 +101,8 @@ fn version_of(number: u64) -> FormatVersion
 
 /// The version of a store that is made; without the option the newest.
 pub(crate) fn version_in(words: &ArgMatches<'_>) -> Result<FormatVersion, Mistake>
-    ensures { IfOk result (λ version. version ≡ version_named (first_value (found_of words.now) (codes "format-version"))) }
+    ensures read { IfOk result (HasVersion (found_of words.now)) }
+    ensures taken { is_number_if_any (first_value (found_of words.now) (codes "format-version")) ≡ true → IsOk result }
 {
     match words.get_str("format-version") {
         Some(text) => Ok(version_of(number(text)?)),

@@ -2,9 +2,10 @@
 //!
 //! [`is_of_store`], [`takes_input`] and [`ask_for_help`] say which command lines are for a store, which of these read the input, and which ask for help,
 //! whatever the other words are. [`request_of`] gives the command of the first word. Where the words after it are operands alone, these are the files,
-//! names, fields, conditions and numbers of the request, in order (`specs/Operands.antt`); what options mean is what `clap` makes of them. As many operands
-//! as a command of names takes are right. [`refused_word`] gives the word that a refusal is of. [`help_of_command`] gives the help of a command that follows
-//! `help` ([`ask_help_of_command`]); [`command_lines`] and [`cli_commands`] give all commands, from one table.
+//! names, fields, conditions and numbers of the request, in order (`specs/Operands.antt`); with options it has what `clap` finds by its own definitions.
+//! Operands that a command takes are right, and so are words that `clap` takes (`specs/Right.antt`). [`refused_word`] gives the word that a refusal is of.
+//! [`help_of_command`] gives the help of a command that follows `help` ([`ask_help_of_command`]); [`command_lines`] and [`cli_commands`] give all commands,
+//! from one table.
 //!
 //! ```
 //! let request = request_of(alloc, &["arrowstore", "drop", "store", "t"])?; // `StoreCommand::Drop`, of the store at `store`

@@ -1,12 +1,13 @@
 // A script that is played on a device in memory, as words of a command line.
-ghost use Rattle.std.specs.Prelude.{◌≡◌, codes, IfSome, IfOk};
-ghost use Rattle.clap.specs.Words.{found_of};
-ghost use Rattle.cli_requests.specs.Apps.{HasFound};
+ghost use Rattle.std.specs.Prelude.{◌≡◌, false, codes, IfSome, IsSome, IfOk, IfErr};
+ghost use Rattle.clap.specs.Words.{app_of, found_of, rule_of};
+ghost use Rattle.cli_requests.specs.Apps.{HasFound, IsOfMemory, number_rule, size_rule, choice_rule, script_app, replay_app};
 ghost use Rattle.cli_requests.specs.Asked.{request_word};
-ghost use Rattle.cli_requests.specs.Choices.{IsNumber, IsChoice};
+ghost use Rattle.cli_requests.specs.Choices.{IsChoice};
+ghost use Rattle.cli_requests.specs.Right.{IsLost, NamesChoice, IsFoundTakable};
 
 use crate::command_parameters::{format_version, option, with_operand};
-use crate::found_values::{number_in, version_in, word};
+use crate::found_values::{number_in, number_of, version_in, word};
 use crate::{Mistake, StoreRequest};
 use clap::builder::ValueParser;
 use clap::error::ErrorKind;
@@ -32,19 +33,10 @@ pub struct ReplayWords<'a> {
     pub version: FormatVersion,
 }
 
-// A number in decimal digits alone.
-fn number_of(text: &str) -> Option<u64>
-    ensures { IfSome result (IsNumber text.now) }
-{
-    if text.starts_with('+') {
-        return None;
-    }
-    text.parse::<u64>().ok()
-}
-
 // The sectors that are lost: all, or those of the bits.
 fn lost_of(text: &str) -> Option<Choice>
-    ensures { IfSome result (IsChoice text.now) }
+    ensures read { IfSome result (IsChoice text.now) }
+    ensures taken { IsLost text.now → IsSome result }
 {
     if text == "lost" {
         return Some(Choice::Lost(u64::MAX));
@@ -54,7 +46,8 @@ fn lost_of(text: &str) -> Option<Choice>
 
 // What a word says that a crash leaves.
 fn choice_of(text: &str) -> Option<Choice>
-    ensures { IfSome result (IsChoice text.now) }
+    ensures read { IfSome result (IsChoice text.now) }
+    ensures taken { NamesChoice text.now → IsSome result }
 {
     match text {
         "old" => Some(Choice::Old),
@@ -85,6 +78,7 @@ pub(crate) fn replay_request<'a>(
 ) -> Result<StoreRequest<'a>, Mistake>
     ensures word { IfOk result (λ request. request_word request ≡ codes "replay") }
     ensures named { IfOk result (HasFound (found_of words.now)) }
+    ensures taken { IsFoundTakable (codes "replay") (found_of words.now) → IfErr result IsOfMemory }
 {
     let Some(choice) = choice_of(word(words, "choice")) else {
         return Err(wrong_choice(alloc)?);
@@ -99,11 +93,15 @@ pub(crate) fn replay_request<'a>(
     }))
 }
 
-fn number<'a>(alloc: Global, id: &'a str, value: &'a str, help: &'a str) -> Arg<'a> {
+fn number<'a>(alloc: Global, id: &'a str, value: &'a str, help: &'a str) -> Arg<'a>
+    ensures { (rule_of result ≡ number_rule id.entry.now) × (result.global ≡ false) }
+{
     option(alloc, id, value, help).value_parser(ValueParser::unsigned(0, u64::MAX))
 }
 
-fn choice<'a>(alloc: Global) -> Arg<'a> {
+fn choice<'a>(alloc: Global) -> Arg<'a>
+    ensures { (rule_of result ≡ choice_rule) × (result.global ≡ false) }
+{
     option(
         alloc,
         "choice",
@@ -113,28 +111,43 @@ fn choice<'a>(alloc: Global) -> Arg<'a> {
     .default_value("old")
 }
 
+fn size<'a>(alloc: Global) -> Arg<'a>
+    ensures { (rule_of result ≡ size_rule) × (result.global ≡ false) }
+{
+    number(
+        alloc,
+        "sectors",
+        "S",
+        "How many sectors of 512 bytes the device has, 16 to 4194304",
+    )
+    .required(true)
+}
+
+fn with_script<'a>(alloc: Global, name: &'a str) -> Result<Command<'a>, AllocError>
+    ensures { IfOk result (λ c. app_of c ≡ script_app name.now) }
+{
+    with_operand(alloc, name, "SCRIPT", "The file of the script")?.arg(size(alloc))
+}
+
 /// The command with its script, the size of the device, and what goes wrong on it.
-pub(crate) fn with_faults<'a>(alloc: Global, name: &'a str) -> Result<Command<'a>, AllocError> {
-    with_operand(alloc, name, "SCRIPT", "The file of the script")?
-        .arg(number(
-            alloc,
-            "sectors",
-            "S",
-            "How many sectors of 512 bytes the device has, 16 to 4194304",
-        )
-        .required(true))?
-        .arg(number(
-            alloc,
-            "fail",
-            "K",
-            "The write or sync that fails once; without this option none",
-        ))?
-        .arg(number(
-            alloc,
-            "stop",
-            "K",
-            "The write or sync in which the device stops; without this option none",
-        ))?
+pub(crate) fn with_faults<'a>(alloc: Global, name: &'a str) -> Result<Command<'a>, AllocError>
+    ensures { IfOk result (λ c. app_of c ≡ replay_app name.now) }
+{
+    let fail = number(
+        alloc,
+        "fail",
+        "K",
+        "The write or sync that fails once; without this option none",
+    );
+    let stop = number(
+        alloc,
+        "stop",
+        "K",
+        "The write or sync in which the device stops; without this option none",
+    );
+    with_script(alloc, name)?
+        .arg(fail)?
+        .arg(stop)?
         .arg(choice(alloc))?
         .arg(format_version(alloc))
 }

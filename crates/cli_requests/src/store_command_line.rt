@@ -1,11 +1,13 @@
 // How `clap` reads a command line of a store.
-ghost use Rattle.std.specs.Prelude.{◌≡◌, true, false, codes, map, drop, IfOk, IfErr};
+ghost use Rattle.std.specs.Prelude.{◌≡◌, true, false, codes, map, drop, IfOk, IfErr, IsOk};
 ghost use Rattle.std.specs.Str.{bytes_eq};
-ghost use Rattle.clap.specs.Words.{found_of};
+ghost use Rattle.clap.specs.Words.{first_value, found_of};
 ghost use Rattle.cli_requests.specs.declared.store_command_line.Mistake.TheVariants as mistakes;
-ghost use Rattle.cli_requests.specs.Apps.{value_of, HasQuery, HasForm, HasJson, HasNames, HasFound, IsOfMemory, takes_number};
+ghost use Rattle.cli_requests.specs.Apps.{value_of, HasQuery, HasForm, HasJson, HasTextForm, HasNames, HasFound, IsOfMemory};
 ghost use Rattle.cli_requests.specs.Asked.{command_word, request_word};
-ghost use Rattle.cli_requests.specs.Operands.{are_right, Names};
+ghost use Rattle.cli_requests.specs.Numbers.{is_number, is_number_if_any};
+ghost use Rattle.cli_requests.specs.Operands.{Names};
+ghost use Rattle.cli_requests.specs.Right.{AreRightWords, IsFoundTakable, IsReadFrom};
 ghost use Rattle.cli_requests.specs.StoreWords.{is_store_word, is_of_store, first_word};
 
 use crate::command_parameters::{cli_commands, own_command, with_query};
@@ -58,8 +60,10 @@ pub fn request_of<'a, S: AsStr>(
         → IfOk result (λ request. request_word request ≡ first_word (map S.text arguments.now)) }
     // Where these are operands alone, they are its files, names, fields, conditions and numbers, and it has no option.
     ensures named { is_of_store (map S.text arguments.now) ≡ true → IfOk result (Names (map S.text arguments.now)) }
-    // As many operands as a command of names takes are right.
-    ensures taken { are_right (map S.text arguments.now) ≡ true → IfErr result IsOfMemory }
+    // It has just what `clap` finds by its own definitions, options too; words that `clap` has a fault to find in are refused.
+    ensures read { IfOk result (IsReadFrom (map S.text arguments.now)) }
+    // Operands alone that the command takes are right, and so are all words that `clap` takes, with options too, where each number has digits alone.
+    ensures taken { AreRightWords (map S.text arguments.now) → IfErr result IsOfMemory }
 {
     let word = first_word(arguments);
     let command = own_command(alloc, program_name(arguments), word)?;
@@ -86,7 +90,7 @@ fn asked<'a>(
 ) -> Result<StoreRequest<'a>, Mistake>
     ensures word { is_store_word command.now ≡ true → IfOk result (λ request. request_word request ≡ command.now) }
     ensures named { IfOk result (HasFound (found_of words.now)) }
-    ensures taken { takes_number command.now ≡ false → IfErr result IsOfMemory }
+    ensures taken { IsFoundTakable command.now (found_of words.now) → IfErr result IsOfMemory }
 {
     let path = word(words, "STORE");
     match command {
@@ -110,7 +114,7 @@ fn command_request<'a>(
         → bytes_eq (codes "salvage") command.now ≡ false → bytes_eq (codes "replay") command.now ≡ false
         → IfOk result (λ request. request_word request ≡ command.now) }
     ensures named { IfOk result (HasFound (found_of words.now)) }
-    ensures taken { takes_number command.now ≡ false → IfErr result IsOfMemory }
+    ensures taken { IsFoundTakable command.now (found_of words.now) → IfErr result IsOfMemory }
 {
     let command = command_of(alloc, command, words)?;
     Ok(StoreRequest::Command { path, command })
@@ -152,6 +156,8 @@ fn format_request<'a>(path: &'a str, words: &ArgMatches<'a>) -> Result<StoreRequ
     requires { path.now ≡ value_of (found_of words.now) (codes "STORE") }
     ensures word { IfOk result (λ request. request_word request ≡ codes "format") }
     ensures named { IfOk result (HasFound (found_of words.now)) }
+    ensures taken { is_number (value_of (found_of words.now) (codes "SECTORS")) ≡ true
+        → is_number_if_any (first_value (found_of words.now) (codes "format-version")) ≡ true → IsOk result }
 {
     let sectors = sectors_of(words)?;
     let version = version_in(words)?;
@@ -166,6 +172,7 @@ fn copy_request<'a>(path: &'a str, words: &ArgMatches<'a>) -> Result<StoreReques
     requires { path.now ≡ value_of (found_of words.now) (codes "STORE") }
     ensures word { IfOk result (λ request. request_word request ≡ codes "copy") }
     ensures named { IfOk result (HasFound (found_of words.now)) }
+    ensures taken { is_number (value_of (found_of words.now) (codes "SECTORS")) ≡ true → IsOk result }
 {
     let sectors = sectors_of(words)?;
     let new = word(words, "NEW");
@@ -183,7 +190,10 @@ fn salvage_request<'a>(path: &'a str, words: &ArgMatches<'a>) -> StoreRequest<'a
     }
 }
 
-fn text_form<'a>(form: &str, words: &ArgMatches<'a>) -> TextForm<'a> {
+fn text_form<'a>(form: &str, words: &ArgMatches<'a>) -> TextForm<'a>
+    requires { form.now ≡ value_of (found_of words.now) (codes "as") }
+    ensures { HasTextForm (found_of words.now) result }
+{
     match form {
         "csv" => TextForm::Csv {
             null_text: word(words, "null"),
@@ -209,7 +219,8 @@ fn append_command<'a>(name: &'a str, words: &ArgMatches<'a>) -> StoreCommand<'a>
 }
 
 fn query_words<'a>(alloc: Global, words: &ArgMatches<'a>) -> Result<QueryWords<'a>, Mistake>
-    ensures { IfOk result (HasQuery (found_of words.now)) }
+    ensures read { IfOk result (HasQuery (found_of words.now)) }
+    ensures taken { is_number_if_any (first_value (found_of words.now) (codes "limit")) ≡ true → IfErr result IsOfMemory }
 {
     Ok(QueryWords {
         conditions: words_of(alloc, words, "CONDITION")?,
@@ -246,6 +257,7 @@ fn query_command<'a>(
     requires { name.now ≡ value_of (found_of words.now) (codes "NAME") }
     ensures word { IfOk result (λ command. command_word command ≡ codes "query") }
     ensures named { IfOk result (HasNames (found_of words.now)) }
+    ensures taken { IsFoundTakable (codes "query") (found_of words.now) → IfErr result IsOfMemory }
 {
     let query = query_words(alloc, words)?;
     let form = row_form(words);
@@ -292,7 +304,7 @@ fn command_of<'a>(
         → bytes_eq (codes "salvage") command.now ≡ false → bytes_eq (codes "replay") command.now ≡ false
         → IfOk result (λ asked. command_word asked ≡ command.now) }
     ensures named { IfOk result (HasNames (found_of words.now)) }
-    ensures taken { takes_number command.now ≡ false → IfErr result IsOfMemory }
+    ensures taken { IsFoundTakable command.now (found_of words.now) → IfErr result IsOfMemory }
 {
     let name = word(words, "NAME");
     match command {

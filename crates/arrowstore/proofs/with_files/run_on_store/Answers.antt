@@ -6,7 +6,7 @@ use Rattle.arrowstore.proofs.with_files.run_on_store.Goals as goal
 pub returns-in-Ok-clause-serves : goal.returns-in-Ok-clause-serves
 returns-in-Ok-clause-serves g c = inr (record {
   request = c.in-Ok.request;
-  asks = (c.in-Ok.ensures.asked c.requires, c.in-Ok.ensures.named c.requires);
+  asks = (c.in-Ok.ensures.asked c.requires, c.in-Ok.ensures.named c.requires, c.in-Ok.ensures.read);
   served = c.serve_and_report.ensures.serves;
 })
 

@@ -1,4 +1,4 @@
-use Rattle.cli_requests.proofs.AppLemmas.{own_of, own_any}
+use Rattle.cli_requests.proofs.AppLemmas.{own_of}
 use Rattle.cli_requests.proofs.command_parameters.command.Goals as goal
 
 pub returns-in-Nothing : goal.returns-in-Nothing
@@ -29,4 +29,4 @@ pub returns-in-TableAndQuery : goal.returns-in-TableAndQuery
 returns-in-TableAndQuery c = own_of _ _ _ _ c.parameters_of.ensures c.in-TableAndQuery.is c.with_query.ensures
 
 pub returns-in-ScriptAndFaults : goal.returns-in-ScriptAndFaults
-returns-in-ScriptAndFaults c = own_any _ _ _ c.parameters_of.ensures c.in-ScriptAndFaults.is
+returns-in-ScriptAndFaults c = own_of _ _ _ _ c.parameters_of.ensures c.in-ScriptAndFaults.is c.with_faults.ensures
