@@ -2,6 +2,7 @@ mod Arrays
 mod AsWritten
 mod Coded
 mod Codes
+mod Cleared
 mod CodedRuns
 mod Ended
 mod Entries

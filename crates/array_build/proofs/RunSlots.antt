@@ -61,3 +61,7 @@ all_without a from n none = all_in_row (is_valid a) from n (λ i low high. no_bi
 pub bits_without : (a : Array) (from n : ℕ) → length (validity_in a) ≡ 0 → map (is_valid a) (range_with_len from n) ≡ replicate n true
 bits_without a from zero none = refl
 bits_without a from (suc n) none = ap₂ (λ (b : Bool) (bs : List Bool). b ∷ bs) (no_bitmap a from none) (bits_without a (from + 1) n none)
+
+pub bits_with : (a : Array) (from n : ℕ) → (length (validity_in a) ≡ 0 → ⊥) → map (bit (validity_in a)) (range_with_len from n) ≡ map (is_valid a) (range_with_len from n)
+bits_with a from zero some = refl
+bits_with a from (suc n) some = ap₂ (λ (b : Bool) (bs : List Bool). b ∷ bs) (sym (bit_tells a from some)) (bits_with a (from + 1) n some)

@@ -26,7 +26,7 @@ use Rattle.columns.specs.declared.view.ArrayView.{ArrayView}
 use Rattle.facts.specs.Bytes.{AreBytes}
 use Rattle.facts.specs.laws.Bytes.{drop-bytes}
 
-abbrev plain_cell : Kind → Array → ℕ → Cell
+abbrev pub plain_cell : Kind → Array → ℕ → Cell
 plain_cell kind a i = cell_at (plain_column kind None) a i
 
 -- slots of which each has its bytes among the values
@@ -52,7 +52,7 @@ room i slots w vs long lt =
     let most : (i + 1) * w ≤ slots * w = mul-le-mul_right w (omega arith) in
     omega (arith, left, most, long)
 
-null_value : (kind : Kind) (width : ℕ) → fixed_width kind ≡ Some width → fixed_value kind null ≡ replicate width 0
+pub null_value : (kind : Kind) (width : ℕ) → fixed_width kind ≡ Some width → fixed_value kind null ≡ replicate width 0
 null_value (integers bits signed) width is = let e : bits / 8 ≡ width = cc in rw e refl
 null_value (dates unit) width is = let e : date_bits unit / 8 ≡ width = cc in rw e refl
 null_value (timestamps unit timezone) width is = let e : 8 ≡ width = cc in rw (← e) refl
@@ -74,7 +74,7 @@ module _ (a : Array) (small : AreBytes (values_in a)) where
   integer_slot w signed i long lt = integer_again w signed (drop (i * w) (values_in a)) (drop-bytes (i * w) (values_in a) small) (room i (slots_in a) w (values_in a) long lt)
 
   -- the bytes of a slot that is valid
-  one : (kind : Kind) (width : ℕ) → fixed_width kind ≡ Some width → slots_in a * width ≤ length (values_in a)
+  pub one : (kind : Kind) (width : ℕ) → fixed_width kind ≡ Some width → slots_in a * width ≤ length (values_in a)
       → (i : ℕ) → i < slots_in a → is_valid a i ≡ true → fixed_value kind (plain_cell kind a i) ≡ take width (drop (i * width) (values_in a))
   unfolding cell_at kind_cell
   one (integers bits signed) width is long i lt valid = let e : bits / 8 ≡ width = cc in rw (valid, e) (integer_slot width signed i long lt)

@@ -129,8 +129,13 @@ fn have_no_bytes_at_unset(
     true
 }
 
-// The slots of a run stand as they are written. Booleans and nested types do so only without a null.
-fn are_slots_as_written(data_type: &DataType, array: ArrayView<'_>, from: usize, len: usize) -> bool
+/// The slots of a run stand as they are written. Booleans and nested types do so only without a null.
+pub(crate) fn are_slots_as_written(
+    data_type: &DataType,
+    array: ArrayView<'_>,
+    from: usize,
+    len: usize,
+) -> bool
     requires { is_run_sound (plain_column (kind_of data_type.now) None) (Slots array from len) ≡ true }
     ensures { result ≡ true → is_run_as_written (kind_of data_type.now) (Slots array.entry from len) ≡ true }
 {

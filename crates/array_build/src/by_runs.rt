@@ -86,7 +86,7 @@ fn build_valid_kind<'k, 'a: 'k>(
     }
 }
 
-// The same of runs that stand as they are written.
+// The same of runs that stand as they are written, of a type that has no values.
 #[cycle(by_runs)]
 fn build_written_kind<'k, 'a: 'k>(
     alloc: Global,
@@ -95,13 +95,13 @@ fn build_written_kind<'k, 'a: 'k>(
     data_type: &'k DataType,
     runs: &[SlotRun<'a>],
 ) -> Result<(), AllocError>
+    requires values { fixed_width (kind_of data_type.now) ≡ None }
     requires ready { AreAsWritten (kind_of data_type.now) runs.now }
     ensures { OnOk result (AddsRuns (kind_of data_type.now) runs.now batch.old batch.new) }
 {
-    match (value_width(data_type), contents_width(data_type)) {
-        (Some(width), _) => build_run_values(alloc, batch, data_type, width, runs),
-        (None, Some(width)) => build_run_contents(alloc, batch, data_type, width, runs),
-        (None, None) => build_valid_kind(alloc, batch, entries, data_type, runs),
+    match contents_width(data_type) {
+        Some(width) => build_run_contents(alloc, batch, data_type, width, runs),
+        None => build_valid_kind(alloc, batch, entries, data_type, runs),
     }
 }
 
@@ -178,7 +178,29 @@ fn build_struct_parts<'k, 'a: 'k>(
     Ok(())
 }
 
-// Adds the array of a column of a type, whatever its name, and all below it. Runs that do not stand as they are written are split at their nulls.
+// Adds the array of a column of a type that has no values of one width, whatever its name, and all below it. Runs that do not stand as they are written are
+// split at their nulls.
+#[cycle(by_runs)]
+fn build_split_kind<'k, 'a: 'k>(
+    alloc: Global,
+    batch: &mut BuiltBatch<'a>,
+    entries: &mut KnownEntries<'k>,
+    data_type: &'k DataType,
+    runs: &[SlotRun<'a>],
+) -> Result<(), AllocError>
+    requires values { fixed_width (kind_of data_type.now) ≡ None }
+    requires sound { are_runs_sound (plain_column (kind_of data_type.now) None) runs.now ≡ true }
+    requires fits { can_build (plain_column (kind_of data_type.now) None) (kind_cells (kind_of data_type.now) runs.now) ≡ true }
+    ensures { OnOk result (AddsRuns (kind_of data_type.now) runs.now batch.old batch.new) }
+{
+    if are_as_written(data_type, runs) {
+        return build_written_kind(alloc, batch, entries, data_type, runs);
+    }
+    let valid = valid_runs(alloc, runs)?;
+    build_written_kind(alloc, batch, entries, data_type, &valid)
+}
+
+// The same of any type. Runs that have values are not split: zeros are put below their nulls.
 #[cycle(by_runs)]
 fn build_run_kind<'k, 'a: 'k>(
     alloc: Global,
@@ -191,11 +213,10 @@ fn build_run_kind<'k, 'a: 'k>(
     requires fits { can_build (plain_column (kind_of data_type.now) None) (kind_cells (kind_of data_type.now) runs.now) ≡ true }
     ensures { OnOk result (AddsRuns (kind_of data_type.now) runs.now batch.old batch.new) }
 {
-    if are_as_written(data_type, runs) {
-        return build_written_kind(alloc, batch, entries, data_type, runs);
+    match value_width(data_type) {
+        Some(width) => build_run_values(alloc, batch, data_type, width, runs),
+        None => build_split_kind(alloc, batch, entries, data_type, runs),
     }
-    let valid = valid_runs(alloc, runs)?;
-    build_written_kind(alloc, batch, entries, data_type, &valid)
 }
 
 // The same of a field.

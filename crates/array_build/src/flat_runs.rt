@@ -1,9 +1,11 @@
 // Arrays of types that have no fields below them, from runs whose slots are all valid or stand as they are written.
-ghost use Rattle.std.specs.Prelude.{◌≡◌, OnOk, Some};
+ghost use Rattle.std.specs.Prelude.{◌≡◌, true, OnOk, Some, None};
 ghost use Rattle.arrow_schema.specs.Column.{nulls, booleans};
 ghost use Rattle.arrow_schema.specs.View.{kind_of};
+ghost use Rattle.array_build.specs.Batch.{plain_column};
 ghost use Rattle.array_build.specs.inner.Runs.{AddsRuns, AreAsWritten, AreReady, contents_width, fixed_width};
 ghost use Rattle.columns.specs.Offsets.{width_of};
+ghost use Rattle.columns.specs.Runs.{are_runs_sound};
 
 use crate::batch::{BuiltBatch, push_any_buffer, push_buffer, push_node};
 use crate::run_bits::run_booleans;
@@ -53,7 +55,7 @@ pub(crate) fn build_run_values<'a>(
     runs: &[SlotRun<'a>],
 ) -> Result<(), AllocError>
     requires width { fixed_width (kind_of data_type.now) ≡ Some width }
-    requires ready { AreAsWritten (kind_of data_type.now) runs.now }
+    requires sound { are_runs_sound (plain_column (kind_of data_type.now) None) runs.now ≡ true }
     ensures { OnOk result (AddsRuns (kind_of data_type.now) runs.now batch.old batch.new) }
 {
     push_run_slots(alloc, batch, runs)?;

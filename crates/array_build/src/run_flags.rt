@@ -1,5 +1,5 @@
 // A `bool` for each slot of runs that have few slots each: many are packed at once, where each run of bits would cost a call.
-ghost use Rattle.std.specs.Prelude.{◌≡◌, ◌≤◌, ◌+◌, ◌*◌, ◌++◌, false, true, OnOk, IfOk, length, map, replicate};
+ghost use Rattle.std.specs.Prelude.{◌≡◌, ◌≤◌, ◌+◌, ◌-◌, ◌*◌, ◌++◌, false, true, OnOk, IfOk, length, map, replicate};
 ghost use Rattle.std.specs.List.{list_all, range_with_len};
 ghost use Rattle.array_build.specs.inner.Runs.{run_bits, runs_bits};
 ghost use Rattle.bitmap.specs.Bits.{bit};
@@ -25,8 +25,22 @@ pub(crate) fn are_short(slots: usize, runs: &[SlotRun<'_>]) -> bool {
 pub(crate) fn push_alike(flags: &mut Vec<bool>, count: usize, flag: bool) -> Result<(), AllocError>
     ensures { OnOk result (flags.new.items ≡ flags.old.items ++ replicate count flag) }
 {
+    flags.reserve(count)?;
     for _ in 0..count {
-        flags.push(flag)?;
+        flags.push_reserved(flag);
+    }
+    Ok(())
+}
+
+// Whether each of some bits is set.
+fn push_bits(flags: &mut Vec<bool>, bits: &[u8], from: usize, to: usize) -> Result<(), AllocError>
+    requires order { from ≤ to }
+    requires within { to ≤ 8 * length bits.now }
+    ensures { OnOk result (flags.new.items ≡ flags.old.items ++ map (bit bits.now) (range_with_len from (to - from))) }
+{
+    flags.reserve(to - from)?;
+    for i in from..to {
+        flags.push_reserved(get(bits, i));
     }
     Ok(())
 }
@@ -42,12 +56,13 @@ fn push_slots(
     requires within { from + len ≤ slots_in (view_array array) }
     ensures { OnOk result (flags.new.items ≡ flags.old.items ++ map (is_valid (view_array array.entry)) (range_with_len from len)) }
 {
+    let validity = array.validity();
+    if validity.is_empty() {
+        return push_alike(flags, len, true);
+    }
     // a number of the code is below 2^64, so that the sum is too
     let _slots = array.slots();
-    for i in from..from + len {
-        flags.push(array.is_valid(i))?;
-    }
-    Ok(())
+    push_bits(flags, validity, from, from + len)
 }
 
 fn push_run(flags: &mut Vec<bool>, run: &SlotRun<'_>) -> Result<(), AllocError>
@@ -89,9 +104,5 @@ pub(crate) fn push_booleans(
 {
     // a number of the code is below 2^64, so that the sum is too
     let _slots = array.slots();
-    let bits = array.bits();
-    for i in from..from + len {
-        flags.push(get(bits, i))?;
-    }
-    Ok(())
+    push_bits(flags, array.bits(), from, from + len)
 }

@@ -1,18 +1,23 @@
-// Values of one width, of runs that stand as they are written.
-ghost use Rattle.std.specs.Prelude.{◌≡◌, ◌≤◌, ◌+◌, ◌*◌, ◌++◌, true, OnOk, IfOk, Some, None, take, drop, replicate, length};
-ghost use Rattle.std.specs.List.{flat_map};
+// Values of one width.
+ghost use Rattle.std.specs.Prelude.{◌≡◌, ◌≤◌, ◌+◌, ◌-◌, ◌*◌, ◌++◌, true, false, OnOk, IfOk, Some, None, map, take, drop, replicate, length, if◌then◌else◌};
+ghost use Rattle.std.specs.List.{flat_map, range_with_len};
 ghost use Rattle.array_build.specs.Batch.{buffer_bytes, plain_column};
-ghost use Rattle.array_build.specs.inner.Runs.{AreAsWritten, fixed_value, fixed_width, is_run_as_written, kind_cells};
-ghost use Rattle.columns.specs.Runs.{is_run_sound, run_cells};
+ghost use Rattle.array_build.specs.inner.Runs.{cleared, fixed_value, fixed_width, is_run_as_written, kind_cells};
+ghost use Rattle.bitmap.specs.Bits.{bit};
+ghost use Rattle.columns.specs.Runs.{are_runs_sound, is_run_sound, run_cells};
 ghost use Rattle.columns.specs.declared.slot_runs.SlotRun.TheVariants.{Slots};
 ghost use Rattle.arrow_schema.specs.View.{kind_of};
 ghost use Rattle.columns.specs.Array.{slots_in, values_in};
+ghost use Rattle.columns.specs.CellAt.{is_valid};
+ghost use Rattle.columns.specs.Tests.{has_short_validity};
 ghost use Rattle.columns.specs.View.{view_array};
 ghost use Rattle.facts.specs.Bytes.{AreBytes};
 
+use crate::as_written::are_slots_as_written;
 use crate::batch::Buffer;
 use crate::run_slots::{count_slots, only_run};
 use arrow_schema::DataType;
+use bitmap::get;
 use columns::{ArrayView, SlotRun};
 use std::alloc::{AllocError, Global};
 
@@ -66,6 +71,65 @@ fn push_zeros(values: &mut Vec<u8>, width: usize, count: usize) -> Result<(), Al
     }
 }
 
+// Puts zeros for a value, unless it is kept.
+#[inline]
+fn clear_value(values: &mut [u8], at: usize, width: usize, kept: bool)
+    requires { at + width ≤ length values.old }
+    ensures { values.new ≡ take at values.old
+        ++ ((if kept then take width (drop at values.old) else replicate width 0) ++ drop (at + width) values.old) }
+{
+    if !kept {
+        values[at..at + width].fill(0);
+    }
+}
+
+// Puts zeros for each value, from a place on, whose bit is not set.
+fn clear_unset(values: &mut [u8], start: usize, width: usize, bits: &[u8], from: usize, to: usize)
+    requires order { from ≤ to }
+    requires bits { to ≤ 8 * length bits.now }
+    requires values { length values.old ≡ start + (to - from) * width }
+    ensures { values.new ≡ take start values.old ++ cleared width (map (bit bits.now) (range_with_len from (to - from))) (drop start values.old) }
+{
+    let mut at = start;
+    for i in from..to {
+        clear_value(values, at, width, get(bits, i));
+        at += width;
+    }
+}
+
+// Adds the values of some slots, with zeros where one is null.
+fn push_slots(
+    values: &mut Vec<u8>,
+    array: ArrayView<'_>,
+    width: usize,
+    from: usize,
+    len: usize,
+) -> Result<(), AllocError>
+    requires short { has_short_validity (view_array array) ≡ false }
+    requires long { (from + len) * width ≤ length (values_in (view_array array)) }
+    requires within { from + len ≤ slots_in (view_array array) }
+    ensures values { let a = view_array array.entry in OnOk result (values.new.items ≡ values.old.items
+        ++ cleared width (map (is_valid a) (range_with_len from len)) (take (len * width) (drop (from * width) (values_in a)))) }
+    ensures bytes { AreBytes (values_in (view_array array.entry)) }
+{
+    let start = values.len();
+    values.extend_from_slice(slot_values(array, width, from, len))?;
+    let validity = array.validity();
+    if validity.is_empty() {
+        return Ok(());
+    }
+    let _slots = array.slots();
+    clear_unset(
+        values.as_mut_slice(),
+        start,
+        width,
+        validity,
+        from,
+        from + len,
+    );
+    Ok(())
+}
+
 // The values of a run of a type.
 #[tactic(auto, using(crate::proofs::RunValues::null_bytes))]
 fn push_run(
@@ -76,20 +140,16 @@ fn push_run(
 ) -> Result<(), AllocError>
     requires width { fixed_width (kind_of data_type.now) ≡ Some width }
     requires sound { is_run_sound (plain_column (kind_of data_type.now) None) run.now ≡ true }
-    requires written { is_run_as_written (kind_of data_type.now) run.now ≡ true }
     ensures { OnOk result (values.new.items
         ≡ values.old.items ++ flat_map (fixed_value (kind_of data_type.now)) (run_cells (plain_column (kind_of data_type.now) None) run.now)) }
 {
     match run {
-        SlotRun::Slots { array, from, len } => {
-            values.extend_from_slice(run_slice(data_type, width, *array, *from, *len))?;
-            Ok(())
-        }
+        SlotRun::Slots { array, from, len } => push_slots(values, *array, width, *from, *len),
         SlotRun::Nulls(count) => push_zeros(values, width, *count),
     }
 }
 
-// The values of runs, copied.
+// The values of runs, copied, with zeros where there is a null.
 fn copied_values(
     alloc: Global,
     data_type: &DataType,
@@ -97,7 +157,7 @@ fn copied_values(
     runs: &[SlotRun<'_>],
 ) -> Result<Vec<u8>, AllocError>
     requires width { fixed_width (kind_of data_type.now) ≡ Some width }
-    requires ready { AreAsWritten (kind_of data_type.now) runs.now }
+    requires sound { are_runs_sound (plain_column (kind_of data_type.now) None) runs.now ≡ true }
     ensures { IfOk result (λ bytes. bytes.items ≡ flat_map (fixed_value (kind_of data_type.now)) (kind_cells (kind_of data_type.now) runs.now)) }
 {
     let size = count_slots(runs)?.saturating_mul(width);
@@ -108,7 +168,7 @@ fn copied_values(
     Ok(values)
 }
 
-/// The values of runs, with zeros where there is a null: where they stand, if the slots of one run are all.
+/// The values of runs, with zeros where there is a null: where they stand, if the slots of one run are all and stand as they are written.
 pub(crate) fn run_values<'a>(
     alloc: Global,
     data_type: &DataType,
@@ -116,11 +176,13 @@ pub(crate) fn run_values<'a>(
     runs: &[SlotRun<'a>],
 ) -> Result<Buffer<'a>, AllocError>
     requires width { fixed_width (kind_of data_type.now) ≡ Some width }
-    requires ready { AreAsWritten (kind_of data_type.now) runs.now }
+    requires sound { are_runs_sound (plain_column (kind_of data_type.now) None) runs.now ≡ true }
     ensures { IfOk result (λ buffer. buffer_bytes buffer ≡ flat_map (fixed_value (kind_of data_type.now)) (kind_cells (kind_of data_type.now) runs.now)) }
 {
     if let Some(SlotRun::Slots { array, from, len }) = only_run(runs) {
-        return Ok(Buffer::Borrowed(run_slice(data_type, width, array, from, len)));
+        if are_slots_as_written(data_type, array, from, len) {
+            return Ok(Buffer::Borrowed(run_slice(data_type, width, array, from, len)));
+        }
     }
     Ok(Buffer::Made(copied_values(alloc, data_type, width, runs)?))
 }

@@ -75,6 +75,11 @@ fixed_value (timestamps unit timezone) = integer_bytes 8
 fixed_value (fixed_binaries width) = fixed_bytes width
 fixed_value _ = λ c. []
 
+-- values of n bytes each, with zeros where a bit is not set
+abbrev pub cleared : (width : ℕ) → List Bool → List ℕ → List ℕ
+cleared width [] values = []
+cleared width (b ∷ bits) values = (if b then take width values else replicate width 0) ++ cleared width bits (drop width values)
+
 -- ---- texts and binaries
 
 -- how many bytes an offset has

@@ -1,4 +1,4 @@
-use Rattle.std.specs.Prelude.{None, option_map}
+use Rattle.std.specs.Prelude.{None}
 use Rattle.std.specs.List.{flat_map}
 use Rattle.std.proofs.Common.{◌≡◌, true, ◌∙◌, List, map, ap, subst, sym, rules}
 use Rattle.std.proofs.lemmas.Result.{on_ok_weaker}
@@ -11,7 +11,7 @@ use Rattle.array_build.proofs.RunParts.{all_behind, no_field, place_built, place
 use Rattle.array_build.proofs.by_runs.+by_runs.Goals as goal
 use Rattle.array_build.specs.Batch.{batch_in, built_at, built_below, plain_column, with_arrays}
 use Rattle.array_build.specs.inner.Nodes.{list_kind}
-use Rattle.array_build.specs.inner.Runs.{AreAsWritten, contents_width, fixed_width, kind_cells}
+use Rattle.array_build.specs.inner.Runs.{AreAsWritten, contents_width, kind_cells}
 use Rattle.columns.specs.Runs.{are_runs_sound, runs_cells}
 use Rattle.columns.specs.declared.slot_runs.SlotRun.{SlotRun}
 use Rattle.arrow_schema.specs.Column.{Column, Columns, Kind, columns_of, fixed_lists, structs}
@@ -22,7 +22,6 @@ use Rattle.cells.specs.Cell.{Cell}
 use Rattle.cells.specs.Dictionary.{item_list}
 use Rattle.columns.specs.Buildable.{can_build}
 use Rattle.columns.specs.Built.{fixed_items}
-use Rattle.columns.specs.Offsets.{width_of}
 use Rattle.facts.specs.laws.Lists.{drop-item}
 
 -- ---- structs
@@ -127,34 +126,39 @@ build_run_fixed_lists-returns t c =
 pub build_written_kind-build_valid_kind-requires : goal.build_written_kind-build_valid_kind-requires
 build_written_kind-build_valid_kind-requires t c =
     let kind : Kind = kind_of c.args.data_type.now in
-    let values : fixed_width kind ≡ None = sym c.value_width.ensures ∙ c.in-None-None.is-0 in
-    let contents : contents_width kind ≡ None = sym c.contents_width.ensures ∙ ap (option_map width_of) c.in-None-None.is-1 in
-    (search (rules, field_lemmas), (values, (contents, ready_of kind c.args.runs.now values contents c.requires.ready)))
+    let contents : contents_width kind ≡ None = sym c.in-None.ensures in
+    (search (rules, field_lemmas), (c.requires.values, (contents, ready_of kind c.args.runs.now c.requires.values contents c.requires.ready)))
 
-pub build_run_kind-build_written_kind-requires : goal.build_run_kind-build_written_kind-requires
-build_run_kind-build_written_kind-requires t c =
+pub build_split_kind-build_written_kind-requires : goal.build_split_kind-build_written_kind-requires
+build_split_kind-build_written_kind-requires t c =
     let ready : AreAsWritten (kind_of c.args.data_type.now) c.args.runs.now
     = record { sound = c.requires.sound; written = c.are_as_written.ensures c.if-are_as_written.true; fit = c.requires.fits } in
-    (search (rules, field_lemmas), ready)
+    (search (rules, field_lemmas), (c.requires.values, ready))
 
-pub build_run_kind-valid_runs-requires : goal.build_run_kind-valid_runs-requires
-build_run_kind-valid_runs-requires t c = have_validity (kind_of c.args.data_type.now) c.args.runs.now c.requires.sound
+pub build_split_kind-valid_runs-requires : goal.build_split_kind-valid_runs-requires
+build_split_kind-valid_runs-requires t c = have_validity (kind_of c.args.data_type.now) c.args.runs.now c.requires.sound
 
-pub build_run_kind-build_written_kind-requires-2 : goal.build_run_kind-build_written_kind-requires-2
-build_run_kind-build_written_kind-requires-2 t c =
+pub build_split_kind-build_written_kind-requires-2 : goal.build_split_kind-build_written_kind-requires-2
+build_split_kind-build_written_kind-requires-2 t c =
     let kind : Kind = kind_of c.args.data_type.now in (
       search (rules, field_lemmas),
-      subst (λ (runs : List SlotRun). AreAsWritten kind runs) (sym c.deref.ensures.value)
-          (written_of kind c.in_ok-valid.valid.items (are_ready kind c.in_ok-valid.valid.items c.args.runs.now c.in_ok-valid.ensures.same c.in_ok-valid.ensures.valid c.requires.sound c.requires.fits)),
+      (
+        c.requires.values,
+        subst (λ (runs : List SlotRun). AreAsWritten kind runs) (sym c.deref.ensures.value)
+            (written_of kind c.in_ok-valid.valid.items (are_ready kind c.in_ok-valid.valid.items c.args.runs.now c.in_ok-valid.ensures.same c.in_ok-valid.ensures.valid c.requires.sound c.requires.fits)),
+      ),
     )
 
-pub build_run_kind-returns : goal.build_run_kind-returns
-build_run_kind-returns t c =
+pub build_split_kind-returns : goal.build_split_kind-returns
+build_split_kind-returns t c =
     let kind : Kind = kind_of c.args.data_type.now in
     let same = ap (λ (runs : List SlotRun). kind_cells kind runs) c.deref.ensures.value ∙ same_cells kind c.in_ok-valid.valid.items c.args.runs.now c.in_ok-valid.ensures.same c.requires.sound in
     on_ok_weaker c.build_written_kind-2.result
     (λ h. h ∙ ap (λ (cells : List Cell). with_arrays (batch_in c.args.batch.now) (built_at (plain_column kind None) cells)) same)
     c.build_written_kind-2.ensures
+
+pub build_run_kind-build_split_kind-requires : goal.build_run_kind-build_split_kind-requires
+build_run_kind-build_split_kind-requires t c = (search (rules, field_lemmas), (sym c.in-None.ensures, (c.requires.sound, c.requires.fits)))
 
 pub build_run_column-build_run_kind-requires : goal.build_run_column-build_run_kind-requires
 build_run_column-build_run_kind-requires t c =

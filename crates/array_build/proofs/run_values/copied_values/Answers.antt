@@ -7,7 +7,7 @@ use Rattle.array_build.proofs.Ended.{ended}
 use Rattle.array_build.proofs.Turns.{turned}
 use Rattle.array_build.proofs.run_values.copied_values.Goals as goal
 use Rattle.array_build.specs.Batch.{plain_column}
-use Rattle.array_build.specs.inner.Runs.{are_runs_as_written, fixed_value, is_run_as_written, kind_cells}
+use Rattle.array_build.specs.inner.Runs.{fixed_value, kind_cells}
 use Rattle.columns.specs.Runs.{are_runs_sound, is_run_sound, run_cells, runs_cells}
 use Rattle.columns.specs.declared.slot_runs.SlotRun.{SlotRun}
 use Rattle.arrow_schema.specs.Column.{Column, Kind}
@@ -20,13 +20,6 @@ push_run-requires-clause-sound c =
     let item = drop-item c.args.runs.now c.loop-run.run-index c.run-item.result c.loop-run-test.true c.run-item.is in
     let others : List SlotRun = drop (c.loop-run.run-index + 1) c.args.runs.now in
     (and_parts (is_run_sound col c.run-item.result) (are_runs_sound col others) (sym (ap (are_runs_sound col) item) ∙ c.loop-run.invariant.sound)).0
-
-pub push_run-requires-clause-written : goal.push_run-requires-clause-written
-push_run-requires-clause-written c =
-    let kind : Kind = kind_of c.args.data_type.now in
-    let item = drop-item c.args.runs.now c.loop-run.run-index c.run-item.result c.loop-run-test.true c.run-item.is in
-    let others : List SlotRun = drop (c.loop-run.run-index + 1) c.args.runs.now in
-    (and_parts (is_run_as_written kind c.run-item.result) (are_runs_as_written kind others) (sym (ap (are_runs_as_written kind) item) ∙ c.loop-run.invariant.written)).0
 
 pub loop-run-preserved : goal.loop-run-preserved
 loop-run-preserved c =
@@ -41,7 +34,6 @@ loop-run-preserved c =
     ∙ sym (ap (λ (runs : List SlotRun). made ++ flat_map (fixed_value kind) (kind_cells kind runs)) item) ∙ c.loop-run.invariant.values in
     record {
       sound = (and_parts (is_run_sound col run) (are_runs_sound col others) (sym (ap (are_runs_sound col) item) ∙ c.loop-run.invariant.sound)).1;
-      written = (and_parts (is_run_as_written kind run) (are_runs_as_written kind others) (sym (ap (are_runs_as_written kind) item) ∙ c.loop-run.invariant.written)).1;
       values = turned made (flat_map (fixed_value kind) (run_cells col run)) (flat_map (fixed_value kind) (runs_cells col others)) _ _ c.in_ok-push_run.ensures kept;
     }
 

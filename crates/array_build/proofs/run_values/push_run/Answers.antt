@@ -1,16 +1,17 @@
-use Rattle.std.specs.Prelude.{None}
-use Rattle.std.specs.List.{flat_map}
-use Rattle.std.proofs.Common.{◌++◌, ◌∙◌, List, ℕ, ap, sym}
+use Rattle.std.proofs.Common.{◌++◌, ◌∙◌, List, ℕ, ap}
+use Rattle.std.proofs.lemmas.Result.{on_ok_weaker}
 use Rattle.arrow_schema.specs.View.{kind_of}
+use Rattle.array_build.proofs.Cleared.{are_slots}
 use Rattle.array_build.proofs.run_values.push_run.Goals as goal
-use Rattle.array_build.specs.Batch.{plain_column}
-use Rattle.array_build.specs.inner.Runs.{fixed_value}
-use Rattle.columns.specs.Runs.{run_cells}
-use Rattle.columns.specs.declared.slot_runs.SlotRun.{SlotRun}
-use Rattle.arrow_schema.specs.Column.{Kind}
 
-pub returns-in_ok-extend_from_slice-in-Slots : goal.returns-in_ok-extend_from_slice-in-Slots
-returns-in_ok-extend_from_slice-in-Slots c =
-    let kind : Kind = kind_of c.args.data_type.now in
-    c.in_ok-extend_from_slice-in-Slots.ensures.items ∙ ap (λ (bytes : List ℕ). c.args.values.now.items ++ bytes)
-    (c.run_slice.ensures ∙ ap (λ (run : SlotRun). flat_map (fixed_value kind) (run_cells (plain_column kind None) run)) (sym c.in-Slots.is))
+pub push_slots-requires : goal.push_slots-requires
+push_slots-requires c =
+    let known = are_slots (kind_of c.args.data_type.now) c.args.width c.in-Slots.array c.in-Slots.from c.in-Slots.len c.args.run.now c.in-Slots.is c.requires.width c.requires.sound in
+    record { short = known.short; long = known.long; within = known.within }
+
+pub returns-in-Slots : goal.returns-in-Slots
+returns-in-Slots c =
+    let known = are_slots (kind_of c.args.data_type.now) c.args.width c.in-Slots.array c.in-Slots.from c.in-Slots.len c.args.run.now c.in-Slots.is c.requires.width c.requires.sound in
+    on_ok_weaker c.push_slots.result
+    (λ h. h ∙ ap (λ (bytes : List ℕ). c.args.values.now.items ++ bytes) (known.cells c.push_slots.ensures.bytes))
+    c.push_slots.ensures.values
