@@ -21,9 +21,9 @@ use Rattle.cells.specs.Integers.{integer_of}
 use Rattle.columns.specs.CellAt.{number_at}
 use Rattle.query.specs.declared.cut.Cut.{Cut}
 use Rattle.query.specs.declared.operator.Operator.{Operator}
-use Rattle.query.specs.declared.slots.Comparison.{Comparison}
+use Rattle.query.specs.declared.integer_slots.IntegerComparison.{IntegerComparison}
 use Rattle.query.specs.Bound.{accepts}
-use Rattle.query.specs.inner.Slots.{width_of, is_valid_in, holds_in}
+use Rattle.query.specs.inner.Slots.{width_of, is_valid_in, integer_holds_in}
 use lib.Signed.{non_neg}
 use Rattle.query.specs.inner.Cuts.{bias_in, moved, answer_at, IsCut}
 
@@ -178,9 +178,9 @@ number_below : (k i : ℕ) (values : List ℕ) → ((j : ℕ) → get_or values 
 number_below k i values fit = little_below k 0 (drop (i * k) values) (λ j. omega (arith, fit (i * k + j), get_or-drop (i * k) values j 0))
 
 -- what is answered of slots, where they are valid
-pub answers_hold : (c : Comparison) (cut : Cut) (validity values : List ℕ) (first n : ℕ) → IsCut c.integer c.operator c.literal cut → ((j : ℕ) → get_or values j 0 < 256)
-    → map (λ i. is_valid_in validity i && answer_at cut (width_of c.integer) values i) (range_with_len first n) ≡ map (holds_in c validity values) (range_with_len first n)
+pub answers_hold : (c : IntegerComparison) (cut : Cut) (validity values : List ℕ) (first n : ℕ) → IsCut c.integer c.operator c.literal cut → ((j : ℕ) → get_or values j 0 < 256)
+    → map (λ i. is_valid_in validity i && answer_at cut (width_of c.integer) values i) (range_with_len first n) ≡ map (integer_holds_in c validity values) (range_with_len first n)
 answers_hold c cut validity values first n is fit =
-    maps_same (λ i. is_valid_in validity i && answer_at cut (width_of c.integer) values i) (holds_in c validity values)
+    maps_same (λ i. is_valid_in validity i && answer_at cut (width_of c.integer) values i) (integer_holds_in c validity values)
     (λ i. ap (λ (b : Bool). is_valid_in validity i && b) (is.answers (number_at (width_of c.integer) values i) (number_below (width_of c.integer) i values fit)))
     (range_with_len first n)

@@ -20,3 +20,6 @@ pub mod SlotNumbers
 pub mod Lanes
 pub mod Masked
 pub mod BlockFlags
+pub mod IntegerTests
+pub mod ContentsTests
+pub mod AnswerWords

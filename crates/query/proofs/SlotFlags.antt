@@ -1,50 +1,27 @@
--- Comparisons with integers, slot by slot.
+-- What is asked of the slots of a column, slot by slot of the arrays of record batches.
 use Rattle.std.proofs.Common.{◌≡◌, ℕ, ◌+◌, ◌<◌, zero, suc, Bool, true, false, List, [], ◌∷◌, ◌++◌, map, length, take, drop, refl, sym, ap, subst, ◌∙◌, append_assoc, arith}
-use Rattle.std.specs.Prelude.{not, ◌&&◌, nat_le, Option, Some, None, string_bytes, slice_get, get_or, IfSome, if◌then◌else◌}
+use Rattle.std.specs.Prelude.{nat_le, Some, slice_get, get_or}
 use Rattle.std.specs.List.{flat_map, list_all, range_with_len}
-use Rattle.std.specs.Ordering.{int_cmp}
 use Rattle.std.proofs.lemmas.Bool.{and_parts, and_from}
 use Rattle.std.proofs.lemmas.List.{drop_all}
 use Rattle.std.proofs.lemmas.List.Folds.{list_all_at}
 use Rattle.facts.specs.laws.Lists.{maps_same, map_map, flat_map-item}
-use Rattle.arrow_schema.specs.Column.{Kind, Column, column, columns_of}
-use Rattle.arrow_schema.specs.View.{column_of, kind_of, pair_of}
-use Rattle.arrow_schema.specs.declared.types.Field.{Field}
-use Rattle.arrow_schema.specs.declared.types.IntegerType.{IntegerType}
-use Rattle.arrow_schema.specs.laws.Parts.{field_parts}
-use Rattle.cells.specs.Cell.{Cell, null, number, cell_list, PlainTable}
-use Rattle.columns.specs.Array.{Array, slots_in, values_in, first_array, arrays_of, empty_array}
-use Rattle.columns.specs.CellAt.{cell_at, is_valid, integer_at, unless_null, part_cells, row_at}
+use Rattle.arrow_schema.specs.Column.{Column, columns_of}
+use Rattle.cells.specs.Cell.{cell_list, PlainTable}
+use Rattle.columns.specs.Array.{Array, slots_in, first_array, arrays_of, empty_array}
+use Rattle.columns.specs.CellAt.{cell_at, part_cells, row_at}
 use Rattle.columns.specs.Sound.{is_sound, are_sound}
-use Rattle.columns.specs.Tests.{has_short_validity, are_few}
 use Rattle.columns.specs.View.{array_in, arrays_in, placed_arrays}
 use Rattle.columns.specs.declared.array.Dictionary.{Dictionary}
 use Rattle.columns.specs.declared.array.PlacedArray.{PlacedArray}
-use Rattle.columns.specs.laws.SoundParts.{sound_validity, sound_buffer}
 use Rattle.values.specs.Parts.{arrays_with, batch_rows, part_rows, parts_rows, is_batch_sound, are_parts_sound, parts_table}
 use Rattle.values.specs.declared.part.Batch.{Batch}
 use Rattle.values.specs.declared.part.Part.{Part}
-use Rattle.query.specs.declared.slots.Comparison.{Comparison}
-use Rattle.query.specs.Bound.{Bound, Demand, compares, accepts, meets, meets_at, holds}
+use Rattle.query.specs.declared.slot_test.SlotTest.{SlotTest}
+use Rattle.query.specs.Bound.{Bound, meets_at, holds}
 use Rattle.query.specs.inner.Masks.{IsMask}
-use Rattle.query.specs.inner.Slots.{width_of, integer_cell, IsIntegerKind, IsIntegerColumn, IsComparison, holds_at, array_of, batch_flags, part_flags, parts_flags, has_slots, batch_has_slots, part_has_slots}
-
--- ---- columns of integers
-
-kind_is : (name : List ℕ) (nullable : Bool) (kind : Kind) (p : _) (t : IntegerType) → IsIntegerKind kind t → IsIntegerColumn (column name nullable kind None p) t
-unfolding cell_at is_sound
-kind_is name nullable kind p t is = record {
-  cells = λ a i. ap (λ (x : Cell). if is_valid a i then x else null) (is.cells a i);
-  validity = λ a s. sound_validity kind a s;
-  values = λ a s. sym (is.buffer a) ∙ sound_buffer kind a s;
-}
-
-field_integers : (f : Field) (t : IntegerType) → f.dictionary ≡ None → IsIntegerKind (kind_of f.data_type) t → IsIntegerColumn (column_of f) t
-field_integers f t e is = rw (field_parts f, e) (kind_is (string_bytes f.name) f.nullable (kind_of f.data_type) (map pair_of f.pairs.items) t is)
-
-pub some_integers : (f : Field) (o : Option IntegerType) → f.dictionary ≡ None → IfSome o (λ t. IsIntegerKind (kind_of f.data_type) t) → IfSome o (λ t. IsIntegerColumn (column_of f) t)
-some_integers f None e h = tt
-some_integers f (Some t) e h = field_integers f t e h
+use Rattle.query.specs.inner.Slots.{array_of}
+use Rattle.query.specs.inner.SlotTests.{place_in, IsSlotTest, holds_at, batch_flags, part_flags, parts_flags, has_slots, batch_has_slots, part_has_slots}
 
 -- ---- slots
 
@@ -57,14 +34,6 @@ all_here p xs i x h within is = by (p x) refl
     by false e = absurd (let no = list_all_at p xs i x within (ap p (sym is) ∙ e) in cc)
 
 -- ---- rows
-
-slot_holds : (d : Demand) (c : Comparison) (a : Array) (i : ℕ) → d ≡ compares c.operator (number c.literal) → meets d (unless_null (integer_cell c.integer) a i) ≡ holds_at c a i
-slot_holds d c a i e = rw e (by (is_valid a i))
-  where
-    by : (b : Bool) → meets (compares c.operator (number c.literal)) (if b then integer_cell c.integer a i else null)
-        ≡ (b && accepts c.operator (int_cmp (integer_at (width_of c.integer) c.integer.signed (values_in a) i) c.literal))
-    by true = refl
-    by false = refl
 
 -- the cell of a column in a row
 pub cell_in_row : (f : PlacedArray → Array) (cs : List Column) (place : ℕ) (c : Column) (arrays : List PlacedArray) (i : ℕ) → slice_get cs place ≡ Some c
@@ -92,19 +61,18 @@ array_sound f (d ∷ cs) (suc place) c [] rows e h =
 array_sound f (d ∷ cs) (suc place) c (a ∷ arrays) rows e h =
     array_sound f cs place c arrays rows e (and_parts (is_sound d (f a)) _ (and_parts (nat_le rows (slots_in (f a))) _ h).1).1
 
-row_holds : (cs : List Column) (b : Bound) (c : Comparison) (p : Part) (batch : Batch) → IsComparison cs b c → (i : ℕ)
-    → holds b (row_at (columns_of cs) (arrays_with p batch) i) ≡ holds_at c (array_of c.place p batch) i
-row_holds cs b c p batch is i =
+row_holds : (cs : List Column) (b : Bound) (t : SlotTest) (p : Part) (batch : Batch) → IsSlotTest cs b t → (i : ℕ)
+    → holds b (row_at (columns_of cs) (arrays_with p batch) i) ≡ holds_at t (array_of (place_in t) p batch) i
+row_holds cs b t p batch is i =
     let f = array_in p.bytes.items (arrays_in p.bytes.items p.dictionaries.items) in
     ap (meets_at b.demand) (cell_in_row f cs b.place is.column batch.arrays.items i is.found)
-    ∙ ap (meets b.demand) (is.integers.cells (array_of b.place p batch) i)
-    ∙ slot_holds b.demand c (array_of b.place p batch) i is.demand
-    ∙ ap (λ k. holds_at c (array_of k p batch) i) (sym is.place)
+    ∙ is.answers (array_of b.place p batch) i
+    ∙ ap (λ k. holds_at t (array_of k p batch) i) (sym is.place)
 
-batch_is : (cs : List Column) (b : Bound) (c : Comparison) → IsComparison cs b c → (p : Part) (batch : Batch) → map (holds b) (batch_rows (columns_of cs) p batch) ≡ batch_flags c p batch
-batch_is cs b c is p batch =
+batch_is : (cs : List Column) (b : Bound) (t : SlotTest) → IsSlotTest cs b t → (p : Part) (batch : Batch) → map (holds b) (batch_rows (columns_of cs) p batch) ≡ batch_flags t p batch
+batch_is cs b t is p batch =
     map_map (holds b) (row_at (columns_of cs) (arrays_with p batch)) (range_with_len 0 batch.rows)
-    ∙ maps_same (λ i. holds b (row_at (columns_of cs) (arrays_with p batch) i)) (holds_at c (array_of c.place p batch)) (row_holds cs b c p batch is) (range_with_len 0 batch.rows)
+    ∙ maps_same (λ i. holds b (row_at (columns_of cs) (arrays_with p batch) i)) (holds_at t (array_of (place_in t) p batch)) (row_holds cs b t p batch is) (range_with_len 0 batch.rows)
 
 map_both : {X Y : Type 0} (f : X → Y) (xs ys : List X) → map f (xs ++ ys) ≡ map f xs ++ map f ys
 map_both f [] ys = refl
@@ -115,26 +83,24 @@ pub flat_is : {X Y Z : Type 0} (f : Y → Z) (g : X → List Y) (h : X → List 
 flat_is f g h each [] = refl
 flat_is f g h each (x ∷ xs) = map_both f (g x) (flat_map g xs) ∙ rw (each x, flat_is f g h each xs) refl
 
-pub flags_are : (cs : List Column) (b : Bound) (c : Comparison) → IsComparison cs b c → (parts : List Part) → parts_flags c parts ≡ map (holds b) (parts_rows (columns_of cs) parts)
-flags_are cs b c is parts =
-    sym (flat_is (holds b) (part_rows (columns_of cs)) (part_flags c) (λ p. flat_is (holds b) (batch_rows (columns_of cs) p) (batch_flags c p) (batch_is cs b c is p) p.batches.items) parts)
+pub flags_are : (cs : List Column) (b : Bound) (t : SlotTest) → IsSlotTest cs b t → (parts : List Part) → parts_flags t parts ≡ map (holds b) (parts_rows (columns_of cs) parts)
+flags_are cs b t is parts =
+    sym (flat_is (holds b) (part_rows (columns_of cs)) (part_flags t) (λ p. flat_is (holds b) (batch_rows (columns_of cs) p) (batch_flags t p) (batch_is cs b t is p) p.batches.items) parts)
 
-batch_there : (cs : List Column) (b : Bound) (c : Comparison) → IsComparison cs b c → (p : Part) (batch : Batch) → is_batch_sound (columns_of cs) p batch ≡ true → batch_has_slots c p batch ≡ true
-batch_there cs b c is p batch h =
+batch_there : (cs : List Column) (b : Bound) (t : SlotTest) → IsSlotTest cs b t → (p : Part) (batch : Batch) → is_batch_sound (columns_of cs) p batch ≡ true → batch_has_slots t p batch ≡ true
+batch_there cs b t is p batch h =
     let f = array_in p.bytes.items (arrays_in p.bytes.items p.dictionaries.items) in
     let both = array_sound f cs b.place is.column batch.arrays.items batch.rows is.found h in
-    let validity : not (has_short_validity (array_of b.place p batch)) ≡ true = ap not (is.integers.validity (array_of b.place p batch) both.1) in
-    let values : not (are_few (width_of c.integer) (array_of b.place p batch) (values_in (array_of b.place p batch))) ≡ true = ap not (is.integers.values (array_of b.place p batch) both.1) in
-    ap (λ k. has_slots c batch.rows (array_of k p batch)) is.place ∙ and_from _ _ both.0 (and_from _ _ validity values)
+    ap (λ k. has_slots t batch.rows (array_of k p batch)) is.place ∙ is.there (array_of b.place p batch) batch.rows both.0 both.1
 
 pub all_too : {X : Type 0} (p q : X → Bool) → ((x : X) → p x ≡ true → q x ≡ true) → (xs : List X) → list_all p xs ≡ true → list_all q xs ≡ true
 all_too p q each [] h = refl
 all_too p q each (x ∷ xs) h = let both = and_parts (p x) _ h in and_from _ _ (each x both.0) (all_too p q each xs both.1)
 
-pub parts_there : (cs : List Column) (b : Bound) (c : Comparison) → IsComparison cs b c → (parts : List Part) → are_parts_sound (columns_of cs) parts ≡ true → list_all (part_has_slots c) parts ≡ true
-parts_there cs b c is parts h =
-    all_too (λ p. list_all (is_batch_sound (columns_of cs) p) p.batches.items) (part_has_slots c)
-    (λ p e. all_too (is_batch_sound (columns_of cs) p) (batch_has_slots c p) (batch_there cs b c is p) p.batches.items e) parts h
+pub parts_there : (cs : List Column) (b : Bound) (t : SlotTest) → IsSlotTest cs b t → (parts : List Part) → are_parts_sound (columns_of cs) parts ≡ true → list_all (part_has_slots t) parts ≡ true
+parts_there cs b t is parts h =
+    all_too (λ p. list_all (is_batch_sound (columns_of cs) p) p.batches.items) (part_has_slots t)
+    (λ p e. all_too (is_batch_sound (columns_of cs) p) (batch_has_slots t p) (batch_there cs b t is p) p.batches.items e) parts h
 
 -- ---- the code
 
@@ -155,9 +121,9 @@ flags_more g xs k x start flags within is h =
     ap (λ (ys : List Bool). ys ++ g x) h ∙ append_assoc start (flat_map g (take k xs)) (g x) ∙ ap (λ (ys : List Bool). start ++ ys) (sym (flat_map-item g xs k x within is))
 
 -- the mask of the flags of all parts is that of the rows
-pub parts_mask : (t : PlainTable) (cs : List Column) (b : Bound) (c : Comparison) (parts : List Part) (mask : List ℕ) → IsComparison cs b c → cs ≡ t.schema.columns
-    → t ≡ parts_table t.schema parts → IsMask mask (parts_flags c parts) → IsMask mask (map (holds b) t.rows)
-parts_mask t cs b c parts mask is columns whole h =
-    let rows : parts_rows (columns_of cs) parts ≡ t.rows = ap (λ (ds : List Column). parts_rows (columns_of ds) parts) columns ∙ sym (ap (λ (u : PlainTable). u.rows) whole) in
+pub parts_mask : (table : PlainTable) (cs : List Column) (b : Bound) (t : SlotTest) (parts : List Part) (mask : List ℕ) → IsSlotTest cs b t → cs ≡ table.schema.columns
+    → table ≡ parts_table table.schema parts → IsMask mask (parts_flags t parts) → IsMask mask (map (holds b) table.rows)
+parts_mask table cs b t parts mask is columns whole h =
+    let rows : parts_rows (columns_of cs) parts ≡ table.rows = ap (λ (ds : List Column). parts_rows (columns_of ds) parts) columns ∙ sym (ap (λ (u : PlainTable). u.rows) whole) in
     let P : List Bool → Type 0 = λ bits. IsMask mask bits in
-    subst P (flags_are cs b c is parts ∙ ap (map (holds b)) rows) h
+    subst P (flags_are cs b t is parts ∙ ap (map (holds b)) rows) h

@@ -11,8 +11,8 @@ ghost use Rattle.query.specs.inner.Keeping.{HasKept, Keeps};
 ghost use Rattle.query.specs.inner.Slots.{array_of, has_integers, integer_cell};
 
 use crate::bound::field_at;
+use crate::integer_slots::{field_integer, number_at};
 use crate::kept::{Kept, next_set};
-use crate::slots::{field_integer, number_at};
 use arrow_schema::{Field, IntegerType};
 use cells::Value;
 use columns::{ArrayView, array_or, no_array};

@@ -98,7 +98,11 @@ pub(crate) fn push_value(
 }
 
 #[cycle(line)]
-fn push_array(alloc: Global, out: &mut Vec<u8>, values: Values<'_>) -> Result<(), AllocError>
+pub(crate) fn push_array(
+    alloc: Global,
+    out: &mut Vec<u8>,
+    values: Values<'_>,
+) -> Result<(), AllocError>
     ensures { OnOk result (out.new.items ≡ out.old.items ++ line (borrowed_cells values.entry)) }
 {
     push_bytes(out, b"[")?;

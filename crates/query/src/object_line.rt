@@ -7,7 +7,7 @@ ghost use Rattle.query.specs.ObjectLine.{member, members, other_members, object_
 
 use crate::RowForm;
 use crate::bound::count_named;
-use crate::line::{json_line, push_bytes, push_text, push_value};
+use crate::line::{push_array, push_bytes, push_text, push_value};
 use arrow_schema::Field;
 use std::alloc::{AllocError, Global};
 use values::{ValueRef, Values, ValuesIter};
@@ -90,6 +90,19 @@ fn push_members(
     push_other_members(alloc, out, others, values)
 }
 
+fn push_object(
+    alloc: Global,
+    out: &mut Vec<u8>,
+    fields: &[Field],
+    row: Values<'_>,
+) -> Result<(), AllocError>
+    ensures { OnOk result (out.new.items ≡ out.old.items ++ object_line (map name_of_column (map column_of fields.now)) (borrowed_cells row.entry)) }
+{
+    push_bytes(out, b"{")?;
+    push_members(alloc, out, fields, row)?;
+    push_bytes(out, b"}")
+}
+
 /// The line of a row without its end: a JSON object of its values by the names of the fields, in their order, without spaces. The names are JSON
 /// strings, and the values are those of [`json_line`].
 ///
@@ -99,10 +112,27 @@ pub fn json_object(alloc: Global, fields: &[Field], row: Values<'_>) -> Result<V
     ensures { IfOk result (λ text. text.items ≡ object_line (map name_of_column (map column_of fields.now)) (borrowed_cells row.entry)) }
 {
     let mut text = Vec::new(alloc);
-    push_bytes(&mut text, b"{")?;
-    push_members(alloc, &mut text, fields, row)?;
-    push_bytes(&mut text, b"}")?;
+    push_object(alloc, &mut text, fields, row)?;
     Ok(text)
+}
+
+/// Appends the line of a row of these fields in a form, without its end. Neither the line nor a value takes memory of its own.
+///
+/// # Errors
+/// `AllocError` where memory was refused: some of the line may be appended then.
+pub fn push_line_in(
+    alloc: Global,
+    text: &mut Vec<u8>,
+    form: RowForm,
+    fields: &[Field],
+    row: Values<'_>,
+) -> Result<(), AllocError>
+    ensures { OnOk result (text.new.items ≡ text.old.items ++ line_in form (map column_of fields.now) (borrowed_cells row.entry)) }
+{
+    match form {
+        RowForm::Array => push_array(alloc, text, row),
+        RowForm::Object => push_object(alloc, text, fields, row),
+    }
 }
 
 /// The line of a row of these fields in a form, without its end.
@@ -117,8 +147,7 @@ pub fn line_in(
 ) -> Result<Vec<u8>, AllocError>
     ensures { IfOk result (λ text. text.items ≡ line_in form (map column_of fields.now) (borrowed_cells row.entry)) }
 {
-    match form {
-        RowForm::Array => json_line(alloc, row),
-        RowForm::Object => json_object(alloc, fields, row),
-    }
+    let mut text = Vec::new(alloc);
+    push_line_in(alloc, &mut text, form, fields, row)?;
+    Ok(text)
 }

@@ -26,7 +26,7 @@ use crate::errors::QueryError;
 use crate::integer_rows::{integer_columns, keep_integers};
 use crate::kept::{Kept, next_set};
 use crate::query::Query;
-use crate::slots::comparison_of;
+use crate::slot_test::slot_test_of;
 use arrow_schema::{Field, Schema};
 use cells::Value;
 use std::alloc::{AllocError, Global};
@@ -97,8 +97,8 @@ fn mask_of(alloc: Global, table: &Table, bound: &Bound) -> Result<Vec<u8>, Alloc
     ensures { IfOk result (λ mask. IsMask mask.items (map (holds (bound_in bound.now)) (table_of table.now).rows)) }
 {
     let schema = table.schema();
-    match (table.parts(), comparison_of(&schema.fields, bound)) {
-        (Some(parts), Some(comparison)) => comparison.mask_of(alloc, parts, table.len()),
+    match (table.parts(), slot_test_of(&schema.fields, bound)) {
+        (Some(parts), Some(test)) => test.mask_of(alloc, parts, table.len()),
         _ => mask_of_rows(alloc, table, bound),
     }
 }

@@ -1,6 +1,5 @@
--- A comparison with an integer, slot by slot of the arrays of record batches.
-use Rattle.std.specs.Prelude.{◌≡◌, ℕ, ◌/◌, Bool, true, false, not, ◌&&◌, ◌||◌, ◌==◌, nat_le, List, length, map, drop, slice_get, Some}
-use Rattle.std.specs.List.{flat_map, list_all, range_with_len}
+-- A comparison with an integer, slot by slot of an array.
+use Rattle.std.specs.Prelude.{◌≡◌, ℕ, ◌/◌, Bool, true, false, not, ◌&&◌, ◌||◌, ◌==◌, nat_le, List, length, drop, slice_get, Some}
 use Rattle.std.specs.Ordering.{int_cmp}
 use Rattle.arrow_schema.specs.Column.{Kind, Column}
 use Rattle.arrow_schema.specs.View.{bits_of}
@@ -14,7 +13,7 @@ use Rattle.columns.specs.Tests.{has_short_validity, has_short_buffer, are_few}
 use Rattle.columns.specs.View.{placed_arrays}
 use Rattle.values.specs.declared.part.Batch.{Batch}
 use Rattle.values.specs.declared.part.Part.{Part}
-use Rattle.query.specs.declared.slots.Comparison.{Comparison}
+use Rattle.query.specs.declared.integer_slots.IntegerComparison.{IntegerComparison}
 use Rattle.query.specs.Bound.{Bound, accepts, compares}
 
 abbrev pub width_of : IntegerType → ℕ
@@ -35,7 +34,7 @@ pub record IsIntegerColumn (c : Column) (t : IntegerType) : Type 0 where
   pub values : (a : Array) → is_sound c a ≡ true → are_few (width_of t) a (values_in a) ≡ false
 
 -- what is asked of a column of integers
-pub record IsComparison (columns : List Column) (b : Bound) (comparison : Comparison) : Type 0 where
+pub record IsIntegerComparison (columns : List Column) (b : Bound) (comparison : IntegerComparison) : Type 0 where
   pub column : Column
   pub found : slice_get columns b.place ≡ Some column
   pub integers : IsIntegerColumn column comparison.integer
@@ -47,36 +46,18 @@ abbrev pub is_valid_in : List ℕ → ℕ → Bool
 is_valid_in validity i = length validity == 0 || bit validity i
 
 -- whether it holds of a slot with this validity bitmap and these values: never of a null
-abbrev pub holds_in : Comparison → (validity values : List ℕ) → ℕ → Bool
-holds_in comparison validity values i =
+abbrev pub integer_holds_in : IntegerComparison → (validity values : List ℕ) → ℕ → Bool
+integer_holds_in comparison validity values i =
     is_valid_in validity i
     && accepts comparison.operator (int_cmp (integer_at (width_of comparison.integer) comparison.integer.signed values i) comparison.literal)
 
-abbrev pub holds_at : Comparison → Array → ℕ → Bool
-holds_at comparison a i = holds_in comparison (validity_in a) (values_in a) i
+abbrev pub integer_holds_at : IntegerComparison → Array → ℕ → Bool
+integer_holds_at comparison a i = integer_holds_in comparison (validity_in a) (values_in a) i
 
 -- the array of a column in a batch
 abbrev pub array_of : ℕ → Part → Batch → Array
 array_of place p b = first_array (placed_arrays p.bytes.items p.dictionaries.items (drop place b.arrays.items))
 
-abbrev pub batch_flags : Comparison → Part → Batch → List Bool
-batch_flags comparison p b = map (holds_at comparison (array_of comparison.place p b)) (range_with_len 0 b.rows)
-
-abbrev pub part_flags : Comparison → Part → List Bool
-part_flags comparison p = flat_map (batch_flags comparison p) p.batches.items
-
-abbrev pub parts_flags : Comparison → List Part → List Bool
-parts_flags comparison parts = flat_map (part_flags comparison) parts
-
 -- the array has the bytes of n slots
 abbrev pub has_integers : IntegerType → ℕ → Array → Bool
 has_integers t rows a = nat_le rows (slots_in a) && (not (has_short_validity a) && not (are_few (width_of t) a (values_in a)))
-
-abbrev pub has_slots : Comparison → ℕ → Array → Bool
-has_slots comparison rows a = has_integers comparison.integer rows a
-
-abbrev pub batch_has_slots : Comparison → Part → Batch → Bool
-batch_has_slots comparison p b = has_slots comparison b.rows (array_of comparison.place p b)
-
-abbrev pub part_has_slots : Comparison → Part → Bool
-part_has_slots comparison p = list_all (batch_has_slots comparison p) p.batches.items

@@ -14,13 +14,13 @@ mask_of-requires c =
     ap (map column_of) c.deref.ensures.value ∙ ap (λ (s : PlainSchema). s.columns) c.schema-schema.ensures.schema in
     let parts = c.in-Some-Some.parts.now in
     let P : List Column → Type 0 = λ cs. are_parts_sound (columns_of cs) parts ≡ true in
-    parts_there (map column_of c.deref.result.now) (bound_in c.args.bound.now) c.in-Some-Some.comparison c.in-Some-Some.ensures' parts (subst P (sym columns) c.in-Some-Some.ensures.sound)
+    parts_there (map column_of c.deref.result.now) (bound_in c.args.bound.now) c.in-Some-Some.test c.in-Some-Some.ensures' parts (subst P (sym columns) c.in-Some-Some.ensures.sound)
 
 pub returns-in-Some-Some : goal.returns-in-Some-Some
 returns-in-Some-Some c =
     let columns : map column_of c.deref.result.now ≡ (table_of c.args.table.now).schema.columns =
     ap (map column_of) c.deref.ensures.value ∙ ap (λ (s : PlainSchema). s.columns) c.schema-schema.ensures.schema in
     IfOk-weaker c.mask_of.result _ _
-    (λ mask h. parts_mask (table_of c.args.table.now) (map column_of c.deref.result.now) (bound_in c.args.bound.now) c.in-Some-Some.comparison c.in-Some-Some.parts.now mask.items
+    (λ mask h. parts_mask (table_of c.args.table.now) (map column_of c.deref.result.now) (bound_in c.args.bound.now) c.in-Some-Some.test c.in-Some-Some.parts.now mask.items
     c.in-Some-Some.ensures' columns c.in-Some-Some.ensures.rows h)
     c.mask_of.ensures

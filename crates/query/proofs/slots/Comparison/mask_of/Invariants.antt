@@ -1,7 +1,0 @@
-use Rattle.std.proofs.Common.{◌≡◌, take}
-use Rattle.std.specs.List.{flat_map}
-use Rattle.query.specs.inner.Slots.{part_flags}
-use Rattle.query.proofs.slots.Comparison.mask_of.Given as goal
-
-abbrev pub invariant-loop-part : goal.invariant-loop-part
-invariant-loop-part l = l.flags ≡ flat_map (part_flags l.self) (take l.part-index l.parts)

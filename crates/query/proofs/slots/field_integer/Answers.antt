@@ -1,5 +1,0 @@
-use Rattle.query.proofs.SlotFlags.{some_integers}
-use Rattle.query.proofs.slots.field_integer.Goals as goal
-
-pub returns-in-None : goal.returns-in-None
-returns-in-None c = some_integers c.args.field.now c.integer_of.result c.in-None.is c.integer_of.ensures
