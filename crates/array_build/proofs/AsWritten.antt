@@ -5,7 +5,7 @@ use Rattle.std.proofs.Common.{◌≡◌, ℕ, Bool, true, false, List, [], ◌�
 use Rattle.std.proofs.lemmas.Bool.{and_parts, eqb-true, or_left}
 use Rattle.arrow_schema.specs.Column.{Kind, nulls, booleans, integers, dates, timestamps, texts, large_texts, binaries, large_binaries, fixed_binaries, lists, large_lists, fixed_lists, structs}
 use Rattle.array_build.specs.Batch.{plain_column}
-use Rattle.array_build.specs.inner.Runs.{AreAsWritten, AreReady, are_runs_as_written, are_zeros, contents_width, fixed_width, has_nothing_below, is_as_written, is_run_as_written}
+use Rattle.array_build.specs.inner.Runs.{AreAsWritten, AreReady, are_runs_as_written, are_zeros, contents_width, fixed_width, has_nothing_below, is_as_written, is_run_as_written, offsets_width}
 use Rattle.columns.specs.Runs.{are_runs_valid, is_run_sound, is_run_valid}
 use Rattle.columns.specs.declared.slot_runs.SlotRun.{SlotRun}
 use Rattle.columns.specs.declared.slot_runs.SlotRun.TheVariants.{Slots, Nulls}
@@ -37,8 +37,25 @@ zeros_are (b ∷ bytes) h =
 pub zeros_below : (kind : Kind) (width : ℕ) (a : Array) (i : ℕ) → fixed_width kind ≡ Some width → is_as_written kind a i ≡ true → is_valid a i ≡ false → are_zeros (value_at width (values_in a) i) ≡ true
 zeros_below kind width a i is h unset = rw (unset, is) at h
 
--- texts and binaries have no values of one width
-no_values : (kind : Kind) (width : ℕ) → contents_width kind ≡ Some width → fixed_width kind ≡ None
+-- texts and binaries have offsets
+pub has_offsets : (kind : Kind) (width : ℕ) → contents_width kind ≡ Some width → offsets_width kind ≡ Some width
+has_offsets texts width is = is
+has_offsets large_texts width is = is
+has_offsets binaries width is = is
+has_offsets large_binaries width is = is
+has_offsets nulls width is = is
+has_offsets booleans width is = is
+has_offsets (integers bits signed) width is = is
+has_offsets (dates unit) width is = is
+has_offsets (timestamps unit timezone) width is = is
+has_offsets (fixed_binaries size) width is = is
+has_offsets (lists item) width is = cc
+has_offsets (large_lists item) width is = cc
+has_offsets (fixed_lists size item) width is = is
+has_offsets (structs columns) width is = is
+
+-- what has offsets has no values of one width
+no_values : (kind : Kind) (width : ℕ) → offsets_width kind ≡ Some width → fixed_width kind ≡ None
 no_values texts width is = refl
 no_values large_texts width is = refl
 no_values binaries width is = refl
@@ -49,12 +66,12 @@ no_values (integers bits signed) width is = cc
 no_values (dates unit) width is = cc
 no_values (timestamps unit timezone) width is = cc
 no_values (fixed_binaries size) width is = cc
-no_values (lists item) width is = cc
-no_values (large_lists item) width is = cc
+no_values (lists item) width is = refl
+no_values (large_lists item) width is = refl
 no_values (fixed_lists size item) width is = cc
 no_values (structs columns) width is = cc
 
-pub no_byte_below : (kind : Kind) (width : ℕ) (a : Array) (i : ℕ) → contents_width kind ≡ Some width → is_as_written kind a i ≡ true → is_valid a i ≡ false → span_size width a i ≡ 0
+pub no_byte_below : (kind : Kind) (width : ℕ) (a : Array) (i : ℕ) → offsets_width kind ≡ Some width → is_as_written kind a i ≡ true → is_valid a i ≡ false → span_size width a i ≡ 0
 no_byte_below kind width a i is h unset =
     let none = no_values kind width is in
     let size : (span_size width a i == 0) ≡ true = rw (unset, none, is) at h in
@@ -65,7 +82,7 @@ no_byte_below kind width a i is h unset =
 pub zeros_written : (kind : Kind) (width : ℕ) (a : Array) (i : ℕ) → fixed_width kind ≡ Some width → (is_valid a i || are_zeros (value_at width (values_in a) i)) ≡ true → is_as_written kind a i ≡ true
 zeros_written kind width a i is h = rw is h
 
-pub no_bytes_written : (kind : Kind) (width : ℕ) (a : Array) (i : ℕ) → contents_width kind ≡ Some width → (is_valid a i || span_size width a i == 0) ≡ true → is_as_written kind a i ≡ true
+pub no_bytes_written : (kind : Kind) (width : ℕ) (a : Array) (i : ℕ) → offsets_width kind ≡ Some width → (is_valid a i || span_size width a i == 0) ≡ true → is_as_written kind a i ≡ true
 no_bytes_written kind width a i is h = let none = no_values kind width is in rw (none, is) h
 
 -- ---- valid slots
@@ -78,7 +95,7 @@ slots_written : (kind : Kind) (a : Array) (is : List ℕ) → list_all (is_valid
 slots_written kind a [] h = refl
 slots_written kind a (i ∷ is) h =
     let parts = and_parts (is_valid a i) (list_all (is_valid a) is) h in
-    let first : is_as_written kind a i ≡ true = or_left (is_valid a i) (has_nothing_below (fixed_width kind) (contents_width kind) a i) parts.0 in
+    let first : is_as_written kind a i ≡ true = or_left (is_valid a i) (has_nothing_below (fixed_width kind) (offsets_width kind) a i) parts.0 in
     rw first (slots_written kind a is parts.1)
 
 pub valid_written : (kind : Kind) (run : SlotRun) → is_run_valid run ≡ true → is_run_as_written kind run ≡ true
@@ -92,27 +109,27 @@ valid_runs_written kind (run ∷ runs) h =
     rw (valid_written kind run parts.0) (valid_runs_written kind runs parts.1)
 
 -- nulls of other types do not stand as they are written
-slots_valid : (kind : Kind) (a : Array) (is : List ℕ) → fixed_width kind ≡ None → contents_width kind ≡ None → list_all (is_as_written kind a) is ≡ true → list_all (is_valid a) is ≡ true
-slots_valid kind a [] values contents h = refl
-slots_valid kind a (i ∷ is) values contents h =
+slots_valid : (kind : Kind) (a : Array) (is : List ℕ) → fixed_width kind ≡ None → offsets_width kind ≡ None → list_all (is_as_written kind a) is ≡ true → list_all (is_valid a) is ≡ true
+slots_valid kind a [] values offsets h = refl
+slots_valid kind a (i ∷ is) values offsets h =
     let parts = and_parts (is_as_written kind a i) (list_all (is_as_written kind a) is) h in
-    let own : (is_valid a i || false) ≡ true = rw (values, contents) at parts.0 in
-    rw (or_none (is_valid a i) own) (slots_valid kind a is values contents parts.1)
+    let own : (is_valid a i || false) ≡ true = rw (values, offsets) at parts.0 in
+    rw (or_none (is_valid a i) own) (slots_valid kind a is values offsets parts.1)
 
-run_valid : (kind : Kind) (run : SlotRun) → fixed_width kind ≡ None → contents_width kind ≡ None → is_run_as_written kind run ≡ true → is_run_valid run ≡ true
-run_valid kind (Slots v from n) values contents h = slots_valid kind (view_array v) (range_with_len from n) values contents h
-run_valid kind (Nulls n) values contents h = refl
+run_valid : (kind : Kind) (run : SlotRun) → fixed_width kind ≡ None → offsets_width kind ≡ None → is_run_as_written kind run ≡ true → is_run_valid run ≡ true
+run_valid kind (Slots v from n) values offsets h = slots_valid kind (view_array v) (range_with_len from n) values offsets h
+run_valid kind (Nulls n) values offsets h = refl
 
-runs_valid : (kind : Kind) (runs : List SlotRun) → fixed_width kind ≡ None → contents_width kind ≡ None → are_runs_as_written kind runs ≡ true → are_runs_valid runs ≡ true
-runs_valid kind [] values contents h = refl
-runs_valid kind (run ∷ runs) values contents h =
+runs_valid : (kind : Kind) (runs : List SlotRun) → fixed_width kind ≡ None → offsets_width kind ≡ None → are_runs_as_written kind runs ≡ true → are_runs_valid runs ≡ true
+runs_valid kind [] values offsets h = refl
+runs_valid kind (run ∷ runs) values offsets h =
     let parts = and_parts (is_run_as_written kind run) (are_runs_as_written kind runs) h in
-    rw (run_valid kind run values contents parts.0) (runs_valid kind runs values contents parts.1)
+    rw (run_valid kind run values offsets parts.0) (runs_valid kind runs values offsets parts.1)
 
-pub ready_of : (kind : Kind) (runs : List SlotRun) → fixed_width kind ≡ None → contents_width kind ≡ None → AreAsWritten kind runs → AreReady kind runs
-ready_of kind runs values contents are = record {
+pub ready_of : (kind : Kind) (runs : List SlotRun) → fixed_width kind ≡ None → offsets_width kind ≡ None → AreAsWritten kind runs → AreReady kind runs
+ready_of kind runs values offsets are = record {
   sound = are.sound;
-  valid = runs_valid kind runs values contents are.written;
+  valid = runs_valid kind runs values offsets are.written;
   fit = are.fit;
 }
 

@@ -8,11 +8,11 @@ use Rattle.std.proofs.lemmas.List.Concat.{flat_map-append}
 use Rattle.std.proofs.Math.Seq.{take-add}
 use Rattle.byteorder.specs.Endian.{little_bytes}
 use Rattle.arrow_schema.specs.Column.{Kind, nulls, booleans, integers, dates, timestamps, texts, large_texts, binaries, large_binaries, fixed_binaries, lists, large_lists, fixed_lists, structs}
-use Rattle.array_build.proofs.AsWritten.{no_byte_below, null_slot}
+use Rattle.array_build.proofs.AsWritten.{has_offsets, no_byte_below, null_slot}
 use Rattle.array_build.proofs.Premises.{texts_fit, binaries_fit}
 use Rattle.array_build.proofs.Repeated.{none_each}
 use Rattle.array_build.specs.Batch.{plain_column}
-use Rattle.array_build.specs.inner.Runs.{cell_sizes, contents_width, is_as_written, is_run_as_written, kind_cells, slot_sizes, span_contents}
+use Rattle.array_build.specs.inner.Runs.{cell_sizes, contents_width, is_as_written, is_run_as_written, kind_cells, offsets_width, slot_sizes, span_contents}
 use Rattle.columns.specs.Runs.{is_run_sound, run_cells}
 use Rattle.columns.specs.declared.slot_runs.SlotRun.{SlotRun}
 use Rattle.columns.specs.declared.slot_runs.SlotRun.TheVariants.{Slots, Nulls}
@@ -58,6 +58,23 @@ ordered (lists item) width a is h = cc
 ordered (large_lists item) width a is h = cc
 ordered (fixed_lists size item) width a is h = cc
 ordered (structs columns) width a is h = cc
+
+-- there is an offset for each slot, and one more
+pub enough_offsets : (kind : Kind) (width : ℕ) (a : Array) → offsets_width kind ≡ Some width → is_sound (plain_column kind None) a ≡ true → are_few_offsets width a ≡ false
+enough_offsets texts width a is h = let e : 4 ≡ width = cc in subst (λ (w : ℕ). are_few_offsets w a ≡ false) e (by_tests texts a h).0
+enough_offsets large_texts width a is h = let e : 8 ≡ width = cc in subst (λ (w : ℕ). are_few_offsets w a ≡ false) e (by_tests large_texts a h).0
+enough_offsets binaries width a is h = let e : 4 ≡ width = cc in subst (λ (w : ℕ). are_few_offsets w a ≡ false) e (by_tests binaries a h).0
+enough_offsets large_binaries width a is h = let e : 8 ≡ width = cc in subst (λ (w : ℕ). are_few_offsets w a ≡ false) e (by_tests large_binaries a h).0
+enough_offsets nulls width a is h = cc
+enough_offsets booleans width a is h = cc
+enough_offsets (integers bits signed) width a is h = cc
+enough_offsets (dates unit) width a is h = cc
+enough_offsets (timestamps unit timezone) width a is h = cc
+enough_offsets (fixed_binaries size) width a is h = cc
+enough_offsets (lists item) width a is h = let e : 4 ≡ width = cc in subst (λ (w : ℕ). are_few_offsets w a ≡ false) e (by_tests (lists item) a h).0
+enough_offsets (large_lists item) width a is h = let e : 8 ≡ width = cc in subst (λ (w : ℕ). are_few_offsets w a ≡ false) e (by_tests (large_lists item) a h).0
+enough_offsets (fixed_lists size item) width a is h = cc
+enough_offsets (structs columns) width a is h = cc
 
 -- ---- the bytes of slots
 
@@ -131,7 +148,7 @@ written_contents : (b : Bool) (kind : Kind) (width : ℕ) (a : Array) → conten
     → contents_of (plain_cell kind a i) ≡ contents_at width a i
 written_contents true kind width a is i lt written valid = slot_contents kind width a is i lt valid
 written_contents false kind width a is i lt written unset =
-    ap contents_of (null_slot kind a i unset) ∙ sym (ap (λ (n : ℕ). take n (drop (span_start width a i) (contents_in a))) (no_byte_below kind width a i is written unset))
+    ap contents_of (null_slot kind a i unset) ∙ sym (ap (λ (n : ℕ). take n (drop (span_start width a i) (contents_in a))) (no_byte_below kind width a i (has_offsets kind width is) written unset))
 
 -- ---- runs of a type
 

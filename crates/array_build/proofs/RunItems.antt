@@ -1,5 +1,5 @@
 -- The items of lists, and their offsets, of slots one after another.
-use Rattle.std.specs.Prelude.{nat_le, replicate}
+use Rattle.std.specs.Prelude.{Some, nat_le, replicate}
 use Rattle.std.specs.List.{flat_map, list_all, range_with_len}
 use Rattle.std.proofs.Common.{◌≡◌, ℕ, zero, suc, ◌+◌, ◌-◌, ◌≤◌, ◌<◌, ◌++◌, Bool, true, false, List, [], ◌∷◌, length, get_or, drop, refl, ap, ap₂, sym, ◌∙◌, arith, append_assoc, append-nil, length-append}
 use Rattle.std.proofs.lemmas.Bool.{and_parts, and_from, leb-true, le-leb}
@@ -10,6 +10,7 @@ use Rattle.std.proofs.lemmas.List.FromFn.{length-map-range_with_len}
 use Rattle.byteorder.specs.Endian.{little_bytes}
 use Rattle.arrow_schema.specs.Column.{Column, lists, large_lists}
 use Rattle.array_build.proofs.Arrays.{lists_are}
+use Rattle.array_build.proofs.AsWritten.{no_byte_below, null_slot}
 use Rattle.array_build.proofs.Premises.{lists_fit}
 use Rattle.array_build.proofs.Repeated.{none_each}
 use Rattle.array_build.proofs.RunArrays.{kind_slots, count_run}
@@ -18,8 +19,8 @@ use Rattle.array_build.proofs.RunSlots.{slots_counted}
 use Rattle.array_build.specs.Batch.{PlainBatch, built_at, with_arrays}
 use Rattle.array_build.specs.inner.Nodes.{list_kind, with_buffer, with_slots}
 use Rattle.array_build.specs.inner.RunItems.{AreItems, HasSlots, list_column, list_sizes, run_lists}
-use Rattle.array_build.specs.inner.Runs.{kind_cells, run_bits, runs_bits, with_run_slots}
-use Rattle.columns.specs.Runs.{run_cells, runs_cells, is_run_sound, are_runs_sound, is_run_valid, are_runs_valid}
+use Rattle.array_build.specs.inner.Runs.{is_as_written, is_run_as_written, kind_cells, offsets_width, run_bits, runs_bits, with_run_slots}
+use Rattle.columns.specs.Runs.{run_cells, runs_cells, is_run_sound, are_runs_sound}
 use Rattle.columns.specs.declared.slot_runs.SlotRun.{SlotRun}
 use Rattle.columns.specs.declared.slot_runs.SlotRun.TheVariants.{Slots, Nulls}
 use Rattle.cells.specs.Cell.{Cell, null}
@@ -60,7 +61,7 @@ valid_at p s (suc n) (suc i) h lt =
     let e : s + suc i ≡ s + 1 + i = omega arith in
     ap p e ∙ valid_at p (s + 1) n i (and_parts (p s) (list_all p (range_with_len (s + 1) n)) h).1 (omega arith)
 
--- ---- lists that are valid
+-- ---- lists that stand as they are written
 
 -- what is known of a run of slots
 pub record AreLists (width : OffsetWidth) (item : Column) (v : ArrayView) (from n : ℕ) : Type 0 where
@@ -68,7 +69,7 @@ pub record AreLists (width : OffsetWidth) (item : Column) (v : ArrayView) (from 
   pub up : are_unordered (width_of width) (slots_in (items_in (view_array v))) (view_array v) ≡ false
   pub sound : is_sound item (items_in (view_array v)) ≡ true
   pub within : from + n ≤ slots_in (view_array v)
-  pub valid : list_all (is_valid (view_array v)) (range_with_len from n) ≡ true
+  pub written : list_all (is_as_written (list_kind width item) (view_array v)) (range_with_len from n) ≡ true
 
 list_tests : (width : OffsetWidth) (item : Column) (a : Array) → is_sound (list_column width item) a ≡ true
     → (are_few_offsets (width_of width) a ≡ false) × ((are_unordered (width_of width) (slots_in (items_in a)) a ≡ false) × (is_sound item (items_in a) ≡ true))
@@ -76,35 +77,52 @@ unfolding is_sound has_sound_children
 list_tests Four item a h = (sound_buffer (lists item) a h, (sound_offsets (lists item) a h, sound_children (lists item) a h))
 list_tests Eight item a h = (sound_buffer (large_lists item) a h, (sound_offsets (large_lists item) a h, sound_children (large_lists item) a h))
 
-pub are_lists : (width : OffsetWidth) (item : Column) (v : ArrayView) (from n : ℕ) (run : SlotRun) → run ≡ Slots v from n → is_run_sound (list_column width item) run ≡ true → is_run_valid run ≡ true
-    → AreLists width item v from n
-are_lists width item v from n run is sound valid =
+pub are_lists : (width : OffsetWidth) (item : Column) (v : ArrayView) (from n : ℕ) (run : SlotRun) → run ≡ Slots v from n → is_run_sound (list_column width item) run ≡ true
+    → is_run_as_written (list_kind width item) run ≡ true → AreLists width item v from n
+are_lists width item v from n run is sound written =
     let sound_slots : is_run_sound (list_column width item) (Slots v from n) ≡ true = ap (is_run_sound (list_column width item)) (sym is) ∙ sound in
-    let valid_slots : is_run_valid (Slots v from n) ≡ true = ap is_run_valid (sym is) ∙ valid in
+    let written_slots : is_run_as_written (list_kind width item) (Slots v from n) ≡ true = ap (is_run_as_written (list_kind width item)) (sym is) ∙ written in
     let parts = and_parts (is_sound (list_column width item) (view_array v)) (nat_le (from + n) (slots_in (view_array v))) sound_slots in
     let tests = list_tests width item (view_array v) parts.0 in
-    record { few = tests.0; up = tests.1.0; sound = tests.1.1; within = leb-true _ _ parts.1; valid = valid_slots }
+    record { few = tests.0; up = tests.1.0; sound = tests.1.1; within = leb-true _ _ parts.1; written = written_slots }
 
-slot_items : (width : OffsetWidth) (item : Column) (a : Array) (i : ℕ) → is_valid a i ≡ true
+valid_items : (width : OffsetWidth) (item : Column) (a : Array) (i : ℕ) → is_valid a i ≡ true
     → item_list (cell_at (list_column width item) a i) ≡ span_cells (width_of width) (cell_at item (items_in a)) a i
 unfolding cell_at kind_cell
-slot_items Four item a i valid = rw valid (cells_listed (span_cells 4 (cell_at item (items_in a)) a i))
-slot_items Eight item a i valid = rw valid (cells_listed (span_cells 8 (cell_at item (items_in a)) a i))
+valid_items Four item a i valid = rw valid (cells_listed (span_cells 4 (cell_at item (items_in a)) a i))
+valid_items Eight item a i valid = rw valid (cells_listed (span_cells 8 (cell_at item (items_in a)) a i))
+
+-- a list has the offsets of its width
+list_width : (width : OffsetWidth) (item : Column) → offsets_width (list_kind width item) ≡ Some (width_of width)
+list_width Four item = refl
+list_width Eight item = refl
+
+-- of a slot that is valid, or has no item
+items_by : (b : Bool) (width : OffsetWidth) (item : Column) (a : Array) (i : ℕ) → is_as_written (list_kind width item) a i ≡ true → is_valid a i ≡ b
+    → item_list (cell_at (list_column width item) a i) ≡ span_cells (width_of width) (cell_at item (items_in a)) a i
+items_by true width item a i written valid = valid_items width item a i valid
+items_by false width item a i written unset =
+    let none : span_size (width_of width) a i ≡ 0 = no_byte_below (list_kind width item) (width_of width) a i (list_width width item) written unset in
+    ap item_list (null_slot (list_kind width item) a i unset) ∙ sym (ap (cells_from (cell_at item (items_in a)) (span_start (width_of width) a i)) none)
+
+slot_items : (width : OffsetWidth) (item : Column) (a : Array) (i : ℕ) → is_as_written (list_kind width item) a i ≡ true
+    → item_list (cell_at (list_column width item) a i) ≡ span_cells (width_of width) (cell_at item (items_in a)) a i
+slot_items width item a i written = items_by (is_valid a i) width item a i written refl
 
 -- the items of slots are those between the first offset and the last
 slots_items : (width : OffsetWidth) (item : Column) (a : Array) (from n : ℕ) → are_unordered (width_of width) (slots_in (items_in a)) a ≡ false → from + n ≤ slots_in a
-    → list_all (is_valid a) (range_with_len from n) ≡ true
+    → list_all (is_as_written (list_kind width item) a) (range_with_len from n) ≡ true
     → flat_map item_list (cells_from (cell_at (list_column width item) a) from n)
     ≡ cells_from (cell_at item (items_in a)) (span_start (width_of width) a from) (number_at (width_of width) (offsets_in a) (from + n) - span_start (width_of width) a from)
-slots_items width item a from zero up within valid =
+slots_items width item a from zero up within written =
     let f : ℕ → ℕ = number_at (width_of width) (offsets_in a) in
     let end : f from ≡ f (from + 0) = (let e : from ≡ from + 0 = omega arith in ap f e) in
     let none : 0 ≡ f (from + 0) - f from = omega (arith, end) in
     ap (cells_from (cell_at item (items_in a)) (f from)) none
-slots_items width item a from (suc n) up within valid =
+slots_items width item a from (suc n) up within written =
     let f : ℕ → ℕ = number_at (width_of width) (offsets_in a) in
     let g : ℕ → Cell = cell_at item (items_in a) in
-    let both = and_parts (is_valid a from) (list_all (is_valid a) (range_with_len (from + 1) n)) valid in
+    let both = and_parts (is_as_written (list_kind width item) a from) (list_all (is_as_written (list_kind width item) a) (range_with_len (from + 1) n)) written in
     let first : f from ≤ f (from + 1) = offsets_ascend (width_of width) (slots_in (items_in a)) a from 1 up (omega arith) (omega arith) in
     let others : f (from + 1) ≤ f (from + 1 + n) = offsets_ascend (width_of width) (slots_in (items_in a)) a (from + 1) n up (omega arith) (omega arith) in
     let end : f (from + 1 + n) ≡ f (from + suc n) = (let e : from + 1 + n ≡ from + suc n = omega arith in ap f e) in
@@ -147,7 +165,7 @@ pub items_found : (width : OffsetWidth) (item : Column) (v : ArrayView) (from n 
 items_found width item v from n start size run part is are begins sizes has = record {
   cells = has.cells item
       ∙ ap₂ (λ (s k : ℕ). cells_from (cell_at item (items_in (view_array v))) s k) begins sizes
-      ∙ sym (slots_items width item (view_array v) from n are.up are.within are.valid)
+      ∙ sym (slots_items width item (view_array v) from n are.up are.within are.written)
       ∙ ap (λ (r : SlotRun). flat_map item_list (run_lists width item r)) (sym is);
   sound = has.sound item are.sound;
 }
@@ -178,7 +196,7 @@ slot_list width item v from n i run is are lt =
     let a : Array = view_array v in
     ap (λ (r : SlotRun). length (item_list (get_or (run_lists width item r) i null))) is
     ∙ ap (λ (c : Cell). length (item_list c)) (cell_get (cell_at (list_column width item) a) from n i lt)
-    ∙ ap length (slot_items width item a (from + i) (valid_at (is_valid a) from n i are.valid lt))
+    ∙ ap length (slot_items width item a (from + i) (valid_at (is_as_written (list_kind width item) a) from n i are.written lt))
     ∙ length-map-range_with_len (cell_at item (items_in a)) (span_start (width_of width) a (from + i)) (span_size (width_of width) a (from + i))
 
 pub null_list : (width : OffsetWidth) (item : Column) (n i : ℕ) (run : SlotRun) → run ≡ Nulls n → 0 ≡ length (item_list (get_or (run_lists width item run) i null))
@@ -223,26 +241,27 @@ list_room width item runs i run next can here h =
 -- ---- the items of all runs
 
 -- those of the runs so far, and of the others
-pub record AreItemsLeft (below : Cell → List Cell) (c item : Column) (all left parts : List SlotRun) : Type 0 where
+pub record AreItemsLeft (test : SlotRun → Bool) (below : Cell → List Cell) (c item : Column) (all left parts : List SlotRun) : Type 0 where
   pub sound : are_runs_sound c left ≡ true
-  pub valid : are_runs_valid left ≡ true
+  pub tested : list_all test left ≡ true
   pub good : are_runs_sound item parts ≡ true
   pub cells : runs_cells item parts ++ flat_map below (runs_cells c left) ≡ flat_map below (runs_cells c all)
 
-pub no_items_yet : (below : Cell → List Cell) (c item : Column) (all : List SlotRun) → are_runs_sound c all ≡ true → are_runs_valid all ≡ true → AreItemsLeft below c item all all []
-no_items_yet below c item all sound valid = record { sound = sound; valid = valid; good = refl; cells = refl }
+pub no_items_yet : (test : SlotRun → Bool) (below : Cell → List Cell) (c item : Column) (all : List SlotRun) → are_runs_sound c all ≡ true → list_all test all ≡ true
+    → AreItemsLeft test below c item all all []
+no_items_yet test below c item all sound tested = record { sound = sound; tested = tested; good = refl; cells = refl }
 
--- the run that a loop is at can be looked up, and is valid
-pub first_is : (below : Cell → List Cell) (c item : Column) (all left rest parts : List SlotRun) (run : SlotRun) → left ≡ run ∷ rest → AreItemsLeft below c item all left parts
-    → (is_run_sound c run ≡ true) × (is_run_valid run ≡ true)
-first_is below c item all left rest parts run here was = (
+-- the run that a loop is at can be looked up, and passes the test
+pub first_is : (test : SlotRun → Bool) (below : Cell → List Cell) (c item : Column) (all left rest parts : List SlotRun) (run : SlotRun) → left ≡ run ∷ rest → AreItemsLeft test below c item all left parts
+    → (is_run_sound c run ≡ true) × (test run ≡ true)
+first_is test below c item all left rest parts run here was = (
   (and_parts (is_run_sound c run) (are_runs_sound c rest) (ap (are_runs_sound c) (sym here) ∙ was.sound)).0,
-  (and_parts (is_run_valid run) (are_runs_valid rest) (ap are_runs_valid (sym here) ∙ was.valid)).0,
+  (and_parts (test run) (list_all test rest) (ap (list_all test) (sym here) ∙ was.tested)).0,
 )
 
-pub items_more : (below : Cell → List Cell) (c item : Column) (all left rest old new : List SlotRun) (run part : SlotRun) → left ≡ run ∷ rest → new ≡ old ++ part ∷ []
-    → AreItems below item part (run_cells c run) → AreItemsLeft below c item all left old → AreItemsLeft below c item all rest new
-items_more below c item all left rest old new run part here pushed own was =
+pub items_more : (test : SlotRun → Bool) (below : Cell → List Cell) (c item : Column) (all left rest old new : List SlotRun) (run part : SlotRun) → left ≡ run ∷ rest → new ≡ old ++ part ∷ []
+    → AreItems below item part (run_cells c run) → AreItemsLeft test below c item all left old → AreItemsLeft test below c item all rest new
+items_more test below c item all left rest old new run part here pushed own was =
     let others : List Cell = flat_map below (runs_cells c rest) in
     let one : runs_cells item (old ++ part ∷ []) ≡ runs_cells item old ++ run_cells item part =
     flat_map-append (run_cells item) old (part ∷ []) ∙ ap (λ (xs : List Cell). runs_cells item old ++ xs) (append-nil (run_cells item part)) in
@@ -250,7 +269,7 @@ items_more below c item all left rest old new run part here pushed own was =
     ap (λ (rs : List SlotRun). flat_map below (runs_cells c rs)) here ∙ flat_map-append below (run_cells c run) (runs_cells c rest) in
     record {
       sound = (and_parts (is_run_sound c run) (are_runs_sound c rest) (ap (are_runs_sound c) (sym here) ∙ was.sound)).1;
-      valid = (and_parts (is_run_valid run) (are_runs_valid rest) (ap are_runs_valid (sym here) ∙ was.valid)).1;
+      tested = (and_parts (test run) (list_all test rest) (ap (list_all test) (sym here) ∙ was.tested)).1;
       good = ap (are_runs_sound item) pushed ∙ list_all-append (is_run_sound item) old (part ∷ []) ∙ and_from _ _ was.good (and_from _ _ own.sound refl);
       cells = ap (λ (rs : List SlotRun). runs_cells item rs ++ others) pushed
           ∙ ap (λ (xs : List Cell). xs ++ others) one
@@ -260,8 +279,8 @@ items_more below c item all left rest old new run part here pushed own was =
           ∙ was.cells;
     }
 
-pub all_items : (below : Cell → List Cell) (c item : Column) (all left parts : List SlotRun) → left ≡ [] → AreItemsLeft below c item all left parts → runs_cells item parts ≡ flat_map below (runs_cells c all)
-all_items below c item all left parts none was =
+pub all_items : (test : SlotRun → Bool) (below : Cell → List Cell) (c item : Column) (all left parts : List SlotRun) → left ≡ [] → AreItemsLeft test below c item all left parts → runs_cells item parts ≡ flat_map below (runs_cells c all)
+all_items test below c item all left parts none was =
     let end : runs_cells item parts ++ flat_map below (runs_cells c left) ≡ runs_cells item parts =
     ap (λ (rs : List SlotRun). runs_cells item parts ++ flat_map below (runs_cells c rs)) none ∙ append-nil (runs_cells item parts) in
     sym end ∙ was.cells

@@ -14,7 +14,7 @@ ghost use Rattle.columns.specs.View.{view_array};
 
 use crate::run_contents::offset_at;
 use crate::run_slots::are_all_valid;
-use crate::widths::{contents_width, value_width};
+use crate::widths::{offsets_width, value_width};
 use arrow_schema::DataType;
 use bitmap::alike_end;
 use byteorder::{ByteOrder, LittleEndian};
@@ -86,7 +86,7 @@ fn have_zeros_at_unset(validity: &[u8], values: &[u8], width: usize, from: usize
     true
 }
 
-// Each slot that is not valid has no byte between its offsets.
+// Each slot that is not valid has nothing between its offsets.
 fn have_no_bytes(array: ArrayView<'_>, width: OffsetWidth, from: usize, len: usize) -> bool
     requires short { has_short_validity (view_array array) ≡ false }
     requires long { are_few_offsets (width_of width) (view_array array) ≡ false }
@@ -129,7 +129,7 @@ fn have_no_bytes_at_unset(
     true
 }
 
-/// The slots of a run stand as they are written. Booleans and nested types do so only without a null.
+/// The slots of a run stand as they are written. Booleans, fixed lists and structs do so only without a null.
 pub(crate) fn are_slots_as_written(
     data_type: &DataType,
     array: ArrayView<'_>,
@@ -139,7 +139,7 @@ pub(crate) fn are_slots_as_written(
     requires { is_run_sound (plain_column (kind_of data_type.now) None) (Slots array from len) ≡ true }
     ensures { result ≡ true → is_run_as_written (kind_of data_type.now) (Slots array.entry from len) ≡ true }
 {
-    match (value_width(data_type), contents_width(data_type)) {
+    match (value_width(data_type), offsets_width(data_type)) {
         (Some(width), _) => have_zeros(array, width, from, len),
         (None, Some(width)) => have_no_bytes(array, width, from, len),
         (None, None) => are_all_valid(array, from, len),

@@ -45,9 +45,9 @@ fn build_coded_column<'k, 'a: 'k>(
     push_dictionary(batch, values)
 }
 
-// Adds the array of runs that have no null among their slots, and all below it, of a type that has no values or offsets of texts.
+// Adds the array of runs that stand as they are written, and all below it, of a type that has no values or contents.
 #[cycle(by_runs)]
-fn build_valid_kind<'k, 'a: 'k>(
+fn build_other_kind<'k, 'a: 'k>(
     alloc: Global,
     batch: &mut BuiltBatch<'a>,
     entries: &mut KnownEntries<'k>,
@@ -56,7 +56,7 @@ fn build_valid_kind<'k, 'a: 'k>(
 ) -> Result<(), AllocError>
     requires values { fixed_width (kind_of data_type.now) ≡ None }
     requires contents { contents_width (kind_of data_type.now) ≡ None }
-    requires ready { AreReady (kind_of data_type.now) runs.now }
+    requires ready { AreAsWritten (kind_of data_type.now) runs.now }
     ensures { OnOk result (AddsRuns (kind_of data_type.now) runs.now batch.old batch.new) }
 {
     match data_type {
@@ -101,7 +101,7 @@ fn build_written_kind<'k, 'a: 'k>(
 {
     match contents_width(data_type) {
         Some(width) => build_run_contents(alloc, batch, data_type, width, runs),
-        None => build_valid_kind(alloc, batch, entries, data_type, runs),
+        None => build_other_kind(alloc, batch, entries, data_type, runs),
     }
 }
 
@@ -115,7 +115,7 @@ fn build_run_lists<'k, 'a: 'k>(
     item: &'k Field,
     runs: &[SlotRun<'a>],
 ) -> Result<(), AllocError>
-    requires ready { AreReady (list_kind width (column_of item.now)) runs.now }
+    requires ready { AreAsWritten (list_kind width (column_of item.now)) runs.now }
     ensures { OnOk result (AddsRuns (list_kind width (column_of item.now)) runs.now batch.old batch.new) }
 {
     push_run_slots(alloc, batch, runs)?;
@@ -134,7 +134,7 @@ fn build_run_fixed_lists<'k, 'a: 'k>(
     item: &'k Field,
     runs: &[SlotRun<'a>],
 ) -> Result<(), AllocError>
-    requires ready { AreReady (fixed_lists size (column_of item.now)) runs.now }
+    requires ready { AreAsWritten (fixed_lists size (column_of item.now)) runs.now }
     ensures { OnOk result (AddsRuns (fixed_lists size (column_of item.now)) runs.now batch.old batch.new) }
 {
     push_run_slots(alloc, batch, runs)?;
@@ -151,7 +151,7 @@ fn build_run_structs<'k, 'a: 'k>(
     fields: &'k [Field],
     runs: &[SlotRun<'a>],
 ) -> Result<(), AllocError>
-    requires ready { AreReady (structs (columns_of (map column_of fields.now))) runs.now }
+    requires ready { AreAsWritten (structs (columns_of (map column_of fields.now))) runs.now }
     ensures { OnOk result (AddsRuns (structs (columns_of (map column_of fields.now))) runs.now batch.old batch.new) }
 {
     push_run_slots(alloc, batch, runs)?;

@@ -3,7 +3,7 @@ ghost use Rattle.std.specs.Prelude.{◌≡◌, true, OnOk, Some, None};
 ghost use Rattle.arrow_schema.specs.Column.{nulls, booleans};
 ghost use Rattle.arrow_schema.specs.View.{kind_of};
 ghost use Rattle.array_build.specs.Batch.{plain_column};
-ghost use Rattle.array_build.specs.inner.Runs.{AddsRuns, AreAsWritten, AreReady, contents_width, fixed_width};
+ghost use Rattle.array_build.specs.inner.Runs.{AddsRuns, AreAsWritten, contents_width, fixed_width};
 ghost use Rattle.columns.specs.Offsets.{width_of};
 ghost use Rattle.columns.specs.Runs.{are_runs_sound};
 
@@ -38,7 +38,7 @@ pub(crate) fn build_run_bits(
     runs: &[SlotRun<'_>],
 ) -> Result<(), AllocError>
     requires booleans { kind_of data_type.now ≡ booleans }
-    requires ready { AreReady (kind_of data_type.now) runs.now }
+    requires ready { AreAsWritten (kind_of data_type.now) runs.now }
     ensures { OnOk result (AddsRuns (kind_of data_type.now) runs.now batch.old batch.new) }
 {
     push_run_slots(alloc, batch, runs)?;

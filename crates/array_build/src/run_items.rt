@@ -1,10 +1,10 @@
-// The items of lists, and where they end, of runs that are all valid.
+// The items of lists, and where they end, of runs that stand as they are written.
 ghost use Rattle.std.specs.Prelude.{◌≡◌, ◌≤◌, ◌<◌, ◌+◌, true, IfOk, length, get_or};
 ghost use Rattle.std.specs.List.{flat_map};
 ghost use Rattle.array_build.specs.inner.Nodes.{list_kind};
 ghost use Rattle.array_build.specs.inner.RunItems.{AreItems, list_column, list_sizes, run_lists};
-ghost use Rattle.array_build.specs.inner.Runs.{AreOffsetsAdded, AreReady, kind_cells, run_bits};
-ghost use Rattle.columns.specs.Runs.{are_runs_sound, is_run_sound, is_run_valid, runs_cells};
+ghost use Rattle.array_build.specs.inner.Runs.{AreAsWritten, AreOffsetsAdded, is_run_as_written, kind_cells, run_bits};
+ghost use Rattle.columns.specs.Runs.{are_runs_sound, is_run_sound, runs_cells};
 ghost use Rattle.arrow_schema.specs.View.{column_of};
 ghost use Rattle.cells.specs.Cell.{null};
 ghost use Rattle.cells.specs.Dictionary.{item_list};
@@ -21,7 +21,7 @@ use std::alloc::{AllocError, Global};
 // How many items the list at a place of a run has.
 fn list_size(item: &Field, width: OffsetWidth, run: &SlotRun<'_>, i: usize) -> usize
     requires sound { is_run_sound (list_column width (column_of item.now)) run.now ≡ true }
-    requires valid { is_run_valid run.now ≡ true }
+    requires written { is_run_as_written (list_kind width (column_of item.now)) run.now ≡ true }
     requires within { i < length (run_bits run.now) }
     ensures { result ≡ length (item_list (get_or (run_lists width (column_of item.now) run.now) i null)) }
 {
@@ -45,7 +45,7 @@ fn push_list_offsets(
     start: u64,
 ) -> Result<u64, AllocError>
     requires sound { is_run_sound (list_column width (column_of item.now)) run.now ≡ true }
-    requires valid { is_run_valid run.now ≡ true }
+    requires written { is_run_as_written (list_kind width (column_of item.now)) run.now ≡ true }
     requires room { start + length (flat_map item_list (run_lists width (column_of item.now) run.now)) ≤ large_offset }
     ensures offsets { IfOk result (λ next. AreOffsetsAdded (width_of width) offsets.old.items offsets.new.items start next
         (list_sizes (run_lists width (column_of item.now) run.now))) }
@@ -67,7 +67,7 @@ pub(crate) fn run_list_offsets(
     width: OffsetWidth,
     runs: &[SlotRun<'_>],
 ) -> Result<Vec<u8>, AllocError>
-    requires { AreReady (list_kind width (column_of item.now)) runs.now }
+    requires { AreAsWritten (list_kind width (column_of item.now)) runs.now }
     ensures { IfOk result (λ bytes. bytes.items ≡ list_offsets (width_of width) (kind_cells (list_kind width (column_of item.now)) runs.now)) }
 {
     let size = count_slots(runs)?.saturating_add(1).saturating_mul(8);
@@ -83,7 +83,7 @@ pub(crate) fn run_list_offsets(
 // The items of a run, which are one span: a null has none.
 fn item_run<'a>(item: &Field, width: OffsetWidth, run: &SlotRun<'a>) -> SlotRun<'a>
     requires sound { is_run_sound (list_column width (column_of item.now)) run.now ≡ true }
-    requires valid { is_run_valid run.now ≡ true }
+    requires written { is_run_as_written (list_kind width (column_of item.now)) run.now ≡ true }
     ensures { AreItems item_list (column_of item.now) result (run_lists width (column_of item.now) run.now) }
 {
     match run {
@@ -105,7 +105,7 @@ pub(crate) fn item_runs<'a>(
     width: OffsetWidth,
     runs: &[SlotRun<'a>],
 ) -> Result<Vec<SlotRun<'a>>, AllocError>
-    requires { AreReady (list_kind width (column_of item.now)) runs.now }
+    requires { AreAsWritten (list_kind width (column_of item.now)) runs.now }
     ensures cells { IfOk result (λ items. runs_cells (column_of item.now) items.items
         ≡ flat_map item_list (kind_cells (list_kind width (column_of item.now)) runs.now)) }
     ensures sound { IfOk result (λ items. are_runs_sound (column_of item.now) items.items ≡ true) }

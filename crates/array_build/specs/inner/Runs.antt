@@ -2,7 +2,7 @@
 use Rattle.std.specs.Prelude.{◌≡◌, ℕ, ◌+◌, ◌-◌, ◌/◌, Bool, true, false, ◌==◌, ◌||◌, List, [], ◌∷◌, ◌++◌, length, map, take, drop, replicate, Option, Some, None, if◌then◌else◌}
 use Rattle.std.specs.List.{flat_map, list_all, range_with_len}
 use Rattle.byteorder.specs.Endian.{little_bytes}
-use Rattle.arrow_schema.specs.Column.{Kind, Columns, integers, dates, timestamps, texts, large_texts, binaries, large_binaries, fixed_binaries, no_column, and_column}
+use Rattle.arrow_schema.specs.Column.{Kind, Columns, integers, dates, timestamps, texts, large_texts, binaries, large_binaries, fixed_binaries, lists, large_lists, no_column, and_column}
 use Rattle.columns.specs.Runs.{runs_cells, are_runs_sound, are_runs_valid}
 use Rattle.columns.specs.declared.slot_runs.SlotRun.{SlotRun}
 use Rattle.columns.specs.declared.slot_runs.SlotRun.TheVariants.{Slots, Nulls}
@@ -106,10 +106,16 @@ abbrev pub AreOffsetsAdded : (width : ℕ) → (old new : List ℕ) → (start n
 AreOffsetsAdded width old new start next sizes =
     (rest : List ℕ) → new ++ flat_map (little_bytes width) (sums_from next rest) ≡ old ++ flat_map (little_bytes width) (sums_from start (sizes ++ rest))
 
--- ---- slots that stand as they are written: those that are valid, and nulls below which there are zeros or no bytes
+-- ---- slots that stand as they are written: those that are valid, and nulls below which there are zeros, or no bytes or items
 
 abbrev pub are_zeros : List ℕ → Bool
 are_zeros bytes = list_all (λ b. b == 0) bytes
+
+-- how many bytes an offset of texts, binaries or lists has
+abbrev pub offsets_width : Kind → Option ℕ
+offsets_width (lists item) = Some 4
+offsets_width (large_lists item) = Some 8
+offsets_width kind = contents_width kind
 
 -- what stands below a null, by how wide the values or the offsets are; below those of other types more can stand
 abbrev pub has_nothing_below : (values offsets : Option ℕ) → Array → ℕ → Bool
@@ -118,7 +124,7 @@ has_nothing_below None (Some width) a i = span_size width a i == 0
 has_nothing_below None None a i = false
 
 abbrev pub is_as_written : Kind → Array → ℕ → Bool
-is_as_written kind a i = is_valid a i || has_nothing_below (fixed_width kind) (contents_width kind) a i
+is_as_written kind a i = is_valid a i || has_nothing_below (fixed_width kind) (offsets_width kind) a i
 
 abbrev pub is_run_as_written : Kind → SlotRun → Bool
 is_run_as_written kind (Slots view from len) = list_all (is_as_written kind (view_array view)) (range_with_len from len)

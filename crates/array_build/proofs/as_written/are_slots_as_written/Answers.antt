@@ -4,9 +4,9 @@ use Rattle.std.proofs.lemmas.Bool.{and_parts}
 use Rattle.arrow_schema.specs.Column.{Kind}
 use Rattle.arrow_schema.specs.View.{kind_of}
 use Rattle.array_build.specs.Batch.{plain_column}
-use Rattle.array_build.specs.inner.Runs.{contents_width, fixed_width, is_as_written}
+use Rattle.array_build.specs.inner.Runs.{offsets_width, fixed_width, is_as_written}
 use Rattle.array_build.proofs.AsWritten.{no_bytes_written, short_validity, zeros_written}
-use Rattle.array_build.proofs.RunContents.{ordered}
+use Rattle.array_build.proofs.RunContents.{enough_offsets}
 use Rattle.array_build.proofs.RunSlots.{all_in_row}
 use Rattle.array_build.proofs.RunValues.{enough}
 use Rattle.columns.specs.Array.{Array, slots_in}
@@ -30,8 +30,8 @@ have_no_bytes-requires-clause-short c = short_validity (kind_of c.args.data_type
 pub have_no_bytes-requires-clause-long : goal.have_no_bytes-requires-clause-long
 have_no_bytes-requires-clause-long c =
     let kind : Kind = kind_of c.args.data_type.now in
-    let wide : contents_width kind ≡ Some (width_of c.in-None-Some.width) = sym c.contents_width.ensures ∙ ap (option_map width_of) c.in-None-Some.is-1 in
-    (ordered kind (width_of c.in-None-Some.width) (view_array c.args.array) wide (and_parts (is_sound (plain_column kind None) (view_array c.args.array)) (nat_le (c.args.from + c.args.len) (slots_in (view_array c.args.array))) c.requires).0).0
+    let wide : offsets_width kind ≡ Some (width_of c.in-None-Some.width) = sym c.offsets_width.ensures ∙ ap (option_map width_of) c.in-None-Some.is-1 in
+    enough_offsets kind (width_of c.in-None-Some.width) (view_array c.args.array) wide (and_parts (is_sound (plain_column kind None) (view_array c.args.array)) (nat_le (c.args.from + c.args.len) (slots_in (view_array c.args.array))) c.requires).0
 
 pub are_all_valid-requires-clause-long : goal.are_all_valid-requires-clause-long
 are_all_valid-requires-clause-long c = short_validity (kind_of c.args.data_type.now) c.args.array c.args.from c.args.len c.requires
@@ -47,5 +47,5 @@ pub returns-in-None-Some : goal.returns-in-None-Some
 returns-in-None-Some c = λ h.
     let kind : Kind = kind_of c.args.data_type.now in
     let a : Array = view_array c.args.array in
-    let wide : contents_width kind ≡ Some (width_of c.in-None-Some.width) = sym c.contents_width.ensures ∙ ap (option_map width_of) c.in-None-Some.is-1 in
+    let wide : offsets_width kind ≡ Some (width_of c.in-None-Some.width) = sym c.offsets_width.ensures ∙ ap (option_map width_of) c.in-None-Some.is-1 in
     all_in_row (is_as_written kind a) c.args.from c.args.len (λ i low high. no_bytes_written kind (width_of c.in-None-Some.width) a i wide (c.have_no_bytes.ensures h i low high))

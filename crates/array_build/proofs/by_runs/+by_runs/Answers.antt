@@ -1,6 +1,6 @@
 use Rattle.std.specs.Prelude.{None}
 use Rattle.std.specs.List.{flat_map}
-use Rattle.std.proofs.Common.{◌≡◌, true, ◌∙◌, List, map, ap, subst, sym, rules}
+use Rattle.std.proofs.Common.{◌≡◌, true, ◌∙◌, List, map, ap, refl, subst, sym, rules}
 use Rattle.std.proofs.lemmas.Result.{on_ok_weaker}
 use Rattle.array_build.proofs.RunColumns.{are_ready, field_built, field_fits, field_sound, have_validity, same_cells}
 use Rattle.array_build.proofs.AsWritten.{ready_of, written_of}
@@ -30,7 +30,8 @@ pub build_run_structs-push_run_slots-requires : goal.build_run_structs-push_run_
 build_run_structs-push_run_slots-requires t c = have_validity (structs (columns_of (map column_of c.args.fields.now))) c.args.runs.now c.requires.ready.sound
 
 pub build_run_structs-build_struct_parts-requires : goal.build_run_structs-build_struct_parts-requires
-build_run_structs-build_struct_parts-requires t c = (search (rules, field_lemmas), c.requires.ready)
+build_run_structs-build_struct_parts-requires t c =
+    (search (rules, field_lemmas), ready_of (structs (columns_of (map column_of c.args.fields.now))) c.args.runs.now refl refl c.requires.ready)
 
 pub build_run_structs-returns : goal.build_run_structs-returns
 build_run_structs-returns t c =
@@ -104,6 +105,9 @@ build_run_lists-returns t c =
 pub build_run_fixed_lists-push_run_slots-requires : goal.build_run_fixed_lists-push_run_slots-requires
 build_run_fixed_lists-push_run_slots-requires t c = have_validity (fixed_lists c.args.size (column_of c.args.item.now)) c.args.runs.now c.requires.ready.sound
 
+pub build_run_fixed_lists-fixed_item_runs-requires : goal.build_run_fixed_lists-fixed_item_runs-requires
+build_run_fixed_lists-fixed_item_runs-requires t c = ready_of (fixed_lists c.args.size (column_of c.args.item.now)) c.args.runs.now refl refl c.requires.ready
+
 pub build_run_fixed_lists-build_run_column-requires : goal.build_run_fixed_lists-build_run_column-requires
 build_run_fixed_lists-build_run_column-requires t c =
     let item : Column = column_of c.args.item.now in
@@ -123,11 +127,10 @@ build_run_fixed_lists-returns t c =
 
 -- ---- a type, and a field
 
-pub build_written_kind-build_valid_kind-requires : goal.build_written_kind-build_valid_kind-requires
-build_written_kind-build_valid_kind-requires t c =
-    let kind : Kind = kind_of c.args.data_type.now in
-    let contents : contents_width kind ≡ None = sym c.in-None.ensures in
-    (search (rules, field_lemmas), (c.requires.values, (contents, ready_of kind c.args.runs.now c.requires.values contents c.requires.ready)))
+pub build_written_kind-build_other_kind-requires : goal.build_written_kind-build_other_kind-requires
+build_written_kind-build_other_kind-requires t c =
+    let contents : contents_width (kind_of c.args.data_type.now) ≡ None = sym c.in-None.ensures in
+    (search (rules, field_lemmas), (c.requires.values, (contents, c.requires.ready)))
 
 pub build_split_kind-build_written_kind-requires : goal.build_split_kind-build_written_kind-requires
 build_split_kind-build_written_kind-requires t c =

@@ -5,24 +5,24 @@ use Rattle.arrow_schema.specs.View.{column_of}
 
 pub overflow_add-slot : goal.overflow_add-slot
 overflow_add-slot c =
-    let are = are_lists c.args.width (column_of c.args.item.now) c.in-Slots.array c.in-Slots.from _ c.args.run.now c.in-Slots.is c.requires.sound c.requires.valid in
+    let are = are_lists c.args.width (column_of c.args.item.now) c.in-Slots.array c.in-Slots.from _ c.args.run.now c.in-Slots.is c.requires.sound c.requires.written in
     let lt = slot_count c.in-Slots.array c.in-Slots.from _ c.args.i c.args.run.now c.in-Slots.is c.requires.within in
     let within = are.within in
     omega (arith, within, lt, c.slots-slots.ensures)
 
 pub spanned-requires-clause-long : goal.spanned-requires-clause-long
-spanned-requires-clause-long c = (are_lists c.args.width (column_of c.args.item.now) c.in-Slots.array c.in-Slots.from _ c.args.run.now c.in-Slots.is c.requires.sound c.requires.valid).few
+spanned-requires-clause-long c = (are_lists c.args.width (column_of c.args.item.now) c.in-Slots.array c.in-Slots.from _ c.args.run.now c.in-Slots.is c.requires.sound c.requires.written).few
 
 pub spanned-requires-clause-within : goal.spanned-requires-clause-within
 spanned-requires-clause-within c =
-    let are = are_lists c.args.width (column_of c.args.item.now) c.in-Slots.array c.in-Slots.from _ c.args.run.now c.in-Slots.is c.requires.sound c.requires.valid in
+    let are = are_lists c.args.width (column_of c.args.item.now) c.in-Slots.array c.in-Slots.from _ c.args.run.now c.in-Slots.is c.requires.sound c.requires.written in
     let lt = slot_count c.in-Slots.array c.in-Slots.from _ c.args.i c.args.run.now c.in-Slots.is c.requires.within in
     let within = are.within in
     omega (arith, within, lt)
 
 pub returns-in-Slots : goal.returns-in-Slots
 returns-in-Slots c =
-    let are = are_lists c.args.width (column_of c.args.item.now) c.in-Slots.array c.in-Slots.from _ c.args.run.now c.in-Slots.is c.requires.sound c.requires.valid in
+    let are = are_lists c.args.width (column_of c.args.item.now) c.in-Slots.array c.in-Slots.from _ c.args.run.now c.in-Slots.is c.requires.sound c.requires.written in
     let lt = slot_count c.in-Slots.array c.in-Slots.from _ c.args.i c.args.run.now c.in-Slots.is c.requires.within in
     c.spanned.ensures.size ∙ sym (slot_list c.args.width (column_of c.args.item.now) c.in-Slots.array c.in-Slots.from _ c.args.i c.args.run.now c.in-Slots.is are lt)
 

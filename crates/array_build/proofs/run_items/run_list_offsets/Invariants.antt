@@ -4,8 +4,8 @@ use Rattle.byteorder.specs.Endian.{little_bytes}
 use Rattle.array_build.proofs.run_items.run_list_offsets.Given as goal
 use Rattle.array_build.specs.inner.Nodes.{list_kind}
 use Rattle.array_build.specs.inner.RunItems.{list_column, list_sizes}
-use Rattle.array_build.specs.inner.Runs.{kind_cells}
-use Rattle.columns.specs.Runs.{are_runs_sound, are_runs_valid}
+use Rattle.array_build.specs.inner.Runs.{are_runs_as_written, kind_cells}
+use Rattle.columns.specs.Runs.{are_runs_sound}
 use Rattle.arrow_schema.specs.View.{column_of}
 use Rattle.cells.specs.Dictionary.{item_list}
 use Rattle.columns.specs.Built.{list_offsets, sums_from}
@@ -18,7 +18,7 @@ invariant-loop-run l =
     let w = width_of l.width in
     record {
       sound : are_runs_sound (list_column l.width (column_of l.item)) (drop l.run-index l.runs) ≡ true;
-      valid : are_runs_valid (drop l.run-index l.runs) ≡ true;
+      written : are_runs_as_written kind (drop l.run-index l.runs) ≡ true;
       next : l.next + length (flat_map item_list (kind_cells kind (drop l.run-index l.runs))) ≡ length (flat_map item_list (kind_cells kind l.runs));
       offsets : l.offsets.items ++ flat_map (little_bytes w) (sums_from l.next (list_sizes (kind_cells kind (drop l.run-index l.runs)))) ≡ list_offsets w (kind_cells kind l.runs);
     }
