@@ -2,4 +2,5 @@ mod WordLemmas
 pub mod OperandLemmas
 pub mod AppLemmas
 pub mod RightLemmas
+mod ExampleLemmas
 mod NumberLemmas

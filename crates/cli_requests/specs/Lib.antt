@@ -5,3 +5,4 @@ pub mod Numbers
 pub mod Choices
 pub mod Apps
 pub mod Right
+pub mod Examples

@@ -15,6 +15,7 @@
 
 mod command_parameters;
 mod found_values;
+mod laws;
 mod naming;
 mod replaying;
 mod store_command_line;
@@ -22,6 +23,7 @@ mod store_words;
 mod usages;
 
 pub use command_parameters::cli_commands;
+pub use laws::examples_are_right;
 pub use naming::refused_word;
 pub use replaying::ReplayWords;
 pub use store_command_line::{Mistake, help_of_command, request_of};
