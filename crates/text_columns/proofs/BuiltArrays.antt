@@ -4,20 +4,23 @@ use Rattle.std.specs.List.{flat_map, list_all}
 use Rattle.std.proofs.Common.{◌≡◌, ℕ, suc, ◌/◌, Bool, true, false, List, [], ◌∷◌, length, map, refl, arith, ap, sym, subst, ◌∙◌}
 use Rattle.std.proofs.lemmas.List.{length-map}
 use Rattle.bitmap.specs.Bits.{packed}
-use Rattle.arrow_schema.specs.Column.{Index, Kind, Column, booleans, integers, dates, timestamps, nulls, texts, large_texts, binaries, large_binaries, fixed_binaries, column, columns_of}
+use Rattle.arrow_schema.specs.Column.{Index, Kind, Column, Pair, booleans, integers, dates, timestamps, nulls, texts, large_texts, binaries, large_binaries, fixed_binaries, lists, large_lists, fixed_lists, column, columns_of}
 use Rattle.cells.specs.Cell.{Cell, null}
-use Rattle.cells.specs.Dictionary.{entries_of}
+use Rattle.cells.specs.Dictionary.{entries_of, item_list}
 use Rattle.cells.specs.Fit.{fits_kind}
 use Rattle.cells.specs.Nulls.{is_there}
-use Rattle.columns.specs.Array.{Layout, array, arrays_of, no_array, and_array, null_layout, bit_layout, fixed_layout, binary_layout, dictionary_layout}
-use Rattle.columns.specs.Built.{built, built_kind, built_parts, first_cell, other_cells, validity_of, with_validity, index_bytes, integer_bytes, fixed_bytes, offsets_of, contents_of}
+use Rattle.columns.specs.Array.{Array, Layout, array, arrays_of, no_array, and_array, null_layout, bit_layout, fixed_layout, binary_layout, list_layout, fixed_list_layout, dictionary_layout}
+use Rattle.columns.specs.Built.{built, built_kind, built_parts, fixed_items, first_cell, other_cells, validity_of, with_validity, index_bytes, integer_bytes, fixed_bytes, offsets_of, contents_of}
 use Rattle.columns.specs.Offsets.{width_of}
 use Rattle.text_columns.specs.declared.coding.Coding.{Coding}
 use Rattle.text_columns.specs.declared.column_values.Values.{Values}
 use Rattle.text_columns.specs.declared.column_values.Values.TheVariants.{Nulls, Booleans, Integers, Texts, Binaries, FixedBinaries}
-use Rattle.text_columns.specs.declared.builder.ColumnBuilder.{ColumnBuilder}
-use Rattle.text_columns.specs.inner.Kept.{Holds, HoldsCells, IsCoded, IsOf, Keeps, Takes, column_at, key_of}
-use Rattle.text_columns.specs.inner.Placed.{array_of, column_layout, entries_array, has_bitmap, has_validity, layout_of, validity_in, validity_of_bits}
+use Rattle.text_columns.specs.declared.builder.ColumnBuilder.{ColumnBuilder, Flat, List', FixedList'}
+use Rattle.text_columns.specs.declared.builder.ListOffsets.{ListOffsets}
+use Rattle.text_columns.specs.declared.builder.Slots.{Slots}
+use Rattle.text_columns.specs.declared.flat.FlatBuilder.{FlatBuilder}
+use Rattle.text_columns.specs.inner.Kept.{Holds, HoldsCells, IsCoded, IsOf, Keeps, KeepsBelow, KeepsSlots, Takes, column_at, key_of}
+use Rattle.text_columns.specs.inner.Placed.{IsBuilt, array_of, column_layout, entries_array, has_bitmap, has_validity, layout_of, validity_in, validity_of_bits}
 use Rattle.text_columns.proofs.Coded.{all_there, own_flat}
 
 there_all : (cells : List Cell) → list_all (λ b. b) (map is_there cells) ≡ list_all is_there cells
@@ -83,9 +86,9 @@ coded_built index kind cells values d valid h is =
     let entries = entries_built kind values (entries_of cells) (length d.keys.keys) h.entries h.fit count in
     with_is cells valid (column_layout (Some d) values) _ is (λ j. dictionary_layout (h.indices j) (and_array (entries j) no_array))
 
-pub built_is : (c : Column) (cells : List Cell) (b : ColumnBuilder) → Keeps c cells b → array_of b ≡ built c cells
+pub flat_built : (b : FlatBuilder) → IsBuilt (Flat b) (array_of b)
 unfolding built
-built_is (column name nullable kind dictionary pairs) cells b k = by dictionary b.coding k.2
+flat_built b (column name nullable kind dictionary pairs) cells k = by dictionary b.coding k.2
   where
     by : (dictionary : Option Index) (o : Option Coding) → HoldsCells dictionary kind cells b.values o
         → array (length b.valid.items) (validity_in (has_validity o b.values) b.valid.items) (column_layout o b.values) ≡ built (column name nullable kind dictionary pairs) cells
@@ -93,6 +96,43 @@ built_is (column name nullable kind dictionary pairs) cells b k = by dictionary 
     by (Some index) (Some d) h = coded_built index kind cells b.values d b.valid.items h k.1
     by None (Some d) h = absurd h
     by (Some index) None h = absurd h
+
+-- ---- lists
+
+lists_built : (nullable : Bool) (dictionary : Option Index) (kind : Kind) (cells : List Cell) (slots : Slots) (offsets : ListOffsets) (p : _) (items : ColumnBuilder) (below : Array)
+    → KeepsSlots nullable dictionary kind cells slots → KeepsBelow kind cells (List' slots offsets p items) → IsBuilt items below
+    → array (length slots.valid.items) (validity_of_bits slots.valid.items) (list_layout offsets.offsets.items below) ≡ built_kind kind cells
+unfolding built_kind
+lists_built nullable dictionary (lists item) cells slots offsets p items below k h is =
+    with_is cells slots.valid.items (list_layout offsets.offsets.items below) _ k.valid (λ j. list_layout (h.ends.ends j) (is item (flat_map item_list cells) h.below j))
+lists_built nullable dictionary (large_lists item) cells slots offsets p items below k h is =
+    with_is cells slots.valid.items (list_layout offsets.offsets.items below) _ k.valid (λ j. list_layout (h.ends.ends j) (is item (flat_map item_list cells) h.below j))
+lists_built nullable dictionary _ cells slots offsets p items below k h is = absurd h
+
+fixed_lists_built : (nullable : Bool) (dictionary : Option Index) (kind : Kind) (cells : List Cell) (slots : Slots) (size : ℕ) (p : _) (items : ColumnBuilder) (below : Array)
+    → KeepsSlots nullable dictionary kind cells slots → KeepsBelow kind cells (FixedList' slots size p items) → IsBuilt items below
+    → array (length slots.valid.items) (validity_of_bits slots.valid.items) (fixed_list_layout below) ≡ built_kind kind cells
+unfolding built_kind
+fixed_lists_built nullable dictionary (fixed_lists size item) cells slots width p items below k h is =
+    with_is cells slots.valid.items (fixed_list_layout below) _ k.valid (ap fixed_list_layout (is item (flat_map (fixed_items size) cells) h.below))
+fixed_lists_built nullable dictionary _ cells slots width p items below k h is = absurd h
+
+plain_built : (name : List ℕ) (nullable : Bool) (kind : Kind) (dictionary : Option Index) (pairs : List Pair) (cells : List Cell) → dictionary ≡ None → built_kind kind cells ≡ built (column name nullable kind dictionary pairs) cells
+unfolding built
+plain_built name nullable kind None pairs cells e = refl
+plain_built name nullable kind (Some index) pairs cells e = absurd cc
+
+pub list_column : (slots : Slots) (offsets : ListOffsets) (p : _) (items : ColumnBuilder) (below : Array) → IsBuilt items below
+    → IsBuilt (List' slots offsets p items) (array (length slots.valid.items) (validity_of_bits slots.valid.items) (list_layout offsets.offsets.items below))
+list_column slots offsets p items below is (column name nullable kind dictionary pairs) cells k =
+    lists_built nullable dictionary kind cells slots offsets p items below k.slots k.parts is ∙ plain_built name nullable kind dictionary pairs cells k.slots.plain
+
+pub fixed_list_column : (slots : Slots) (size : ℕ) (p : _) (items : ColumnBuilder) (below : Array) → IsBuilt items below
+    → IsBuilt (FixedList' slots size p items) (array (length slots.valid.items) (validity_of_bits slots.valid.items) (fixed_list_layout below))
+fixed_list_column slots size p items below is (column name nullable kind dictionary pairs) cells k =
+    fixed_lists_built nullable dictionary kind cells slots size p items below k.slots k.parts is ∙ plain_built name nullable kind dictionary pairs cells k.slots.plain
+
+-- ---- all columns
 
 first_column : (rows : List (List Cell)) → column_at 0 rows ≡ map first_cell rows
 first_column [] = refl
@@ -104,14 +144,20 @@ other_column j [] = refl
 other_column j ([] ∷ rows) = ap (λ (xs : List Cell). null ∷ xs) (other_column j rows)
 other_column j ((c ∷ row) ∷ rows) = ap (λ (xs : List Cell). get_or row j null ∷ xs) (other_column j rows)
 
-pub all_built : (cs : List Column) (rows : List (List Cell)) (bs : List ColumnBuilder) → length bs ≡ length cs
+pub all_built : (cs : List Column) (rows : List (List Cell)) (bs : List ColumnBuilder) (arrays : List Array) → length bs ≡ length cs → length arrays ≡ length bs
     → ((j : ℕ) (c : Column) (b : ColumnBuilder) → slice_get cs j ≡ Some c → slice_get bs j ≡ Some b → Keeps c (column_at j rows) b)
-    → arrays_of (map array_of bs) ≡ built_parts (columns_of cs) rows
+    → ((j : ℕ) (b : ColumnBuilder) (a : Array) → slice_get bs j ≡ Some b → slice_get arrays j ≡ Some a → IsBuilt b a)
+    → arrays_of arrays ≡ built_parts (columns_of cs) rows
 unfolding built_parts
-all_built [] rows [] count each = refl
-all_built [] rows (b ∷ bs) count each = absurd (omega arith)
-all_built (c ∷ cs) rows [] count each = absurd (omega arith)
-all_built (c ∷ cs) rows (b ∷ bs) count each =
-    let here = built_is c (column_at 0 rows) b (each 0 c b refl refl) ∙ ap (built c) (first_column rows) in
-    let others = all_built cs (map other_cells rows) bs (omega arith) (λ j d e dc db. subst (λ (xs : List Cell). Keeps d xs e) (other_column j rows) (each (suc j) d e dc db)) in
+all_built [] rows [] [] count same each is = refl
+all_built [] rows (b ∷ bs) arrays count same each is = absurd (omega arith)
+all_built [] rows [] (a ∷ arrays) count same each is = absurd (omega arith)
+all_built (c ∷ cs) rows [] arrays count same each is = absurd (omega arith)
+all_built (c ∷ cs) rows (b ∷ bs) [] count same each is = absurd (omega arith)
+all_built (c ∷ cs) rows (b ∷ bs) (a ∷ arrays) count same each is =
+    let here = is 0 b a refl refl c (column_at 0 rows) (each 0 c b refl refl) ∙ ap (built c) (first_column rows) in
+    let others =
+    all_built cs (map other_cells rows) bs arrays (omega arith) (omega arith)
+    (λ j d e dc db. subst (λ (xs : List Cell). Keeps d xs e) (other_column j rows) (each (suc j) d e dc db))
+    (λ j e x db da. is (suc j) e x db da) in
     λ j. and_array (here j) (others j)

@@ -1,20 +1,24 @@
 -- The dictionaries of columns have room for the entries of their rows, and for those of any row.
-use Rattle.std.specs.Prelude.{Option, Some, None, slice_get, get_or, option_to_list, ◌⊎◌}
-use Rattle.std.specs.List.{list_all}
-use Rattle.std.proofs.Common.{◌≡◌, ℕ, zero, suc, ◌+◌, ◌≤◌, Bool, true, false, List, [], ◌∷◌, ◌++◌, length, refl, arith, ap, sym, ◌∙◌, inl, inr}
+use Rattle.std.specs.Prelude.{Option, Some, None, slice_get, get_or, map, option_to_list, ◌⊎◌, ◌||◌}
+use Rattle.std.specs.List.{flat_map, list_all}
+use Rattle.std.proofs.Common.{◌≡◌, ℕ, zero, suc, ◌+◌, ◌≤◌, Bool, true, false, List, [], ◌∷◌, ◌++◌, length, refl, arith, ap, sym, ◌∙◌, inl, inr, append-nil}
 use Rattle.std.proofs.lemmas.Bool.{and_from, le-leb}
 use Rattle.std.proofs.lemmas.List.Folds.{list_all-append}
-use Rattle.arrow_schema.specs.Column.{Index, Kind, Column, column, columns_of, PlainSchema}
+use Rattle.arrow_schema.specs.Column.{Index, Kind, Column, nulls, booleans, integers, dates, timestamps, texts, large_texts, binaries, large_binaries, fixed_binaries, lists, large_lists, fixed_lists, structs, column, no_column, and_column, columns_of, PlainSchema}
+use Rattle.arrow_schema.specs.Limits.{is_nested}
+use Rattle.arrow_schema.specs.Parts.{index_of_column}
 use Rattle.arrow_schema.specs.View.{bits_of}
 use Rattle.arrow_schema.specs.declared.types.BitWidth.{BitWidth}
 use Rattle.arrow_schema.specs.declared.types.BitWidth.TheVariants.{Eight, Sixteen, ThirtyTwo, SixtyFour}
 use Rattle.cells.specs.Cell.{Cell, null}
-use Rattle.cells.specs.Dictionary.{cells_at, dictionaries_fit, entries_of, entry_limit, has_few_entries, holdings, holdings_below, holdings_from, is_within, own_holding, with_entries, with_entry}
+use Rattle.cells.specs.Dictionary.{cells_at, dictionaries_fit, entries_of, entry_limit, has_few_entries, has_limit, holdings, holdings_below, holdings_from, is_any_limited, is_kind_limited, is_limited, is_within, item_list, own_holding, with_entries, with_entry}
 use Rattle.cells.specs.laws.Entries.{entries_few, none_below}
-use Rattle.text_columns.specs.declared.builder.ColumnBuilder.{ColumnBuilder}
+use Rattle.cells.specs.laws.Unlimited.{from_unlimited}
+use Rattle.text_columns.specs.declared.builder.ColumnBuilder.{ColumnBuilder, Flat, List', FixedList'}
+use Rattle.columns.specs.Built.{fixed_items}
 use Rattle.text_columns.specs.declared.coding.Coding.{Coding}
 use Rattle.text_columns.specs.declared.column_values.Values.{Values}
-use Rattle.text_columns.specs.inner.Kept.{HoldsCells, KeepAll, Keeps, column_at}
+use Rattle.text_columns.specs.inner.Kept.{HoldsCells, KeepAll, Keeps, KeepsBelow, column_at}
 use Rattle.text_columns.proofs.Coded.{own_flat, own_kind}
 
 -- ---- one column
@@ -23,13 +27,62 @@ few_in : (nullable : Bool) (index : Index) (kind : Kind) (cells : List Cell) →
     → list_all has_few_entries (own_holding (Some index) cells ++ holdings_below kind cells) ≡ true
 few_in nullable index kind cells none few = rw none (rw few refl)
 
+-- ---- columns with parts: no row fills a dictionary below them
+
+both_false : (a b : Bool) → a ≡ false → b ≡ false → (a || b) ≡ false
+both_false true b e h = e
+both_false false b e h = h
+
+flat_unlimited : (kind : Kind) → is_nested kind ≡ false → is_kind_limited kind ≡ false
+unfolding is_kind_limited
+flat_unlimited nulls h = refl
+flat_unlimited booleans h = refl
+flat_unlimited (integers bits signed) h = refl
+flat_unlimited (dates unit) h = refl
+flat_unlimited (timestamps unit timezone) h = refl
+flat_unlimited texts h = refl
+flat_unlimited large_texts h = refl
+flat_unlimited binaries h = refl
+flat_unlimited large_binaries h = refl
+flat_unlimited (fixed_binaries size) h = refl
+flat_unlimited (lists item) h = absurd cc
+flat_unlimited (large_lists item) h = absurd cc
+flat_unlimited (fixed_lists size item) h = absurd cc
+flat_unlimited (structs columns) h = absurd cc
+
+mutual
+  unfolding is_limited is_kind_limited
+
+  column_unlimited : (c : Column) (cells : List Cell) (b : ColumnBuilder) → Keeps c cells b → has_limit (index_of_column c) ≡ false → is_limited c ≡ false
+  column_unlimited (column name nullable kind dictionary pairs) cells (Flat b) k h =
+      both_false (has_limit dictionary) (is_kind_limited kind) h (flat_unlimited kind (own_flat kind b.values (own_kind dictionary kind cells b.values b.coding k.2)))
+  column_unlimited (column name nullable kind dictionary pairs) cells (List' slots offsets p items) k h =
+      both_false (has_limit dictionary) (is_kind_limited kind) h (below_unlimited kind cells (List' slots offsets p items) k.parts)
+  column_unlimited (column name nullable kind dictionary pairs) cells (FixedList' slots size p items) k h =
+      both_false (has_limit dictionary) (is_kind_limited kind) h (below_unlimited kind cells (FixedList' slots size p items) k.parts)
+
+  below_unlimited : (kind : Kind) (cells : List Cell) (b : ColumnBuilder) → KeepsBelow kind cells b → is_kind_limited kind ≡ false
+  below_unlimited (lists item) cells (List' slots offsets p items) h = column_unlimited item (flat_map item_list cells) items h.below h.unlimited
+  below_unlimited (large_lists item) cells (List' slots offsets p items) h = column_unlimited item (flat_map item_list cells) items h.below h.unlimited
+  below_unlimited (fixed_lists size item) cells (FixedList' slots width p items) h = column_unlimited item (flat_map (fixed_items size) cells) items h.below h.unlimited
+  below_unlimited _ cells b h = absurd h
+
+one_each : (cells : List Cell) → cells_at 0 (map (λ (c : Cell). c ∷ []) cells) ≡ cells
+one_each [] = refl
+one_each (c ∷ cells) = ap (λ (xs : List Cell). c ∷ xs) (one_each cells)
+
+unlimited_few : (c : Column) (cells : List Cell) → is_limited c ≡ false → list_all has_few_entries (holdings c cells) ≡ true
+unfolding holdings_from is_any_limited
+unlimited_few c cells h =
+    let rows : List (List Cell) = map (λ (x : Cell). x ∷ []) cells in
+    let whole : list_all has_few_entries (holdings c (cells_at 0 rows) ++ []) ≡ true = from_unlimited 0 (and_column c no_column) rows (both_false (is_limited c) false h refl) in
+    rw (append-nil (holdings c (cells_at 0 rows)), one_each cells) at whole
+
 -- a dictionary has as many entries as it could name before
 same_few : (c : Column) (cells others : List Cell) (b : ColumnBuilder) → Keeps c cells b → entries_of others ≡ entries_of cells → list_all has_few_entries (holdings c others) ≡ true
 unfolding holdings
-same_few (column name nullable kind None pairs) cells others b k e =
-    let flat = own_flat kind b.values (own_kind None kind cells b.values b.coding k.2) in
-    rw (none_below kind others flat) refl
-same_few (column name nullable kind (Some index) pairs) cells others b k e =
+same_few (column name nullable kind None pairs) cells others b k e = unlimited_few (column name nullable kind None pairs) others (column_unlimited (column name nullable kind None pairs) cells b k refl)
+same_few (column name nullable kind (Some index) pairs) cells others (Flat b) k e =
     let flat = own_flat kind b.values (own_kind (Some index) kind cells b.values b.coding k.2) in
     few_in nullable index kind others (none_below kind others flat) (ap (λ (xs : List Cell). is_within (entry_limit index) (length xs)) e ∙ few_of index kind cells b.values b.coding k.2)
   where
@@ -37,6 +90,8 @@ same_few (column name nullable kind (Some index) pairs) cells others b k e =
         → is_within (entry_limit index) (length (entries_of cells)) ≡ true
     few_of index kind cells values None h = absurd h
     few_of index kind cells values (Some d) h = h.few
+same_few (column name nullable kind (Some index) pairs) cells others (List' slots offsets p items) k e = (let none = k.slots.plain in absurd cc)
+same_few (column name nullable kind (Some index) pairs) cells others (FixedList' slots size p items) k e = (let none = k.slots.plain in absurd cc)
 
 -- indices of any width name one entry
 one_within : (w : BitWidth) (signed : Bool) (n : ℕ) → n ≤ 1 → is_within (entry_limit (record { bits = bits_of w; signed = signed })) n ≡ true
@@ -49,10 +104,8 @@ one_within SixtyFour signed n le = refl
 
 one_few : (c : Column) (cells others : List Cell) (b : ColumnBuilder) → Keeps c cells b → length (entries_of others) ≤ 1 → list_all has_few_entries (holdings c others) ≡ true
 unfolding holdings
-one_few (column name nullable kind None pairs) cells others b k le =
-    let flat = own_flat kind b.values (own_kind None kind cells b.values b.coding k.2) in
-    rw (none_below kind others flat) refl
-one_few (column name nullable kind (Some index) pairs) cells others b k le =
+one_few (column name nullable kind None pairs) cells others b k le = unlimited_few (column name nullable kind None pairs) others (column_unlimited (column name nullable kind None pairs) cells b k refl)
+one_few (column name nullable kind (Some index) pairs) cells others (Flat b) k le =
     let flat = own_flat kind b.values (own_kind (Some index) kind cells b.values b.coding k.2) in
     few_in nullable index kind others (none_below kind others flat) (few_of index kind cells b.values b.coding k.2)
   where
@@ -62,6 +115,8 @@ one_few (column name nullable kind (Some index) pairs) cells others b k le =
     few_of index kind cells values (Some d) h =
         let type : record { bits = bits_of d.index.width; signed = d.index.signed } ≡ index = (λ j. record { bits = h.bits j; signed = h.signed j }) in
         ap (λ (i : Index). is_within (entry_limit i) (length (entries_of others))) (sym type) ∙ one_within d.index.width d.index.signed (length (entries_of others)) le
+one_few (column name nullable kind (Some index) pairs) cells others (List' slots offsets p items) k le = (let none = k.slots.plain in absurd cc)
+one_few (column name nullable kind (Some index) pairs) cells others (FixedList' slots size p items) k le = (let none = k.slots.plain in absurd cc)
 
 -- ---- the cells at a place of rows, of which an absent one is no entry
 

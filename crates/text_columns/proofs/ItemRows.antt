@@ -19,9 +19,9 @@ use Rattle.text_import.proofs.ObjectLemmas.{places_end}
 use Rattle.text_import.proofs.RowLemmas.{cells_behind, cells_behind_more}
 use Rattle.text_columns.specs.declared.builder.ColumnBuilder.{ColumnBuilder}
 use Rattle.text_columns.specs.inner.Kept.{KeepAll, Keeps, column_at}
-use Rattle.text_columns.specs.inner.Lines.{HasItemRow, KeepsItems, KeepsToken, KeepsTokens, below, token_data}
-use Rattle.text_columns.proofs.LineRows.{none_behind, token_read}
-use Rattle.text_columns.proofs.MemberGrammar.{converted_some, twice}
+use Rattle.text_columns.specs.inner.Lines.{HasItemRow, KeepsItems, KeepsNext, KeepsTokens}
+use Rattle.text_columns.proofs.LineRows.{none_behind}
+use Rattle.text_columns.proofs.MemberGrammar.{converted_some, twice, value_shorter, value_there}
 use Rattle.text_columns.proofs.Rows.{at_end, at_front, at_other, at_set, column_more, dropped_all, dropped_here, length_put, length_taken, none_weigh, parts_weigh, taken_all, taken_here, there_within}
 
 -- ---- the items of an array
@@ -31,19 +31,19 @@ abbrev pub prepend : List Data → Items → Items
 prepend [] ds = ds
 prepend (d ∷ found) ds = item d (prepend found ds)
 
-prepend_more : (found : List Data) (d : Data) (ds : Items) → prepend found (item d ds) ≡ prepend (found ++ d ∷ []) ds
+pub prepend_more : (found : List Data) (d : Data) (ds : Items) → prepend found (item d ds) ≡ prepend (found ++ d ∷ []) ds
 prepend_more [] d ds = refl
 prepend_more (e ∷ found) d ds = ap (item e) (prepend_more found d ds)
 
-prepend_count : (found : List Data) → item_count (prepend found no_items) ≡ length found
+pub prepend_count : (found : List Data) → item_count (prepend found no_items) ≡ length found
 prepend_count [] = refl
 prepend_count (d ∷ found) = let e = prepend_count found in omega (arith, e)
 
-prepended_none : (o : Option (Items × List Token)) → o ≡ parse_map (prepend []) o
+pub prepended_none : (o : Option (Items × List Token)) → o ≡ parse_map (prepend []) o
 prepended_none None = refl
 prepended_none (Some p) = refl
 
-prepended_more : (found : List Data) (d : Data) (o : Option (Items × List Token)) → parse_map (prepend found) (parse_map (item d) o) ≡ parse_map (prepend (found ++ d ∷ [])) o
+pub prepended_more : (found : List Data) (d : Data) (o : Option (Items × List Token)) → parse_map (prepend found) (parse_map (item d) o) ≡ parse_map (prepend (found ++ d ∷ [])) o
 prepended_more found d None = refl
 prepended_more found d (Some p) = ap (λ (ds : Items). Some (ds, p.1)) (prepend_more found d p.0)
 
@@ -52,28 +52,15 @@ with_item j d e None = refl
 with_item j d e (Some p) =
     ap (λ (x : Option Data). option_map {U = Items × List Token} (λ b. (b, p.1)) (option_and_then (λ y. option_map (item y) (of_items p.0)) x)) e ∙ twice (item d) p.1 (of_items p.0)
 
-item_read : (p : Parse json.Json) (n : ℕ) (ts r : List Token) (d : Data) → 0 < n → after_end_array ts ≡ None → converted of_json (p ts) ≡ Some (d, r)
+pub item_read : (p : Parse json.Json) (n : ℕ) (ts r : List Token) (d : Data) → 0 < n → after_end_array ts ≡ None → converted of_json (p ts) ≡ Some (d, r)
     → converted of_items (items p n ts) ≡ parse_map (item d) (converted of_items (items p (n - 1) r))
 item_read p n ts r d some none e =
     let j = converted_some of_json (p ts) d r e in
     ap (converted of_items) (items_more p n ts r j.0 some none j.1) ∙ with_item j.0 d j.2 _
 
-array_read : (o : Option (json.Items × List Token)) → converted of_json (parse_map json.array o) ≡ parse_map array (converted of_items o)
+pub array_read : (o : Option (json.Items × List Token)) → converted of_json (parse_map json.array o) ≡ parse_map array (converted of_items o)
 array_read None = refl
 array_read (Some p) = twice array p.1 (of_items p.0)
-
--- a value ends no array
-value_there : (t : Token) (r : List Token) (d : Data) → token_data t ≡ Some d → after_end_array (t ∷ r) ≡ None
-value_there tokens.begin_object r d e = refl
-value_there tokens.end_object r d e = refl
-value_there tokens.begin_array r d e = refl
-value_there tokens.end_array r d e = absurd cc
-value_there (tokens.key s) r d e = refl
-value_there (tokens.string s) r d e = refl
-value_there (tokens.number s) r d e = refl
-value_there (tokens.boolean b) r d e = refl
-value_there tokens.null r d e = refl
-value_there tokens.bad r d e = refl
 
 -- ---- their cells
 
@@ -106,9 +93,9 @@ placed_more so c cs d ds x e = rw e (cells_behind_more so x (cells_by_place cs d
 some_same : {X : Type 0} {x y : X} → Some x ≡ Some y → x ≡ y
 some_same e = cc
 
-item_half_more : (cs : List Column) (found : List Data) (rows : List (List Cell)) (i heavy more : ℕ) (t : Token) (bs : List ColumnBuilder) (old new : ColumnBuilder) → slice_get bs i ≡ Some old
-    → (keeps : KeepsToken t more old new) → ItemHalf cs found rows i heavy bs → ItemHalf cs (found ++ keeps.data_is ∷ []) rows (i + 1) (heavy + more) (set bs i new)
-item_half_more cs found rows i heavy more t bs old new here keeps h =
+item_half_more : (cs : List Column) (found : List Data) (rows : List (List Cell)) (i heavy more depth : ℕ) (left right : List Token) (bs : List ColumnBuilder) (old new : ColumnBuilder) → slice_get bs i ≡ Some old
+    → (keeps : KeepsNext depth left right more old new) → ItemHalf cs found rows i heavy bs → ItemHalf cs (found ++ keeps.data_is ∷ []) rows (i + 1) (heavy + more) (set bs i new)
+item_half_more cs found rows i heavy more depth left right bs old new here keeps h =
     let d = keeps.data_is in
     let within : i < length bs = slice_get_within bs i old here in
     let (c, col) = there_within cs i (omega (arith, within, h.count)) in
@@ -166,45 +153,44 @@ item_half_all cs found rows i heavy bs le h =
 -- ---- one after another
 
 -- some items were read, and the others follow
-pub record ItemsRead (all left : List Token) (i heavy : ℕ) (bs0 bs : List ColumnBuilder) : Type 0 where
+pub record ItemsRead (depth : ℕ) (all left : List Token) (i heavy : ℕ) (bs0 bs : List ColumnBuilder) : Type 0 where
   pub found : List Data
   pub turns : ℕ
   pub enough : length left ≤ turns
   pub count : length found ≡ i
-  pub read : converted of_items (items (value below) (length all) all) ≡ parse_map (prepend found) (converted of_items (items (value below) turns left))
+  pub read : converted of_items (items (value depth) (length all) all) ≡ parse_map (prepend found) (converted of_items (items (value depth) turns left))
   pub each : (cs : List Column) (rows : List (List Cell)) → KeepAll cs rows bs0 → ItemHalf cs found rows i heavy bs
 
-pub items_none : (all : List Token) (bs : List ColumnBuilder) → ItemsRead all all 0 1 bs bs
-items_none all bs = record {
+pub items_none : (depth : ℕ) (all : List Token) (bs : List ColumnBuilder) → ItemsRead depth all all 0 1 bs bs
+items_none depth all bs = record {
   found = [];
   turns = length all;
   enough = omega arith;
   count = refl;
-  read = prepended_none (converted of_items (items (value below) (length all) all));
+  read = prepended_none (converted of_items (items (value depth) (length all) all));
   each = λ cs rows k. item_half_none cs rows bs k;
 }
 
-pub items_pushed : (all left new : List Token) (t : Token) (i heavy more : ℕ) (bs0 bs : List ColumnBuilder) (old behind : ColumnBuilder) → left ≡ t ∷ new → slice_get bs i ≡ Some old → KeepsToken t more old behind
-    → ItemsRead all left i heavy bs0 bs → ItemsRead all new (i + 1) (heavy + more) bs0 (set bs i behind)
-items_pushed all left new t i heavy more bs0 bs old behind one here keeps m =
+pub items_pushed : (depth : ℕ) (all left new : List Token) (i heavy more : ℕ) (bs0 bs : List ColumnBuilder) (old behind : ColumnBuilder) → slice_get bs i ≡ Some old → KeepsNext depth left new more old behind
+    → ItemsRead depth all left i heavy bs0 bs → ItemsRead depth all new (i + 1) (heavy + more) bs0 (set bs i behind)
+items_pushed depth all left new i heavy more bs0 bs old behind here keeps m =
     let d = keeps.data_is in
-    let longer : length left ≡ suc (length new) = ap length one in
+    let longer = value_shorter depth left new d keeps.read in
     let some : 0 < m.turns = omega (arith, longer, m.enough) in
-    let none : after_end_array left ≡ None = ap after_end_array one ∙ value_there t new d keeps.read in
-    let read : converted of_json (value below left) ≡ Some (d, new) = ap (λ (ts : List Token). converted of_json (value below ts)) one ∙ token_read below t new d keeps.read in
+    let none : after_end_array left ≡ None = value_there depth left new d keeps.read in
     record {
       found = m.found ++ d ∷ [];
       turns = m.turns - 1;
       enough = omega (arith, longer, m.enough);
       count = length-append m.found (d ∷ []) ∙ ap (λ (n : ℕ). n + 1) m.count;
-      read = m.read ∙ ap (parse_map (prepend m.found)) (item_read (value below) m.turns left new d some none read) ∙ prepended_more m.found d (converted of_items (items (value below) (m.turns - 1) new));
-      each = λ cs rows k. item_half_more cs m.found rows i heavy more t bs old behind here keeps (m.each cs rows k);
+      read = m.read ∙ ap (parse_map (prepend m.found)) (item_read (value depth) m.turns left new d some none keeps.read) ∙ prepended_more m.found d (converted of_items (items (value depth) (m.turns - 1) new));
+      each = λ cs rows k. item_half_more cs m.found rows i heavy more depth left new bs old behind here keeps (m.each cs rows k);
     }
 
-pub items_all : (all left new : List Token) (i heavy : ℕ) (bs0 bs : List ColumnBuilder) → after_end_array left ≡ Some new → length bs ≤ i → i ≡ length bs0 → ItemsRead all left i heavy bs0 bs
-    → KeepsItems all new heavy bs0 bs
-items_all all left new i heavy bs0 bs ends le whole m =
-    let over : converted of_items (items (value below) m.turns left) ≡ Some (no_items, new) = ap (converted of_items) (items_end (value below) m.turns left new m.enough ends) in
+pub items_all : (depth : ℕ) (all left new : List Token) (i heavy : ℕ) (bs0 bs : List ColumnBuilder) → after_end_array left ≡ Some new → length bs ≤ i → i ≡ length bs0 → ItemsRead depth all left i heavy bs0 bs
+    → KeepsItems depth all new heavy bs0 bs
+items_all depth all left new i heavy bs0 bs ends le whole m =
+    let over : converted of_items (items (value depth) m.turns left) ≡ Some (no_items, new) = ap (converted of_items) (items_end (value depth) m.turns left new m.enough ends) in
     record {
       found = prepend m.found no_items;
       read = m.read ∙ ap (parse_map (prepend m.found)) over;
@@ -218,12 +204,12 @@ columns_counted : (cs : List Column) → column_count (columns_of cs) ≡ length
 columns_counted [] = refl
 columns_counted (c ∷ cs) = let e = columns_counted cs in omega (arith, e)
 
-pub array_kept : (names : List (List ℕ)) (inside rest : List Token) (heavy : ℕ) (bs bs2 : List ColumnBuilder) → rest ≡ [] → KeepsItems inside rest heavy bs bs2
+pub array_kept : (names : List (List ℕ)) (inside rest : List Token) (heavy : ℕ) (bs bs2 : List ColumnBuilder) → rest ≡ [] → KeepsItems 126 inside rest heavy bs bs2
     → KeepsTokens names (tokens.begin_array ∷ inside) heavy bs bs2
 array_kept names inside rest heavy bs bs2 ends k =
     let one = value-begin_array 127 inside (omega arith) in
     let whole : converted of_json (value 127 (tokens.begin_array ∷ inside)) ≡ Some (array k.found, []) =
-    ap (converted of_json) one ∙ array_read (items (value below) (length inside) inside) ∙ ap (parse_map array) (k.read ∙ ap (λ (ts : List Token). Some (k.found, ts)) ends) in
+    ap (converted of_json) one ∙ array_read (items (value 126) (length inside) inside) ∙ ap (parse_map array) (k.read ∙ ap (λ (ts : List Token). Some (k.found, ts)) ends) in
     record {
       data_is = array k.found;
       read = whole;

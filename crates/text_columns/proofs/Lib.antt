@@ -14,3 +14,6 @@ pub mod TokenCells
 pub mod MemberGrammar
 pub mod LineRows
 pub mod ItemRows
+pub mod Nulls
+pub mod ListCells
+pub mod Starts

@@ -36,8 +36,8 @@ use Rattle.text_import.proofs.RowLemmas.{cells_behind}
 use Rattle.text_columns.specs.declared.builder.ColumnBuilder.{ColumnBuilder}
 use Rattle.text_columns.specs.declared.records.RowsRead.{RowsRead}
 use Rattle.text_columns.specs.inner.Kept.{HasRows, KeepAll, Keeps, column_at}
-use Rattle.text_columns.specs.inner.Lines.{Completes, CompletesRow, HasKeptValue, HasNamedRow, HoldMembers, HoldsMember, KeepsLine, KeepsTokens, PushesMember, PushesMembers, below, token_data}
-use Rattle.text_columns.proofs.MemberGrammar.{member_read, members_over, object_read, text_read}
+use Rattle.text_columns.specs.inner.Lines.{Completes, CompletesRow, HasKeptValue, HasNamedRow, HoldMembers, HoldsMember, KeepsLine, KeepsTokens, PushesMember, PushesMembers, token_data}
+use Rattle.text_columns.proofs.MemberGrammar.{member_read, members_over, object_read, text_read, value_shorter}
 use Rattle.text_columns.proofs.FewEntries.{row_fits}
 use Rattle.text_columns.proofs.Rows.{at_end, at_front, at_other, at_set, column_more, dropped_all, dropped_here, length_put, length_taken, none_weigh, parts_weigh, taken_all, taken_here, there_within}
 
@@ -100,10 +100,10 @@ free_found : (c : Column) (so : List Cell) (o : Option Data) (b : ColumnBuilder)
 free_found c so None b h = h
 free_found c so (Some d) b h = absurd h
 
-member_held : (cs : List Column) (rows : List (List Cell)) (found : Members) (k : List ℕ) (d : Data) (place : ℕ) (old new : List Token) (ws ws2 : List (Option ℕ)) (bs bs2 : List ColumnBuilder)
-    → repeats (names_of (columns_of cs)) ≡ false → slice_get (names_of (columns_of cs)) place ≡ Some k → (p : PushesMember place old new ws ws2 bs bs2) → p.keeps.data_is ≡ d
+member_held : (cs : List Column) (rows : List (List Cell)) (found : Members) (k : List ℕ) (d : Data) (depth place : ℕ) (old new : List Token) (ws ws2 : List (Option ℕ)) (bs bs2 : List ColumnBuilder)
+    → repeats (names_of (columns_of cs)) ≡ false → slice_get (names_of (columns_of cs)) place ≡ Some k → (p : PushesMember depth place old new ws ws2 bs bs2) → p.keeps.data_is ≡ d
     → HoldMembers cs rows found ws bs → HoldMembers cs rows (put k d found) ws2 bs2
-member_held cs rows found k d place old new ws ws2 bs bs2 distinct named p same_data h = rw (p.kept, p.pushed) (record {
+member_held cs rows found k d depth place old new ws ws2 bs bs2 distinct named p same_data h = rw (p.kept, p.pushed) (record {
   count = length_put bs place p.behind ∙ h.count;
   counted = length_put ws place (Some p.heavy) ∙ h.counted;
   each = λ j c b w dc db dw. elim (cases_lt j place) [
@@ -150,41 +150,40 @@ token_read depth tokens.null r d e = ap (converted of_json) (value_is depth (tok
 token_read depth tokens.bad r d e = absurd cc
 
 -- some members were read, and the others follow
-pub record MembersRead (names : List (List ℕ)) (all left : List Token) (ws0 ws : List (Option ℕ)) (bs0 bs : List ColumnBuilder) : Type 0 where
+pub record MembersRead (depth : ℕ) (names : List (List ℕ)) (all left : List Token) (ws0 ws : List (Option ℕ)) (bs0 bs : List ColumnBuilder) : Type 0 where
   pub found : Members
   pub turns : ℕ
   pub enough : length left ≤ turns
-  pub read : converted (λ ms. of_members ms no_members) (members (value below) (length all) all) ≡ converted (λ ms. of_members ms found) (members (value below) turns left)
+  pub read : converted (λ ms. of_members ms no_members) (members (value depth) (length all) all) ≡ converted (λ ms. of_members ms found) (members (value depth) turns left)
   pub known : has_unknown names (keys_of found) ≡ false
   pub each : (cs : List Column) (rows : List (List Cell)) → names_of (columns_of cs) ≡ names → HoldMembers cs rows no_members ws0 bs0 → HoldMembers cs rows found ws bs
 
-pub members_none : (names : List (List ℕ)) (all : List Token) (ws : List (Option ℕ)) (bs : List ColumnBuilder) → MembersRead names all all ws ws bs bs
-members_none names all ws bs = record { found = no_members; turns = length all; enough = omega arith; read = refl; known = refl; each = λ cs rows e h. h }
+pub members_none : (depth : ℕ) (names : List (List ℕ)) (all : List Token) (ws : List (Option ℕ)) (bs : List ColumnBuilder) → MembersRead depth names all all ws ws bs bs
+members_none depth names all ws bs = record { found = no_members; turns = length all; enough = omega arith; read = refl; known = refl; each = λ cs rows e h. h }
 
-pub members_more : (names : List (List ℕ)) (all left behind_key new : List Token) (k : List ℕ) (place : ℕ) (ws0 ws ws2 : List (Option ℕ)) (bs0 bs bs2 : List ColumnBuilder) → repeats names ≡ false
-    → read_key left ≡ Some (Some k, behind_key) → slice_get names place ≡ Some k → PushesMember place behind_key new ws ws2 bs bs2 → MembersRead names all left ws0 ws bs0 bs
-    → MembersRead names all new ws0 ws2 bs0 bs2
-members_more names all left behind_key new k place ws0 ws ws2 bs0 bs bs2 distinct key named p m =
+pub members_more : (depth : ℕ) (names : List (List ℕ)) (all left behind_key new : List Token) (k : List ℕ) (place : ℕ) (ws0 ws ws2 : List (Option ℕ)) (bs0 bs bs2 : List ColumnBuilder) → repeats names ≡ false
+    → read_key left ≡ Some (Some k, behind_key) → slice_get names place ≡ Some k → PushesMember depth place behind_key new ws ws2 bs bs2 → MembersRead depth names all left ws0 ws bs0 bs
+    → MembersRead depth names all new ws0 ws2 bs0 bs2
+members_more depth names all left behind_key new k place ws0 ws ws2 bs0 bs bs2 distinct key named p m =
     let d = p.keeps.data_is in
     let less = read_key-shorter left (Some k) behind_key key in
-    let one : length behind_key ≡ suc (length new) = ap length p.read in
+    let one = value_shorter depth behind_key new d p.keeps.read in
     let some : 0 < m.turns = omega (arith, less, m.enough) in
-    let one_value : converted of_json (value below behind_key) ≡ Some (d, new) = ap (λ (ts : List Token). converted of_json (value below ts)) p.read ∙ token_read below p.token new d p.keeps.read in
     record {
       found = put k d m.found;
       turns = m.turns - 1;
       enough = omega (arith, less, m.enough, one);
-      read = m.read ∙ member_read (value below) m.found m.turns k left behind_key new d some key one_value;
+      read = m.read ∙ member_read (value depth) m.found m.turns k left behind_key new d some key p.keeps.read;
       known = known_put names k d m.found (has_here names place k named) m.known;
       each = λ cs rows e h.
-          member_held cs rows m.found k d place behind_key new ws ws2 bs bs2 (rw e distinct) (rw e named) p refl (m.each cs rows e h);
+          member_held cs rows m.found k d depth place behind_key new ws ws2 bs bs2 (rw e distinct) (rw e named) p refl (m.each cs rows e h);
     }
 
-pub members_all : (names : List (List ℕ)) (all left new : List Token) (ws0 ws : List (Option ℕ)) (bs0 bs : List ColumnBuilder) → read_key left ≡ Some (None, new)
-    → MembersRead names all left ws0 ws bs0 bs → PushesMembers names all new ws0 ws bs0 bs
-members_all names all left new ws0 ws bs0 bs key m = record {
+pub members_all : (depth : ℕ) (names : List (List ℕ)) (all left new : List Token) (ws0 ws : List (Option ℕ)) (bs0 bs : List ColumnBuilder) → read_key left ≡ Some (None, new)
+    → MembersRead depth names all left ws0 ws bs0 bs → PushesMembers depth names all new ws0 ws bs0 bs
+members_all depth names all left new ws0 ws bs0 bs key m = record {
   found = m.found;
-  read = m.read ∙ members_over (value below) m.found m.turns left new m.enough key;
+  read = m.read ∙ members_over (value depth) m.found m.turns left new m.enough key;
   known = m.known;
   each = m.each;
 }
@@ -291,13 +290,13 @@ none_more ws i j w within none lt e = elim (cases_lt j i) [
 ]
 
 pub object_kept : (names : List (List ℕ)) (all inside rest : List Token) (heavy : ℕ) (ws ws2 : List (Option ℕ)) (bs bs2 bs3 : List ColumnBuilder) → all ≡ tokens.begin_object ∷ inside → rest ≡ []
-    → repeats names ≡ false → length ws ≡ length bs → ((j : ℕ) (w : Option ℕ) → slice_get ws j ≡ Some w → w ≡ None) → PushesMembers names inside rest ws ws2 bs bs2 → CompletesRow ws2 heavy bs2 bs3 → KeepsTokens names all heavy bs bs3
+    → repeats names ≡ false → length ws ≡ length bs → ((j : ℕ) (w : Option ℕ) → slice_get ws j ≡ Some w → w ≡ None) → PushesMembers 126 names inside rest ws ws2 bs bs2 → CompletesRow ws2 heavy bs2 bs3 → KeepsTokens names all heavy bs bs3
 object_kept names all inside rest heavy ws ws2 bs bs2 bs3 opens ends distinct size none m completes =
     let one = value-begin_object 127 inside (omega arith) in
     let whole : converted of_json (value 127 all) ≡ Some (object m.found, []) =
     ap (λ (ts : List Token). converted of_json (value 127 ts)) opens
     ∙ ap (converted of_json) one
-    ∙ object_read (members (value below) (length inside) inside)
+    ∙ object_read (members (value 126) (length inside) inside)
     ∙ ap (parse_map object) (m.read ∙ ap (λ (ts : List Token). Some (m.found, ts)) ends) in
     record {
       data_is = object m.found;
@@ -397,7 +396,7 @@ stands keys i t name e same = text_at keys i t e ∙ ap Some ((bytes_eq-Decides 
 -- ---- what a call tells, where it appended the row
 
 pub object_step : {E : Type 0} (names : List (List ℕ)) (all inside rest : List Token) (ws ws2 : List (Option ℕ)) (bs bs2 bs3 : List ColumnBuilder) (r : Result (Option ℕ) E) → all ≡ tokens.begin_object ∷ inside
-    → rest ≡ [] → repeats names ≡ false → length ws ≡ length bs → ((j : ℕ) (w : Option ℕ) → slice_get ws j ≡ Some w → w ≡ None) → PushesMembers names inside rest ws ws2 bs bs2
+    → rest ≡ [] → repeats names ≡ false → length ws ≡ length bs → ((j : ℕ) (w : Option ℕ) → slice_get ws j ≡ Some w → w ≡ None) → PushesMembers 126 names inside rest ws ws2 bs bs2
     → IfOk r (λ taken. IfSome taken (λ heavy. CompletesRow ws2 heavy bs2 bs3)) → IfOk r (λ taken. IfSome taken (λ heavy. KeepsTokens names all heavy bs bs3))
 object_step names all inside rest ws ws2 bs bs2 bs3 (Err e) opens ends distinct size none m h = tt
 object_step names all inside rest ws ws2 bs bs2 bs3 (Ok None) opens ends distinct size none m h = tt

@@ -1,10 +1,11 @@
 -- The members of an object of JSON, one after another, under their values.
-use Rattle.std.proofs.Common.{◌≡◌, ℕ, ◌-◌, ◌<◌, ◌≤◌, List, [], length, Option, Some, None, option_map, option_and_then, refl, ap, ◌∙◌}
+use Rattle.std.proofs.Common.{◌≡◌, ℕ, zero, suc, ◌-◌, ◌<◌, ◌≤◌, List, [], ◌∷◌, length, Option, Some, None, option_map, option_and_then, refl, ap, ◌∙◌}
 use Rattle.json.specs.Token.{Token}
+use Rattle.json.specs.Token as tokens
 use Rattle.json.specs.Json as json
-use Rattle.json.specs.Json.{Parse, parse_map, read_key, members, if_last, value}
-use Rattle.json.specs.Lex.{tokens}
-use Rattle.json.proofs.Grammar.{members_end, members_more}
+use Rattle.json.specs.Json.{Parse, parse_map, read_key, after_end_array, items, members, if_last, value, value_with}
+use Rattle.json.specs.Lex.{tokens as tokens_of}
+use Rattle.json.proofs.Grammar.{members_end, members_more, skip_value-shorter}
 use Rattle.serde_json.specs.Data.{Data, object, Members, no_members, put}
 use Rattle.serde_json.specs.Read.{of_json, of_members, converted, read}
 
@@ -45,5 +46,30 @@ members_over p old n ts r enough e = ap (converted (λ ms. of_members ms old)) (
 abbrev whole : Option (json.Json × List Token) → Option Data
 whole o = option_and_then of_json (option_and_then (λ p. if_last p.0 p.1) o)
 
-pub text_read : (t : List ℕ) (d : Data) → converted of_json (value 127 (tokens t)) ≡ Some (d, []) → read t ≡ Some d
-text_read t d e = let j = converted_some of_json (value 127 (tokens t)) d [] e in ap whole j.1 ∙ j.2
+pub text_read : (t : List ℕ) (d : Data) → converted of_json (value 127 (tokens_of t)) ≡ Some (d, []) → read t ≡ Some d
+text_read t d e = let j = converted_some of_json (value 127 (tokens_of t)) d [] e in ap whole j.1 ∙ j.2
+
+-- ---- the value that comes first
+
+first_is_none : (a : Parse json.Items) (o : Parse json.Members) (ts r : List Token) (d : Data) → converted of_json (value_with a o ts) ≡ Some (d, r) → after_end_array ts ≡ None
+first_is_none a o [] r d e = refl
+first_is_none a o (tokens.begin_object ∷ ts) r d e = refl
+first_is_none a o (tokens.end_object ∷ ts) r d e = refl
+first_is_none a o (tokens.begin_array ∷ ts) r d e = refl
+first_is_none a o (tokens.end_array ∷ ts) r d e = absurd cc
+first_is_none a o (tokens.key s ∷ ts) r d e = refl
+first_is_none a o (tokens.string s ∷ ts) r d e = refl
+first_is_none a o (tokens.number s ∷ ts) r d e = refl
+first_is_none a o (tokens.boolean b ∷ ts) r d e = refl
+first_is_none a o (tokens.null ∷ ts) r d e = refl
+first_is_none a o (tokens.bad ∷ ts) r d e = refl
+
+-- a value ends no array
+pub value_there : (depth : ℕ) (ts r : List Token) (d : Data) → converted of_json (value depth ts) ≡ Some (d, r) → after_end_array ts ≡ None
+unfolding value
+value_there zero ts r d e = first_is_none (λ ts. None) (λ ts. None) ts r d e
+value_there (suc depth) ts r d e = first_is_none (λ ts. items (value depth) (length ts) ts) (λ ts. members (value depth) (length ts) ts) ts r d e
+
+-- and takes a token
+pub value_shorter : (depth : ℕ) (ts r : List Token) (d : Data) → converted of_json (value depth ts) ≡ Some (d, r) → length r < length ts
+value_shorter depth ts r d e = let j = converted_some of_json (value depth ts) d r e in skip_value-shorter depth ts r (ap (λ (o : Option (json.Json × List Token)). option_map (λ p. p.1) o) j.1)

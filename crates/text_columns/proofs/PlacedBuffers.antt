@@ -1,13 +1,14 @@
 -- Buffers that come after other bytes, and the arrays that they are.
 use Rattle.std.specs.Prelude.{◌&&◌, ◌⊎◌, Err, IfOk, Ok, Result, Some, nat_le, take}
-use Rattle.std.specs.Global.{Vec}
+use Rattle.std.specs.Global.{Box, Vec}
 use Rattle.std.specs.List.{list_all}
 use Rattle.std.proofs.Common.{◌≡◌, ℕ, zero, suc, ◌+◌, ◌≤◌, Bool, true, List, [], ◌∷◌, ◌++◌, length, map, refl, arith, ap, sym, subst, ◌∙◌, inl, inr, append_assoc, append-nil, length-append}
 use Rattle.std.proofs.lemmas.Bool.{and_from, and_parts, le-leb, leb-true}
 use Rattle.std.proofs.lemmas.List.{map-append}
 use Rattle.std.proofs.lemmas.List.Folds.{list_all-append}
+use Rattle.std.proofs.lemmas.Option.{slice_get_within}
 use Rattle.bitmap.specs.Bits.{packed}
-use Rattle.columns.specs.Array.{Array, Layout, array, arrays_of, null_layout, bit_layout, fixed_layout, binary_layout, dictionary_layout}
+use Rattle.columns.specs.Array.{Array, Layout, array, arrays_of, null_layout, bit_layout, fixed_layout, binary_layout, list_layout, fixed_list_layout, dictionary_layout}
 use Rattle.columns.specs.Places.{within}
 use Rattle.columns.specs.View.{array_in, array_step, arrays_in, arrays_numbered, layout_step, no_dictionary}
 use Rattle.columns.specs.Within.{array_within, ends_within, is_placed_within, is_within_by, layout_within, stands_within}
@@ -24,8 +25,13 @@ use Rattle.columns.specs.laws.Longer.{within_more}
 use Rattle.text_columns.specs.declared.coding.Coding.{Coding}
 use Rattle.text_columns.specs.declared.column_values.Values.{Values}
 use Rattle.text_columns.specs.declared.column_values.Values.TheVariants.{Nulls, Booleans, Integers, Texts, Binaries, FixedBinaries}
-use Rattle.text_columns.specs.declared.builder.ColumnBuilder.{ColumnBuilder}
-use Rattle.text_columns.specs.inner.Placed.{AreEntriesPlaced, ArePlaced, IsAppended, IsLaid, IsPlaced, IsPlacedAs, array_of, column_layout, entries_array, has_validity, is_layout_within, layout_by, layout_of, validity_in}
+use Rattle.text_columns.specs.declared.builder.ColumnBuilder.{ColumnBuilder, Flat, List', FixedList'}
+use Rattle.text_columns.specs.declared.builder.ListOffsets.{ListOffsets}
+use Rattle.text_columns.specs.declared.builder.Slots.{Slots}
+use Rattle.text_columns.specs.declared.flat.FlatBuilder.{FlatBuilder}
+use Rattle.text_columns.proofs.BuiltArrays.{all_built, fixed_list_column, flat_built, list_column}
+use Rattle.text_columns.proofs.Rows.{last_or_before}
+use Rattle.text_columns.specs.inner.Placed.{AreBuilt, AreEntriesPlaced, ArePlaced, IsAppended, IsBuilt, IsLaid, IsPlaced, IsPlacedAs, column_layout, entries_array, has_validity, is_layout_within, layout_by, layout_of, validity_in, validity_of_bits}
 
 -- ---- buffers
 
@@ -206,29 +212,106 @@ pub plain_step : {E : Type 0} (values : Values) (old new : List ℕ) (before : L
 plain_step values old new before (Err e) h = tt
 plain_step values old new before (Ok layout) h = plain_laid values old new before layout h
 
--- the buffers of a column
-pub column_placed : (b : ColumnBuilder) (slots : ℕ) (old mid new : List ℕ) (before behind : List Dictionary) (span : Span) (layout : PlacedLayout) → slots ≡ length b.valid.items
-    → IsAppended old (validity_in (has_validity b.coding b.values) b.valid.items) mid span → IsPlacedAs (column_layout b.coding b.values) mid new before behind layout
+-- an array behind its validity bitmap
+array_placed : (valid : List ℕ) (stated : Layout) (slots count : ℕ) (old mid new : List ℕ) (before behind : List Dictionary) (span : Span) (layout : PlacedLayout) → slots ≡ count
+    → IsAppended old valid mid span → IsPlacedAs stated mid new before behind layout → (b : ColumnBuilder) → IsBuilt b (array count valid stated)
     → IsPlaced b old new before behind (roll-PlacedArray (record { slots = slots; validity = span; layout = layout }))
-column_placed b slots old mid new before behind span layout count a l =
-    let valid = validity_in (has_validity b.coding b.values) b.valid.items in
+array_placed valid stated slots count old mid new before behind span layout same a l b is =
     let front : within new span ≡ valid = ap (λ (xs : List ℕ). within xs span) l.whole ∙ a.stands l.more in
     let inner : ends_within (length new) span ≡ true = ap (λ (xs : List ℕ). ends_within (length xs) span) l.whole ∙ a.ends l.more in
+    let own : array_in new (arrays_in new behind) (roll-PlacedArray (record { slots = slots; validity = span; layout = layout })) ≡ array count valid stated =
+    fold-roll-PlacedArray Layout Array (layout_step new (arrays_in new behind)) (array_step new) (record { slots = slots; validity = span; layout = layout })
+    ∙ (λ j. array (same j) (front j) (l.laid j)) in
     record {
       more = valid ++ l.more;
       whole = l.whole ∙ ap (λ (xs : List ℕ). xs ++ l.more) a.whole ∙ append_assoc old valid l.more;
       own = l.own;
       longer = l.longer;
-      placed = fold-roll-PlacedArray Layout Array (layout_step new (arrays_in new behind)) (array_step new) (record { slots = slots; validity = span; layout = layout })
-          ∙ (λ j. array (count j) (front j) (l.laid j));
+      placed = λ c cells k. own ∙ is c cells k;
       ends = fold-roll-PlacedArray Bool Bool (layout_within (length new) (stands_within (length new) behind)) (array_within (length new)) (record { slots = slots; validity = span; layout = layout })
           ∙ and_from _ _ inner l.ends;
     }
 
+-- the buffers of a column without parts
+pub flat_placed : (b : FlatBuilder) (slots : ℕ) (old mid new : List ℕ) (before behind : List Dictionary) (span : Span) (layout : PlacedLayout) → slots ≡ length b.valid.items
+    → IsAppended old (validity_in (has_validity b.coding b.values) b.valid.items) mid span → IsPlacedAs (column_layout b.coding b.values) mid new before behind layout
+    → IsPlaced (Flat b) old new before behind (roll-PlacedArray (record { slots = slots; validity = span; layout = layout }))
+flat_placed b slots old mid new before behind span layout count a l =
+    array_placed (validity_in (has_validity b.coding b.values) b.valid.items) (column_layout b.coding b.values) slots (length b.valid.items) old mid new before behind span layout count a l (Flat b) (flat_built b)
+
+-- ---- columns with parts
+
+-- offsets, and the array of items behind them
+lists_are : (bytes : List ℕ) (known : DictionaryPart → List Array) (span : Span) (below : Box PlacedArray) → layout_by bytes known (layouts.List span below)
+    ≡ list_layout (within bytes span) (array_in bytes known below.value)
+lists_are bytes known span below =
+    ap (layout_by bytes known) (sym (layouts.rolls-List span below)) ∙ fold-roll-PlacedLayout Layout Array (layout_step bytes known) (array_step bytes) (placed.List span below)
+
+lists_within : (size : ℕ) (stands : DictionaryPart → Bool) (span : Span) (below : Box PlacedArray) → is_layout_within size stands (layouts.List span below) ≡ (ends_within size span && is_within_by size stands below.value)
+lists_within size stands span below =
+    ap (is_layout_within size stands) (sym (layouts.rolls-List span below)) ∙ fold-roll-PlacedLayout Bool Bool (layout_within size stands) (array_within size) (placed.List span below)
+
+fixed_lists_are : (bytes : List ℕ) (known : DictionaryPart → List Array) (below : Box PlacedArray) → layout_by bytes known (layouts.FixedList below) ≡ fixed_list_layout (array_in bytes known below.value)
+fixed_lists_are bytes known below =
+    ap (layout_by bytes known) (sym (layouts.rolls-FixedList below)) ∙ fold-roll-PlacedLayout Layout Array (layout_step bytes known) (array_step bytes) (placed.FixedList below)
+
+fixed_lists_within : (size : ℕ) (stands : DictionaryPart → Bool) (below : Box PlacedArray) → is_layout_within size stands (layouts.FixedList below) ≡ is_within_by size stands below.value
+fixed_lists_within size stands below =
+    ap (is_layout_within size stands) (sym (layouts.rolls-FixedList below)) ∙ fold-roll-PlacedLayout Bool Bool (layout_within size stands) (array_within size) (placed.FixedList below)
+
+pub list_placed : (slots : Slots) (offsets : ListOffsets) (p : _) (items : ColumnBuilder) (count : ℕ) (old mid mid2 new : List ℕ) (before behind : List Dictionary) (validity ends : Span) (below : Box PlacedArray)
+    → count ≡ length slots.valid.items → IsAppended old (validity_of_bits slots.valid.items) mid validity → IsAppended mid offsets.offsets.items mid2 ends → IsPlaced items mid2 new before behind below.value
+    → IsPlaced (List' slots offsets p items) old new before behind (roll-PlacedArray (record { slots = count; validity = validity; layout = layouts.List ends below }))
+list_placed slots offsets p items count old mid mid2 new before behind validity ends below same a o i =
+    let front : within new ends ≡ offsets.offsets.items = ap (λ (xs : List ℕ). within xs ends) i.whole ∙ o.stands i.more in
+    let inner : ends_within (length new) ends ≡ true = ap (λ (xs : List ℕ). ends_within (length xs) ends) i.whole ∙ o.ends i.more in
+    let own : Array = array_in new (arrays_in new behind) below.value in
+    let laid : IsPlacedAs (list_layout offsets.offsets.items own) mid new before behind (layouts.List ends below) = record {
+      more = offsets.offsets.items ++ i.more;
+      whole = i.whole ∙ ap (λ (xs : List ℕ). xs ++ i.more) o.whole ∙ append_assoc mid offsets.offsets.items i.more;
+      own = i.own;
+      longer = i.longer;
+      laid = lists_are new (arrays_in new behind) ends below ∙ ap (λ (xs : List ℕ). list_layout xs own) front;
+      ends = lists_within (length new) (stands_within (length new) behind) ends below ∙ and_from _ _ inner i.ends;
+    } in
+    array_placed (validity_of_bits slots.valid.items) (list_layout offsets.offsets.items own) count (length slots.valid.items) old mid new before behind validity (layouts.List ends below) same a laid
+    (List' slots offsets p items) (list_column slots offsets p items own i.placed)
+
+pub fixed_list_placed : (slots : Slots) (size : ℕ) (p : _) (items : ColumnBuilder) (count : ℕ) (old mid new : List ℕ) (before behind : List Dictionary) (validity : Span) (below : Box PlacedArray)
+    → count ≡ length slots.valid.items → IsAppended old (validity_of_bits slots.valid.items) mid validity → IsPlaced items mid new before behind below.value
+    → IsPlaced (FixedList' slots size p items) old new before behind (roll-PlacedArray (record { slots = count; validity = validity; layout = layouts.FixedList below }))
+fixed_list_placed slots size p items count old mid new before behind validity below same a i =
+    let own : Array = array_in new (arrays_in new behind) below.value in
+    let laid : IsPlacedAs (fixed_list_layout own) mid new before behind (layouts.FixedList below) = record {
+      more = i.more;
+      whole = i.whole;
+      own = i.own;
+      longer = i.longer;
+      laid = fixed_lists_are new (arrays_in new behind) below;
+      ends = fixed_lists_within (length new) (stands_within (length new) behind) below ∙ i.ends;
+    } in
+    array_placed (validity_of_bits slots.valid.items) (fixed_list_layout own) count (length slots.valid.items) old mid new before behind validity (layouts.FixedList below) same a laid
+    (FixedList' slots size p items) (fixed_list_column slots size p items own i.placed)
+
 -- ---- arrays, one after another
 
+built_more : (bs : List ColumnBuilder) (arrays : List Array) (b : ColumnBuilder) (a : Array) → AreBuilt bs arrays → IsBuilt b a → AreBuilt (bs ++ b ∷ []) (arrays ++ a ∷ [])
+built_more bs arrays b a so is = record {
+  count = length-append arrays (a ∷ []) ∙ ap (λ (n : ℕ). n + 1) so.count ∙ sym (length-append bs (b ∷ []));
+  each = λ j d x db da. elim (last_or_before bs b d j db) [
+    | inl own ↦ elim (last_or_before arrays a x j da) [
+      | inl there ↦ so.each j d x own there
+      | inr last ↦ (let lt = slice_get_within bs j d own in absurd (omega (arith, lt, last.0, so.count)))
+    ]
+    | inr own ↦ elim (last_or_before arrays a x j da) [
+      | inl there ↦ (let lt = slice_get_within arrays j x there in absurd (omega (arith, lt, own.0, so.count)))
+      | inr last ↦ rw (← own.1, ← last.1) is
+    ]
+  ];
+}
+
 pub record SoFar (bs : List ColumnBuilder) (bytes : List ℕ) (dictionaries : List Dictionary) (arrays : List PlacedArray) : Type 0 where
-  pub placed : ArePlaced bs bytes dictionaries arrays
+  pub placed : AreBuilt bs (map (array_in bytes (arrays_in bytes dictionaries)) arrays)
   pub ends : list_all (is_placed_within (length bytes) dictionaries) arrays ≡ true
 
 all_stay : (old more : List ℕ) (before own : List Dictionary) (arrays : List PlacedArray) → list_all (is_placed_within (length old) before) arrays ≡ true
@@ -251,16 +334,25 @@ placed_more : (bs : List ColumnBuilder) (b : ColumnBuilder) (old new : List ℕ)
     → IsPlaced b old new before behind a → SoFar (bs ++ b ∷ []) new behind (arrays ++ a ∷ [])
 placed_more bs b old new before behind arrays a so p =
     let longer : length new ≡ length old + length p.more = ap length p.whole ∙ length-append old p.more in
-    let front : map (array_in new (arrays_in new behind)) arrays ≡ map array_of bs =
-    (λ j. map (array_in (p.whole j) (arrays_in (p.whole j) (p.longer j))) arrays) ∙ all_stay old p.more before p.own arrays so.ends ∙ so.placed in
+    let front : map (array_in new (arrays_in new behind)) arrays ≡ map (array_in old (arrays_in old before)) arrays =
+    (λ j. map (array_in (p.whole j) (arrays_in (p.whole j) (p.longer j))) arrays) ∙ all_stay old p.more before p.own arrays so.ends in
     let within : list_all (is_placed_within (length new) behind) arrays ≡ true =
     ap (λ (ds : List Dictionary). list_all (is_placed_within (length new) ds) arrays) p.longer ∙ all_within (length old) (length new) before p.own arrays (omega (arith, longer)) so.ends in
+    let own : Array = array_in new (arrays_in new behind) a in
     record {
-      placed = map-append (array_in new (arrays_in new behind)) arrays (a ∷ []) ∙ (λ j. front j ++ p.placed j ∷ []) ∙ sym (map-append array_of bs (b ∷ []));
+      placed = subst (λ (xs : List Array). AreBuilt (bs ++ b ∷ []) xs) (sym (map-append (array_in new (arrays_in new behind)) arrays (a ∷ []) ∙ ap (λ (xs : List Array). xs ++ own ∷ []) front))
+          (built_more bs (map (array_in old (arrays_in old before)) arrays) b own so.placed p.placed);
       ends = list_all-append (is_placed_within (length new) behind) arrays (a ∷ []) ∙ and_from _ _ within (and_from _ _ p.ends refl);
     }
+
+pub none_placed : (bytes : List ℕ) (dictionaries : List Dictionary) → SoFar [] bytes dictionaries []
+none_placed bytes dictionaries = record { placed = record { count = refl; each = λ j b a db da. absurd cc }; ends = refl }
 
 pub placed_pushed : (bs : List ColumnBuilder) (b : ColumnBuilder) (old new : List ℕ) (before behind : List Dictionary) (arrays longer : List PlacedArray) (a : PlacedArray) → SoFar bs old before arrays
     → IsPlaced b old new before behind a → longer ≡ arrays ++ a ∷ [] → SoFar (bs ++ b ∷ []) new behind longer
 placed_pushed bs b old new before behind arrays longer a so p pushed =
     subst (λ (xs : List PlacedArray). SoFar (bs ++ b ∷ []) new behind xs) (sym pushed) (placed_more bs b old new before behind arrays a so p)
+
+pub all_placed : (bs : List ColumnBuilder) (bytes : List ℕ) (dictionaries : List Dictionary) (arrays : List PlacedArray) → SoFar bs bytes dictionaries arrays → ArePlaced bs bytes dictionaries arrays
+all_placed bs bytes dictionaries arrays so cs rows k =
+    all_built cs rows bs (map (array_in bytes (arrays_in bytes dictionaries)) arrays) k.count so.placed.count k.each so.placed.each

@@ -180,7 +180,7 @@ half_all cs null_text ts rows i heavy bs le h =
 
 -- ---- one more column
 
-last_or_before : {X : Type 0} (xs : List X) (x y : X) (j : ℕ) → slice_get (xs ++ x ∷ []) j ≡ Some y → (slice_get xs j ≡ Some y) ⊎ ((j ≡ length xs) × (x ≡ y))
+pub last_or_before : {X : Type 0} (xs : List X) (x y : X) (j : ℕ) → slice_get (xs ++ x ∷ []) j ≡ Some y → (slice_get xs j ≡ Some y) ⊎ ((j ≡ length xs) × (x ≡ y))
 last_or_before [] x y zero h = inr (refl, cc)
 last_or_before [] x y (suc j) h = absurd cc
 last_or_before (z ∷ xs) x y zero h = inl h

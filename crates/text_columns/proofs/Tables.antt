@@ -10,7 +10,7 @@ use Rattle.cells.specs.Row.{is_row}
 use Rattle.cells.specs.Weight.{table_weight}
 use Rattle.text_import.specs.declared.refusal.Refused.{Refused}
 use Rattle.columns.specs.Alone.{IsBuiltAlone, own_array, own_column}
-use Rattle.columns.specs.Array.{Arrays, arrays_of, array_list, slots_in}
+use Rattle.columns.specs.Array.{Arrays, array_list, slots_in}
 use Rattle.columns.specs.Buildable.{can_build_rows}
 use Rattle.columns.specs.Buffers.{buffers_of, dictionaries_of, nodes_of}
 use Rattle.columns.specs.Built.{built_parts}
@@ -31,7 +31,6 @@ use Rattle.text_columns.specs.declared.records.RowsRead.{RowsRead}
 use Rattle.text_columns.specs.inner.Kept.{HasRows, KeepAll}
 use Rattle.text_columns.specs.inner.Tables.{HasTable, MakesRows}
 use Rattle.text_columns.specs.inner.Placed.{ArePlaced}
-use Rattle.text_columns.proofs.BuiltArrays.{all_built}
 
 -- ---- the batch
 
@@ -94,7 +93,7 @@ pub part_made : (s : PlainSchema) (rows : List (List Cell)) (bs : List ColumnBui
 part_made s rows bs n part batch k count law lists can entries one size placed =
     let cs : Columns = columns_of s.columns in
     let built : AreBuilt cs rows = law cs rows can in
-    let arrays : placed_arrays part.bytes.items part.dictionaries.items batch.arrays.items ≡ built_parts cs rows = ap arrays_of placed ∙ all_built s.columns rows bs k.count k.each in
+    let arrays : placed_arrays part.bytes.items part.dictionaries.items batch.arrays.items ≡ built_parts cs rows = placed s.columns rows k in
     let many : batch.rows ≡ length rows = size ∙ sym count in
     let back : rows_in cs (placed_arrays part.bytes.items part.dictionaries.items batch.arrays.items) batch.rows ≡ rows = (λ j. rows_in cs (arrays j) (many j)) ∙ built.back in
     let sound : are_sound cs batch.rows (placed_arrays part.bytes.items part.dictionaries.items batch.arrays.items) ≡ true =

@@ -22,7 +22,8 @@ use Rattle.columns.specs.declared.numbers.OffsetWidth.{OffsetWidth}
 use Rattle.text_import.specs.Flat.{bytes_cell, cell_of_text, field_cell, number_cell}
 use Rattle.text_columns.specs.declared.column_values.Values.{Values}
 use Rattle.text_columns.specs.declared.column_values.Values.TheVariants.{Nulls, Booleans, Integers, Texts, Binaries, FixedBinaries}
-use Rattle.text_columns.specs.declared.builder.ColumnBuilder.{ColumnBuilder}
+use Rattle.text_columns.specs.declared.builder.ColumnBuilder.{Flat}
+use Rattle.text_columns.specs.declared.flat.FlatBuilder.{FlatBuilder}
 use Rattle.text_columns.specs.inner.Kept.{AppendsBoolean, AppendsBytes, AppendsFixed, AppendsSpelled, HoldContents, Holds, IsOf, KeepsField, TakesField, TakesNull, TakesText, null_heavy}
 use Rattle.text_columns.specs.inner.Lines.{KeepsNull}
 use Rattle.text_import.specs.declared.refusal.Refusal.TheVariants.{FixedWidth}
@@ -35,27 +36,28 @@ pub one_joined : (f : Cell → List ℕ) (cells : List Cell) (c : Cell) (old new
 one_joined f cells c old new is e = e ∙ rw (is, flat_map-append, append-nil) refl
 
 -- one more offset
-sums_more : (start : ℕ) (cells : List Cell) (c : Cell)
-    → sums_from start (map (λ d. length (contents_of d)) (cells ++ c ∷ [])) ≡ sums_from start (map (λ d. length (contents_of d)) cells) ++ (start + length (flat_map contents_of cells) + length (contents_of c)) ∷ []
-sums_more start [] c = let e : start + length (contents_of c) ≡ start + 0 + length (contents_of c) = omega arith in rw e refl
-sums_more start (d ∷ cells) c =
-    let size = length-append (contents_of d) (flat_map contents_of cells) in
-    let e : start + length (contents_of d) + length (flat_map contents_of cells) + length (contents_of c) ≡ start + length (contents_of d ++ flat_map contents_of cells) + length (contents_of c) = omega arith in
-    ap (λ (xs : List ℕ). start ∷ xs) (sums_more (start + length (contents_of d)) cells c ∙ ap (λ (n : ℕ). sums_from (start + length (contents_of d)) (map (λ d. length (contents_of d)) cells) ++ n ∷ []) e)
+module _ {A : Type 0} (f : Cell → List A) where
+  sums_more : (start : ℕ) (cells : List Cell) (c : Cell)
+      → sums_from start (map (λ d. length (f d)) (cells ++ c ∷ [])) ≡ sums_from start (map (λ d. length (f d)) cells) ++ (start + length (flat_map f cells) + length (f c)) ∷ []
+  sums_more start [] c = let e : start + length (f c) ≡ start + 0 + length (f c) = omega arith in rw e refl
+  sums_more start (d ∷ cells) c =
+      let size = length-append (f d) (flat_map f cells) in
+      let e : start + length (f d) + length (flat_map f cells) + length (f c) ≡ start + length (f d ++ flat_map f cells) + length (f c) = omega arith in
+      ap (λ (xs : List ℕ). start ∷ xs) (sums_more (start + length (f d)) cells c ∙ ap (λ (n : ℕ). sums_from (start + length (f d)) (map (λ d. length (f d)) cells) ++ n ∷ []) e)
 
-offset_more : (width : ℕ) (cells : List Cell) (c : Cell)
-    → offsets_of width (map (λ d. length (contents_of d)) (cells ++ c ∷ [])) ≡ offsets_of width (map (λ d. length (contents_of d)) cells) ++ little_bytes width (length (flat_map contents_of cells) + length (contents_of c))
-offset_more width cells c =
-    let zero_plus : 0 + length (flat_map contents_of cells) + length (contents_of c) ≡ length (flat_map contents_of cells) + length (contents_of c) = omega arith in
-    ap (flat_map (little_bytes width)) (sums_more 0 cells c)
-    ∙ flat_map-append (little_bytes width) (sums_from 0 (map (λ d. length (contents_of d)) cells)) ((0 + length (flat_map contents_of cells) + length (contents_of c)) ∷ [])
-    ∙ ap (λ (xs : List ℕ). offsets_of width (map (λ d. length (contents_of d)) cells) ++ xs) (append-nil (little_bytes width (0 + length (flat_map contents_of cells) + length (contents_of c))) ∙ ap (little_bytes width) zero_plus)
+  pub offset_more : (width : ℕ) (cells : List Cell) (c : Cell)
+      → offsets_of width (map (λ d. length (f d)) (cells ++ c ∷ [])) ≡ offsets_of width (map (λ d. length (f d)) cells) ++ little_bytes width (length (flat_map f cells) + length (f c))
+  offset_more width cells c =
+      let zero_plus : 0 + length (flat_map f cells) + length (f c) ≡ length (flat_map f cells) + length (f c) = omega arith in
+      ap (flat_map (little_bytes width)) (sums_more 0 cells c)
+      ∙ flat_map-append (little_bytes width) (sums_from 0 (map (λ d. length (f d)) cells)) ((0 + length (flat_map f cells) + length (f c)) ∷ [])
+      ∙ ap (λ (xs : List ℕ). offsets_of width (map (λ d. length (f d)) cells) ++ xs) (append-nil (little_bytes width (0 + length (flat_map f cells) + length (f c))) ∙ ap (little_bytes width) zero_plus)
 
 -- a text or a binary comes behind others, or a null, which has no bytes
 pub contents_hold : (width : OffsetWidth) (cells : List Cell) (c : Cell) (offsets contents newer longer : List ℕ) → HoldContents width cells offsets contents → longer ≡ contents ++ contents_of c
     → newer ≡ offsets ++ little_bytes (width_of width) (length contents + length (contents_of c)) → HoldContents width (cells ++ c ∷ []) newer longer
 contents_hold width cells c offsets contents newer longer holds more end =
-    (rw (holds.0, holds.1) at end ∙ sym (offset_more (width_of width) cells c), one_joined contents_of cells c contents longer holds.1 more)
+    (rw (holds.0, holds.1) at end ∙ sym (offset_more contents_of (width_of width) cells c), one_joined contents_of cells c contents longer holds.1 more)
 
 -- the type of values is theirs whatever they hold
 texts_of : (kind : Kind) (width : OffsetWidth) (offsets contents newer longer : Vec ℕ) → IsOf kind (Texts width offsets contents) → IsOf kind (Texts width newer longer)
@@ -227,22 +229,22 @@ fixed_taken width t heavy old new a _ cells k = absurd k.kind_is
 -- ---- fields
 
 -- a null of a column that has nulls is the cell of the null text
-null_kept : (null_text t : List ℕ) (heavy : ℕ) (old new : ColumnBuilder) → (old.nullable && bytes_eq t null_text) ≡ true → heavy ≡ null_heavy old.values → KeepsNull old new
-    → KeepsField null_text t heavy old new
+null_kept : (null_text t : List ℕ) (heavy : ℕ) (old new : FlatBuilder) → (old.nullable && bytes_eq t null_text) ≡ true → KeepsNull heavy (Flat old) (Flat new)
+    → KeepsField null_text t heavy (Flat old) (Flat new)
 unfolding field_cell
-null_kept null_text t heavy old new is heavier keeps (column name nullable kind dictionary pairs) cells k =
+null_kept null_text t heavy old new is keeps (column name nullable kind dictionary pairs) cells k =
     let test : (nullable && bytes_eq t null_text) ≡ true = rw k.0 at is in
     let h = keeps (column name nullable kind dictionary pairs) cells k in
-    record { kept = null; read = rw test refl; weighs = h.1 ∙ sym heavier; keeps = h.2 }
+    record { kept = null; read = rw test refl; weighs = h.1; keeps = h.2 }
 
-pub null_field : {E : Type 0} (null_text t : List ℕ) (old new : ColumnBuilder) (r : Result (Option ℕ) E) → (old.nullable && bytes_eq t null_text) ≡ true
-    → IfOk r (λ taken. IfSome taken (λ heavy. (heavy ≡ null_heavy old.values) × KeepsNull old new)) → IfOk r (λ taken. IfSome taken (λ heavy. KeepsField null_text t heavy old new))
+pub null_field : {E : Type 0} (null_text t : List ℕ) (old new : FlatBuilder) (r : Result (Option ℕ) E) → (old.nullable && bytes_eq t null_text) ≡ true
+    → IfOk r (λ taken. IfSome taken (λ heavy. KeepsNull heavy (Flat old) (Flat new))) → IfOk r (λ taken. IfSome taken (λ heavy. KeepsField null_text t heavy (Flat old) (Flat new)))
 null_field null_text t old new (Err e) is h = tt
 null_field null_text t old new (Ok None) is h = tt
-null_field null_text t old new (Ok (Some heavy)) is h = null_kept null_text t heavy old new is h.0 h.1
+null_field null_text t old new (Ok (Some heavy)) is h = null_kept null_text t heavy old new is h
 
-pub field_kept : (null_text t : List ℕ) (heavy : ℕ) (old new : ColumnBuilder) → (old.nullable && bytes_eq t null_text) ≡ false → new.nullable ≡ old.nullable → new.valid.items ≡ old.valid.items ++ true ∷ []
-    → TakesField t heavy old.values old.coding new.values new.coding → KeepsField null_text t heavy old new
+pub field_kept : (null_text t : List ℕ) (heavy : ℕ) (old new : FlatBuilder) → (old.nullable && bytes_eq t null_text) ≡ false → new.nullable ≡ old.nullable → new.valid.items ≡ old.valid.items ++ true ∷ []
+    → TakesField t heavy old.values old.coding new.values new.coding → KeepsField null_text t heavy (Flat old) (Flat new)
 unfolding field_cell weight
 field_kept null_text t heavy old new is same valid takes (column name nullable kind dictionary pairs) cells k =
     let test : (nullable && bytes_eq t null_text) ≡ false = rw k.0 at is in

@@ -30,8 +30,9 @@ use Rattle.text_import.specs.declared.refusal.Refusal.TheVariants.{NotUtf8}
 use Rattle.text_columns.specs.declared.coding.Coding.{Coding}
 use Rattle.text_columns.specs.declared.column_values.Values.{Values}
 use Rattle.text_columns.specs.declared.column_values.Values.TheVariants.{Booleans, Integers, Texts, Binaries, FixedBinaries}
-use Rattle.text_columns.specs.declared.builder.ColumnBuilder.{ColumnBuilder}
-use Rattle.text_columns.specs.inner.Kept.{AppendsBytes, AppendsFixed, AppendsInteger, Clears, Codes, HasCell, Holds, HoldsCells, IsCoded, TakesNullCell, null_heavy}
+use Rattle.text_columns.specs.declared.builder.ColumnBuilder.{ColumnBuilder, Flat}
+use Rattle.text_columns.specs.declared.flat.FlatBuilder.{FlatBuilder}
+use Rattle.text_columns.specs.inner.Kept.{AppendsBytes, AppendsFixed, AppendsInteger, Clears, Codes, HasCell, Holds, HoldsCells, IsCoded, Keeps, TakesNullCell, null_heavy}
 use Rattle.text_columns.specs.inner.Lines.{AppendsBinary, AppendsBit, AppendsFixedBinary, AppendsNumber, AppendsString, Completes, KeepsNull, KeepsToken, KeepsValue, TakesCellToken, TakesCodedToken, TakesNumber, TakesToken, TakesValue, integer_in, token_data}
 use Rattle.text_columns.proofs.Coded.{bytes_fit_kind, number_fits_kind, fitting_fits, own_flat, own_kind, with_one}
 use Rattle.text_columns.proofs.Taken.{contents_hold, dates_read, null_weighs, one_joined, one_mapped, times_read, width_fits}
@@ -200,13 +201,19 @@ fixed_binary_step width t old new (Ok (Some heavy)) h = record { data_is = json.
 
 -- ---- cells of a column
 
-pub null_behind : (old new : ColumnBuilder) → old.nullable ≡ true → new.nullable ≡ old.nullable → new.valid.items ≡ old.valid.items ++ false ∷ []
-    → TakesNullCell old.values old.coding new.values new.coding → KeepsNull old new
+-- a null comes behind them
+pub null_behind : (old new : FlatBuilder) → new.nullable ≡ old.nullable → new.valid.items ≡ old.valid.items ++ false ∷ [] → TakesNullCell old.values old.coding new.values new.coding
+    → (c : Column) (so : List Cell) → Keeps c so (Flat old) → Keeps c (so ++ null ∷ []) (Flat new)
+null_behind old new same valid takes (column name nullable kind dictionary pairs) so k =
+    (same ∙ k.0, one_mapped is_there so null old.valid.items new.valid.items k.1 valid, takes dictionary kind so k.2)
+
+pub null_kept : (old new : FlatBuilder) → old.nullable ≡ true → new.nullable ≡ old.nullable → new.valid.items ≡ old.valid.items ++ false ∷ []
+    → TakesNullCell old.values old.coding new.values new.coding → KeepsNull (null_heavy old.values) (Flat old) (Flat new)
 unfolding weight
-null_behind old new is same valid takes (column name nullable kind dictionary pairs) so k = (
+null_kept old new is same valid takes (column name nullable kind dictionary pairs) so k = (
   sym k.0 ∙ is,
   null_weighs kind old.values (own_kind dictionary kind so old.values old.coding k.2),
-  (same ∙ k.0, one_mapped is_there so null old.valid.items new.valid.items k.1 valid, takes dictionary kind so k.2),
+  null_behind old new same valid takes (column name nullable kind dictionary pairs) so k,
 )
 
 -- a value that is no null has the cell of its type
@@ -218,9 +225,9 @@ not_null nullable f (json.string t) other = refl
 not_null nullable f (json.array ds) other = refl
 not_null nullable f (json.object ms) other = refl
 
-value_behind : (d : Data) (heavy : ℕ) (old new : ColumnBuilder) → (d ≡ json.null → ⊥) → new.nullable ≡ old.nullable → new.valid.items ≡ old.valid.items ++ true ∷ []
+value_behind : (d : Data) (heavy : ℕ) (old new : FlatBuilder) → (d ≡ json.null → ⊥) → new.nullable ≡ old.nullable → new.valid.items ≡ old.valid.items ++ true ∷ []
     → ((dictionary : Option Index) (kind : Kind) (so : List Cell) → HoldsCells dictionary kind so old.values old.coding → HasCell dictionary kind (kind_in kind d) heavy so new.values new.coding)
-    → KeepsValue d heavy old new
+    → KeepsValue d heavy (Flat old) (Flat new)
 unfolding cell_in weight
 value_behind d heavy old new other same valid takes (column name nullable kind dictionary pairs) so k =
     let h = takes dictionary kind so k.2 in
@@ -232,8 +239,8 @@ value_behind d heavy old new other same valid takes (column name nullable kind d
       keeps = (same ∙ k.0, one_mapped is_there so h.taken old.valid.items new.valid.items k.1 (valid ∙ there), h.holds);
     }
 
-pub there_behind : (t : Token) (heavy : ℕ) (old new : ColumnBuilder) → new.nullable ≡ old.nullable → new.valid.items ≡ old.valid.items ++ true ∷ []
-    → TakesCellToken t heavy old.values old.coding new.values new.coding → KeepsToken t heavy old new
+pub there_behind : (t : Token) (heavy : ℕ) (old new : FlatBuilder) → new.nullable ≡ old.nullable → new.valid.items ≡ old.valid.items ++ true ∷ []
+    → TakesCellToken t heavy old.values old.coding new.values new.coding → KeepsToken t heavy (Flat old) (Flat new)
 there_behind t heavy old new same valid takes = record { data_is = takes.data_is; read = takes.read; keeps = value_behind takes.data_is heavy old new takes.there same valid takes.takes }
 
 -- ---- values of a dictionary
@@ -329,18 +336,17 @@ null_read : (c : Column) → is_nullable_column c ≡ true → cell_in c json.nu
 unfolding cell_in
 null_read (column name nullable kind dictionary pairs) e = rw e refl
 
-pub null_token : (old new : ColumnBuilder) → KeepsNull old new → KeepsToken tokens.null (null_heavy old.values) old new
-null_token old new keeps = record {
-  data_is = json.null;
-  read = refl;
-  keeps = λ c so k. (let h = keeps c so k in record { kept = null; read = null_read c h.0; weighs = h.1; keeps = h.2 });
-}
+null_value : (heavy : ℕ) (old new : ColumnBuilder) → KeepsNull heavy old new → KeepsValue json.null heavy old new
+null_value heavy old new keeps c so k = (let h = keeps c so k in record { kept = null; read = null_read c h.0; weighs = h.1; keeps = h.2 })
 
-pub null_step : {E : Type 0} (t : Token) (old new : ColumnBuilder) (r : Result (Option ℕ) E) → t ≡ tokens.null → IfOk r (λ taken. IfSome taken (λ heavy. (heavy ≡ null_heavy old.values) × KeepsNull old new))
+pub null_token : (heavy : ℕ) (old new : ColumnBuilder) → KeepsNull heavy old new → KeepsToken tokens.null heavy old new
+null_token heavy old new keeps = record { data_is = json.null; read = refl; keeps = null_value heavy old new keeps }
+
+pub null_step : {E : Type 0} (t : Token) (old new : ColumnBuilder) (r : Result (Option ℕ) E) → t ≡ tokens.null → IfOk r (λ taken. IfSome taken (λ heavy. KeepsNull heavy old new))
     → IfOk r (λ taken. IfSome taken (λ heavy. KeepsToken t heavy old new))
 null_step t old new (Err e) is h = tt
 null_step t old new (Ok None) is h = tt
-null_step t old new (Ok (Some heavy)) is h = rw (is, h.0) (null_token old new h.1)
+null_step t old new (Ok (Some heavy)) is h = rw is (null_token heavy old new h)
 
 -- ---- members
 
@@ -348,12 +354,12 @@ pub member_kept : (heavy : ℕ) (b : ColumnBuilder) → Completes (Some heavy) h
 member_kept heavy b c so None h = absurd h
 member_kept heavy b c so (Some d) h = record { kept = h.kept; read = h.read; weighs = h.weighs; keeps = h.keeps }
 
-member_absent : (old new : ColumnBuilder) → KeepsNull old new → Completes None (null_heavy old.values) old new
-member_absent old new keeps c so None h = (let k = keeps c so h in record { kept = null; read = rw k.0 refl; weighs = k.1; keeps = k.2 })
-member_absent old new keeps c so (Some d) h = absurd h
+member_absent : (heavy : ℕ) (old new : ColumnBuilder) → KeepsNull heavy old new → Completes None heavy old new
+member_absent heavy old new keeps c so None h = (let k = keeps c so h in record { kept = null; read = rw k.0 refl; weighs = k.1; keeps = k.2 })
+member_absent heavy old new keeps c so (Some d) h = absurd h
 
-pub absent_step : {E : Type 0} (old new : ColumnBuilder) (r : Result (Option ℕ) E) → IfOk r (λ taken. IfSome taken (λ heavy. (heavy ≡ null_heavy old.values) × KeepsNull old new))
+pub absent_step : {E : Type 0} (old new : ColumnBuilder) (r : Result (Option ℕ) E) → IfOk r (λ taken. IfSome taken (λ heavy. KeepsNull heavy old new))
     → IfOk r (λ taken. IfSome taken (λ heavy. Completes None heavy old new))
 absent_step old new (Err e) h = tt
 absent_step old new (Ok None) h = tt
-absent_step old new (Ok (Some heavy)) h = rw h.0 (member_absent old new h.1)
+absent_step old new (Ok (Some heavy)) h = member_absent heavy old new h

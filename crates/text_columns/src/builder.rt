@@ -1,49 +1,150 @@
 // The cells of one column.
-ghost use Rattle.std.specs.Prelude.{IfOk, IfSome};
-ghost use Rattle.text_columns.specs.inner.Kept.{KeepsField, null_heavy};
+ghost use Rattle.std.specs.Prelude.{◌≡◌, ◌+◌, ◌*◌, ◌++◌, ◌∷◌, [], IfOk, IfSome, OnOk, true, false, replicate};
+ghost use Rattle.byteorder.specs.Endian.{little_bytes};
+ghost use Rattle.columns.specs.Offsets.{width_of};
+ghost use Rattle.text_columns.specs.inner.Kept.{AppendsNulls, KeepsField, PushesEmpty, PushesEnd, PushesThere, is_nullable, null_heavy_of};
 ghost use Rattle.text_columns.specs.inner.Lines.{KeepsNull};
 
-use crate::coding::{self, Coding};
-use crate::column_values::Values;
+use crate::flat::FlatBuilder;
 use cells::MAX_ROW_WEIGHT;
+use columns::{OffsetWidth, push_offset};
 use std::alloc::AllocError;
 
-/// The cells of a column so far: which of them are there, and their values, or the entries of a dictionary and what else it has.
+/// The cells of a column so far: those of a column without parts, or of lists or lists of one size, with the cells of their items.
 #[derive(Drop)]
-pub(crate) struct ColumnBuilder {
+pub(crate) enum ColumnBuilder {
+    Flat(FlatBuilder),
+    List(Slots, ListOffsets, Box<ColumnBuilder>),
+    FixedList(Slots, u32, Box<ColumnBuilder>),
+}
+
+/// Which cells of a column with parts are there, and what a null of it weighs.
+#[derive(Drop)]
+pub(crate) struct Slots {
     pub(crate) nullable: bool,
     pub(crate) valid: Vec<bool>,
-    pub(crate) values: Values,
-    pub(crate) coding: Option<Coding>,
+    pub(crate) null_weight: u64,
+}
+
+/// Where lists end among the items of all, of which there are so many.
+#[derive(Drop)]
+pub(crate) struct ListOffsets {
+    pub(crate) width: OffsetWidth,
+    pub(crate) offsets: Vec<u8>,
+    pub(crate) count: u64,
+}
+
+impl Slots {
+    /// Appends a cell that is there.
+    pub(crate) fn push_there(&mut self) -> Result<(), AllocError>
+        ensures { OnOk result (PushesThere self.old self.new) }
+    {
+        self.valid.push(true)?;
+        Ok(())
+    }
+
+    // Appends so many nulls.
+    fn push_nulls(&mut self, count: usize) -> Result<(), AllocError>
+        ensures nullable { OnOk result (self.new.nullable ≡ self.old.nullable) }
+        ensures null_weight { OnOk result (self.new.null_weight ≡ self.old.null_weight) }
+        ensures valid { OnOk result (self.new.valid.items ≡ self.old.valid.items ++ replicate count false) }
+    {
+        match self.valid.len().checked_add(count) {
+            Some(end) => self.valid.resize(end, false),
+            None => Err(AllocError),
+        }
+    }
+}
+
+impl ListOffsets {
+    /// Appends the end of a list of so many items.
+    pub(crate) fn push(&mut self, items: u64) -> Result<(), AllocError>
+        ensures { OnOk result (PushesEnd items self.old self.new) }
+    {
+        let Some(count) = self.count.checked_add(items) else {
+            return Err(AllocError);
+        };
+        self.count = count;
+        push_offset(&mut self.offsets, self.width, count)
+    }
+
+    // Appends the ends of so many lists without items.
+    fn push_empty(&mut self, lists: usize) -> Result<(), AllocError>
+        ensures { OnOk result (PushesEmpty lists self.old self.new) }
+    {
+        for _ in 0..lists {
+            self.push(0)?;
+        }
+        Ok(())
+    }
+}
+
+// How many items so many lists of a size have.
+fn items_of(lists: usize, size: u32) -> Result<usize, AllocError>
+    ensures { IfOk result (λ items. items ≡ lists * size) }
+{
+    match lists.checked_mul(size as usize) {
+        Some(items) => Ok(items),
+        None => Err(AllocError),
+    }
 }
 
 impl ColumnBuilder {
-    ghost use Rattle.std.specs.Prelude.{◌≡◌, ◌&&◌, bytes_eq};
-
-    // Whether the text of a field is a null of the column.
-    fn is_null(&self, null_text: &[u8], text: &[u8]) -> bool
-        ensures { result ≡ (self.now.nullable && bytes_eq text.now null_text.now) }
+    fn is_nullable(&self) -> bool
+        ensures { result ≡ is_nullable self.now }
     {
-        self.nullable && text == null_text
+        match self {
+            ColumnBuilder::Flat(flat) => flat.nullable,
+            ColumnBuilder::List(slots, _, _) => slots.nullable,
+            ColumnBuilder::FixedList(slots, _, _) => slots.nullable,
+        }
+    }
+
+    /// What a null of the column weighs.
+    pub(crate) fn null_weight(&self) -> u64
+        ensures { result ≡ null_heavy_of self.now }
+    {
+        match self {
+            ColumnBuilder::Flat(flat) => flat.values.null_weight(),
+            ColumnBuilder::List(slots, _, _) => slots.null_weight,
+            ColumnBuilder::FixedList(slots, _, _) => slots.null_weight,
+        }
+    }
+
+    /// Appends so many nulls, whether the column is nullable or not: below a null list is nothing, and below one of a size are nulls.
+    pub(crate) fn push_nulls(&mut self, count: usize) -> Result<(), AllocError>
+        ensures { OnOk result (AppendsNulls count self.old self.new) }
+    {
+        match self {
+            ColumnBuilder::Flat(flat) => flat.push_nulls(count),
+            ColumnBuilder::List(slots, offsets, _) => {
+                slots.push_nulls(count)?;
+                offsets.push_empty(count)
+            }
+            ColumnBuilder::FixedList(slots, size, items) => {
+                slots.push_nulls(count)?;
+                let below = items_of(count, *size)?;
+                items.push_nulls(below)
+            }
+        }
     }
 
     /// Appends a null, where the column is nullable and a row may weigh as much, and answers what it weighs.
     pub(crate) fn push_null(&mut self) -> Result<Option<u64>, AllocError>
-        ensures { IfOk result (λ taken. IfSome taken (λ heavy. (heavy ≡ null_heavy self.old.values) × KeepsNull self.old self.new)) }
+        ensures { IfOk result (λ taken. IfSome taken (λ heavy. KeepsNull heavy self.old self.new)) }
     {
-        if !self.nullable {
+        if !self.is_nullable() {
             return Ok(None);
         }
-        let heavy = self.values.null_weight();
+        let heavy = self.null_weight();
         if heavy > MAX_ROW_WEIGHT {
             return Ok(None);
         }
-        coding::push_null(&mut self.values, &mut self.coding)?;
-        self.valid.push(false)?;
+        self.push_nulls(1)?;
         Ok(Some(heavy))
     }
 
-    /// Appends the cell of a field, where its text is one, and answers what it weighs. The null text is a null where the column is nullable.
+    /// Appends the cell of a field, where its text is one, and answers what it weighs; none where the column has parts.
     pub(crate) fn push_field(
         &mut self,
         null_text: &[u8],
@@ -51,11 +152,9 @@ impl ColumnBuilder {
     ) -> Result<Option<u64>, AllocError>
         ensures { IfOk result (λ taken. IfSome taken (λ heavy. KeepsField null_text.now text.now heavy self.old self.new)) }
     {
-        if self.is_null(null_text, text) {
-            return self.push_null();
+        match self {
+            ColumnBuilder::Flat(flat) => flat.push_field(null_text, text),
+            _ => Ok(None),
         }
-        let taken = coding::push_text(&mut self.values, &mut self.coding, text)?;
-        self.valid.push(true)?;
-        Ok(taken)
     }
 }

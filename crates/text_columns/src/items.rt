@@ -7,22 +7,20 @@ use cells::MAX_ROW_WEIGHT;
 use json::Reader;
 use std::alloc::AllocError;
 
-/// Appends the cells of the items that a reader stands at, and answers what their row weighs; none where they are not as many as columns,
-/// or one does not go in.
+/// Appends the cells of the items that a reader stands at, whose values nest no deeper than the number, and answers what their row weighs; none where
+/// they are not as many as columns, or one does not go in.
 pub(crate) fn push_items(
     builders: &mut [ColumnBuilder],
     reader: &mut Reader<'_>,
+    depth: u32,
 ) -> Result<Option<u64>, AllocError>
     ensures few { IfOk result (λ taken. IfSome taken (λ heavy. heavy ≤ MAX_ROW_WEIGHT)) }
-    ensures kept { IfOk result (λ taken. IfSome taken (λ heavy. KeepsItems reader.old reader.new heavy builders.old builders.new)) }
+    ensures kept { IfOk result (λ taken. IfSome taken (λ heavy. KeepsItems depth reader.old reader.new heavy builders.old builders.new)) }
 {
     let mut weight = 1;
     for i in 0..builders.len() {
-        let Some(token) = reader.next() else {
-            return Ok(None);
-        };
         let builder = &mut builders[i];
-        let Some(heavy) = builder.push_token(token)? else {
+        let Some(heavy) = builder.push_next(reader, depth)? else {
             return Ok(None);
         };
         if heavy > MAX_ROW_WEIGHT - weight {

@@ -19,6 +19,9 @@ use json::{Reader, Scratch, Token};
 use std::alloc::{AllocError, Global};
 use text_import::{is_blank, text_of};
 
+// How deep the values of a line's object or array may nest.
+const BELOW: u32 = 126;
+
 // What the cell weighs that a column has of a row; where it has none, a null comes after its cells.
 fn complete(builder: &mut ColumnBuilder, heavy: Option<u64>) -> Result<Option<u64>, AllocError>
     ensures { IfOk result (λ taken. IfSome taken (λ weighs. Completes heavy weighs builder.old builder.new)) }
@@ -78,7 +81,7 @@ fn push_object(
         return Ok(None);
     }
     clear(heavies);
-    if !push_members(names, order, builders, heavies, reader)? {
+    if !push_members(names, order, builders, heavies, reader, BELOW)? {
         return Ok(None);
     }
     if reader.next().is_some() {
@@ -96,7 +99,7 @@ fn push_array(
     ensures kept { IfOk result (λ taken. IfSome taken (λ heavy. (names : List (List ℕ))
         → KeepsTokens names (tokens.begin_array ∷ reader.old) heavy builders.old builders.new)) }
 {
-    let Some(weight) = push_items(builders, reader)? else {
+    let Some(weight) = push_items(builders, reader, BELOW)? else {
         return Ok(None);
     };
     if reader.next().is_some() {
@@ -144,8 +147,8 @@ fn push_line(
     push_value(names, order, builders, heavies, &mut reader)
 }
 
-/// Appends the rows of lines, of which those that are blank are skipped; none where a line is no object of members without parts, each of the
-/// name of a column, and no array of an item without parts for each column, or where the rows are too heavy for a table.
+/// Appends the rows of lines, of which those that are blank are skipped; none where a line is no object of members, each of the name of a column, and no
+/// array of an item for each column, or where the rows are too heavy for a table.
 pub(crate) fn push_lines(
     alloc: Global,
     names: &IndexSet<&str>,

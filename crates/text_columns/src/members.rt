@@ -43,35 +43,35 @@ fn push_member(
     heavies: &mut [Option<u64>],
     at: usize,
     reader: &mut Reader<'_>,
+    depth: u32,
 ) -> Result<bool, AllocError>
-    ensures { IfOk result (λ done. done ≡ true → PushesMember at reader.old reader.new heavies.old heavies.new builders.old builders.new) }
+    ensures { IfOk result (λ done. done ≡ true → PushesMember depth at reader.old reader.new heavies.old heavies.new builders.old builders.new) }
 {
     if at >= builders.len() || at >= heavies.len() || heavies[at].is_some() {
         return Ok(false);
     }
-    let Some(token) = reader.next() else {
-        return Ok(false);
-    };
     let builder = &mut builders[at];
-    let Some(heavy) = builder.push_token(token)? else {
+    let Some(heavy) = builder.push_next(reader, depth)? else {
         return Ok(false);
     };
     heavies[at] = Some(heavy);
     Ok(true)
 }
 
-/// Appends the values of the members that a reader stands at, and keeps what each weighs; false where one does not go into a column, or two
-/// have one name. `order` has the places of the columns that the members of the line before went into, and then those of this one.
+/// Appends the values of the members that a reader stands at, which nest no deeper than the number, and keeps what each weighs; false where one does not
+/// go into a column, or two have one name. `order` has the places of the columns that the members of the line before went into, and then those of this
+/// one.
 pub(crate) fn push_members(
     names: &IndexSet<&str>,
     order: &mut [usize],
     builders: &mut [ColumnBuilder],
     heavies: &mut [Option<u64>],
     reader: &mut Reader<'_>,
+    depth: u32,
 ) -> Result<bool, AllocError>
     requires { repeats (text_list names.now.keys) ≡ false }
     ensures { IfOk result (λ done. done ≡ true
-        → PushesMembers (text_list names.now.keys) reader.old reader.new heavies.old heavies.new builders.old builders.new) }
+        → PushesMembers depth (text_list names.now.keys) reader.old reader.new heavies.old heavies.new builders.old builders.new) }
 {
     for k in 0..order.len() {
         let Ok(key) = reader.next_key() else {
@@ -84,7 +84,7 @@ pub(crate) fn push_members(
             return Ok(false);
         };
         order[k] = at;
-        if !push_member(builders, heavies, at, reader)? {
+        if !push_member(builders, heavies, at, reader, depth)? {
             return Ok(false);
         }
     }

@@ -2,11 +2,13 @@
 ghost use Rattle.std.specs.Prelude.{◌≡◌, ◌≤◌, ◌++◌, true, [], ◌∷◌, List, length, IfOk};
 ghost use Rattle.std.specs.List.{list_all};
 ghost use Rattle.bitmap.specs.Bits.{packed};
+ghost use Rattle.text_columns.specs.declared.builder.ColumnBuilder.{Flat};
 ghost use Rattle.text_columns.specs.inner.Placed.{AreEntriesPlaced, ArePlaced, IsAppended, IsCodedLaid, IsLaid, IsLayoutPlaced, IsPlaced, has_bitmap, has_validity, validity_in};
 
 use crate::builder::ColumnBuilder;
 use crate::coding::Coding;
 use crate::column_values::Values;
+use crate::flat::FlatBuilder;
 use columns::{Dictionary, DictionaryPart, PlacedArray, PlacedLayout, Span};
 use std::alloc::{AllocError, Global};
 
@@ -43,7 +45,7 @@ fn append_bits(alloc: Global, bytes: &mut Vec<u8>, bits: &[bool]) -> Result<Span
 }
 
 // Whether slots have a validity bitmap: those of the type of nulls have none, without a dictionary.
-fn has_validity(column: &ColumnBuilder) -> bool
+fn has_validity(column: &FlatBuilder) -> bool
     ensures { result ≡ has_validity column.now.coding column.now.values }
 {
     match &column.coding {
@@ -145,7 +147,7 @@ fn place_layout(
     alloc: Global,
     bytes: &mut Vec<u8>,
     dictionaries: &mut Vec<Dictionary>,
-    column: &ColumnBuilder,
+    column: &FlatBuilder,
 ) -> Result<PlacedLayout, AllocError>
     ensures { IfOk result (λ layout. IsLayoutPlaced column.now bytes.old.items bytes.new.items dictionaries.old.items dictionaries.new.items layout) }
 {
@@ -155,14 +157,14 @@ fn place_layout(
     }
 }
 
-// Appends the buffers of a column, and says where they stand.
-fn place(
+// Appends the buffers of a column without parts, and says where they stand.
+fn place_flat(
     alloc: Global,
     bytes: &mut Vec<u8>,
     dictionaries: &mut Vec<Dictionary>,
-    column: &ColumnBuilder,
+    column: &FlatBuilder,
 ) -> Result<PlacedArray, AllocError>
-    ensures { IfOk result (λ array. IsPlaced column.now bytes.old.items bytes.new.items dictionaries.old.items dictionaries.new.items array) }
+    ensures { IfOk result (λ array. IsPlaced (Flat column.now) bytes.old.items bytes.new.items dictionaries.old.items dictionaries.new.items array) }
 {
     let validity = append_validity(alloc, bytes, has_validity(column), &column.valid)?;
     let layout = place_layout(alloc, bytes, dictionaries, column)?;
@@ -171,6 +173,39 @@ fn place(
         validity,
         layout,
     })
+}
+
+// Appends the buffers of a column, and says where they stand: those of items come behind those of their lists.
+fn place(
+    alloc: Global,
+    bytes: &mut Vec<u8>,
+    dictionaries: &mut Vec<Dictionary>,
+    column: &ColumnBuilder,
+) -> Result<PlacedArray, AllocError>
+    ensures { IfOk result (λ array. IsPlaced column.now bytes.old.items bytes.new.items dictionaries.old.items dictionaries.new.items array) }
+{
+    match column {
+        ColumnBuilder::Flat(flat) => place_flat(alloc, bytes, dictionaries, flat),
+        ColumnBuilder::List(slots, ends, items) => {
+            let validity = append_validity(alloc, bytes, true, &slots.valid)?;
+            let offsets = append(bytes, &ends.offsets)?;
+            let below = Box::new(alloc, place(alloc, bytes, dictionaries, items)?)?;
+            Ok(PlacedArray {
+                slots: slots.valid.len(),
+                validity,
+                layout: PlacedLayout::List(offsets, below),
+            })
+        }
+        ColumnBuilder::FixedList(slots, _, items) => {
+            let validity = append_validity(alloc, bytes, true, &slots.valid)?;
+            let below = Box::new(alloc, place(alloc, bytes, dictionaries, items)?)?;
+            Ok(PlacedArray {
+                slots: slots.valid.len(),
+                validity,
+                layout: PlacedLayout::FixedList(below),
+            })
+        }
+    }
 }
 
 /// The arrays of columns, and the bytes and the dictionaries that they stand in.

@@ -80,7 +80,7 @@ pub(crate) fn read_columns(
 }
 
 /// The columns of a text of JSON Lines; none where a column has a type that is not read into arrays, or more entries than its indices name, where two
-/// columns have one name, where a line is neither an object nor an array of values without parts, or where the rows are too heavy for a table.
+/// columns have one name, where a line is neither an object nor an array, or where the rows are too heavy for a table.
 pub(crate) fn read_lines(
     alloc: Global,
     schema: &Schema,

@@ -1,13 +1,17 @@
 // The buffers of the columns of a schema, before there is a row.
-ghost use Rattle.std.specs.Prelude.{◌≡◌, ◌++◌, true, None, Some, [], ◌∷◌, map, IfOk, IfSome};
+ghost use Rattle.std.specs.Prelude.{◌≡◌, ◌++◌, true, false, None, Some, [], ◌∷◌, map, option_map, IfOk, IfSome};
 ghost use Rattle.byteorder.specs.Endian.{little_bytes};
-ghost use Rattle.arrow_schema.specs.View.{column_of, kind_of};
-ghost use Rattle.text_columns.specs.inner.Kept.{HoldContents, KeepAll, Keeps, StartsBinaries, StartsTexts, Takes};
+ghost use Rattle.arrow_schema.specs.Parts.{index_of_column};
+ghost use Rattle.arrow_schema.specs.View.{column_of, index_of, kind_of};
+ghost use Rattle.cells.specs.Dictionary.{has_limit};
+ghost use Rattle.text_columns.specs.inner.Kept.{HoldContents, KeepAll, Keeps, StartsBinaries, StartsFixedLists, StartsLists, StartsTexts, Takes};
 
-use crate::builder::ColumnBuilder;
+use crate::builder::{ColumnBuilder, ListOffsets, Slots};
 use crate::coding::Coding;
 use crate::column_values::Values;
+use crate::flat::FlatBuilder;
 use arrow_schema::{DataType, DictSpec, Field};
+use cells::entry_limit;
 use columns::{OffsetWidth, date_integer, push_offset, timestamp_integer};
 use indexmap::IndexSet;
 use std::alloc::{AllocError, Global};
@@ -55,19 +59,19 @@ fn no_values(alloc: Global, data_type: &DataType) -> Result<Option<Values>, Allo
     Ok(Some(values))
 }
 
-fn no_plain_cells(alloc: Global, field: &Field) -> Result<Option<ColumnBuilder>, AllocError>
+fn no_flat_cells(alloc: Global, field: &Field) -> Result<Option<ColumnBuilder>, AllocError>
     requires { field.now.dictionary ≡ None }
     ensures { IfOk result (λ started. IfSome started (Keeps (column_of field.now) [])) }
 {
     let Some(values) = no_values(alloc, &field.data_type)? else {
         return Ok(None);
     };
-    Ok(Some(ColumnBuilder {
+    Ok(Some(ColumnBuilder::Flat(FlatBuilder {
         nullable: field.nullable,
         valid: Vec::new(alloc),
         values,
         coding: None,
-    }))
+    })))
 }
 
 fn no_coded_cells(
@@ -90,14 +94,102 @@ fn no_coded_cells(
         keys: IndexSet::new(alloc),
         one,
     };
-    Ok(Some(ColumnBuilder {
+    Ok(Some(ColumnBuilder::Flat(FlatBuilder {
         nullable: field.nullable,
         valid: Vec::new(alloc),
         values,
         coding: Some(coding),
-    }))
+    })))
 }
 
+// Whether a dictionary has a limit.
+fn has_limit(dictionary: &Option<DictSpec>) -> bool
+    ensures { result ≡ has_limit (option_map index_of dictionary.now) }
+{
+    match dictionary {
+        Some(spec) => entry_limit(spec.index).is_some(),
+        None => false,
+    }
+}
+
+// The buffers of a column below another, where no row fills its dictionary.
+#[cycle(starting)]
+fn no_items(alloc: Global, item: &Field) -> Result<Option<ColumnBuilder>, AllocError>
+    ensures { IfOk result (λ started. IfSome started (λ items. (has_limit (index_of_column (column_of item.now)) ≡ false) × Keeps (column_of item.now) [] items)) }
+{
+    if has_limit(&item.dictionary) {
+        return Ok(None);
+    }
+    no_cells(alloc, item)
+}
+
+#[cycle(starting)]
+fn no_lists(
+    alloc: Global,
+    nullable: bool,
+    width: OffsetWidth,
+    item: &Field,
+) -> Result<Option<ColumnBuilder>, AllocError>
+    ensures { IfOk result (λ started. IfSome started (StartsLists nullable width (column_of item.now))) }
+{
+    let Some(items) = no_items(alloc, item)? else {
+        return Ok(None);
+    };
+    let slots = Slots {
+        nullable,
+        valid: Vec::new(alloc),
+        null_weight: 1,
+    };
+    let mut offsets = Vec::new(alloc);
+    push_offset(&mut offsets, width, 0)?;
+    let ends = ListOffsets {
+        width,
+        offsets,
+        count: 0,
+    };
+    Ok(Some(ColumnBuilder::List(slots, ends, Box::new(alloc, items)?)))
+}
+
+#[cycle(starting)]
+fn no_fixed_lists(
+    alloc: Global,
+    nullable: bool,
+    size: u32,
+    item: &Field,
+) -> Result<Option<ColumnBuilder>, AllocError>
+    ensures { IfOk result (λ started. IfSome started (StartsFixedLists nullable size (column_of item.now))) }
+{
+    let Some(items) = no_items(alloc, item)? else {
+        return Ok(None);
+    };
+    let Some(below) = items.null_weight().checked_mul(size as u64) else {
+        return Ok(None);
+    };
+    let Some(null_weight) = below.checked_add(1) else {
+        return Ok(None);
+    };
+    let slots = Slots {
+        nullable,
+        valid: Vec::new(alloc),
+        null_weight,
+    };
+    Ok(Some(ColumnBuilder::FixedList(slots, size, Box::new(alloc, items)?)))
+}
+
+#[cycle(starting)]
+fn no_plain_cells(alloc: Global, field: &Field) -> Result<Option<ColumnBuilder>, AllocError>
+    requires { field.now.dictionary ≡ None }
+    ensures { IfOk result (λ started. IfSome started (Keeps (column_of field.now) [])) }
+{
+    match &field.data_type {
+        DataType::List(item) => no_lists(alloc, field.nullable, OffsetWidth::Four, item),
+        DataType::LargeList(item) => no_lists(alloc, field.nullable, OffsetWidth::Eight, item),
+        DataType::FixedSizeList(size, item) => no_fixed_lists(alloc, field.nullable, *size, item),
+        _ => no_flat_cells(alloc, field),
+    }
+}
+
+#[cycle(starting)]
 fn no_cells(alloc: Global, field: &Field) -> Result<Option<ColumnBuilder>, AllocError>
     ensures { IfOk result (λ started. IfSome started (Keeps (column_of field.now) [])) }
 {

@@ -2,12 +2,13 @@
 ghost use Rattle.std.specs.Prelude.{◌≡◌, ◌==◌, ◌++◌, ◌∷◌, [], true, false, slice_index, IfOk, IfSome, Some};
 ghost use Rattle.fast_float.specs.Text.{Parts};
 ghost use Rattle.json.specs.Reads.{token_of};
+ghost use Rattle.text_columns.specs.declared.builder.ColumnBuilder.{Flat};
 ghost use Rattle.text_columns.specs.inner.Lines.{AppendsBinary, AppendsBit, AppendsFixedBinary, AppendsNumber, AppendsString, TakesCellToken, TakesCodedToken, TakesNumber, TakesToken, integer_after, integer_in};
 
-use crate::builder::ColumnBuilder;
 use crate::bytes::{push_bytes, push_fixed};
 use crate::coding::Coding;
 use crate::column_values::Values;
+use crate::flat::FlatBuilder;
 use crate::integers::push_number;
 use crate::texts::push_contents;
 use arrow_schema::IntegerType;
@@ -202,12 +203,12 @@ fn push_token(
     }
 }
 
-impl ColumnBuilder {
+impl FlatBuilder {
     ghost use Rattle.text_columns.specs.inner.Lines.{KeepsToken};
 
     // Appends the cell of a token that is no null.
     fn push_there(&mut self, token: Token<'_>) -> Result<Option<u64>, AllocError>
-        ensures { IfOk result (λ taken. IfSome taken (λ heavy. KeepsToken (token_of token.entry) heavy self.old self.new)) }
+        ensures { IfOk result (λ taken. IfSome taken (λ heavy. KeepsToken (token_of token.entry) heavy (Flat self.old) (Flat self.new))) }
     {
         let taken = push_token(&mut self.values, &mut self.coding, token)?;
         self.valid.push(true)?;
@@ -216,7 +217,7 @@ impl ColumnBuilder {
 
     /// Appends the cell that a token is, where it is one of the column, and answers what it weighs.
     pub(crate) fn push_token(&mut self, token: Token<'_>) -> Result<Option<u64>, AllocError>
-        ensures { IfOk result (λ taken. IfSome taken (λ heavy. KeepsToken (token_of token.entry) heavy self.old self.new)) }
+        ensures { IfOk result (λ taken. IfSome taken (λ heavy. KeepsToken (token_of token.entry) heavy (Flat self.old) (Flat self.new))) }
     {
         match token {
             Token::Null => self.push_null(),

@@ -1,20 +1,21 @@
 -- What the buffers of columns hold once some rows were read.
-use Rattle.std.specs.Prelude.{◌≡◌, ◌⊎◌, ◌≤◌, ◌+◌, ◌/◌, ◌++◌, ℕ, ℤ, true, false, Bool, bytes_eq, List, [], ◌∷◌, length, map, get_or, Option, Some, None, IfSome, position, Result, Ok, Err, slice_get}
+use Rattle.std.specs.Prelude.{◌≡◌, ◌⊎◌, ◌≤◌, ◌+◌, ◌*◌, ◌/◌, ◌++◌, ℕ, ℤ, true, false, Bool, bytes_eq, List, [], ◌∷◌, length, map, get_or, Option, Some, None, IfSome, position, replicate, Result, Ok, Err, slice_get}
 use Rattle.std.specs.Global.{Vec}
 use Rattle.byteorder.specs.Endian.{little_bytes}
 use Rattle.hex.specs.Hex.{decode_of}
 use Rattle.std.specs.List.{flat_map, list_all}
-use Rattle.arrow_schema.specs.Column.{Index, Kind, Column, booleans, integers, dates, timestamps, nulls, texts, large_texts, binaries, large_binaries, fixed_binaries, column, columns_of, PlainSchema}
+use Rattle.arrow_schema.specs.Column.{Index, Kind, Column, booleans, integers, dates, timestamps, nulls, texts, large_texts, binaries, large_binaries, fixed_binaries, lists, large_lists, fixed_lists, column, columns_of, PlainSchema}
+use Rattle.arrow_schema.specs.Parts.{index_of_column}
 use Rattle.arrow_schema.specs.View.{bits_of}
 use Rattle.arrow_schema.specs.declared.types.IntegerType.{IntegerType}
 use Rattle.cells.specs.declared.limits.TheConstants.{MAX_TABLE_WEIGHT}
 use Rattle.cells.specs.Cell.{Cell, null, number, cells_of}
-use Rattle.cells.specs.Dictionary.{entries_of, entry_limit, is_within}
+use Rattle.cells.specs.Dictionary.{entries_of, entry_limit, has_limit, is_within, item_list}
 use Rattle.cells.specs.Fit.{date_bits, fits_kind, in_range}
 use Rattle.cells.specs.Nulls.{is_there}
 use Rattle.cells.specs.Typed.{typed_boolean, typed_integer}
 use Rattle.cells.specs.Weight.{kind_weight, parts_weight, table_weight, weight}
-use Rattle.columns.specs.Built.{contents_of, fixed_bytes, index_bytes, integer_bytes, is_set, offsets_of}
+use Rattle.columns.specs.Built.{contents_of, fixed_bytes, fixed_items, index_bytes, integer_bytes, is_set, list_offsets, offsets_of}
 use Rattle.columns.specs.Offsets.{width_of}
 use Rattle.columns.specs.declared.numbers.OffsetWidth.{OffsetWidth}
 use Rattle.columns.specs.declared.numbers.OffsetWidth.TheVariants.{Four, Eight}
@@ -28,7 +29,9 @@ use Rattle.text_import.specs.declared.refusal.TextError.{TextError}
 use Rattle.text_columns.specs.declared.coding.Coding.{Coding}
 use Rattle.text_columns.specs.declared.column_values.Values.{Values}
 use Rattle.text_columns.specs.declared.column_values.Values.TheVariants.{Nulls, Booleans, Integers, Texts, Binaries, FixedBinaries}
-use Rattle.text_columns.specs.declared.builder.ColumnBuilder.{ColumnBuilder}
+use Rattle.text_columns.specs.declared.builder.ColumnBuilder.{ColumnBuilder, Flat, List', FixedList'}
+use Rattle.text_columns.specs.declared.builder.ListOffsets.{ListOffsets}
+use Rattle.text_columns.specs.declared.builder.Slots.{Slots}
 use Rattle.text_columns.specs.declared.records.RowsRead.{RowsRead}
 
 -- the bytes of an integer that a type of n bits holds come after others
@@ -227,10 +230,119 @@ abbrev pub TakesField : List ℕ → ℕ → Values → Option Coding → Values
 TakesField text heavy old o new o2 =
     (dictionary : Option Index) (kind : Kind) (cells : List Cell) → HoldsCells dictionary kind cells old o → HasCell dictionary kind (cell_of_text kind text) heavy cells new o2
 
+-- ---- columns with parts: their slots, and the cells below them
+
+-- which of these cells are there, and what a null weighs
+pub record KeepsSlots (nullable : Bool) (dictionary : Option Index) (kind : Kind) (cells : List Cell) (s : Slots) : Type 0 where
+  pub same : s.nullable ≡ nullable
+  pub valid : s.valid.items ≡ map is_there cells
+  pub null_weighs : kind_weight kind null ≡ s.null_weight
+  pub plain : dictionary ≡ None
+
+-- no row fills the dictionary of a column below another
+abbrev pub IsUnlimited : Column → Type 0
+IsUnlimited c = has_limit (index_of_column c) ≡ false
+
+-- where lists end among the items of all
+pub record KeepsOffsets (width : OffsetWidth) (cells : List Cell) (o : ListOffsets) : Type 0 where
+  pub width_is : o.width ≡ width
+  pub ends : o.offsets.items ≡ list_offsets (width_of width) cells
+  pub count : o.count ≡ length (flat_map item_list cells)
+
+pub record HoldsLists (width : OffsetWidth) (item : Column) (keeps : List Cell → ColumnBuilder → Type 0) (cells : List Cell) (offsets : ListOffsets) (items : ColumnBuilder) : Type 0 where
+  pub ends : KeepsOffsets width cells offsets
+  pub unlimited : IsUnlimited item
+  pub below : keeps (flat_map item_list cells) items
+
+abbrev pub KeepsLists : OffsetWidth → Column → (List Cell → ColumnBuilder → Type 0) → List Cell → ColumnBuilder → Type 0
+KeepsLists width item keeps cells (List' slots offsets p items) = HoldsLists width item keeps cells offsets items
+KeepsLists width item keeps cells _ = ⊥
+
+pub record HoldsFixedLists (size : ℕ) (item : Column) (keeps : List Cell → ColumnBuilder → Type 0) (cells : List Cell) (own : ℕ) (items : ColumnBuilder) : Type 0 where
+  pub size_is : own ≡ size
+  pub unlimited : IsUnlimited item
+  pub below : keeps (flat_map (fixed_items size) cells) items
+
+abbrev pub KeepsFixedLists : ℕ → Column → (List Cell → ColumnBuilder → Type 0) → List Cell → ColumnBuilder → Type 0
+KeepsFixedLists size item keeps cells (FixedList' slots own p items) = HoldsFixedLists size item keeps cells own items
+KeepsFixedLists size item keeps cells _ = ⊥
+
+pub record HoldsSlots (nullable : Bool) (dictionary : Option Index) (kind : Kind) (keeps : List Cell → ColumnBuilder → Type 0) (cells : List Cell) (s : Slots) (b : ColumnBuilder) : Type 0 where
+  pub slots : KeepsSlots nullable dictionary kind cells s
+  pub parts : keeps cells b
+
+-- where cells of a type with parts have such buffers below them
+abbrev pub KeepsAs : Bool → Option Index → Kind → (List Cell → ColumnBuilder → Type 0) → List Cell → ColumnBuilder → Type 0
+KeepsAs nullable dictionary kind keeps cells (Flat b) = (b.nullable ≡ nullable) × (b.valid.items ≡ map is_there cells) × HoldsCells dictionary kind cells b.values b.coding
+KeepsAs nullable dictionary kind keeps cells (List' slots offsets p items) = HoldsSlots nullable dictionary kind keeps cells slots (List' slots offsets p items)
+KeepsAs nullable dictionary kind keeps cells (FixedList' slots size p items) = HoldsSlots nullable dictionary kind keeps cells slots (FixedList' slots size p items)
+
 -- the buffers of a column that hold these cells
-abbrev pub Keeps : Column → List Cell → ColumnBuilder → Type 0
-Keeps (column name nullable kind dictionary pairs) cells b =
-    (b.nullable ≡ nullable) × (b.valid.items ≡ map is_there cells) × HoldsCells dictionary kind cells b.values b.coding
+abbrev mutual
+  pub Keeps : Column → List Cell → ColumnBuilder → Type 0
+  Keeps (column name nullable kind dictionary pairs) = KeepsAs nullable dictionary kind (KeepsBelow kind)
+
+  pub KeepsBelow : Kind → List Cell → ColumnBuilder → Type 0
+  KeepsBelow (lists item) = KeepsLists Four item (Keeps item)
+  KeepsBelow (large_lists item) = KeepsLists Eight item (Keeps item)
+  KeepsBelow (fixed_lists size item) = KeepsFixedLists size item (Keeps item)
+  KeepsBelow _ = λ cells b. ⊥
+
+-- so many nulls come after the cells
+abbrev pub AppendsNulls : ℕ → ColumnBuilder → ColumnBuilder → Type 0
+AppendsNulls count old new = (c : Column) (cells : List Cell) → Keeps c cells old → Keeps c (cells ++ replicate count null) new
+
+abbrev pub is_nullable : ColumnBuilder → Bool
+is_nullable (Flat b) = b.nullable
+is_nullable (List' slots offsets p items) = slots.nullable
+is_nullable (FixedList' slots size p items) = slots.nullable
+
+-- what a null of a column weighs
+abbrev pub null_heavy_of : ColumnBuilder → ℕ
+null_heavy_of (Flat b) = null_heavy b.values
+null_heavy_of (List' slots offsets p items) = slots.null_weight
+null_heavy_of (FixedList' slots size p items) = slots.null_weight
+
+-- a cell that is there comes behind the others
+pub record PushesThere (old new : Slots) : Type 0 where
+  pub nullable : new.nullable ≡ old.nullable
+  pub null_weight : new.null_weight ≡ old.null_weight
+  pub valid : new.valid.items ≡ old.valid.items ++ true ∷ []
+
+-- a list of so many items ends behind the others
+pub record PushesEnd (items : ℕ) (old new : ListOffsets) : Type 0 where
+  pub width : new.width ≡ old.width
+  pub count : new.count ≡ old.count + items
+  pub offsets : new.offsets.items ≡ old.offsets.items ++ little_bytes (width_of old.width) (old.count + items)
+
+-- so many lists without items end there
+abbrev pub PushesEmpty : ℕ → ListOffsets → ListOffsets → Type 0
+PushesEmpty many old new = (width : OffsetWidth) (cells : List Cell) → KeepsOffsets width cells old → KeepsOffsets width (cells ++ replicate many null) new
+
+-- no list yet, and no item
+pub record StartsLists (nullable : Bool) (width : OffsetWidth) (item : Column) (b : ColumnBuilder) : Type 0 where
+  pub slots : Slots
+  pub offsets : ListOffsets
+  pub place : _
+  pub items : ColumnBuilder
+  pub is : b ≡ List' slots offsets place items
+  pub same : slots.nullable ≡ nullable
+  pub none : slots.valid.items ≡ []
+  pub null_weighs : slots.null_weight ≡ 1
+  pub ends : KeepsOffsets width [] offsets
+  pub unlimited : IsUnlimited item
+  pub below : Keeps item [] items
+
+pub record StartsFixedLists (nullable : Bool) (size : ℕ) (item : Column) (b : ColumnBuilder) : Type 0 where
+  pub slots : Slots
+  pub place : _
+  pub items : ColumnBuilder
+  pub is : b ≡ FixedList' slots size place items
+  pub same : slots.nullable ≡ nullable
+  pub none : slots.valid.items ≡ []
+  pub null_weighs : slots.null_weight ≡ 1 + size * weight item null
+  pub unlimited : IsUnlimited item
+  pub below : Keeps item [] items
 
 -- no text yet, of offsets of this width
 abbrev pub StartsTexts : OffsetWidth → Values → Type 0

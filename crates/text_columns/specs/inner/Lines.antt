@@ -6,7 +6,7 @@ use Rattle.fast_float.specs.Text.{Parts}
 use Rattle.json.specs.Token.{Token}
 use Rattle.json.specs.Token as tokens
 use Rattle.json.specs.Json.{items, members, value}
-use Rattle.serde_json.specs.Data.{Data, null, boolean, number, string, Items, Members, no_members}
+use Rattle.serde_json.specs.Data.{Data, null, boolean, number, string, array, Items, Members, no_members}
 use Rattle.serde_json.specs.Find.{as_integer, get_member}
 use Rattle.serde_json.specs.Read.{converted, number_from, number_of, of_items, of_json, of_members}
 use Rattle.arrow_schema.specs.Column.{Index, Kind, Column, columns_of, integers}
@@ -16,16 +16,19 @@ use Rattle.arrow_schema.specs.declared.types.IntegerType.{IntegerType}
 use Rattle.cells.specs.Cell as cells
 use Rattle.cells.specs.Cell.{Cell, cells_of}
 use Rattle.cells.specs.Nulls.{is_there}
-use Rattle.cells.specs.Weight.{kind_weight, parts_weight, weight}
+use Rattle.cells.specs.Weight.{kind_weight, parts_weight, sum_of, weight}
 use Rattle.columns.specs.Built.{integer_bytes}
 use Rattle.columns.specs.Offsets.{width_of}
 use Rattle.columns.specs.declared.numbers.OffsetWidth.{OffsetWidth}
 use Rattle.text_import.specs.Flat.{number_cell}
-use Rattle.text_import.specs.Objects.{cell_in, cells_by_name, cells_by_place, cells_in, item_count, has_unknown, keys_of, kind_in, line_value, member_in, names_of}
+use Rattle.text_import.specs.Objects.{cell_in, cells_by_name, cells_by_place, cells_in, each_item, item_count, has_unknown, keys_of, kind_in, line_value, member_in, names_of}
 use Rattle.text_columns.specs.declared.coding.Coding.{Coding}
 use Rattle.text_columns.specs.declared.column_values.Values.{Values}
 use Rattle.text_columns.specs.declared.builder.ColumnBuilder.{ColumnBuilder}
-use Rattle.text_columns.specs.inner.Kept.{AppendsBytes, AppendsFixed, HasCell, HoldsCells, IsCoded, KeepAll, Keeps, Takes, column_at, null_heavy}
+use Rattle.text_columns.specs.declared.builder.ListOffsets.{ListOffsets}
+use Rattle.text_columns.specs.declared.builder.Slots.{Slots}
+use Rattle.text_columns.specs.declared.next.ItemsTaken.{ItemsTaken}
+use Rattle.text_columns.specs.inner.Kept.{AppendsBytes, AppendsFixed, HasCell, HoldsCells, IsCoded, KeepAll, Keeps, PushesEnd, PushesThere, Takes, column_at}
 
 -- ---- one value
 
@@ -135,22 +138,64 @@ pub record KeepsToken (t : Token) (heavy : ℕ) (old new : ColumnBuilder) : Type
   pub read : token_data t ≡ Some data_is
   pub keeps : KeepsValue data_is heavy old new
 
--- a null comes behind the cells of a column that has nulls
-abbrev pub KeepsNull : ColumnBuilder → ColumnBuilder → Type 0
-KeepsNull old new = (c : Column) (so : List Cell) → Keeps c so old → (is_nullable_column c ≡ true) × (weight c cells.null ≡ null_heavy old.values) × Keeps c (so ++ cells.null ∷ []) new
+-- the value that a reader stands at, which nests no deeper than the number, comes behind the cells of a column
+pub record KeepsNext (depth : ℕ) (old new : List Token) (heavy : ℕ) (b b2 : ColumnBuilder) : Type 0 where
+  pub data_is : Data
+  pub read : converted of_json (value depth old) ≡ Some (data_is, new)
+  pub keeps : KeepsValue data_is heavy b b2
+
+-- a null that weighs so much comes behind the cells of a column that has nulls
+abbrev pub KeepsNull : ℕ → ColumnBuilder → ColumnBuilder → Type 0
+KeepsNull heavy old new = (c : Column) (so : List Cell) → Keeps c so old → (is_nullable_column c ≡ true) × (weight c cells.null ≡ heavy) × Keeps c (so ++ cells.null ∷ []) new
+
+-- ---- the items of a list
+
+-- the cells of items come behind those of a column, and weigh so much with their list
+pub record HasItems (c : Column) (found : Items) (heavy : ℕ) (so : List Cell) (new : ColumnBuilder) : Type 0 where
+  pub kept : List Cell
+  pub many : length kept ≡ item_count found
+  pub read : each_item (cell_in c) found ≡ Ok (cells_of kept)
+  pub weighs : 1 + sum_of (weight c) (cells_of kept) ≡ heavy
+  pub keeps : Keeps c (so ++ kept) new
+
+-- all items of an array, which end with its bracket
+pub record KeepsListItems (depth : ℕ) (old new : List Token) (taken : ItemsTaken) (b b2 : ColumnBuilder) : Type 0 where
+  pub found : Items
+  pub read : converted of_items (items (value depth) (length old) old) ≡ Some (found, new)
+  pub count : item_count found ≡ taken.count
+  pub keeps : (c : Column) (so : List Cell) → Keeps c so b → HasItems c found taken.weight so b2
+
+-- the slot of a list comes behind the others, once its items were taken
+pub record EndsList (taken : Option ItemsTaken) (heavy : ℕ) (slots slots2 : Slots) (offsets offsets2 : ListOffsets) : Type 0 where
+  pub own : ItemsTaken
+  pub is : taken ≡ Some own
+  pub weighs : own.weight ≡ heavy
+  pub slot : PushesThere slots slots2
+  pub ends : PushesEnd own.count offsets offsets2
+
+pub record EndsFixedList (taken : Option ItemsTaken) (size heavy : ℕ) (slots slots2 : Slots) : Type 0 where
+  pub own : ItemsTaken
+  pub is : taken ≡ Some own
+  pub weighs : own.weight ≡ heavy
+  pub many : own.count ≡ size
+  pub slot : PushesThere slots slots2
+
+-- the array that a reader stands in comes behind the cells of a column
+pub record KeepsArray (depth : ℕ) (old new : List Token) (heavy : ℕ) (b b2 : ColumnBuilder) : Type 0 where
+  pub found : Items
+  pub read : converted of_items (items (value depth) (length old) old) ≡ Some (found, new)
+  pub keeps : KeepsValue (array found) heavy b b2
 
 -- ---- the members of an object
 
 -- the value that a reader stands at comes behind the cells of the column at a place
-pub record PushesMember (place : ℕ) (old new : List Token) (weights weights2 : List (Option ℕ)) (bs bs2 : List ColumnBuilder) : Type 0 where
-  pub token : Token
+pub record PushesMember (depth place : ℕ) (old new : List Token) (weights weights2 : List (Option ℕ)) (bs bs2 : List ColumnBuilder) : Type 0 where
   pub heavy : ℕ
   pub before : ColumnBuilder
   pub behind : ColumnBuilder
-  pub read : old ≡ token ∷ new
   pub free : slice_get weights place ≡ Some None
   pub here : slice_get bs place ≡ Some before
-  pub keeps : KeepsToken token heavy before behind
+  pub keeps : KeepsNext depth old new heavy before behind
   pub kept : weights2 ≡ set weights place (Some heavy)
   pub pushed : bs2 ≡ set bs place behind
 
@@ -167,14 +212,10 @@ pub record HoldMembers (cs : List Column) (rows : List (List Cell)) (found : Mem
   pub each : (j : ℕ) (c : Column) (b : ColumnBuilder) (w : Option ℕ) → slice_get cs j ≡ Some c → slice_get bs j ≡ Some b → slice_get weights j ≡ Some w
       → HoldsMember c (column_at j rows) (get_member (name_of_column c) found) w b
 
--- depth of the values of a line's object
-abbrev pub below : ℕ
-below = 126
-
--- all members of an object, which end with its brace
-pub record PushesMembers (names : List (List ℕ)) (old new : List Token) (weights weights2 : List (Option ℕ)) (bs bs2 : List ColumnBuilder) : Type 0 where
+-- all members of an object, which end with its brace, with values that nest no deeper than the number
+pub record PushesMembers (depth : ℕ) (names : List (List ℕ)) (old new : List Token) (weights weights2 : List (Option ℕ)) (bs bs2 : List ColumnBuilder) : Type 0 where
   pub found : Members
-  pub read : converted (λ ms. of_members ms no_members) (members (value below) (length old) old) ≡ Some (found, new)
+  pub read : converted (λ ms. of_members ms no_members) (members (value depth) (length old) old) ≡ Some (found, new)
   pub known : has_unknown names (keys_of found) ≡ false
   pub each : (cs : List Column) (rows : List (List Cell)) → names_of (columns_of cs) ≡ names → HoldMembers cs rows no_members weights bs → HoldMembers cs rows found weights2 bs2
 
@@ -219,9 +260,9 @@ pub record HasItemRow (cs : List Column) (found : Items) (heavy : ℕ) (rows : L
   pub keeps : KeepAll cs (rows ++ row ∷ []) new
 
 -- all items of an array, as many as columns, which end with its bracket
-pub record KeepsItems (old new : List Token) (heavy : ℕ) (bs bs2 : List ColumnBuilder) : Type 0 where
+pub record KeepsItems (depth : ℕ) (old new : List Token) (heavy : ℕ) (bs bs2 : List ColumnBuilder) : Type 0 where
   pub found : Items
-  pub read : converted of_items (items (value below) (length old) old) ≡ Some (found, new)
+  pub read : converted of_items (items (value depth) (length old) old) ≡ Some (found, new)
   pub count : item_count found ≡ length bs
   pub keeps : (cs : List Column) (rows : List (List Cell)) → KeepAll cs rows bs → HasItemRow cs found heavy rows bs2
 

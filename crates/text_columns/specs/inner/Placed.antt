@@ -1,10 +1,13 @@
 -- The arrays that the buffers of columns are, and where they are placed.
-use Rattle.std.specs.Prelude.{◌≡◌, ◌++◌, ℕ, Bool, true, false, List, [], ◌∷◌, Option, Some, None, length, map, if◌then◌else◌}
+use Rattle.std.specs.Prelude.{◌≡◌, ◌++◌, ℕ, Bool, true, false, List, [], ◌∷◌, Option, Some, None, length, slice_get, if◌then◌else◌}
 use Rattle.std.specs.List.{list_all}
 use Rattle.bitmap.specs.Bits.{packed}
+use Rattle.arrow_schema.specs.Column.{Column, columns_of}
+use Rattle.cells.specs.Cell.{Cell}
 use Rattle.columns.specs.Array.{Array, Layout, array, no_array, and_array, null_layout, bit_layout, fixed_layout, binary_layout, dictionary_layout}
 use Rattle.columns.specs.Places.{within}
-use Rattle.columns.specs.View.{array_in, array_step, arrays_in, layout_step}
+use Rattle.columns.specs.Built.{built, built_parts}
+use Rattle.columns.specs.View.{array_in, array_step, arrays_in, layout_step, placed_arrays}
 use Rattle.columns.specs.Within.{array_within, ends_within, is_placed_within, layout_within, stands_within}
 use Rattle.columns.specs.declared.array.Dictionary.{Dictionary}
 use Rattle.columns.specs.declared.array.DictionaryPart.{DictionaryPart}
@@ -16,6 +19,8 @@ use Rattle.text_columns.specs.declared.coding.Coding.{Coding}
 use Rattle.text_columns.specs.declared.column_values.Values.{Values}
 use Rattle.text_columns.specs.declared.column_values.Values.TheVariants.{Nulls, Booleans, Integers, Texts, Binaries, FixedBinaries}
 use Rattle.text_columns.specs.declared.builder.ColumnBuilder.{ColumnBuilder}
+use Rattle.text_columns.specs.declared.flat.FlatBuilder.{FlatBuilder}
+use Rattle.text_columns.specs.inner.Kept.{KeepAll, Keeps}
 
 -- the validity bitmap of slots, which is empty where each is valid
 abbrev pub validity_of_bits : List Bool → List ℕ
@@ -49,7 +54,7 @@ abbrev pub column_layout : Option Coding → Values → Layout
 column_layout None values = layout_of values
 column_layout (Some d) values = dictionary_layout d.indices.items (and_array (entries_array values (length d.keys.keys)) no_array)
 
-abbrev pub array_of : ColumnBuilder → Array
+abbrev pub array_of : FlatBuilder → Array
 array_of b = array (length b.valid.items) (validity_in (has_validity b.coding b.values) b.valid.items) (column_layout b.coding b.values)
 
 -- a buffer comes behind other bytes, and stands there whatever comes behind it
@@ -93,8 +98,12 @@ pub record IsPlacedAs (stated : Layout) (old new : List ℕ) (before behind : Li
 abbrev pub IsCodedLaid : Values → Coding → List ℕ → List ℕ → List Dictionary → List Dictionary → PlacedLayout → Type 0
 IsCodedLaid values d = IsPlacedAs (column_layout (Some d) values)
 
-abbrev pub IsLayoutPlaced : ColumnBuilder → List ℕ → List ℕ → List Dictionary → List Dictionary → PlacedLayout → Type 0
+abbrev pub IsLayoutPlaced : FlatBuilder → List ℕ → List ℕ → List Dictionary → List Dictionary → PlacedLayout → Type 0
 IsLayoutPlaced b = IsPlacedAs (column_layout b.coding b.values)
+
+-- an array is what the cells of a column are written as
+abbrev pub IsBuilt : ColumnBuilder → Array → Type 0
+IsBuilt b a = (c : Column) (cells : List Cell) → Keeps c cells b → a ≡ built c cells
 
 -- the buffers of a column
 pub record IsPlaced (b : ColumnBuilder) (old new : List ℕ) (before behind : List Dictionary) (a : PlacedArray) : Type 0 where
@@ -102,9 +111,15 @@ pub record IsPlaced (b : ColumnBuilder) (old new : List ℕ) (before behind : Li
   pub whole : new ≡ old ++ more
   pub own : List Dictionary
   pub longer : behind ≡ before ++ own
-  pub placed : array_in new (arrays_in new behind) a ≡ array_of b
+  pub placed : IsBuilt b (array_in new (arrays_in new behind) a)
   pub ends : is_placed_within (length new) behind a ≡ true
+
+-- arrays that columns are, in this order
+pub record AreBuilt (bs : List ColumnBuilder) (arrays : List Array) : Type 0 where
+  pub count : length arrays ≡ length bs
+  pub each : (j : ℕ) (b : ColumnBuilder) (a : Array) → slice_get bs j ≡ Some b → slice_get arrays j ≡ Some a → IsBuilt b a
 
 -- and those of all
 abbrev pub ArePlaced : List ColumnBuilder → List ℕ → List Dictionary → List PlacedArray → Type 0
-ArePlaced bs bytes dictionaries arrays = map (array_in bytes (arrays_in bytes dictionaries)) arrays ≡ map array_of bs
+ArePlaced bs bytes dictionaries arrays =
+    (cs : List Column) (rows : List (List Cell)) → KeepAll cs rows bs → placed_arrays bytes dictionaries arrays ≡ built_parts (columns_of cs) rows

@@ -7,5 +7,5 @@ invariant-loop-i l = record {
   some : 1 ≤ l.weight;
   few : l.weight ≤ 16777216;
   within : l.i ≤ length l.initial.builders;
-  read : ItemsRead l.initial.reader l.reader l.i l.weight l.initial.builders l.builders;
+  read : ItemsRead l.depth l.initial.reader l.reader l.i l.weight l.initial.builders l.builders;
 }

@@ -1,20 +1,17 @@
 use Rattle.std.proofs.Common.{refl, sym, ap, ◌∙◌, arith}
 use Rattle.std.specs.Prelude.{Some}
 use Rattle.std.proofs.lemmas.Option.{slice_get-get_or}
-use Rattle.json.specs.Reads.{token_of}
 use Rattle.text_columns.proofs.LineRows.{free_at}
 use Rattle.text_columns.proofs.members.push_member.Goals as goal
 
 pub returns : goal.returns
 returns c = λ yes. record {
-  token = token_of c.in-Some.token;
-  heavy = c.in-Some-2.heavy;
+  heavy = c.in-Some.heavy;
   before = c.index-builders-at.result;
-  behind = c.push_token.new.self;
-  read = c.in-Some.ensures.value;
+  behind = c.push_next.new.self;
   free = free_at c.args.heavies.now c.args.at _ (omega (arith, c.if-at-heavies.false)) (sym c.if-is_some.ensures);
   here = slice_get-get_or c.args.builders.now c.args.at c.index-builders-at.result (omega (arith, c.if-at-builders.false)) ∙ ap Some (sym c.index-builders-at.is);
-  keeps = rw (c.in-Some-2.is, ← c.index-builders-at.is) at c.in_ok-heavy.ensures;
+  keeps = rw (c.in-Some.is, ← c.index-builders-at.is) at c.in_ok-heavy.ensures;
   kept = refl;
   pushed = refl;
 }

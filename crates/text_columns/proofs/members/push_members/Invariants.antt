@@ -4,5 +4,5 @@ use Rattle.text_columns.proofs.members.push_members.Given as goal
 
 abbrev pub invariant-loop-k : goal.invariant-loop-k
 invariant-loop-k l = record {
-  read : MembersRead (text_list l.names.keys) l.initial.reader l.reader l.initial.heavies l.heavies l.initial.builders l.builders;
+  read : MembersRead l.depth (text_list l.names.keys) l.initial.reader l.reader l.initial.heavies l.heavies l.initial.builders l.builders;
 }

@@ -1,9 +1,6 @@
-use Rattle.std.proofs.Common.{refl}
-use Rattle.text_columns.specs.declared.builder.ColumnBuilder.{ColumnBuilder}
-use Rattle.text_columns.proofs.TokenCells.{null_behind}
+use Rattle.std.proofs.Common.{◌∙◌, sym}
+use Rattle.text_columns.proofs.Nulls.{null_pushed}
 use Rattle.text_columns.proofs.builder.ColumnBuilder.push_null.Goals as goal
 
 pub returns : goal.returns
-returns c =
-    let new : ColumnBuilder = record { nullable = c.args.self.now.nullable; valid = c.push.new.self; values = c.push_null.new.values; coding = c.push_null.new.coding } in
-    (c.null_weight-heavy.ensures, null_behind c.args.self.now new c.if-not-self.false refl c.in_ok-push.ensures.items c.in_ok-push_null.ensures)
+returns c = rw c.null_weight-heavy.ensures (null_pushed c.args.self.now c.push_nulls.new.self (sym c.is_nullable.ensures ∙ c.if-not-is_nullable.false) c.in_ok-push_nulls.ensures)

@@ -1,11 +1,11 @@
 use Rattle.std.proofs.Common.{refl}
 use Rattle.std.proofs.lemmas.Option.{IfSome_then}
 use Rattle.json.specs.Reads.{token_of}
-use Rattle.text_columns.specs.declared.builder.ColumnBuilder.{ColumnBuilder}
+use Rattle.text_columns.specs.declared.flat.FlatBuilder.{FlatBuilder}
 use Rattle.text_columns.proofs.TokenCells.{there_behind}
-use Rattle.text_columns.proofs.builder.ColumnBuilder.push_there.Goals as goal
+use Rattle.text_columns.proofs.flat.FlatBuilder.push_there.Goals as goal
 
 pub returns : goal.returns
 returns c =
-    let new : ColumnBuilder = record { nullable = c.args.self.now.nullable; valid = c.push.new.self; values = c.push_token.new.values; coding = c.push_token.new.coding } in
+    let new : FlatBuilder = record { nullable = c.args.self.now.nullable; valid = c.push.new.self; values = c.push_token.new.values; coding = c.push_token.new.coding } in
     IfSome_then c.in_ok-taken.taken c.in_ok-taken.ensures (λ heavy takes. there_behind (token_of c.args.token) heavy c.args.self.now new refl c.in_ok-push.ensures.items takes)

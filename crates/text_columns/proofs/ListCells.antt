@@ -1,0 +1,297 @@
+-- Lists that come behind the cells of a column, by the items that a reader stands at.
+use Rattle.std.specs.Prelude.{Option, Some, None, Ok, Err, Result, IfOk, IfSome}
+use Rattle.std.specs.List.{flat_map}
+use Rattle.std.proofs.Common.{◌≡◌, ℕ, ◌+◌, ◌-◌, ◌≤◌, ◌<◌, ◌==◌, Bool, true, false, List, [], ◌∷◌, ◌++◌, length, refl, arith, ap, sym, subst, ◌∙◌, append_assoc, append-nil, length-append}
+use Rattle.std.specs.Bool.{MatchBool}
+use Rattle.std.proofs.lemmas.Bool.{eq-eqb, false≢true}
+use Rattle.facts.specs.laws.Lists.{flat_map-push}
+use Rattle.json.specs.Token.{Token}
+use Rattle.json.specs.Token as tokens
+use Rattle.json.specs.Json.{after_end_array, items as token_items, parse_map, value}
+use Rattle.json.proofs.Grammar.{items_end, value-begin_array}
+use Rattle.serde_json.specs.Data.{Data, Items, array, no_items}
+use Rattle.serde_json.specs.Data as json
+use Rattle.serde_json.specs.Read.{converted, of_items, of_json}
+use Rattle.arrow_schema.specs.Column.{Column, Index, Kind, lists, large_lists, fixed_lists, column}
+use Rattle.cells.specs.Cell.{Cell, items, cells_of}
+use Rattle.cells.specs.Dictionary.{item_list}
+use Rattle.cells.specs.Nulls.{is_there}
+use Rattle.cells.specs.Weight.{kind_weight, sum_of, weight}
+use Rattle.cells.specs.laws.Cells.{cells_listed}
+use Rattle.columns.specs.Built.{fixed_items}
+use Rattle.columns.specs.declared.numbers.OffsetWidth.{OffsetWidth}
+use Rattle.text_import.specs.Objects.{cell_in, each_item, item_count, kind_in}
+use Rattle.text_import.specs.Refusals.{given}
+use Rattle.text_import.proofs.RowLemmas.{cells_behind, cells_behind_end, cells_behind_more}
+use Rattle.text_columns.specs.declared.builder.ColumnBuilder.{ColumnBuilder, List', FixedList'}
+use Rattle.text_columns.specs.declared.builder.ListOffsets.{ListOffsets}
+use Rattle.text_columns.specs.declared.builder.Slots.{Slots}
+use Rattle.text_columns.specs.declared.next.ItemsTaken.{ItemsTaken}
+use Rattle.text_columns.specs.inner.Kept.{HoldsLists, Keeps, KeepsBelow, KeepsSlots, PushesEnd, PushesThere}
+use Rattle.text_columns.specs.inner.Lines.{EndsFixedList, EndsList, HasItems, KeepsArray, KeepsListItems, KeepsNext, KeepsNull, KeepsToken, KeepsValue}
+use Rattle.text_columns.proofs.ItemRows.{array_read, item_read, prepend, prepend_count, prepend_more, prepended_more, prepended_none}
+use Rattle.text_columns.proofs.LineRows.{none_behind, token_read}
+use Rattle.text_columns.proofs.MemberGrammar.{value_shorter, value_there}
+use Rattle.text_columns.proofs.Nulls.{offsets_pushed}
+use Rattle.text_columns.proofs.Taken.{one_mapped}
+use Rattle.text_columns.proofs.TokenCells.{null_token}
+
+-- ---- the items of an array, one after another
+
+-- some items have come behind the cells of a column, and weigh so much with their list
+pub record ItemsHalf (c : Column) (found : List Data) (so : List Cell) (heavy : ℕ) (b : ColumnBuilder) : Type 0 where
+  pub kept : List Cell
+  pub len : length kept ≡ length found
+  pub read : (more : Items) → cells_behind kept (each_item (cell_in c) more) ≡ each_item (cell_in c) (prepend found more)
+  pub weighs : 1 + sum_of (weight c) (cells_of kept) ≡ heavy
+  pub keeps : Keeps c (so ++ kept) b
+
+sum_more : (f : Cell → ℕ) (cells : List Cell) (x : Cell) → sum_of f (cells_of (cells ++ x ∷ [])) ≡ sum_of f (cells_of cells) + f x
+sum_more f [] x = omega arith
+sum_more f (c ∷ cells) x = let e = sum_more f cells x in omega (arith, e)
+
+item_behind : (f : Data → _) (so : List Cell) (d : Data) (ds : Items) (x : Cell) → f d ≡ Ok x → cells_behind so (each_item f (json.item d ds)) ≡ cells_behind (so ++ x ∷ []) (each_item f ds)
+item_behind f so d ds x e = rw e (cells_behind_more so x (each_item f ds))
+
+items_half_none : (c : Column) (so : List Cell) (b : ColumnBuilder) → Keeps c so b → ItemsHalf c [] so 1 b
+items_half_none c so b k = record { kept = []; len = refl; read = λ more. none_behind (each_item (cell_in c) more); weighs = refl; keeps = subst (λ (xs : List Cell). Keeps c xs b) (sym (append-nil so)) k }
+
+items_half_more : (c : Column) (found : List Data) (so : List Cell) (heavy more : ℕ) (d : Data) (b b2 : ColumnBuilder) → KeepsValue d more b b2 → ItemsHalf c found so heavy b
+    → ItemsHalf c (found ++ d ∷ []) so (heavy + more) b2
+items_half_more c found so heavy more d b b2 keeps h =
+    let v = keeps c (so ++ h.kept) h.keeps in
+    let heavier = sum_more (weight c) h.kept v.kept in
+    record {
+      kept = h.kept ++ v.kept ∷ [];
+      len = length-append h.kept (v.kept ∷ []) ∙ ap (λ (n : ℕ). n + 1) h.len ∙ sym (length-append found (d ∷ []));
+      read = λ ds. sym (item_behind (cell_in c) h.kept d ds v.kept v.read) ∙ h.read (json.item d ds) ∙ ap (each_item (cell_in c)) (prepend_more found d ds);
+      weighs = omega (arith, heavier, h.weighs, v.weighs);
+      keeps = subst (λ (xs : List Cell). Keeps c xs b2) (append_assoc so h.kept (v.kept ∷ [])) v.keeps;
+    }
+
+-- some items were read, and the others follow
+pub record ListRead (depth : ℕ) (all left : List Token) (count heavy : ℕ) (b0 b : ColumnBuilder) : Type 0 where
+  pub found : List Data
+  pub turns : ℕ
+  pub enough : length left ≤ turns
+  pub many : length found ≡ count
+  pub read : converted of_items (token_items (value depth) (length all) all) ≡ parse_map (prepend found) (converted of_items (token_items (value depth) turns left))
+  pub each : (c : Column) (so : List Cell) → Keeps c so b0 → ItemsHalf c found so heavy b
+
+pub list_none : (depth : ℕ) (all : List Token) (b : ColumnBuilder) → ListRead depth all all 0 1 b b
+list_none depth all b = record {
+  found = [];
+  turns = length all;
+  enough = omega arith;
+  many = refl;
+  read = prepended_none (converted of_items (token_items (value depth) (length all) all));
+  each = λ c so k. items_half_none c so b k;
+}
+
+pub list_pushed : (depth : ℕ) (all left new : List Token) (count heavy more : ℕ) (b0 b b2 : ColumnBuilder) → KeepsNext depth left new more b b2 → ListRead depth all left count heavy b0 b
+    → ListRead depth all new (count + 1) (heavy + more) b0 b2
+list_pushed depth all left new count heavy more b0 b b2 keeps m =
+    let d = keeps.data_is in
+    let longer = value_shorter depth left new d keeps.read in
+    let some : 0 < m.turns = omega (arith, longer, m.enough) in
+    let none : after_end_array left ≡ None = value_there depth left new d keeps.read in
+    record {
+      found = m.found ++ d ∷ [];
+      turns = m.turns - 1;
+      enough = omega (arith, longer, m.enough);
+      many = length-append m.found (d ∷ []) ∙ ap (λ (n : ℕ). n + 1) m.many;
+      read = m.read ∙ ap (parse_map (prepend m.found)) (item_read (value depth) m.turns left new d some none keeps.read) ∙ prepended_more m.found d (converted of_items (token_items (value depth) (m.turns - 1) new));
+      each = λ c so k. items_half_more c m.found so heavy more d b b2 keeps.keeps (m.each c so k);
+    }
+
+items_half_all : (c : Column) (found : List Data) (so : List Cell) (heavy : ℕ) (b : ColumnBuilder) → ItemsHalf c found so heavy b → HasItems c (prepend found no_items) heavy so b
+items_half_all c found so heavy b h = record {
+  kept = h.kept;
+  many = h.len ∙ sym (prepend_count found);
+  read = sym (h.read no_items) ∙ cells_behind_end h.kept;
+  weighs = h.weighs;
+  keeps = h.keeps;
+}
+
+pub list_all_read : (depth : ℕ) (all left new : List Token) (taken : ItemsTaken) (b0 b : ColumnBuilder) → after_end_array left ≡ Some new → ListRead depth all left taken.count taken.weight b0 b
+    → KeepsListItems depth all new taken b0 b
+list_all_read depth all left new taken b0 b ends m =
+    let over : converted of_items (token_items (value depth) m.turns left) ≡ Some (no_items, new) = ap (converted of_items) (items_end (value depth) m.turns left new m.enough ends) in
+    record {
+      found = prepend m.found no_items;
+      read = m.read ∙ ap (parse_map (prepend m.found)) over;
+      count = prepend_count m.found ∙ m.many;
+      keeps = λ c so k. items_half_all c m.found so taken.weight b (m.each c so k);
+    }
+
+-- ---- the list of such items
+
+slots_behind : (nullable : Bool) (dictionary : Option Index) (kind : Kind) (so : List Cell) (x : Cell) (old new : Slots) → is_there x ≡ true → PushesThere old new
+    → KeepsSlots nullable dictionary kind so old → KeepsSlots nullable dictionary kind (so ++ x ∷ []) new
+slots_behind nullable dictionary kind so x old new there slot k = record {
+  same = slot.nullable ∙ k.same;
+  valid = one_mapped is_there so x old.valid.items new.valid.items k.valid (slot.valid ∙ ap (λ (b : Bool). old.valid.items ++ b ∷ []) (sym there));
+  null_weighs = k.null_weighs ∙ sym slot.null_weight;
+  plain = k.plain;
+}
+
+-- the list of a type that such an array is, and the buffers below it
+record HasList (kind : Kind) (found : Items) (heavy : ℕ) (so : List Cell) (new : ColumnBuilder) : Type 0 where
+  pub kept : List Cell
+  pub read : kind_in kind (array found) ≡ Ok (items (cells_of kept))
+  pub weighs : kind_weight kind (items (cells_of kept)) ≡ heavy
+  pub parts : KeepsBelow kind (so ++ items (cells_of kept) ∷ []) new
+
+listed_more : (so kept : List Cell) → flat_map item_list so ++ kept ≡ flat_map item_list (so ++ items (cells_of kept) ∷ [])
+listed_more so kept = ap (λ (xs : List Cell). flat_map item_list so ++ xs) (sym (cells_listed kept)) ∙ sym (flat_map-push item_list so (items (cells_of kept)))
+
+fixed_listed_more : (size : ℕ) (so kept : List Cell) → flat_map (fixed_items size) so ++ kept ≡ flat_map (fixed_items size) (so ++ items (cells_of kept) ∷ [])
+fixed_listed_more size so kept = ap (λ (xs : List Cell). flat_map (fixed_items size) so ++ xs) (sym (cells_listed kept)) ∙ sym (flat_map-push (fixed_items size) so (items (cells_of kept)))
+
+lists_more : (width : OffsetWidth) (item : Column) (so : List Cell) (offsets offsets2 : ListOffsets) (old new : ColumnBuilder) (found : Items) (n heavy : ℕ) (h : HasItems item found heavy (flat_map item_list so) new)
+    → item_count found ≡ n → PushesEnd n offsets offsets2 → HoldsLists width item (Keeps item) so offsets old
+    → HoldsLists width item (Keeps item) (so ++ items (cells_of h.kept) ∷ []) offsets2 new
+lists_more width item so offsets offsets2 old new found n heavy h count p k = record {
+  ends = offsets_pushed width so (items (cells_of h.kept)) n offsets offsets2 (ap length (cells_listed h.kept) ∙ h.many ∙ count) p k.ends;
+  unlimited = k.unlimited;
+  below = subst (λ (xs : List Cell). Keeps item xs new) (listed_more so h.kept) h.keeps;
+}
+
+list_kept : (kind : Kind) (depth : ℕ) (inside rest : List Token) (taken : ItemsTaken) (so : List Cell) (slots slots2 : Slots) (offsets offsets2 : ListOffsets) (p p2 : _) (old new : ColumnBuilder)
+    → (list : KeepsListItems depth inside rest taken old new) → PushesEnd taken.count offsets offsets2 → KeepsBelow kind so (List' slots offsets p old)
+    → HasList kind list.found taken.weight so (List' slots2 offsets2 p2 new)
+unfolding kind_in kind_weight
+list_kept (lists item) depth inside rest taken so slots slots2 offsets offsets2 p p2 old new list pushed k =
+    let h = list.keeps item (flat_map item_list so) k.below in
+    record { kept = h.kept; read = ap (given items) h.read; weighs = h.weighs; parts = lists_more _ item so offsets offsets2 old new list.found taken.count taken.weight h list.count pushed k }
+list_kept (large_lists item) depth inside rest taken so slots slots2 offsets offsets2 p p2 old new list pushed k =
+    let h = list.keeps item (flat_map item_list so) k.below in
+    record { kept = h.kept; read = ap (given items) h.read; weighs = h.weighs; parts = lists_more _ item so offsets offsets2 old new list.found taken.count taken.weight h list.count pushed k }
+list_kept _ depth inside rest taken so slots slots2 offsets offsets2 p p2 old new list pushed k = absurd k
+
+fixed_list_kept : (kind : Kind) (depth : ℕ) (inside rest : List Token) (taken : ItemsTaken) (so : List Cell) (slots slots2 : Slots) (size : ℕ) (p p2 : _) (old new : ColumnBuilder)
+    → (list : KeepsListItems depth inside rest taken old new) → taken.count ≡ size → KeepsBelow kind so (FixedList' slots size p old) → HasList kind list.found taken.weight so (FixedList' slots2 size p2 new)
+unfolding kind_in kind_weight
+fixed_list_kept (fixed_lists width item) depth inside rest taken so slots slots2 size p p2 old new list many k =
+    let h = list.keeps item (flat_map (fixed_items width) so) k.below in
+    let count : (item_count list.found == width) ≡ true = eq-eqb _ _ (list.count ∙ many ∙ k.size_is) in
+    record {
+      kept = h.kept;
+      read = rw count (ap (given items) h.read);
+      weighs = h.weighs;
+      parts = record {
+        size_is = k.size_is;
+        unlimited = k.unlimited;
+        below = subst (λ (xs : List Cell). Keeps item xs new) (fixed_listed_more width so h.kept) h.keeps;
+      };
+    }
+fixed_list_kept _ depth inside rest taken so slots slots2 size p p2 old new list many k = absurd k
+
+list_pushed_behind : (depth : ℕ) (inside rest : List Token) (taken : ItemsTaken) (slots slots2 : Slots) (offsets offsets2 : ListOffsets) (p p2 : _) (old new : ColumnBuilder)
+    → KeepsListItems depth inside rest taken old new → PushesEnd taken.count offsets offsets2 → PushesThere slots slots2 → KeepsArray depth inside rest taken.weight (List' slots offsets p old) (List' slots2 offsets2 p2 new)
+unfolding cell_in weight
+list_pushed_behind depth inside rest taken slots slots2 offsets offsets2 p p2 old new list pushed slot = record {
+  found = list.found;
+  read = list.read;
+  keeps = by;
+}
+  where
+    by : KeepsValue (array list.found) taken.weight (List' slots offsets p old) (List' slots2 offsets2 p2 new)
+    by (column name nullable kind dictionary pairs) so k =
+        let h = list_kept kind depth inside rest taken so slots slots2 offsets offsets2 p p2 old new list pushed k.parts in
+        record {
+          kept = items (cells_of h.kept);
+          read = h.read;
+          weighs = h.weighs;
+          keeps = record { slots = slots_behind nullable dictionary kind so (items (cells_of h.kept)) slots slots2 refl slot k.slots; parts = h.parts };
+        }
+
+fixed_list_pushed_behind : (depth : ℕ) (inside rest : List Token) (taken : ItemsTaken) (slots slots2 : Slots) (size : ℕ) (p p2 : _) (old new : ColumnBuilder)
+    → KeepsListItems depth inside rest taken old new → taken.count ≡ size → PushesThere slots slots2 → KeepsArray depth inside rest taken.weight (FixedList' slots size p old) (FixedList' slots2 size p2 new)
+unfolding cell_in weight
+fixed_list_pushed_behind depth inside rest taken slots slots2 size p p2 old new list many slot = record {
+  found = list.found;
+  read = list.read;
+  keeps = by;
+}
+  where
+    by : KeepsValue (array list.found) taken.weight (FixedList' slots size p old) (FixedList' slots2 size p2 new)
+    by (column name nullable kind dictionary pairs) so k =
+        let h = fixed_list_kept kind depth inside rest taken so slots slots2 size p p2 old new list many k.parts in
+        record {
+          kept = items (cells_of h.kept);
+          read = h.read;
+          weighs = h.weighs;
+          keeps = record { slots = slots_behind nullable dictionary kind so (items (cells_of h.kept)) slots slots2 refl slot k.slots; parts = h.parts };
+        }
+
+list_ended : (depth : ℕ) (inside rest : List Token) (taken : Option ItemsTaken) (heavy : ℕ) (slots slots2 : Slots) (offsets offsets2 : ListOffsets) (p p2 : _) (old new : ColumnBuilder)
+    → IfSome taken (λ t. KeepsListItems depth inside rest t old new) → EndsList taken heavy slots slots2 offsets offsets2
+    → KeepsArray depth inside rest heavy (List' slots offsets p old) (List' slots2 offsets2 p2 new)
+list_ended depth inside rest taken heavy slots slots2 offsets offsets2 p p2 old new h e =
+    let list : KeepsListItems depth inside rest e.own old new = rw e.is at h in
+    rw (← e.weighs) (list_pushed_behind depth inside rest e.own slots slots2 offsets offsets2 p p2 old new list e.ends e.slot)
+
+pub list_step : {E : Type 0} (depth : ℕ) (inside rest : List Token) (taken : Option ItemsTaken) (slots slots2 : Slots) (offsets offsets2 : ListOffsets) (p p2 : _) (old new : ColumnBuilder) (r : Result (Option ℕ) E)
+    → IfSome taken (λ t. KeepsListItems depth inside rest t old new) → IfOk r (λ ended. IfSome ended (λ heavy. EndsList taken heavy slots slots2 offsets offsets2))
+    → IfOk r (λ ended. IfSome ended (λ heavy. KeepsArray depth inside rest heavy (List' slots offsets p old) (List' slots2 offsets2 p2 new)))
+list_step depth inside rest taken slots slots2 offsets offsets2 p p2 old new (Err e) h ends = tt
+list_step depth inside rest taken slots slots2 offsets offsets2 p p2 old new (Ok None) h ends = tt
+list_step depth inside rest taken slots slots2 offsets offsets2 p p2 old new (Ok (Some heavy)) h ends = list_ended depth inside rest taken heavy slots slots2 offsets offsets2 p p2 old new h ends
+
+fixed_list_ended : (depth : ℕ) (inside rest : List Token) (taken : Option ItemsTaken) (heavy : ℕ) (slots slots2 : Slots) (size : ℕ) (p p2 : _) (old new : ColumnBuilder)
+    → IfSome taken (λ t. KeepsListItems depth inside rest t old new) → EndsFixedList taken size heavy slots slots2
+    → KeepsArray depth inside rest heavy (FixedList' slots size p old) (FixedList' slots2 size p2 new)
+fixed_list_ended depth inside rest taken heavy slots slots2 size p p2 old new h e =
+    let list : KeepsListItems depth inside rest e.own old new = rw e.is at h in
+    rw (← e.weighs) (fixed_list_pushed_behind depth inside rest e.own slots slots2 size p p2 old new list e.many e.slot)
+
+pub fixed_list_step : {E : Type 0} (depth : ℕ) (inside rest : List Token) (taken : Option ItemsTaken) (slots slots2 : Slots) (size : ℕ) (p p2 : _) (old new : ColumnBuilder) (r : Result (Option ℕ) E)
+    → IfSome taken (λ t. KeepsListItems depth inside rest t old new) → IfOk r (λ ended. IfSome ended (λ heavy. EndsFixedList taken size heavy slots slots2))
+    → IfOk r (λ ended. IfSome ended (λ heavy. KeepsArray depth inside rest heavy (FixedList' slots size p old) (FixedList' slots2 size p2 new)))
+fixed_list_step depth inside rest taken slots slots2 size p p2 old new (Err e) h ends = tt
+fixed_list_step depth inside rest taken slots slots2 size p p2 old new (Ok None) h ends = tt
+fixed_list_step depth inside rest taken slots slots2 size p p2 old new (Ok (Some heavy)) h ends = fixed_list_ended depth inside rest taken heavy slots slots2 size p p2 old new h ends
+
+-- the reader stays where no bracket was taken
+pub unmatched : (P Q : Type 0) (b : Bool) → b ≡ false → MatchBool b P Q → Q
+unmatched P Q true e h = absurd (false≢true (sym e))
+unmatched P Q false e h = h
+
+-- ---- the value that a reader stands at
+
+token_next : (depth : ℕ) (t : Token) (old new : List Token) (heavy : ℕ) (b b2 : ColumnBuilder) → old ≡ t ∷ new → KeepsToken t heavy b b2 → KeepsNext depth old new heavy b b2
+token_next depth t old new heavy b b2 is k = record {
+  data_is = k.data_is;
+  read = ap (λ (ts : List Token). converted of_json (value depth ts)) is ∙ token_read depth t new k.data_is k.read;
+  keeps = k.keeps;
+}
+
+pub token_next_step : {E : Type 0} (depth : ℕ) (t : Token) (old new : List Token) (b b2 : ColumnBuilder) (r : Result (Option ℕ) E) → old ≡ t ∷ new → IfOk r (λ taken. IfSome taken (λ heavy. KeepsToken t heavy b b2))
+    → IfOk r (λ taken. IfSome taken (λ heavy. KeepsNext depth old new heavy b b2))
+token_next_step depth t old new b b2 (Err e) is h = tt
+token_next_step depth t old new b b2 (Ok None) is h = tt
+token_next_step depth t old new b b2 (Ok (Some heavy)) is h = token_next depth t old new heavy b b2 is h
+
+pub null_next_step : {E : Type 0} (depth : ℕ) (old new : List Token) (b b2 : ColumnBuilder) (r : Result (Option ℕ) E) → old ≡ tokens.null ∷ new → IfOk r (λ taken. IfSome taken (λ heavy. KeepsNull heavy b b2))
+    → IfOk r (λ taken. IfSome taken (λ heavy. KeepsNext depth old new heavy b b2))
+null_next_step depth old new b b2 (Err e) is h = tt
+null_next_step depth old new b b2 (Ok None) is h = tt
+null_next_step depth old new b b2 (Ok (Some heavy)) is h = token_next depth tokens.null old new heavy b b2 is (null_token heavy b b2 h)
+
+array_next : (depth : ℕ) (old inside new : List Token) (heavy : ℕ) (b b2 : ColumnBuilder) → 0 < depth → old ≡ tokens.begin_array ∷ inside → KeepsArray (depth - 1) inside new heavy b b2
+    → KeepsNext depth old new heavy b b2
+array_next depth old inside new heavy b b2 some is k = record {
+  data_is = array k.found;
+  read = ap (λ (ts : List Token). converted of_json (value depth ts)) is
+      ∙ ap (converted of_json) (value-begin_array depth inside some)
+      ∙ array_read (token_items (value (depth - 1)) (length inside) inside)
+      ∙ ap (parse_map array) k.read;
+  keeps = k.keeps;
+}
+
+pub array_next_step : {E : Type 0} (depth below : ℕ) (old inside new : List Token) (b b2 : ColumnBuilder) (r : Result (Option ℕ) E) → 0 < depth → below ≡ depth - 1 → old ≡ tokens.begin_array ∷ inside
+    → IfOk r (λ taken. IfSome taken (λ heavy. KeepsArray below inside new heavy b b2)) → IfOk r (λ taken. IfSome taken (λ heavy. KeepsNext depth old new heavy b b2))
+array_next_step depth below old inside new b b2 (Err e) some less is h = tt
+array_next_step depth below old inside new b b2 (Ok None) some less is h = tt
+array_next_step depth below old inside new b b2 (Ok (Some heavy)) some less is h = array_next depth old inside new heavy b b2 some is (rw less at h)

@@ -1,0 +1,170 @@
+-- Nulls that come behind the cells of a column, and what stands below them.
+use Rattle.std.specs.Prelude.{Option, Ok, Err, Result, OnOk, replicate}
+use Rattle.std.specs.List.{flat_map}
+use Rattle.std.proofs.Common.{◌≡◌, ℕ, zero, suc, ◌+◌, ◌*◌, Bool, true, false, List, [], ◌∷◌, ◌++◌, length, map, refl, arith, ap, sym, subst, ◌∙◌, append_assoc, append-nil, length-append}
+use Rattle.std.proofs.lemmas.List.{map-append, replicate-append-replicate, replicate_more}
+use Rattle.std.proofs.lemmas.List.Concat.{flat_map-append}
+use Rattle.facts.specs.laws.Lists.{flat_map-push}
+use Rattle.arrow_schema.specs.Column.{Column, Index, Kind, lists, large_lists, fixed_lists, column}
+use Rattle.arrow_schema.specs.Parts.{is_nullable_column}
+use Rattle.cells.specs.Cell.{Cell, null}
+use Rattle.cells.specs.Dictionary.{item_list}
+use Rattle.cells.specs.Nulls.{is_there}
+use Rattle.cells.specs.Weight.{weight}
+use Rattle.columns.specs.Built.{fixed_items}
+use Rattle.columns.specs.Offsets.{width_of}
+use Rattle.columns.specs.declared.numbers.OffsetWidth.{OffsetWidth}
+use Rattle.text_columns.specs.declared.builder.ColumnBuilder.{ColumnBuilder, Flat, List', FixedList'}
+use Rattle.text_columns.specs.declared.builder.ListOffsets.{ListOffsets}
+use Rattle.text_columns.specs.declared.builder.Slots.{Slots}
+use Rattle.text_columns.specs.declared.flat.FlatBuilder.{FlatBuilder}
+use Rattle.text_columns.specs.inner.Kept.{AppendsNulls, HoldsLists, Keeps, KeepsBelow, KeepsOffsets, KeepsSlots, PushesEmpty, PushesEnd, TakesNullCell, is_nullable, null_heavy_of}
+use Rattle.text_columns.specs.inner.Lines.{KeepsNull}
+use Rattle.text_columns.proofs.Coded.{own_kind}
+use Rattle.text_columns.proofs.Taken.{null_weighs, offset_more}
+use Rattle.text_columns.proofs.TokenCells.{null_behind}
+
+-- ---- lists of nulls
+
+-- one more behind some
+nulls_more : (so : List Cell) (n : ℕ) → (so ++ replicate n null) ++ null ∷ [] ≡ so ++ replicate (n + 1) null
+nulls_more so n = append_assoc so (replicate n null) (null ∷ []) ∙ ap (λ (xs : List Cell). so ++ xs) (replicate_more n null)
+
+no_nulls : (so : List Cell) → so ++ replicate 0 null ≡ so
+no_nulls so = append-nil so
+
+pub one_null : (so : List Cell) → so ++ replicate 1 null ≡ so ++ null ∷ []
+one_null so = refl
+
+-- none of them is there
+none_there : (n : ℕ) → map is_there (replicate n null) ≡ replicate n false
+none_there zero = refl
+none_there (suc n) = ap (λ (bs : List Bool). false ∷ bs) (none_there n)
+
+-- they have no items
+no_items : (n : ℕ) → flat_map item_list (replicate n null) ≡ []
+no_items zero = refl
+no_items (suc n) = no_items n
+
+pub items_stay : (so : List Cell) (n : ℕ) → flat_map item_list (so ++ replicate n null) ≡ flat_map item_list so
+items_stay so n = flat_map-append item_list so (replicate n null) ∙ ap (λ (xs : List Cell). flat_map item_list so ++ xs) (no_items n) ∙ append-nil (flat_map item_list so)
+
+-- but where lists have a size, so many nulls
+null_items : (size n : ℕ) → flat_map (fixed_items size) (replicate n null) ≡ replicate (n * size) null
+null_items size zero = (let e : 0 ≡ 0 * size = omega arith in ap (λ (m : ℕ). replicate m null) e)
+null_items size (suc n) =
+    let e : size + n * size ≡ suc n * size = omega arith in
+    ap (λ (xs : List Cell). replicate size null ++ xs) (null_items size n) ∙ replicate-append-replicate size (n * size) null ∙ ap (λ (m : ℕ). replicate m null) e
+
+fixed_more : (size n : ℕ) (so : List Cell) → flat_map (fixed_items size) so ++ replicate (n * size) null ≡ flat_map (fixed_items size) (so ++ replicate n null)
+fixed_more size n so = sym (flat_map-append (fixed_items size) so (replicate n null) ∙ ap (λ (xs : List Cell). flat_map (fixed_items size) so ++ xs) (null_items size n))
+
+-- ---- slots and offsets
+
+slots_behind : (nullable : Bool) (dictionary : Option Index) (kind : Kind) (so : List Cell) (n : ℕ) (old new : Slots) → new.nullable ≡ old.nullable → new.null_weight ≡ old.null_weight
+    → new.valid.items ≡ old.valid.items ++ replicate n false → KeepsSlots nullable dictionary kind so old → KeepsSlots nullable dictionary kind (so ++ replicate n null) new
+slots_behind nullable dictionary kind so n old new same weighs valid k = record {
+  same = same ∙ k.same;
+  valid = valid ∙ ap (λ (bs : List Bool). bs ++ replicate n false) k.valid ∙ ap (λ (bs : List Bool). map is_there so ++ bs) (sym (none_there n)) ∙ sym (map-append is_there so (replicate n null));
+  null_weighs = k.null_weighs ∙ sym weighs;
+  plain = k.plain;
+}
+
+pub offsets_pushed : (width : OffsetWidth) (so : List Cell) (c : Cell) (n : ℕ) (old new : ListOffsets) → length (item_list c) ≡ n → PushesEnd n old new → KeepsOffsets width so old
+    → KeepsOffsets width (so ++ c ∷ []) new
+offsets_pushed width so c n old new size p k =
+    let many : old.count + n ≡ length (flat_map item_list so) + length (item_list c) = (λ j. k.count j + sym size j) in
+    record {
+      width_is = p.width ∙ k.width_is;
+      ends = rw (k.ends, k.width_is, many) at p.offsets ∙ sym (offset_more item_list (width_of width) so c);
+      count = p.count ∙ many ∙ sym (length-append (flat_map item_list so) (item_list c)) ∙ ap length (sym (flat_map-push item_list so c));
+    }
+
+pub empty_none : (o : ListOffsets) → PushesEmpty 0 o o
+empty_none o width so k = subst (λ (xs : List Cell). KeepsOffsets width xs o) (sym (no_nulls so)) k
+
+pub empty_more : (n : ℕ) (old mid new : ListOffsets) → PushesEmpty n old mid → PushesEnd 0 mid new → PushesEmpty (n + 1) old new
+empty_more n old mid new before p width so k =
+    subst (λ (xs : List Cell). KeepsOffsets width xs new) (nulls_more so n) (offsets_pushed width (so ++ replicate n null) null 0 mid new refl p (before width so k))
+
+-- ---- columns
+
+pub nulls_none : (b : ColumnBuilder) → AppendsNulls 0 b b
+nulls_none b c so k = subst (λ (xs : List Cell). Keeps c xs b) (sym (no_nulls so)) k
+
+pub flat_more : (n : ℕ) (b : ColumnBuilder) (old new : FlatBuilder) → AppendsNulls n b (Flat old) → new.nullable ≡ old.nullable → new.valid.items ≡ old.valid.items ++ false ∷ []
+    → TakesNullCell old.values old.coding new.values new.coding → AppendsNulls (n + 1) b (Flat new)
+flat_more n b old new before same valid takes c so k =
+    subst (λ (xs : List Cell). Keeps c xs (Flat new)) (nulls_more so n) (null_behind old new same valid takes c (so ++ replicate n null) (before c so k))
+
+lists_behind : (width : OffsetWidth) (item : Column) (so : List Cell) (n : ℕ) (offsets offsets2 : ListOffsets) (items : ColumnBuilder) → PushesEmpty n offsets offsets2
+    → HoldsLists width item (Keeps item) so offsets items → HoldsLists width item (Keeps item) (so ++ replicate n null) offsets2 items
+lists_behind width item so n offsets offsets2 items e k = record {
+  ends = e width so k.ends;
+  unlimited = k.unlimited;
+  below = subst (λ (xs : List Cell). Keeps item xs items) (sym (items_stay so n)) k.below;
+}
+
+lists_below : (kind : Kind) (so : List Cell) (n : ℕ) (slots slots2 : Slots) (offsets offsets2 : ListOffsets) (p p2 : _) (items : ColumnBuilder) → PushesEmpty n offsets offsets2
+    → KeepsBelow kind so (List' slots offsets p items) → KeepsBelow kind (so ++ replicate n null) (List' slots2 offsets2 p2 items)
+lists_below (lists item) so n slots slots2 offsets offsets2 p p2 items e k = lists_behind _ item so n offsets offsets2 items e k
+lists_below (large_lists item) so n slots slots2 offsets offsets2 p p2 items e k = lists_behind _ item so n offsets offsets2 items e k
+lists_below _ so n slots slots2 offsets offsets2 p p2 items e k = absurd k
+
+pub list_nulls : (n : ℕ) (slots slots2 : Slots) (offsets offsets2 : ListOffsets) (p p2 : _) (items : ColumnBuilder) → slots2.nullable ≡ slots.nullable → slots2.null_weight ≡ slots.null_weight
+    → slots2.valid.items ≡ slots.valid.items ++ replicate n false → PushesEmpty n offsets offsets2 → AppendsNulls n (List' slots offsets p items) (List' slots2 offsets2 p2 items)
+list_nulls n slots slots2 offsets offsets2 p p2 items same weighs valid e (column name nullable kind dictionary pairs) so k = record {
+  slots = slots_behind nullable dictionary kind so n slots slots2 same weighs valid k.slots;
+  parts = lists_below kind so n slots slots2 offsets offsets2 p p2 items e k.parts;
+}
+
+fixed_below : (kind : Kind) (so : List Cell) (n below : ℕ) (slots slots2 : Slots) (size : ℕ) (p p2 : _) (items items2 : ColumnBuilder) → below ≡ n * size → AppendsNulls below items items2
+    → KeepsBelow kind so (FixedList' slots size p items) → KeepsBelow kind (so ++ replicate n null) (FixedList' slots2 size p2 items2)
+fixed_below (fixed_lists width item) so n below slots slots2 size p p2 items items2 many a k =
+    let all : below ≡ n * width = many ∙ ap (λ (m : ℕ). n * m) k.size_is in
+    record {
+      size_is = k.size_is;
+      unlimited = k.unlimited;
+      below = subst (λ (xs : List Cell). Keeps item xs items2) (ap (λ (m : ℕ). flat_map (fixed_items width) so ++ replicate m null) all ∙ fixed_more width n so)
+          (a item (flat_map (fixed_items width) so) k.below);
+    }
+fixed_below _ so n below slots slots2 size p p2 items items2 many a k = absurd k
+
+pub fixed_list_nulls : (n below : ℕ) (slots slots2 : Slots) (size : ℕ) (p p2 : _) (items items2 : ColumnBuilder) → slots2.nullable ≡ slots.nullable → slots2.null_weight ≡ slots.null_weight
+    → slots2.valid.items ≡ slots.valid.items ++ replicate n false → below ≡ n * size → AppendsNulls below items items2 → AppendsNulls n (FixedList' slots size p items) (FixedList' slots2 size p2 items2)
+fixed_list_nulls n below slots slots2 size p p2 items items2 same weighs valid many a (column name nullable kind dictionary pairs) so k = record {
+  slots = slots_behind nullable dictionary kind so n slots slots2 same weighs valid k.slots;
+  parts = fixed_below kind so n below slots slots2 size p p2 items items2 many a k.parts;
+}
+
+-- ---- one null, where nulls are allowed
+
+is_nullable_of : (c : Column) (so : List Cell) (b : ColumnBuilder) → Keeps c so b → is_nullable_column c ≡ is_nullable b
+is_nullable_of (column name nullable kind dictionary pairs) so (Flat b) k = sym k.0
+is_nullable_of (column name nullable kind dictionary pairs) so (List' slots offsets p items) k = sym k.slots.same
+is_nullable_of (column name nullable kind dictionary pairs) so (FixedList' slots size p items) k = sym k.slots.same
+
+pub null_is_heavy : (c : Column) (so : List Cell) (b : ColumnBuilder) → Keeps c so b → weight c null ≡ null_heavy_of b
+unfolding weight
+null_is_heavy (column name nullable kind dictionary pairs) so (Flat b) k = null_weighs kind b.values (own_kind dictionary kind so b.values b.coding k.2)
+null_is_heavy (column name nullable kind dictionary pairs) so (List' slots offsets p items) k = k.slots.null_weighs
+null_is_heavy (column name nullable kind dictionary pairs) so (FixedList' slots size p items) k = k.slots.null_weighs
+
+pub null_pushed : (old new : ColumnBuilder) → is_nullable old ≡ true → AppendsNulls 1 old new → KeepsNull (null_heavy_of old) old new
+null_pushed old new is a c so k = (is_nullable_of c so old k ∙ is, null_is_heavy c so old k, a c so k)
+
+-- ---- what a call tells, where it appended them
+
+on_ok : {A E : Type 0} {P Q : Type 0} (r : Result A E) → OnOk r P → (P → Q) → OnOk r Q
+on_ok (Ok a) h f = f h
+on_ok (Err e) h f = tt
+
+pub list_nulls_step : {A E : Type 0} (r : Result A E) (n : ℕ) (slots slots2 : Slots) (offsets offsets2 : ListOffsets) (p p2 : _) (items : ColumnBuilder) → slots2.nullable ≡ slots.nullable
+    → slots2.null_weight ≡ slots.null_weight → slots2.valid.items ≡ slots.valid.items ++ replicate n false → OnOk r (PushesEmpty n offsets offsets2)
+    → OnOk r (AppendsNulls n (List' slots offsets p items) (List' slots2 offsets2 p2 items))
+list_nulls_step r n slots slots2 offsets offsets2 p p2 items same weighs valid h = on_ok r h (λ e. list_nulls n slots slots2 offsets offsets2 p p2 items same weighs valid e)
+
+pub fixed_list_nulls_step : {A E : Type 0} (r : Result A E) (n below : ℕ) (slots slots2 : Slots) (size : ℕ) (p p2 : _) (items items2 : ColumnBuilder) → slots2.nullable ≡ slots.nullable
+    → slots2.null_weight ≡ slots.null_weight → slots2.valid.items ≡ slots.valid.items ++ replicate n false → below ≡ n * size → OnOk r (AppendsNulls below items items2)
+    → OnOk r (AppendsNulls n (FixedList' slots size p items) (FixedList' slots2 size p2 items2))
+fixed_list_nulls_step r n below slots slots2 size p p2 items items2 same weighs valid many h = on_ok r h (λ a. fixed_list_nulls n below slots slots2 size p p2 items items2 same weighs valid many a)

@@ -1,0 +1,69 @@
+-- Columns that have no cell yet.
+use Rattle.std.specs.Prelude.{Option, Some, None, Ok, Err, Result, IfOk, IfSome, map, option_map, string_bytes}
+use Rattle.std.proofs.Common.{◌≡◌, ℕ, ◌+◌, ◌*◌, Bool, List, [], refl, arith, ap, sym, ◌∙◌}
+use Rattle.std.proofs.Math.Nat.{mul_comm}
+use Rattle.arrow_schema.specs.Column.{Column, Kind, Pair, lists, large_lists, fixed_lists, column}
+use Rattle.arrow_schema.specs.View.{column_of, index_of, kind_of, pair_of}
+use Rattle.arrow_schema.specs.declared.types.Field.{Field}
+use Rattle.arrow_schema.specs.laws.Parts.{field_parts}
+use Rattle.cells.specs.Cell.{null}
+use Rattle.cells.specs.Weight.{kind_weight, weight}
+use Rattle.columns.specs.declared.numbers.OffsetWidth.TheVariants.{Four, Eight}
+use Rattle.text_columns.specs.declared.builder.ColumnBuilder.{ColumnBuilder}
+use Rattle.text_columns.specs.inner.Kept.{Keeps, StartsFixedLists, StartsLists, null_heavy_of}
+use Rattle.text_columns.proofs.Nulls.{null_is_heavy}
+
+-- a column of lists, from its buffers without cells
+lists_start : (name : List ℕ) (nullable : Bool) (item : Column) (pairs : List Pair) (b : ColumnBuilder) → StartsLists nullable Four item b → Keeps (column name nullable (lists item) None pairs) [] b
+unfolding kind_weight
+lists_start name nullable item pairs b s = rw s.is (record {
+  slots = record { same = s.same; valid = s.none; null_weighs = sym s.null_weighs; plain = refl };
+  parts = record { ends = s.ends; unlimited = s.unlimited; below = s.below };
+})
+
+large_lists_start : (name : List ℕ) (nullable : Bool) (item : Column) (pairs : List Pair) (b : ColumnBuilder) → StartsLists nullable Eight item b
+    → Keeps (column name nullable (large_lists item) None pairs) [] b
+unfolding kind_weight
+large_lists_start name nullable item pairs b s = rw s.is (record {
+  slots = record { same = s.same; valid = s.none; null_weighs = sym s.null_weighs; plain = refl };
+  parts = record { ends = s.ends; unlimited = s.unlimited; below = s.below };
+})
+
+fixed_lists_start : (name : List ℕ) (nullable : Bool) (size : ℕ) (item : Column) (pairs : List Pair) (b : ColumnBuilder) → StartsFixedLists nullable size item b
+    → Keeps (column name nullable (fixed_lists size item) None pairs) [] b
+unfolding kind_weight
+fixed_lists_start name nullable size item pairs b s = rw s.is (record {
+  slots = record { same = s.same; valid = s.none; null_weighs = sym s.null_weighs; plain = refl };
+  parts = record { size_is = refl; unlimited = s.unlimited; below = s.below };
+})
+
+-- a null of lists of a size weighs as much as its items that are null
+pub fixed_null : (item : Column) (items : ColumnBuilder) (size heavy below total : ℕ) → Keeps item [] items → heavy ≡ null_heavy_of items → below ≡ heavy * size → total ≡ below + 1
+    → total ≡ 1 + size * weight item null
+fixed_null item items size heavy below total k is product sum =
+    let same : heavy ≡ weight item null = is ∙ sym (null_is_heavy item [] items k) in
+    let turned : heavy * size ≡ size * weight item null = ap (λ (n : ℕ). n * size) same ∙ mul_comm (weight item null) size in
+    omega (arith, turned, product, sum)
+
+-- ---- what a call tells of the column of a field
+
+column_is : (f : Field) (kind : Kind) → kind_of f.data_type ≡ kind → f.dictionary ≡ None → column_of f ≡ column (string_bytes f.name) f.nullable kind None (map pair_of f.pairs.items)
+column_is f kind is plain = field_parts f ∙ (λ j. column (string_bytes f.name) f.nullable (is j) (option_map index_of (plain j)) (map pair_of f.pairs.items))
+
+started : {E : Type 0} {P Q : ColumnBuilder → Type 0} (r : Result (Option ColumnBuilder) E) → ((b : ColumnBuilder) → P b → Q b) → IfOk r (λ found. IfSome found P) → IfOk r (λ found. IfSome found Q)
+started (Err e) f h = tt
+started (Ok None) f h = tt
+started (Ok (Some b)) f h = f b h
+
+pub lists_step : {E : Type 0} (f : Field) (item : Column) (r : Result (Option ColumnBuilder) E) → kind_of f.data_type ≡ lists item → f.dictionary ≡ None
+    → IfOk r (λ found. IfSome found (StartsLists f.nullable Four item)) → IfOk r (λ found. IfSome found (Keeps (column_of f) []))
+lists_step f item r is plain h = started r (λ b s. rw (column_is f (lists item) is plain) (lists_start (string_bytes f.name) f.nullable item (map pair_of f.pairs.items) b s)) h
+
+pub large_lists_step : {E : Type 0} (f : Field) (item : Column) (r : Result (Option ColumnBuilder) E) → kind_of f.data_type ≡ large_lists item → f.dictionary ≡ None
+    → IfOk r (λ found. IfSome found (StartsLists f.nullable Eight item)) → IfOk r (λ found. IfSome found (Keeps (column_of f) []))
+large_lists_step f item r is plain h = started r (λ b s. rw (column_is f (large_lists item) is plain) (large_lists_start (string_bytes f.name) f.nullable item (map pair_of f.pairs.items) b s)) h
+
+pub fixed_lists_step : {E : Type 0} (f : Field) (size : ℕ) (item : Column) (r : Result (Option ColumnBuilder) E) → kind_of f.data_type ≡ fixed_lists size item → f.dictionary ≡ None
+    → IfOk r (λ found. IfSome found (StartsFixedLists f.nullable size item)) → IfOk r (λ found. IfSome found (Keeps (column_of f) []))
+fixed_lists_step f size item r is plain h =
+    started r (λ b s. rw (column_is f (fixed_lists size item) is plain) (fixed_lists_start (string_bytes f.name) f.nullable size item (map pair_of f.pairs.items) b s)) h

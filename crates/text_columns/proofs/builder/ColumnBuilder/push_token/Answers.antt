@@ -1,7 +1,0 @@
-use Rattle.std.proofs.Common.{ap}
-use Rattle.json.specs.Reads.{token_of}
-use Rattle.text_columns.proofs.TokenCells.{null_step}
-use Rattle.text_columns.proofs.builder.ColumnBuilder.push_token.Goals as goal
-
-pub returns-in-Null : goal.returns-in-Null
-returns-in-Null c = null_step (token_of c.args.token) c.args.self.now c.push_null.new.self c.push_null.result (ap token_of c.in-Null.is) c.push_null.ensures

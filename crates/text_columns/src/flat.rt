@@ -1,0 +1,73 @@
+// The cells of one column without parts.
+ghost use Rattle.std.specs.Prelude.{IfOk, IfSome, OnOk};
+ghost use Rattle.text_columns.specs.declared.builder.ColumnBuilder.{Flat};
+ghost use Rattle.text_columns.specs.inner.Kept.{AppendsNulls, KeepsField};
+ghost use Rattle.text_columns.specs.inner.Lines.{KeepsNull};
+
+use crate::coding::{self, Coding};
+use crate::column_values::Values;
+use cells::MAX_ROW_WEIGHT;
+use std::alloc::AllocError;
+
+/// The cells of a column without parts so far: which of them are there, and their values, or the entries of a dictionary and what else it has.
+#[derive(Drop)]
+pub(crate) struct FlatBuilder {
+    pub(crate) nullable: bool,
+    pub(crate) valid: Vec<bool>,
+    pub(crate) values: Values,
+    pub(crate) coding: Option<Coding>,
+}
+
+impl FlatBuilder {
+    ghost use Rattle.std.specs.Prelude.{◌≡◌, ◌&&◌, bytes_eq};
+
+    // Whether the text of a field is a null of the column.
+    fn is_null(&self, null_text: &[u8], text: &[u8]) -> bool
+        ensures { result ≡ (self.now.nullable && bytes_eq text.now null_text.now) }
+    {
+        self.nullable && text == null_text
+    }
+
+    /// Appends a null, where the column is nullable and a row may weigh as much, and answers what it weighs.
+    pub(crate) fn push_null(&mut self) -> Result<Option<u64>, AllocError>
+        ensures { IfOk result (λ taken. IfSome taken (λ heavy. KeepsNull heavy (Flat self.old) (Flat self.new))) }
+    {
+        if !self.nullable {
+            return Ok(None);
+        }
+        let heavy = self.values.null_weight();
+        if heavy > MAX_ROW_WEIGHT {
+            return Ok(None);
+        }
+        coding::push_null(&mut self.values, &mut self.coding)?;
+        self.valid.push(false)?;
+        Ok(Some(heavy))
+    }
+
+    /// Appends the cell of a field, where its text is one, and answers what it weighs. The null text is a null where the column is nullable.
+    pub(crate) fn push_field(
+        &mut self,
+        null_text: &[u8],
+        text: &[u8],
+    ) -> Result<Option<u64>, AllocError>
+        ensures { IfOk result (λ taken. IfSome taken (λ heavy. KeepsField null_text.now text.now heavy (Flat self.old) (Flat self.new))) }
+    {
+        if self.is_null(null_text, text) {
+            return self.push_null();
+        }
+        let taken = coding::push_text(&mut self.values, &mut self.coding, text)?;
+        self.valid.push(true)?;
+        Ok(taken)
+    }
+
+    /// Appends so many nulls, whether the column is nullable or not: what stands below a null is null.
+    pub(crate) fn push_nulls(&mut self, count: usize) -> Result<(), AllocError>
+        ensures { OnOk result (AppendsNulls count (Flat self.old) (Flat self.new)) }
+    {
+        for _ in 0..count {
+            coding::push_null(&mut self.values, &mut self.coding)?;
+            self.valid.push(false)?;
+        }
+        Ok(())
+    }
+}
