@@ -46,6 +46,36 @@ one_cleared width at next b old new bits end room is =
     ap (drop next) whole ∙ drop_at (front ++ own) (drop next old) next lw ∙ ap (λ (k : ℕ). drop k old) end ∙ sym (drop-drop width at old) in
     ap₂ (λ (xs ys : List ℕ). xs ++ cleared width bits ys) first rest ∙ append_assoc front own (cleared width bits (drop width (drop at old)))
 
+-- a value that is there is kept
+kept : (width at : ℕ) (values : List ℕ) → values ≡ take at values ++ (take width (drop at values) ++ drop (at + width) values)
+kept width at values =
+    sym (take-append-drop at values)
+    ∙ ap (λ (xs : List ℕ). take at values ++ xs) (sym (take-append-drop width (drop at values)) ∙ ap (λ (xs : List ℕ). take width (drop at values) ++ xs) (drop-drop width at values))
+
+-- and so are several
+pub some_kept : (set : ℕ → Bool) (width at i k left : ℕ) (values : List ℕ) → ((j : ℕ) → i ≤ j → j < i + k → set j ≡ true) → at + k * width ≤ length values
+    → cleared_with width (at + k * width) values (map set (range_with_len (i + k) left)) ≡ cleared_with width at values (map set (range_with_len i (k + left)))
+some_kept set width at i zero left values alike room =
+    let place : at + 0 * width ≡ at = omega arith in
+    let first : i + 0 ≡ i = omega arith in
+    let count : 0 + left ≡ left = omega arith in
+    ap₂ (λ (p j : ℕ). cleared_with width p values (map set (range_with_len j left))) place first
+    ∙ ap (λ (n : ℕ). cleared_with width at values (map set (range_with_len i n))) (sym count)
+some_kept set width at i (suc k) left values alike room =
+    let size : suc k * width ≡ width + k * width = omega arith in
+    let place : at + suc k * width ≡ at + width + k * width = omega (arith, size) in
+    let first : i + suc k ≡ i + 1 + k = omega arith in
+    let count : suc k + left ≡ suc (k + left) = omega arith in
+    let more : at + width + k * width ≤ length values = omega (arith, size, room) in
+    let here : set i ≡ true = alike i (omega arith) (omega arith) in
+    let rest : List Bool = map set (range_with_len (i + 1) (k + left)) in
+    let whole : values ≡ take at values ++ ((if set i then take width (drop at values) else replicate width 0) ++ drop (at + width) values) =
+    kept width at values ∙ ap (λ (b : Bool). take at values ++ ((if b then take width (drop at values) else replicate width 0) ++ drop (at + width) values)) (sym here) in
+    ap₂ (λ (p j : ℕ). cleared_with width p values (map set (range_with_len j left))) place first
+    ∙ some_kept set width (at + width) (i + 1) k left values (λ j low high. alike j (omega (arith, low)) (omega (arith, high))) more
+    ∙ one_cleared width at (at + width) (set i) values values rest refl (omega (arith, more)) whole
+    ∙ ap (λ (n : ℕ). cleared_with width at values (map set (range_with_len i n))) (sym count)
+
 -- where each is there nothing is cleared
 pub none_cleared : (width n : ℕ) (values : List ℕ) → length values ≡ n * width → cleared width (replicate n true) values ≡ values
 none_cleared width zero values len = sym (nil values (omega (arith, len)))

@@ -178,6 +178,43 @@ fn build_struct_parts<'k, 'a: 'k>(
     Ok(())
 }
 
+// The same of runs that are split at their nulls, of a type that has no values of one width.
+#[cycle(by_runs)]
+fn build_valid_kind<'k, 'a: 'k>(
+    alloc: Global,
+    batch: &mut BuiltBatch<'a>,
+    entries: &mut KnownEntries<'k>,
+    data_type: &'k DataType,
+    runs: &[SlotRun<'a>],
+) -> Result<(), AllocError>
+    requires values { fixed_width (kind_of data_type.now) ≡ None }
+    requires sound { are_runs_sound (plain_column (kind_of data_type.now) None) runs.now ≡ true }
+    requires fits { can_build (plain_column (kind_of data_type.now) None) (kind_cells (kind_of data_type.now) runs.now) ≡ true }
+    ensures { OnOk result (AddsRuns (kind_of data_type.now) runs.now batch.old batch.new) }
+{
+    let valid = valid_runs(alloc, runs)?;
+    build_written_kind(alloc, batch, entries, data_type, &valid)
+}
+
+// Structs of which some are null: their bits are those of whole runs, and the slots of each field those of runs that are split at the nulls.
+#[cycle(by_runs)]
+fn build_split_structs<'k, 'a: 'k>(
+    alloc: Global,
+    batch: &mut BuiltBatch<'a>,
+    entries: &mut KnownEntries<'k>,
+    fields: &'k [Field],
+    runs: &[SlotRun<'a>],
+) -> Result<(), AllocError>
+    requires sound { are_runs_sound (plain_column (structs (columns_of (map column_of fields.now))) None) runs.now ≡ true }
+    requires fits { can_build (plain_column (structs (columns_of (map column_of fields.now))) None)
+        (kind_cells (structs (columns_of (map column_of fields.now))) runs.now) ≡ true }
+    ensures { OnOk result (AddsRuns (structs (columns_of (map column_of fields.now))) runs.now batch.old batch.new) }
+{
+    push_run_slots(alloc, batch, runs)?;
+    let valid = valid_runs(alloc, runs)?;
+    build_struct_parts(alloc, batch, entries, fields, &valid)
+}
+
 // Adds the array of a column of a type that has no values of one width, whatever its name, and all below it. Runs that do not stand as they are written are
 // split at their nulls.
 #[cycle(by_runs)]
@@ -196,8 +233,10 @@ fn build_split_kind<'k, 'a: 'k>(
     if are_as_written(data_type, runs) {
         return build_written_kind(alloc, batch, entries, data_type, runs);
     }
-    let valid = valid_runs(alloc, runs)?;
-    build_written_kind(alloc, batch, entries, data_type, &valid)
+    match data_type {
+        DataType::Struct(fields) => build_split_structs(alloc, batch, entries, fields, runs),
+        _ => build_valid_kind(alloc, batch, entries, data_type, runs),
+    }
 }
 
 // The same of any type. Runs that have values are not split: zeros are put below their nulls.

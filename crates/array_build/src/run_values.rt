@@ -1,5 +1,5 @@
 // Values of one width.
-ghost use Rattle.std.specs.Prelude.{◌≡◌, ◌≤◌, ◌+◌, ◌-◌, ◌*◌, ◌++◌, true, false, OnOk, IfOk, Some, None, map, take, drop, replicate, length, if◌then◌else◌};
+ghost use Rattle.std.specs.Prelude.{◌≡◌, ◌≤◌, ◌+◌, ◌-◌, ◌*◌, ◌++◌, true, false, OnOk, IfOk, Some, None, map, take, drop, replicate, length};
 ghost use Rattle.std.specs.List.{flat_map, range_with_len};
 ghost use Rattle.array_build.specs.Batch.{buffer_bytes, plain_column};
 ghost use Rattle.array_build.specs.inner.Runs.{cleared, fixed_value, fixed_width, is_run_as_written, kind_cells};
@@ -17,7 +17,7 @@ use crate::as_written::are_slots_as_written;
 use crate::batch::Buffer;
 use crate::run_slots::{count_slots, only_run};
 use arrow_schema::DataType;
-use bitmap::get;
+use bitmap::alike_end;
 use columns::{ArrayView, SlotRun};
 use std::alloc::{AllocError, Global};
 
@@ -71,29 +71,26 @@ fn push_zeros(values: &mut Vec<u8>, width: usize, count: usize) -> Result<(), Al
     }
 }
 
-// Puts zeros for a value, unless it is kept.
+// Puts zeros for a value.
 #[inline]
-fn clear_value(values: &mut [u8], at: usize, width: usize, kept: bool)
+fn clear_value(values: &mut [u8], at: usize, width: usize)
     requires { at + width ≤ length values.old }
-    ensures { values.new ≡ take at values.old
-        ++ ((if kept then take width (drop at values.old) else replicate width 0) ++ drop (at + width) values.old) }
+    ensures { values.new ≡ take at values.old ++ (replicate width 0 ++ drop (at + width) values.old) }
 {
-    if !kept {
-        values[at..at + width].fill(0);
-    }
+    values[at..at + width].fill(0);
 }
 
-// Puts zeros for each value, from a place on, whose bit is not set.
+// Puts zeros for each value, from a place on, whose bit is not set: from one such bit to the next.
 fn clear_unset(values: &mut [u8], start: usize, width: usize, bits: &[u8], from: usize, to: usize)
     requires order { from ≤ to }
     requires bits { to ≤ 8 * length bits.now }
     requires values { length values.old ≡ start + (to - from) * width }
     ensures { values.new ≡ take start values.old ++ cleared width (map (bit bits.now) (range_with_len from (to - from))) (drop start values.old) }
 {
-    let mut at = start;
-    for i in from..to {
-        clear_value(values, at, width, get(bits, i));
-        at += width;
+    let mut i = alike_end(bits, true, from, to);
+    while i < to {
+        clear_value(values, start + (i - from) * width, width);
+        i = alike_end(bits, true, i + 1, to);
     }
 }
 

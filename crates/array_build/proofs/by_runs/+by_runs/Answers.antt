@@ -11,7 +11,7 @@ use Rattle.array_build.proofs.RunParts.{all_behind, no_field, place_built, place
 use Rattle.array_build.proofs.by_runs.+by_runs.Goals as goal
 use Rattle.array_build.specs.Batch.{batch_in, built_at, built_below, plain_column, with_arrays}
 use Rattle.array_build.specs.inner.Nodes.{list_kind}
-use Rattle.array_build.specs.inner.Runs.{AreAsWritten, contents_width, kind_cells}
+use Rattle.array_build.specs.inner.Runs.{AreAsWritten, AreReady, contents_width, kind_cells}
 use Rattle.columns.specs.Runs.{are_runs_sound, runs_cells}
 use Rattle.columns.specs.declared.slot_runs.SlotRun.{SlotRun}
 use Rattle.arrow_schema.specs.Column.{Column, Columns, Kind, columns_of, fixed_lists, structs}
@@ -19,7 +19,7 @@ use Rattle.arrow_schema.specs.View.{column_of, kind_of}
 use Rattle.arrow_schema.specs.declared.types.Field.{Field}
 use Rattle.arrow_schema.specs.declared.types.Field.{the_lemmas as field_lemmas}
 use Rattle.cells.specs.Cell.{Cell}
-use Rattle.cells.specs.Dictionary.{item_list}
+use Rattle.cells.specs.Dictionary.{item_list, part_list}
 use Rattle.columns.specs.Buildable.{can_build}
 use Rattle.columns.specs.Built.{fixed_items}
 use Rattle.facts.specs.laws.Lists.{drop-item}
@@ -37,6 +37,29 @@ pub build_run_structs-returns : goal.build_run_structs-returns
 build_run_structs-returns t c =
     on_ok_weaker c.build_struct_parts.result
     (λ h. h ∙ struct_runs_are (batch_in c.args.batch.now) (batch_in c.push_run_slots.new.batch) (columns_of (map column_of c.args.fields.now)) c.args.runs.now c.in_ok-push_run_slots.ensures)
+    c.build_struct_parts.ensures
+
+pub build_split_structs-push_run_slots-requires : goal.build_split_structs-push_run_slots-requires
+build_split_structs-push_run_slots-requires t c = have_validity (structs (columns_of (map column_of c.args.fields.now))) c.args.runs.now c.requires.sound
+
+pub build_split_structs-valid_runs-requires : goal.build_split_structs-valid_runs-requires
+build_split_structs-valid_runs-requires t c = have_validity (structs (columns_of (map column_of c.args.fields.now))) c.args.runs.now c.requires.sound
+
+pub build_split_structs-build_struct_parts-requires : goal.build_split_structs-build_struct_parts-requires
+build_split_structs-build_struct_parts-requires t c =
+    let kind : Kind = structs (columns_of (map column_of c.args.fields.now)) in
+    let ready : AreReady kind c.in_ok-valid.valid.items
+    = are_ready kind c.in_ok-valid.valid.items c.args.runs.now c.in_ok-valid.ensures.same c.in_ok-valid.ensures.valid c.requires.sound c.requires.fits in
+    (search (rules, field_lemmas), subst (λ (runs : List SlotRun). AreReady kind runs) (sym c.deref.ensures.value) ready)
+
+pub build_split_structs-returns : goal.build_split_structs-returns
+build_split_structs-returns t c =
+    let cs : Columns = columns_of (map column_of c.args.fields.now) in
+    let same = ap (λ (runs : List SlotRun). kind_cells (structs cs) runs) c.deref.ensures.value
+    ∙ same_cells (structs cs) c.in_ok-valid.valid.items c.args.runs.now c.in_ok-valid.ensures.same c.requires.sound in
+    on_ok_weaker c.build_struct_parts.result
+    (λ h. h ∙ ap (λ (cells : List Cell). with_arrays (batch_in c.push_run_slots.new.batch) (built_below cs (map part_list cells))) same
+    ∙ struct_runs_are (batch_in c.args.batch.now) (batch_in c.push_run_slots.new.batch) cs c.args.runs.now c.in_ok-push_run_slots.ensures)
     c.build_struct_parts.ensures
 
 -- ---- the fields of structs, one after another
@@ -138,11 +161,11 @@ build_split_kind-build_written_kind-requires t c =
     = record { sound = c.requires.sound; written = c.are_as_written.ensures c.if-are_as_written.true; fit = c.requires.fits } in
     (search (rules, field_lemmas), (c.requires.values, ready))
 
-pub build_split_kind-valid_runs-requires : goal.build_split_kind-valid_runs-requires
-build_split_kind-valid_runs-requires t c = have_validity (kind_of c.args.data_type.now) c.args.runs.now c.requires.sound
+pub build_valid_kind-valid_runs-requires : goal.build_valid_kind-valid_runs-requires
+build_valid_kind-valid_runs-requires t c = have_validity (kind_of c.args.data_type.now) c.args.runs.now c.requires.sound
 
-pub build_split_kind-build_written_kind-requires-2 : goal.build_split_kind-build_written_kind-requires-2
-build_split_kind-build_written_kind-requires-2 t c =
+pub build_valid_kind-build_written_kind-requires : goal.build_valid_kind-build_written_kind-requires
+build_valid_kind-build_written_kind-requires t c =
     let kind : Kind = kind_of c.args.data_type.now in (
       search (rules, field_lemmas),
       (
@@ -152,13 +175,13 @@ build_split_kind-build_written_kind-requires-2 t c =
       ),
     )
 
-pub build_split_kind-returns : goal.build_split_kind-returns
-build_split_kind-returns t c =
+pub build_valid_kind-returns : goal.build_valid_kind-returns
+build_valid_kind-returns t c =
     let kind : Kind = kind_of c.args.data_type.now in
     let same = ap (λ (runs : List SlotRun). kind_cells kind runs) c.deref.ensures.value ∙ same_cells kind c.in_ok-valid.valid.items c.args.runs.now c.in_ok-valid.ensures.same c.requires.sound in
-    on_ok_weaker c.build_written_kind-2.result
+    on_ok_weaker c.build_written_kind.result
     (λ h. h ∙ ap (λ (cells : List Cell). with_arrays (batch_in c.args.batch.now) (built_at (plain_column kind None) cells)) same)
-    c.build_written_kind-2.ensures
+    c.build_written_kind.ensures
 
 pub build_run_kind-build_split_kind-requires : goal.build_run_kind-build_split_kind-requires
 build_run_kind-build_split_kind-requires t c = (search (rules, field_lemmas), (sym c.in-None.ensures, (c.requires.sound, c.requires.fits)))
