@@ -184,18 +184,6 @@ any_at test f (y ∷ xs) zero x at is =
     rw here refl
 any_at test f (y ∷ xs) (suc p) x at is = ap (λ (b : Bool). test (f y) || b) (any_at test f xs p x at is) ∙ or_true (test (f y))
 
-any_seen : (seen : List Cell) (c : Cell) (n : ℕ) → is_entry c (get_or seen n null) ≡ true → list_any (is_entry c) seen ≡ true
-any_seen [] c n is = let never : true ≡ false = sym is ∙ never_null c in cc
-any_seen (x ∷ xs) c zero is = rw is refl
-any_seen (x ∷ xs) c (suc n) is = ap (λ (b : Bool). is_entry c x || b) (any_seen xs c n is) ∙ or_true (is_entry c x)
-
--- what was seen under a number is not seen anew
-pub seen_already : (seen : List Cell) (c : Cell) (n : ℕ) → is_entry c (get_or seen n null) ≡ true → with_entry seen c ≡ seen
-seen_already seen c n is =
-    let one : entry_in c ≡ Some c = is_one c (get_or seen n null) is in
-    let found : list_any (is_entry c) seen ≡ true = any_seen seen c n is in
-    ap (with_option seen) one ∙ rw found refl
-
 -- ---- places of what is named
 
 pub record AreNumbered (seen : List Cell) (places : List (Option ℕ)) (named : List ℕ) : Type 0 where

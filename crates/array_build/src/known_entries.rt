@@ -191,7 +191,16 @@ impl<'a> KnownEntries<'a> {
         }
     }
 
-    /// The number of a cell that is an entry, which is seen. It is looked up only where the guess is wrong.
+    // The number of a cell that is an entry, which is seen.
+    fn look_up(&mut self, cell: ValueRef<'a>) -> Result<Option<usize>, AllocError>
+        ensures number { IfOk result (λ number. IsNumber (seen_cells self.new) number (borrowed_cell cell.entry)) }
+        ensures seen { OnOk result (seen_cells self.new ≡ with_entry (seen_cells self.old) (borrowed_cell cell.entry)) }
+        ensures named { OnOk result (named_cells self.new ≡ named_cells self.old) }
+    {
+        see(&mut self.seen, &mut self.places, cell)
+    }
+
+    /// The same. It is looked up only where there is no guess, or a wrong one, which tells that the dictionary is another.
     pub(crate) fn number_of(
         &mut self,
         cell: ValueRef<'a>,
@@ -202,8 +211,12 @@ impl<'a> KnownEntries<'a> {
         ensures named { OnOk result (named_cells self.new ≡ named_cells self.old) }
     {
         match guess {
+            None => self.look_up(cell),
             Some(number) if is_seen_as(&self.seen, cell, number) => Ok(Some(number)),
-            _ => see(&mut self.seen, &mut self.places, cell),
+            Some(_) => {
+                self.are_new = true;
+                self.look_up(cell)
+            }
         }
     }
 

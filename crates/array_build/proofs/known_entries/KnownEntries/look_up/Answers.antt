@@ -2,7 +2,7 @@ use Rattle.std.proofs.Common.{◌≡◌, ◌∙◌, ap, length, sym}
 use Rattle.std.proofs.lemmas.List.{length-map}
 use Rattle.std.proofs.lemmas.Result.{on_ok_weaker}
 use Rattle.array_build.proofs.Known.{cells_stay, is_within}
-use Rattle.array_build.proofs.known_entries.KnownEntries.number_of.Goals as goal
+use Rattle.array_build.proofs.known_entries.KnownEntries.look_up.Goals as goal
 use Rattle.array_build.specs.inner.Named.{seen_cells}
 use Rattle.cells.specs.Dictionary.{is_entry}
 use Rattle.cells.specs.Entry.{entry_cell}
@@ -21,8 +21,8 @@ invariant_of-self-clause-known c = λ k d within n number some.
     let is = c.args.self.now.known k d within n number some in
     ap (is_entry _) (c.see.ensures.stay number (is_within (seen_cells c.args.self.now) _ number is)) ∙ is
 
-pub returns-in_default-clause-named : goal.returns-in_default-clause-named
-returns-in_default-clause-named c =
+pub returns-clause-named : goal.returns-clause-named
+returns-clause-named c =
     let count : length c.args.self.now.places.items ≡ length (seen_cells c.args.self.now) = c.args.self.now.count ∙ sym (length-map c.args.self.now.seen.keys entry_cell) in
     on_ok_weaker c.see.result
     (λ seen. cells_stay (seen_cells c.args.self.now) _ c.args.self.now.places.items c.args.self.now.named.items count c.args.self.now.placed c.see.ensures.stay)
