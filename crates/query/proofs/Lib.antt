@@ -23,3 +23,4 @@ pub mod BlockFlags
 pub mod IntegerTests
 pub mod ContentsTests
 pub mod AnswerWords
+pub mod NullTests

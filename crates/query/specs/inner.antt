@@ -4,5 +4,6 @@ pub mod Cuts
 pub mod IntegerRows
 pub mod Keeping
 pub mod Masks
+pub mod Nulls
 pub mod SlotTests
 pub mod Slots

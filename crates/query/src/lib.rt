@@ -28,6 +28,7 @@ mod kept;
 mod laws;
 mod line;
 mod literal;
+mod null_slots;
 mod object_line;
 mod operator;
 mod query;

@@ -10,6 +10,7 @@ ghost use Rattle.query.specs.inner.SlotTests.{place_in, IsSlotTest, holds_at, ha
 use crate::bound::Bound;
 use crate::contents_slots::{ContentsComparison, contents_comparison_of};
 use crate::integer_slots::{IntegerComparison, integer_comparison_of};
+use crate::null_slots::{NullTest, null_test_of};
 use arrow_schema::Field;
 use bitmap::MaskBuilder;
 use columns::{ArrayView, array_or, no_array};
@@ -21,6 +22,7 @@ use values::{Batch, Part};
 pub(crate) enum SlotTest<'a> {
     Integers(IntegerComparison),
     Contents(ContentsComparison<'a>),
+    Nulls(NullTest),
 }
 
 fn integer_test_of<'a>(fields: &[Field], bound: &'a Bound) -> Option<SlotTest<'a>>
@@ -41,13 +43,25 @@ fn contents_test_of<'a>(fields: &[Field], bound: &'a Bound) -> Option<SlotTest<'
     }
 }
 
+fn null_slot_test_of<'a>(fields: &[Field], bound: &'a Bound) -> Option<SlotTest<'a>>
+    ensures { IfSome result (λ t. IsSlotTest (map column_of fields.now) (bound_in bound.now) t) }
+{
+    match null_test_of(fields, bound) {
+        Some(test) => Some(SlotTest::Nulls(test)),
+        None => None,
+    }
+}
+
 /// The test that a condition is, where the bytes of arrays tell it.
 pub(crate) fn slot_test_of<'a>(fields: &[Field], bound: &'a Bound) -> Option<SlotTest<'a>>
     ensures { IfSome result (λ t. IsSlotTest (map column_of fields.now) (bound_in bound.now) t) }
 {
-    match integer_test_of(fields, bound) {
+    if let Some(test) = integer_test_of(fields, bound) {
+        return Some(test);
+    }
+    match contents_test_of(fields, bound) {
         Some(test) => Some(test),
-        None => contents_test_of(fields, bound),
+        None => null_slot_test_of(fields, bound),
     }
 }
 
@@ -58,6 +72,7 @@ impl SlotTest<'_> {
         match self {
             SlotTest::Integers(comparison) => comparison.place,
             SlotTest::Contents(comparison) => comparison.place,
+            SlotTest::Nulls(test) => test.place,
         }
     }
 
@@ -74,6 +89,7 @@ impl SlotTest<'_> {
         match self {
             SlotTest::Integers(comparison) => comparison.push_slots(flags, view, rows),
             SlotTest::Contents(comparison) => comparison.push_slots(flags, view, rows),
+            SlotTest::Nulls(test) => test.push_slots(flags, view, rows),
         }
     }
 

@@ -9,24 +9,28 @@ use Rattle.columns.specs.Sound.{is_sound}
 use Rattle.values.specs.declared.part.Batch.{Batch}
 use Rattle.values.specs.declared.part.Part.{Part}
 use Rattle.query.specs.declared.slot_test.SlotTest.{SlotTest}
-use Rattle.query.specs.declared.slot_test.SlotTest.TheVariants.{Integers, Contents}
+use Rattle.query.specs.declared.slot_test.SlotTest.TheVariants.{Integers, Contents, Nulls}
 use Rattle.query.specs.Bound.{Bound, meets}
 use Rattle.query.specs.inner.Contents.{contents_hold_at, has_contents}
+use Rattle.query.specs.inner.Nulls.{null_holds_at, has_validity}
 use Rattle.query.specs.inner.Slots.{array_of, integer_holds_at, has_integers}
 
 abbrev pub place_in : SlotTest → ℕ
 place_in (Integers comparison) = comparison.place
 place_in (Contents comparison) = comparison.place
+place_in (Nulls test) = test.place
 
 -- what is answered of a slot
 abbrev pub holds_at : SlotTest → Array → ℕ → Bool
 holds_at (Integers comparison) a i = integer_holds_at comparison a i
 holds_at (Contents comparison) a i = contents_hold_at comparison a i
+holds_at (Nulls test) a i = null_holds_at test a i
 
 -- the array has the bytes of n slots
 abbrev pub has_slots : SlotTest → ℕ → Array → Bool
 has_slots (Integers comparison) rows a = has_integers comparison.integer rows a
 has_slots (Contents comparison) rows a = has_contents (bits_of comparison.width / 8) rows a
+has_slots (Nulls test) rows a = has_validity rows a
 
 -- it is what a condition asks of its column
 pub record IsSlotTest (columns : List Column) (b : Bound) (t : SlotTest) : Type 0 where
