@@ -1,18 +1,27 @@
 -- Command lines with options, which `clap` takes.
-use Rattle.std.proofs.Common.{◌≡◌, ◌⊎◌, Bool, true, refl, sym, ap, subst, List, [], ◌∷◌, codes, Option, Some, None, inl, inr, true≢false}
-use Rattle.std.specs.Prelude.{unwrap_or, if◌then◌else◌}
+use Rattle.std.proofs.Common.{◌≡◌, ◌⊎◌, ◌∙◌, ◌≤◌, ◌++◌, Bool, true, refl, sym, ap, subst, List, [], ◌∷◌, length, drop, codes, Option, Some, None, inl, inr, true≢false}
+use Rattle.std.specs.Prelude.{unwrap_or, fold, if◌then◌else◌}
 use Rattle.clap.specs.Kinds.{Kinds, or_else}
-use Rattle.clap.specs.Values.{refused_kind}
+use Rattle.clap.specs.Values.{reading_of, refused_kind}
+use Rattle.clap.specs.declared.parser.matches.ValueSource.TheVariants.{CommandLine}
 use Rattle.clap.specs.Words.{App, Text, fault_of, matches_of}
-use Rattle.clap.specs.Walk.{walked}
+use Rattle.clap.specs.Walk.{Held, Row, finished, nothing_held, walked}
+use Rattle.clap.specs.Simple.{Shape, built}
+use Rattle.clap.proofs.FaultLemmas as clap
+use Rattle.clap.specs.Faults.{turn_fault, walk_fault}
+use Rattle.clap.specs.Lexer.{usize_max}
+use Rattle.clap.specs.declared.builder.value_parser.ValueParser.TheVariants as parsers
 use Rattle.clap.proofs.OnLiterals.{clap_on_literals}
 use Rattle.clap.specs.declared.builder.value_parser.ValueParser.{ValueParser}
 use Rattle.cli_requests.specs.Apps.{AreForms, IsOwnApp, info_app, format_app, query_app, replay_app, append_app, other_parameters, parameters_of}
-use Rattle.cli_requests.specs.Examples.{AreExamples, AreFound, AreReadAs, Valued, called}
+use Rattle.cli_requests.specs.Examples.{AreExamples, AreFound, AreReadAs, AreValuesRead, IsVersion, Valued, called}
 use Rattle.cli_requests.specs.Numbers.{is_number, is_number_if_any}
 use Rattle.cli_requests.specs.Operands.{names_file, names_table}
-use Rattle.cli_requests.specs.Right.{AreRowsTakable, AreTaken, IsTakable, NamesChoice}
+use Rattle.cli_requests.specs.Right.{AreRowsTakable, IsTakable, NamesChoice}
 use Rattle.cli_requests.specs.StoreWords.{first_word, makes_word}
+use Rattle.cli_requests.proofs.AppLemmas.{query_top}
+use Rattle.cli_requests.proofs.OperandLemmas.{at, level_with, words_faultless, words_held, words_read}
+use Rattle.cli_requests.proofs.RightLemmas.{number_accepted, words_free}
 
 -- ---- what each command asks for
 
@@ -167,6 +176,202 @@ replay_example : AreReadAs
 unfolding names_file names_table other_parameters parameters_of first_word makes_word is_number walked clap_on_literals
 replay_example = read_as _ _ (replay_app (codes "replay")) (λ command own. sym own) refl (replay_takable _ _ refl refl refl (inr (inl refl)) refl) (refl, (refl, (refl, (refl, tt))))
 
+-- ---- whatever the values are
+
+abbrev number_kinds : Bool → Kinds
+number_kinds accepted = if accepted then [] else refused_kind (parsers.Unsigned 0 18446744073709551615) ∷ []
+
+abbrev format_words : (version file number : Text) → List Text
+format_words version file number = codes "format" ∷ (codes "--format-version=" ++ version) ∷ codes "--" ∷ file ∷ number ∷ []
+
+format_number : (version file number : Text) → IsVersion version → is_number number ≡ true → fault_of (format_app (codes "format")) (format_words version file number) ≡ []
+unfolding walked clap_on_literals
+format_number version file number (inl one) is =
+    subst (λ (v : Text). fault_of (format_app (codes "format")) (format_words v file number) ≡ []) (sym one)
+    (ap (λ (ok : Bool). past (past (number_kinds ok))) (number_accepted number is))
+format_number version file number (inr two) is =
+    subst (λ (v : Text). fault_of (format_app (codes "format")) (format_words v file number) ≡ []) (sym two)
+    (ap (λ (ok : Bool). past (past (number_kinds ok))) (number_accepted number is))
+
+version_number : (version : Text) → IsVersion version → is_number version ≡ true
+unfolding is_number
+version_number version (inl one) = subst (λ (v : Text). is_number v ≡ true) (sym one) refl
+version_number version (inr two) = subst (λ (v : Text). is_number v ≡ true) (sym two) refl
+
+format_values : (version file number : Text) → IsVersion version → is_number number ≡ true → AreReadAs (called (format_words version file number))
+    ((codes "STORE", file ∷ []) ∷ (codes "SECTORS", number ∷ []) ∷ (codes "format-version", version ∷ []) ∷ [])
+unfolding names_file names_table other_parameters parameters_of first_word makes_word is_number walked clap_on_literals
+format_values version file number known is =
+    read_as _ _ (format_app (codes "format")) (λ command own. sym own) (format_number version file number known is)
+    (format_takable _ _ is (version_number version known)) (refl, (refl, (refl, tt)))
+
+info_values : (file : Text) → AreReadAs (called (codes "info" ∷ codes "--json" ∷ codes "--" ∷ file ∷ []))
+    ((codes "STORE", file ∷ []) ∷ (codes "json", codes "true" ∷ []) ∷ [])
+unfolding names_file names_table other_parameters parameters_of first_word makes_word is_number walked clap_on_literals
+info_values file = read_as _ _ (info_app (codes "info")) (λ command own. sym own) refl (info_takable _ _) (refl, (refl, tt))
+
+module _ (forms : ValueParser) (known : AreForms forms) where
+  abbrev words_of_append : (form null file name : Text) → List Text
+  words_of_append form null file name = codes "append" ∷ (codes "--as=" ++ form) ∷ (codes "--null=" ++ null) ∷ codes "--" ∷ file ∷ name ∷ []
+
+  append_form : (form null file name : Text) → (form ≡ codes "csv") ⊎ (form ≡ codes "jsonl")
+      → fault_of (append_app forms (codes "append")) (words_of_append form null file name) ≡ []
+  unfolding walked clap_on_literals
+  append_form form null file name (inl csv) =
+      subst (λ (f : Text). fault_of (append_app forms (codes "append")) (words_of_append f null file name) ≡ []) (sym csv)
+      (ap (λ (ok : Bool). past (past (past (past (if ok then [] else refused_kind forms ∷ []))))) (known (codes "csv")))
+  append_form form null file name (inr lines) =
+      subst (λ (f : Text). fault_of (append_app forms (codes "append")) (words_of_append f null file name) ≡ []) (sym lines)
+      (ap (λ (ok : Bool). past (past (past (past (if ok then [] else refused_kind forms ∷ []))))) (known (codes "jsonl")))
+
+append_values : (form null file name : Text) → (form ≡ codes "csv") ⊎ (form ≡ codes "jsonl")
+    → AreReadAs (called (codes "append" ∷ (codes "--as=" ++ form) ∷ (codes "--null=" ++ null) ∷ codes "--" ∷ file ∷ name ∷ []))
+    ((codes "STORE", file ∷ []) ∷ (codes "NAME", name ∷ []) ∷ (codes "as", form ∷ []) ∷ (codes "null", null ∷ []) ∷ [])
+unfolding names_file names_table other_parameters parameters_of first_word makes_word is_number walked clap_on_literals
+append_values form null file name is = record {
+  taken = λ command own. subst (λ (a : App). (fault_of a (codes "append" ∷ (codes "--as=" ++ form) ∷ (codes "--null=" ++ null) ∷ codes "--" ∷ file ∷ name ∷ []) ≡ [])
+      × AreRowsTakable (codes "append") (matches_of a (codes "append" ∷ (codes "--as=" ++ form) ∷ (codes "--null=" ++ null) ∷ codes "--" ∷ file ∷ name ∷ [])))
+      (sym own.2) (append_form own.0 own.1 form null file name is, append_takable _ _);
+  found = λ command own. subst (λ (a : App). AreFound (matches_of a (codes "append" ∷ (codes "--as=" ++ form) ∷ (codes "--null=" ++ null) ∷ codes "--" ∷ file ∷ name ∷ []))
+      ((codes "STORE", file ∷ []) ∷ (codes "NAME", name ∷ []) ∷ (codes "as", form ∷ []) ∷ (codes "null", null ∷ []) ∷ [])) (sym own.2) (refl, (refl, (refl, (refl, tt))));
+}
+
+-- ---- a query, with any conditions
+
+abbrev query_shape : Shape
+query_shape = query_top (codes "query")
+
+-- what was found of an argument
+abbrev found_row : Text → List Text → ValueParser → Row
+found_row id values parser = record { id = id; values = values; count = None; source = Some CommandLine; reading = reading_of parser }
+
+abbrev number_parser : ValueParser
+number_parser = parsers.Unsigned 0 18446744073709551615
+
+module _ (rows : List Row) where
+  met : (vs : List Text) (c : Text) → walked query_shape.rules [] (at (words_held rows (codes "CONDITION") vs) true 3 true) c
+      ≡ at (words_held rows (codes "CONDITION") (vs ++ c ∷ [])) true 3 true
+  unfolding walked clap_on_literals
+  met vs c = refl
+
+  without_fault : (vs : List Text) (c : Text) → turn_fault query_shape [] (at (words_held rows (codes "CONDITION") vs) true 3 true) c ≡ []
+  unfolding walked clap_on_literals
+  without_fault vs c = refl
+
+  conditions_held : (c : Text) (rest : List Text)
+      → (fold (walked query_shape.rules []) (at (words_held rows (codes "CONDITION") (c ∷ [])) true 3 true) rest).held ≡ words_held rows (codes "CONDITION") (c ∷ rest)
+  conditions_held c rest = words_read query_shape (codes "CONDITION") rows met (c ∷ []) rest
+
+  conditions_free : (c : Text) (rest : List Text) → walk_fault query_shape [] (at (words_held rows (codes "CONDITION") (c ∷ [])) true 3 true) rest ≡ []
+  conditions_free c rest = words_faultless query_shape (codes "CONDITION") rows met without_fault (c ∷ []) rest
+
+module _ (columns limit file name : Text) where
+  abbrev objects_before : List Row
+  objects_before = found_row (codes "columns") (columns ∷ []) parsers.String ∷ found_row (codes "limit") (limit ∷ []) number_parser ∷ found_row (codes "objects") (codes "true" ∷ []) parsers.Bool
+      ∷ found_row (codes "STORE") (file ∷ []) parsers.String ∷ found_row (codes "NAME") (name ∷ []) parsers.String ∷ []
+
+  abbrev objects_words : List Text → List Text
+  objects_words conditions = codes "query" ∷ (codes "--columns=" ++ columns) ∷ (codes "--limit=" ++ limit) ∷ codes "--objects" ∷ codes "--" ∷ file ∷ name ∷ conditions
+
+  abbrev objects_found : List Text → List Valued
+  objects_found conditions = (codes "STORE", file ∷ []) ∷ (codes "NAME", name ∷ []) ∷ (codes "CONDITION", conditions) ∷ (codes "columns", columns ∷ [])
+      ∷ (codes "limit", limit ∷ []) ∷ (codes "objects", codes "true" ∷ []) ∷ []
+
+  abbrev Is_objects : List Text → List Row → Type 0
+  Is_objects conditions rows = AreRowsTakable (codes "query") rows × AreFound rows (objects_found conditions)
+
+  objects_faultless : (conditions : List Text) → is_number limit ≡ true → length conditions ≤ usize_max
+      → fault_of (query_app (codes "query")) (objects_words conditions) ≡ []
+  unfolding walked clap_on_literals
+  objects_faultless [] is few = ap (λ (ok : Bool). past (past (past (past (number_kinds ok))))) (number_accepted limit is)
+  objects_faultless (c ∷ rest) is few =
+      let rows = objects_before in
+      clap.leaf_fault (built (query_app (codes "query"))) nothing_held (drop 1 (objects_words (c ∷ rest))) refl
+      ∙ (λ i. level_with query_shape (or_else (past (past (number_kinds (number_accepted limit is i)))) (conditions_free rows c rest i)) (conditions_held rows c rest i))
+      ∙ words_free c rest few
+
+  objects_rows : (conditions : List Text) → is_number limit ≡ true → Is_objects conditions (matches_of (query_app (codes "query")) (objects_words conditions))
+  unfolding walked clap_on_literals
+  objects_rows [] is = (query_takable _ _ is (inl refl), (refl, (refl, (refl, (refl, (refl, (refl, tt)))))))
+  objects_rows (c ∷ rest) is =
+      subst (λ (h : Held). Is_objects (c ∷ rest) (finished query_shape.rules h)) (sym (conditions_held objects_before c rest))
+      (query_takable _ _ is (inl refl), (refl, (refl, (refl, (refl, (refl, (refl, tt)))))))
+
+  objects_values : (conditions : List Text) → is_number limit ≡ true → length conditions ≤ usize_max
+      → AreReadAs (called (objects_words conditions)) (objects_found conditions)
+  unfolding names_file names_table other_parameters parameters_of first_word
+  objects_values conditions is few =
+      let rows = objects_rows conditions is in
+      read_as _ _ (query_app (codes "query")) (λ command own. sym own) (objects_faultless conditions is few) rows.0 rows.1
+
+module _ (columns limit new file name : Text) where
+  abbrev saved_before : List Row
+  saved_before = found_row (codes "columns") (columns ∷ []) parsers.String ∷ found_row (codes "limit") (limit ∷ []) number_parser ∷ found_row (codes "save") (new ∷ []) parsers.String
+      ∷ found_row (codes "STORE") (file ∷ []) parsers.String ∷ found_row (codes "NAME") (name ∷ []) parsers.String ∷ []
+
+  abbrev saved_words : List Text → List Text
+  saved_words conditions = codes "query" ∷ (codes "--columns=" ++ columns) ∷ (codes "--limit=" ++ limit) ∷ (codes "--save=" ++ new) ∷ codes "--" ∷ file ∷ name ∷ conditions
+
+  abbrev saved_found : List Text → List Valued
+  saved_found conditions = (codes "STORE", file ∷ []) ∷ (codes "NAME", name ∷ []) ∷ (codes "CONDITION", conditions) ∷ (codes "columns", columns ∷ [])
+      ∷ (codes "limit", limit ∷ []) ∷ (codes "save", new ∷ []) ∷ []
+
+  abbrev Is_saved : List Text → List Row → Type 0
+  Is_saved conditions rows = AreRowsTakable (codes "query") rows × AreFound rows (saved_found conditions)
+
+  saved_faultless : (conditions : List Text) → is_number limit ≡ true → length conditions ≤ usize_max
+      → fault_of (query_app (codes "query")) (saved_words conditions) ≡ []
+  unfolding walked clap_on_literals
+  saved_faultless [] is few = ap (λ (ok : Bool). past (past (past (past (number_kinds ok))))) (number_accepted limit is)
+  saved_faultless (c ∷ rest) is few =
+      let rows = saved_before in
+      clap.leaf_fault (built (query_app (codes "query"))) nothing_held (drop 1 (saved_words (c ∷ rest))) refl
+      ∙ (λ i. level_with query_shape (or_else (past (past (number_kinds (number_accepted limit is i)))) (conditions_free rows c rest i)) (conditions_held rows c rest i))
+      ∙ words_free c rest few
+
+  saved_rows : (conditions : List Text) → is_number limit ≡ true → Is_saved conditions (matches_of (query_app (codes "query")) (saved_words conditions))
+  unfolding walked clap_on_literals
+  saved_rows [] is = (query_takable _ _ is (inr refl), (refl, (refl, (refl, (refl, (refl, (refl, tt)))))))
+  saved_rows (c ∷ rest) is =
+      subst (λ (h : Held). Is_saved (c ∷ rest) (finished query_shape.rules h)) (sym (conditions_held saved_before c rest))
+      (query_takable _ _ is (inr refl), (refl, (refl, (refl, (refl, (refl, (refl, tt)))))))
+
+  saved_values : (conditions : List Text) → is_number limit ≡ true → length conditions ≤ usize_max
+      → AreReadAs (called (saved_words conditions)) (saved_found conditions)
+  unfolding names_file names_table other_parameters parameters_of first_word
+  saved_values conditions is few =
+      let rows = saved_rows conditions is in
+      read_as _ _ (query_app (codes "query")) (λ command own. sym own) (saved_faultless conditions is few) rows.0 rows.1
+
+-- ---- a script
+
+module _ (sectors fail stop choice file : Text) where
+  abbrev replay_words : Text → List Text
+  replay_words version = codes "replay" ∷ (codes "--sectors=" ++ sectors) ∷ (codes "--fail=" ++ fail) ∷ (codes "--stop=" ++ stop) ∷ (codes "--choice=" ++ choice)
+      ∷ (codes "--format-version=" ++ version) ∷ codes "--" ∷ file ∷ []
+
+  abbrev replay_fault : Bool → Bool → Bool → Kinds
+  replay_fault a b c = past (or_else (past (past (number_kinds a))) (or_else (past (past (number_kinds b))) (past (past (past (number_kinds c))))))
+
+  replay_faultless : (version : Text) → is_number sectors ≡ true → is_number fail ≡ true → is_number stop ≡ true → IsVersion version
+      → fault_of (replay_app (codes "replay")) (replay_words version) ≡ []
+  unfolding walked clap_on_literals
+  replay_faultless version s f k (inl one) =
+      subst (λ (v : Text). fault_of (replay_app (codes "replay")) (replay_words v) ≡ []) (sym one)
+      (λ i. replay_fault (number_accepted sectors s i) (number_accepted fail f i) (number_accepted stop k i))
+  replay_faultless version s f k (inr two) =
+      subst (λ (v : Text). fault_of (replay_app (codes "replay")) (replay_words v) ≡ []) (sym two)
+      (λ i. replay_fault (number_accepted sectors s i) (number_accepted fail f i) (number_accepted stop k i))
+
+  replay_values : (version : Text) → is_number sectors ≡ true → is_number fail ≡ true → is_number stop ≡ true → NamesChoice choice → IsVersion version
+      → AreReadAs (called (replay_words version))
+      ((codes "SCRIPT", file ∷ []) ∷ (codes "sectors", sectors ∷ []) ∷ (codes "fail", fail ∷ []) ∷ (codes "stop", stop ∷ []) ∷ (codes "choice", choice ∷ [])
+      ∷ (codes "format-version", version ∷ []) ∷ [])
+  unfolding names_file names_table other_parameters parameters_of first_word makes_word is_number walked clap_on_literals
+  replay_values version s f k named known =
+      read_as _ _ (replay_app (codes "replay")) (λ command own. sym own) (replay_faultless version s f k known)
+      (replay_takable _ _ s f k named (version_number version known)) (refl, (refl, (refl, (refl, (refl, (refl, tt))))))
+
 pub examples : AreExamples
 examples = record {
   format = format_example;
@@ -176,4 +381,14 @@ examples = record {
   objects = objects_example;
   saved = saved_example;
   replay = replay_example;
+}
+
+pub values_read : AreValuesRead
+values_read = record {
+  format = format_values;
+  info = info_values;
+  append = append_values;
+  objects = objects_values;
+  saved = saved_values;
+  replay = λ sectors fail stop choice version file s f k named known. replay_values sectors fail stop choice file version s f k named known;
 }

@@ -71,7 +71,7 @@ number_in_bounds word is =
     let below : n < 18446744073709551616 = ltb-true n (2 ^ 64) all.1 in
     and_from _ _ (and_from _ _ some.0 all.0) (and_from _ _ all.1 (and_from _ _ (le-leb 0 n (omega arith)) (le-leb n 18446744073709551615 (omega (arith, below)))))
 
-number_accepted : (word : Text) → is_number word ≡ true → is_unsigned_in 0 18446744073709551615 word ≡ true
+pub number_accepted : (word : Text) → is_number word ≡ true → is_unsigned_in 0 18446744073709551615 word ≡ true
 number_accepted word is = subst (λ (t : Text). in_bounds t ≡ true) (sym (without_plus word is)) (number_in_bounds word is)
 
 -- ---- operands that a command takes have no fault
@@ -138,7 +138,7 @@ texts_accepted (v ∷ vs) = texts_accepted vs
 abbrev words_fault : Bool → Bool → Kinds → Kinds
 words_fault few many values = or_else (or_else (if few then kinds.TooFewValues ∷ [] else (if many then kinds.TooManyValues ∷ [] else [])) values) []
 
-words_free : (c : Text) (rest : List Text) → length (c ∷ rest) ≤ usize_max
+pub words_free : (c : Text) (rest : List Text) → length (c ∷ rest) ≤ usize_max
     → words_fault (nat_lt (length (c ∷ rest)) 0) (nat_lt usize_max (length (c ∷ rest))) (values_kinds false parsers.String rest) ≡ []
 words_free c rest few =
     let some : nat_lt (length (c ∷ rest)) 0 ≡ false = le-ltb (length (c ∷ rest)) 0 (omega arith) in

@@ -1,8 +1,10 @@
 -- Command lines with options, and what is found of them: an option stands before, among or after the operands, its value in the same word or the next one.
-use Rattle.std.specs.Prelude.{◌≡◌, List, [], ◌∷◌, drop, codes, Some}
+use Rattle.std.specs.Prelude.{◌≡◌, ◌⊎◌, ◌≤◌, ◌++◌, true, List, [], ◌∷◌, drop, length, codes, unwrap_or}
+use Rattle.clap.specs.Lexer.{usize_max}
 use Rattle.clap.specs.Words.{App, Row, Text, all_of, matches_of}
 use Rattle.cli_requests.specs.Apps.{IsOwnApp}
-use Rattle.cli_requests.specs.Right.{AreTaken}
+use Rattle.cli_requests.specs.Numbers.{is_number}
+use Rattle.cli_requests.specs.Right.{AreTaken, NamesChoice}
 use Rattle.cli_requests.specs.StoreWords.{first_word}
 
 -- an argument, and its values
@@ -11,7 +13,7 @@ Valued = Text × List Text
 
 abbrev pub AreFound : List Row → List Valued → Type 0
 AreFound rows [] = Unit {0}
-AreFound rows (argument ∷ rest) = (all_of argument.0 rows ≡ Some argument.1) × AreFound rows rest
+AreFound rows (argument ∷ rest) = (unwrap_or (all_of argument.0 rows) [] ≡ argument.1) × AreFound rows rest
 
 -- `clap` takes the words, and finds these values of these arguments
 pub record AreReadAs (arguments : List Text) (values : List Valued) : Type 0 where
@@ -30,7 +32,8 @@ pub record AreExamples : Type 0 where
   pub append : AreReadAs (called (codes "append" ∷ codes "store" ∷ codes "readings" ∷ codes "--as" ∷ codes "csv" ∷ codes "--null=NA" ∷ []))
       ((codes "STORE", codes "store" ∷ []) ∷ (codes "NAME", codes "readings" ∷ []) ∷ (codes "as", codes "csv" ∷ []) ∷ (codes "null", codes "NA" ∷ []) ∷ [])
   pub printed : AreReadAs
-      (called (codes "query" ∷ codes "store" ∷ codes "readings" ∷ codes "value >= 7" ∷ codes "--columns" ∷ codes "id,value" ∷ codes "--limit" ∷ codes "10" ∷ []))
+      (called (codes "query" ∷ codes "store" ∷ codes "readings" ∷ codes "value >= 7" ∷ codes "--columns" ∷ codes "id,value" ∷ codes "--limit" ∷ codes "10"
+      ∷ []))
       ((codes "STORE", codes "store" ∷ []) ∷ (codes "NAME", codes "readings" ∷ []) ∷ (codes "CONDITION", codes "value >= 7" ∷ [])
       ∷ (codes "columns", codes "id,value" ∷ []) ∷ (codes "limit", codes "10" ∷ []) ∷ (codes "objects", codes "false" ∷ []) ∷ [])
   pub objects : AreReadAs
@@ -42,3 +45,36 @@ pub record AreExamples : Type 0 where
   pub replay : AreReadAs
       (called (codes "replay" ∷ codes "script" ∷ codes "--sectors" ∷ codes "16" ∷ codes "--stop" ∷ codes "8" ∷ codes "--choice" ∷ codes "new" ∷ []))
       ((codes "SCRIPT", codes "script" ∷ []) ∷ (codes "sectors", codes "16" ∷ []) ∷ (codes "stop", codes "8" ∷ []) ∷ (codes "choice", codes "new" ∷ []) ∷ [])
+
+-- the version of a store, as a word
+abbrev pub IsVersion : Text → Type 0
+IsVersion word = (word ≡ codes "1") ⊎ (word ≡ codes "2")
+
+-- each command with all options that go together, whatever the values are
+pub record AreValuesRead : Type 0 where
+  pub format : (version file number : Text) → IsVersion version → is_number number ≡ true
+      → AreReadAs (called (codes "format" ∷ (codes "--format-version=" ++ version) ∷ codes "--" ∷ file ∷ number ∷ []))
+      ((codes "STORE", file ∷ []) ∷ (codes "SECTORS", number ∷ []) ∷ (codes "format-version", version ∷ []) ∷ [])
+  pub info : (file : Text) → AreReadAs (called (codes "info" ∷ codes "--json" ∷ codes "--" ∷ file ∷ []))
+      ((codes "STORE", file ∷ []) ∷ (codes "json", codes "true" ∷ []) ∷ [])
+  pub append : (form null file name : Text) → (form ≡ codes "csv") ⊎ (form ≡ codes "jsonl")
+      → AreReadAs (called (codes "append" ∷ (codes "--as=" ++ form) ∷ (codes "--null=" ++ null) ∷ codes "--" ∷ file ∷ name ∷ []))
+      ((codes "STORE", file ∷ []) ∷ (codes "NAME", name ∷ []) ∷ (codes "as", form ∷ []) ∷ (codes "null", null ∷ []) ∷ [])
+  pub objects : (columns limit file name : Text) (conditions : List Text) → is_number limit ≡ true → length conditions ≤ usize_max
+      → AreReadAs
+      (called (codes "query" ∷ (codes "--columns=" ++ columns) ∷ (codes "--limit=" ++ limit) ∷ codes "--objects" ∷ codes "--" ∷ file ∷ name ∷ conditions))
+      ((codes "STORE", file ∷ []) ∷ (codes "NAME", name ∷ []) ∷ (codes "CONDITION", conditions) ∷ (codes "columns", columns ∷ [])
+      ∷ (codes "limit", limit ∷ []) ∷ (codes "objects", codes "true" ∷ []) ∷ [])
+  pub saved : (columns limit new file name : Text) (conditions : List Text) → is_number limit ≡ true → length conditions ≤ usize_max
+      → AreReadAs
+      (called (codes "query" ∷ (codes "--columns=" ++ columns) ∷ (codes "--limit=" ++ limit) ∷ (codes "--save=" ++ new) ∷ codes "--" ∷ file ∷ name
+      ∷ conditions))
+      ((codes "STORE", file ∷ []) ∷ (codes "NAME", name ∷ []) ∷ (codes "CONDITION", conditions) ∷ (codes "columns", columns ∷ [])
+      ∷ (codes "limit", limit ∷ []) ∷ (codes "save", new ∷ []) ∷ [])
+  pub replay : (sectors fail stop choice version file : Text) → is_number sectors ≡ true → is_number fail ≡ true → is_number stop ≡ true → NamesChoice choice
+      → IsVersion version
+      → AreReadAs
+      (called (codes "replay" ∷ (codes "--sectors=" ++ sectors) ∷ (codes "--fail=" ++ fail) ∷ (codes "--stop=" ++ stop) ∷ (codes "--choice=" ++ choice)
+      ∷ (codes "--format-version=" ++ version) ∷ codes "--" ∷ file ∷ []))
+      ((codes "SCRIPT", file ∷ []) ∷ (codes "sectors", sectors ∷ []) ∷ (codes "fail", fail ∷ []) ∷ (codes "stop", stop ∷ []) ∷ (codes "choice", choice ∷ [])
+      ∷ (codes "format-version", version ∷ []) ∷ [])

@@ -1,7 +1,9 @@
 // What is so of command lines with options. The function does nothing: its contract is the law.
-ghost use Rattle.cli_requests.specs.Examples.{AreExamples};
+ghost use Rattle.cli_requests.specs.Examples.{AreExamples, AreValuesRead};
 
-/// Examples of command lines with options are right, and what is found of them is what they say.
-pub fn examples_are_right()
-    ensures { AreExamples }
+/// Command lines with options are right, and what is found of them is what they say: each command with all options that go together, whatever the values
+/// are, and some with options before, among and after the operands.
+pub fn options_are_read()
+    ensures values { AreValuesRead }
+    ensures examples { AreExamples }
 {}

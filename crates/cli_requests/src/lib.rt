@@ -3,7 +3,8 @@
 //! [`is_of_store`], [`takes_input`] and [`ask_for_help`] say which command lines are for a store, which of these read the input, and which ask for help,
 //! whatever the other words are. [`request_of`] gives the command of the first word. Where the words after it are operands alone, these are the files,
 //! names, fields, conditions and numbers of the request, in order (`specs/Operands.antt`); with options it has what `clap` finds by its own definitions.
-//! Operands that a command takes are right, and so are words that `clap` takes (`specs/Right.antt`). [`refused_word`] gives the word that a refusal is of.
+//! Operands that a command takes are right, and so are words that `clap` takes (`specs/Right.antt`); [`options_are_read`] says of which words with options
+//! this is so. [`refused_word`] gives the word that a refusal is of.
 //! [`help_of_command`] gives the help of a command that follows `help` ([`ask_help_of_command`]); [`command_lines`] and [`cli_commands`] give all commands,
 //! from one table.
 //!
@@ -23,7 +24,7 @@ mod store_words;
 mod usages;
 
 pub use command_parameters::cli_commands;
-pub use laws::examples_are_right;
+pub use laws::options_are_read;
 pub use naming::refused_word;
 pub use replaying::ReplayWords;
 pub use store_command_line::{Mistake, help_of_command, request_of};
