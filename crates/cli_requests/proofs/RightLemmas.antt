@@ -38,6 +38,7 @@ use Rattle.cli_requests.specs.declared.command_parameters.Parameters.{Parameters
 use Rattle.cli_requests.specs.declared.command_parameters.Parameters.TheVariants as parameters
 use Rattle.cli_requests.specs.declared.store_command_line.Mistake.{Mistake}
 use Rattle.cli_requests.specs.declared.store_words.StoreRequest.{StoreRequest}
+use Rattle.cli_requests.proofs.NumberLemmas.{signed_is_none}
 use Rattle.cli_requests.proofs.OperandLemmas.{operands_fault, reads_operands, level_with, words_read, words_faultless}
 use Rattle.cli_requests.proofs.AppLemmas.{Parsed, file_app, file_top, info_top, table_top, rename_top, format_top, copy_top, append_top, create_top, query_top, file_and_table, field_met, condition_met}
 use Rattle.cli_requests.proofs.AppLemmas.{file_plain, info_plain, table_plain, rename_plain, format_plain, copy_plain, append_plain, create_plain, query_plain, found_first, found_one}
@@ -46,15 +47,10 @@ use Rattle.cli_requests.proofs.AppLemmas.{names_sectors, asks_newest, names_new_
 -- ---- numbers
 
 digits_alone : (c : ℕ) (cs : Text) (plus : Bool) → (c == 43) ≡ plus → is_number (c ∷ cs) ≡ true → without_leading_plus (c ∷ cs) ≡ c ∷ cs
-unfolding is_number
-digits_alone c cs true e is =
-    let digits = and_parts (list_all (λ d. nat_lt (digit_value d) 10) (c ∷ cs)) _ (and_parts (nat_lt 0 (length (c ∷ cs))) _ is).1 in
-    let sign : list_all (λ d. nat_lt (digit_value d) 10) (43 ∷ cs) ≡ true =
-    subst (λ (x : ℕ). list_all (λ d. nat_lt (digit_value d) 10) (x ∷ cs) ≡ true) (eqb-true c 43 e) digits.0 in
-    absurd (true≢false (sym sign))
+digits_alone c cs true e is = absurd (signed_is_none (c ∷ cs) true (sym e) refl is)
 digits_alone c cs false e is = rw e refl
 
-pub without_plus : (word : Text) → is_number word ≡ true → without_leading_plus word ≡ word
+without_plus : (word : Text) → is_number word ≡ true → without_leading_plus word ≡ word
 without_plus [] is = refl
 without_plus (c ∷ cs) is = digits_alone c cs (c == 43) refl is
 
