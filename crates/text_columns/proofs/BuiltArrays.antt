@@ -1,27 +1,30 @@
 -- The arrays that the cells of columns are written as.
 use Rattle.std.specs.Prelude.{◌&&◌, if◌then◌else◌, get_or, Option, Some, None, slice_get}
+use Rattle.std.specs.Global.{Vec}
 use Rattle.std.specs.List.{flat_map, list_all}
 use Rattle.std.proofs.Common.{◌≡◌, ℕ, suc, ◌/◌, Bool, true, false, List, [], ◌∷◌, length, map, refl, arith, ap, sym, subst, ◌∙◌}
 use Rattle.std.proofs.lemmas.List.{length-map}
 use Rattle.bitmap.specs.Bits.{packed}
-use Rattle.arrow_schema.specs.Column.{Index, Kind, Column, Pair, booleans, integers, dates, timestamps, nulls, texts, large_texts, binaries, large_binaries, fixed_binaries, lists, large_lists, fixed_lists, column, columns_of}
+use Rattle.arrow_schema.specs.Column.{Index, Kind, Column, Columns, Pair, booleans, integers, dates, timestamps, nulls, texts, large_texts, binaries, large_binaries, fixed_binaries, lists, large_lists, fixed_lists, structs, column, columns_of}
 use Rattle.cells.specs.Cell.{Cell, null}
-use Rattle.cells.specs.Dictionary.{entries_of, item_list}
+use Rattle.cells.specs.Dictionary.{entries_of, item_list, part_list}
 use Rattle.cells.specs.Fit.{fits_kind}
 use Rattle.cells.specs.Nulls.{is_there}
-use Rattle.columns.specs.Array.{Array, Layout, array, arrays_of, no_array, and_array, null_layout, bit_layout, fixed_layout, binary_layout, list_layout, fixed_list_layout, dictionary_layout}
+use Rattle.columns.specs.Array.{Array, Layout, array, arrays_of, no_array, and_array, null_layout, bit_layout, fixed_layout, binary_layout, list_layout, fixed_list_layout, struct_layout, dictionary_layout}
 use Rattle.columns.specs.Built.{built, built_kind, built_parts, fixed_items, first_cell, other_cells, validity_of, with_validity, index_bytes, integer_bytes, fixed_bytes, offsets_of, contents_of}
 use Rattle.columns.specs.Offsets.{width_of}
 use Rattle.text_columns.specs.declared.coding.Coding.{Coding}
 use Rattle.text_columns.specs.declared.column_values.Values.{Values}
 use Rattle.text_columns.specs.declared.column_values.Values.TheVariants.{Nulls, Booleans, Integers, Texts, Binaries, FixedBinaries}
-use Rattle.text_columns.specs.declared.builder.ColumnBuilder.{ColumnBuilder, Flat, List', FixedList'}
+use Rattle.text_columns.specs.declared.builder.ColumnBuilder.{ColumnBuilder, Flat, List', FixedList', Struct}
+use Rattle.text_columns.specs.declared.builder.Names.{Names}
 use Rattle.text_columns.specs.declared.builder.ListOffsets.{ListOffsets}
 use Rattle.text_columns.specs.declared.builder.Slots.{Slots}
 use Rattle.text_columns.specs.declared.flat.FlatBuilder.{FlatBuilder}
-use Rattle.text_columns.specs.inner.Kept.{Holds, HoldsCells, IsCoded, IsOf, Keeps, KeepsBelow, KeepsSlots, Takes, column_at, key_of}
-use Rattle.text_columns.specs.inner.Placed.{IsBuilt, array_of, column_layout, entries_array, has_bitmap, has_validity, layout_of, validity_in, validity_of_bits}
+use Rattle.text_columns.specs.inner.Kept.{Holds, HoldsCells, IsCoded, IsOf, Keeps, KeepsAt, KeepsBelow, KeepsSlots, Takes, column_at, column_list, key_list, key_of}
+use Rattle.text_columns.specs.inner.Placed.{AreBuilt, IsBuilt, array_of, column_layout, entries_array, has_bitmap, has_validity, layout_of, validity_in, validity_of_bits}
 use Rattle.text_columns.proofs.Coded.{all_there, own_flat}
+use Rattle.text_columns.proofs.StructFields.{fields_kept, held_by, list_columns, no_struct_fixed_list, no_struct_list}
 
 there_all : (cells : List Cell) → list_all (λ b. b) (map is_there cells) ≡ list_all is_there cells
 there_all [] = refl
@@ -107,6 +110,7 @@ lists_built nullable dictionary (lists item) cells slots offsets p items below k
     with_is cells slots.valid.items (list_layout offsets.offsets.items below) _ k.valid (λ j. list_layout (h.ends.ends j) (is item (flat_map item_list cells) h.below j))
 lists_built nullable dictionary (large_lists item) cells slots offsets p items below k h is =
     with_is cells slots.valid.items (list_layout offsets.offsets.items below) _ k.valid (λ j. list_layout (h.ends.ends j) (is item (flat_map item_list cells) h.below j))
+lists_built nullable dictionary (structs columns) cells slots offsets p items below k h is = absurd (no_struct_list columns (KeepsAt columns) cells slots offsets p items h)
 lists_built nullable dictionary _ cells slots offsets p items below k h is = absurd h
 
 fixed_lists_built : (nullable : Bool) (dictionary : Option Index) (kind : Kind) (cells : List Cell) (slots : Slots) (size : ℕ) (p : _) (items : ColumnBuilder) (below : Array)
@@ -115,6 +119,7 @@ fixed_lists_built : (nullable : Bool) (dictionary : Option Index) (kind : Kind) 
 unfolding built_kind
 fixed_lists_built nullable dictionary (fixed_lists size item) cells slots width p items below k h is =
     with_is cells slots.valid.items (fixed_list_layout below) _ k.valid (ap fixed_list_layout (is item (flat_map (fixed_items size) cells) h.below))
+fixed_lists_built nullable dictionary (structs columns) cells slots width p items below k h is = absurd (no_struct_fixed_list columns (KeepsAt columns) cells slots width p items h)
 fixed_lists_built nullable dictionary _ cells slots width p items below k h is = absurd h
 
 plain_built : (name : List ℕ) (nullable : Bool) (kind : Kind) (dictionary : Option Index) (pairs : List Pair) (cells : List Cell) → dictionary ≡ None → built_kind kind cells ≡ built (column name nullable kind dictionary pairs) cells
@@ -161,3 +166,21 @@ all_built (c ∷ cs) rows (b ∷ bs) (a ∷ arrays) count same each is =
     (λ j d e dc db. subst (λ (xs : List Cell). Keeps d xs e) (other_column j rows) (each (suc j) d e dc db))
     (λ j e x db da. is (suc j) e x db da) in
     λ j. and_array (here j) (others j)
+
+-- ---- structs
+
+structs_built : (nullable : Bool) (dictionary : Option Index) (kind : Kind) (cells : List Cell) (slots : Slots) (names : Names) (fields : Vec ColumnBuilder) (arrays : List Array)
+    → KeepsSlots nullable dictionary kind cells slots → KeepsBelow kind cells (Struct slots names fields) → AreBuilt fields.items arrays
+    → array (length slots.valid.items) (validity_of_bits slots.valid.items) (struct_layout (arrays_of arrays)) ≡ built_kind kind cells
+unfolding built_kind
+structs_built nullable dictionary (structs columns) cells slots names fields arrays k h are =
+    let own = held_by columns cells slots names fields h in
+    let all = fields_kept columns cells (key_list names.names.keys) fields.items own in
+    with_is cells slots.valid.items (struct_layout (arrays_of arrays)) _ k.valid
+    (ap struct_layout (all_built (column_list columns) (map part_list cells) fields.items arrays all.count are.count all.each are.each ∙ ap (λ (cs : Columns). built_parts cs (map part_list cells)) (list_columns columns)))
+structs_built nullable dictionary _ cells slots names fields arrays k h are = absurd h
+
+pub struct_column : (slots : Slots) (names : Names) (fields : Vec ColumnBuilder) (arrays : List Array) → AreBuilt fields.items arrays
+    → IsBuilt (Struct slots names fields) (array (length slots.valid.items) (validity_of_bits slots.valid.items) (struct_layout (arrays_of arrays)))
+struct_column slots names fields arrays are (column name nullable kind dictionary pairs) cells k =
+    structs_built nullable dictionary kind cells slots names fields arrays k.slots k.parts are ∙ plain_built name nullable kind dictionary pairs cells k.slots.plain

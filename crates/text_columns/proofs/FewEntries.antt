@@ -4,21 +4,22 @@ use Rattle.std.specs.List.{flat_map, list_all}
 use Rattle.std.proofs.Common.{◌≡◌, ℕ, zero, suc, ◌+◌, ◌≤◌, Bool, true, false, List, [], ◌∷◌, ◌++◌, length, refl, arith, ap, sym, ◌∙◌, inl, inr, append-nil}
 use Rattle.std.proofs.lemmas.Bool.{and_from, le-leb}
 use Rattle.std.proofs.lemmas.List.Folds.{list_all-append}
-use Rattle.arrow_schema.specs.Column.{Index, Kind, Column, nulls, booleans, integers, dates, timestamps, texts, large_texts, binaries, large_binaries, fixed_binaries, lists, large_lists, fixed_lists, structs, column, no_column, and_column, columns_of, PlainSchema}
+use Rattle.arrow_schema.specs.Column.{Index, Kind, Column, nulls, booleans, integers, dates, timestamps, texts, large_texts, binaries, large_binaries, fixed_binaries, lists, large_lists, fixed_lists, structs, column, Columns, no_column, and_column, columns_of, PlainSchema}
 use Rattle.arrow_schema.specs.Limits.{is_nested}
 use Rattle.arrow_schema.specs.Parts.{index_of_column}
 use Rattle.arrow_schema.specs.View.{bits_of}
 use Rattle.arrow_schema.specs.declared.types.BitWidth.{BitWidth}
 use Rattle.arrow_schema.specs.declared.types.BitWidth.TheVariants.{Eight, Sixteen, ThirtyTwo, SixtyFour}
 use Rattle.cells.specs.Cell.{Cell, null}
-use Rattle.cells.specs.Dictionary.{cells_at, dictionaries_fit, entries_of, entry_limit, has_few_entries, has_limit, holdings, holdings_below, holdings_from, is_any_limited, is_kind_limited, is_limited, is_within, item_list, own_holding, with_entries, with_entry}
+use Rattle.cells.specs.Dictionary.{cells_at, dictionaries_fit, entries_of, entry_limit, has_few_entries, has_limit, holdings, holdings_below, holdings_from, is_any_limited, is_kind_limited, is_limited, is_within, item_list, part_list, own_holding, with_entries, with_entry}
 use Rattle.cells.specs.laws.Entries.{entries_few, none_below}
 use Rattle.cells.specs.laws.Unlimited.{from_unlimited}
-use Rattle.text_columns.specs.declared.builder.ColumnBuilder.{ColumnBuilder, Flat, List', FixedList'}
+use Rattle.text_columns.specs.declared.builder.ColumnBuilder.{ColumnBuilder, Flat, List', FixedList', Struct', out-ColumnBuilder}
 use Rattle.columns.specs.Built.{fixed_items}
 use Rattle.text_columns.specs.declared.coding.Coding.{Coding}
 use Rattle.text_columns.specs.declared.column_values.Values.{Values}
-use Rattle.text_columns.specs.inner.Kept.{HoldsCells, KeepAll, Keeps, KeepsBelow, column_at}
+use Rattle.text_columns.specs.inner.Kept.{AreUnlimited, HoldsCells, KeepAll, Keeps, KeepsBelow, column_at, column_list}
+use Rattle.text_columns.proofs.StructFields.{fields_in, fields_kept, there_too}
 use Rattle.text_columns.proofs.Coded.{own_flat, own_kind}
 
 -- ---- one column
@@ -50,8 +51,14 @@ flat_unlimited (large_lists item) h = absurd cc
 flat_unlimited (fixed_lists size item) h = absurd cc
 flat_unlimited (structs columns) h = absurd cc
 
+-- a column with some cells
+record IsHeld (c : Column) : Type 0 where
+  pub cells : List Cell
+  pub builder : ColumnBuilder
+  pub keeps : Keeps c cells builder
+
 mutual
-  unfolding is_limited is_kind_limited
+  unfolding is_limited is_kind_limited is_any_limited
 
   column_unlimited : (c : Column) (cells : List Cell) (b : ColumnBuilder) → Keeps c cells b → has_limit (index_of_column c) ≡ false → is_limited c ≡ false
   column_unlimited (column name nullable kind dictionary pairs) cells (Flat b) k h =
@@ -60,12 +67,27 @@ mutual
       both_false (has_limit dictionary) (is_kind_limited kind) h (below_unlimited kind cells (List' slots offsets p items) k.parts)
   column_unlimited (column name nullable kind dictionary pairs) cells (FixedList' slots size p items) k h =
       both_false (has_limit dictionary) (is_kind_limited kind) h (below_unlimited kind cells (FixedList' slots size p items) k.parts)
+  column_unlimited (column name nullable kind dictionary pairs) cells (Struct' slots names v row) k h =
+      both_false (has_limit dictionary) (is_kind_limited kind) h (below_unlimited kind cells (Struct' slots names v row) k.parts)
 
   below_unlimited : (kind : Kind) (cells : List Cell) (b : ColumnBuilder) → KeepsBelow kind cells b → is_kind_limited kind ≡ false
   below_unlimited (lists item) cells (List' slots offsets p items) h = column_unlimited item (flat_map item_list cells) items h.below h.unlimited
   below_unlimited (large_lists item) cells (List' slots offsets p items) h = column_unlimited item (flat_map item_list cells) items h.below h.unlimited
   below_unlimited (fixed_lists size item) cells (FixedList' slots width p items) h = column_unlimited item (flat_map (fixed_items size) cells) items h.below h.unlimited
+  below_unlimited (structs columns) cells b h =
+      let f = fields_in columns cells (out-ColumnBuilder b) h in
+      let k = fields_kept columns cells f.names f.fields f.holds in
+      columns_unlimited columns f.holds.unlimited (λ j c dc.
+      let (own, db) = there_too (column_list columns) f.fields j c k.count dc in
+      record { cells = column_at j (map part_list cells); builder = own; keeps = k.each j c own dc db })
   below_unlimited _ cells b h = absurd h
+
+  columns_unlimited : (cs : Columns) → AreUnlimited (column_list cs) → ((j : ℕ) (c : Column) → slice_get (column_list cs) j ≡ Some c → IsHeld c) → is_any_limited cs ≡ false
+  columns_unlimited no_column unlimited held = refl
+  columns_unlimited (and_column c cs) unlimited held =
+      let h = held 0 c refl in
+      both_false (is_limited c) (is_any_limited cs) (column_unlimited c h.cells h.builder h.keeps (unlimited 0 c refl))
+      (columns_unlimited cs (λ j d e. unlimited (suc j) d e) (λ j d e. held (suc j) d e))
 
 one_each : (cells : List Cell) → cells_at 0 (map (λ (c : Cell). c ∷ []) cells) ≡ cells
 one_each [] = refl
@@ -92,6 +114,7 @@ same_few (column name nullable kind (Some index) pairs) cells others (Flat b) k 
     few_of index kind cells values (Some d) h = h.few
 same_few (column name nullable kind (Some index) pairs) cells others (List' slots offsets p items) k e = (let none = k.slots.plain in absurd cc)
 same_few (column name nullable kind (Some index) pairs) cells others (FixedList' slots size p items) k e = (let none = k.slots.plain in absurd cc)
+same_few (column name nullable kind (Some index) pairs) cells others (Struct' slots names v row) k e = (let none = k.slots.plain in absurd cc)
 
 -- indices of any width name one entry
 one_within : (w : BitWidth) (signed : Bool) (n : ℕ) → n ≤ 1 → is_within (entry_limit (record { bits = bits_of w; signed = signed })) n ≡ true
@@ -117,6 +140,7 @@ one_few (column name nullable kind (Some index) pairs) cells others (Flat b) k l
         ap (λ (i : Index). is_within (entry_limit i) (length (entries_of others))) (sym type) ∙ one_within d.index.width d.index.signed (length (entries_of others)) le
 one_few (column name nullable kind (Some index) pairs) cells others (List' slots offsets p items) k le = (let none = k.slots.plain in absurd cc)
 one_few (column name nullable kind (Some index) pairs) cells others (FixedList' slots size p items) k le = (let none = k.slots.plain in absurd cc)
+one_few (column name nullable kind (Some index) pairs) cells others (Struct' slots names v row) k le = (let none = k.slots.plain in absurd cc)
 
 -- ---- the cells at a place of rows, of which an absent one is no entry
 
@@ -152,12 +176,6 @@ all_few i (c ∷ cs) rows each =
     let first : list_all has_few_entries (holdings c (cells_at i rows)) ≡ true = rw here at (each 0 c refl) in
     list_all-append has_few_entries (holdings c (cells_at i rows)) (holdings_from (i + 1) (columns_of cs) rows)
     ∙ and_from _ _ first (all_few (i + 1) cs rows (λ j d e. let next : i + suc j ≡ i + 1 + j = omega arith in rw next at (each (suc j) d e)))
-
-there_too : {X Y : Type 0} (xs : List X) (ys : List Y) (j : ℕ) (x : X) → length ys ≡ length xs → slice_get xs j ≡ Some x → (y : Y) × (slice_get ys j ≡ Some y)
-there_too [] ys j x e h = absurd cc
-there_too (z ∷ xs) [] j x e h = absurd (omega arith)
-there_too (z ∷ xs) (y ∷ ys) zero x e h = (y, refl)
-there_too (z ∷ xs) (y ∷ ys) (suc j) x e h = there_too xs ys j x (omega arith) h
 
 pub rows_fit : (s : PlainSchema) (rows : List (List Cell)) (bs : List ColumnBuilder) → KeepAll s.columns rows bs → dictionaries_fit s rows ≡ true
 rows_fit s rows bs k = all_few 0 s.columns rows (λ j c dc.

@@ -19,7 +19,7 @@ use Rattle.text_import.proofs.ObjectLemmas.{places_end}
 use Rattle.text_import.proofs.RowLemmas.{cells_behind, cells_behind_more}
 use Rattle.text_columns.specs.declared.builder.ColumnBuilder.{ColumnBuilder}
 use Rattle.text_columns.specs.inner.Kept.{KeepAll, Keeps, column_at}
-use Rattle.text_columns.specs.inner.Lines.{HasItemRow, KeepsItems, KeepsNext, KeepsTokens}
+use Rattle.text_columns.specs.inner.Lines.{HasItemRow, KeepsItems, KeepsNext, KeepsRow, KeepsTokens}
 use Rattle.text_columns.proofs.LineRows.{none_behind}
 use Rattle.text_columns.proofs.MemberGrammar.{converted_some, twice, value_shorter, value_there}
 use Rattle.text_columns.proofs.Rows.{at_end, at_front, at_other, at_set, column_more, dropped_all, dropped_here, length_put, length_taken, none_weigh, parts_weigh, taken_all, taken_here, there_within}
@@ -204,19 +204,22 @@ columns_counted : (cs : List Column) → column_count (columns_of cs) ≡ length
 columns_counted [] = refl
 columns_counted (c ∷ cs) = let e = columns_counted cs in omega (arith, e)
 
+-- for a row as for a struct
+pub items_row : (depth : ℕ) (names : List (List ℕ)) (inside rest : List Token) (heavy : ℕ) (bs bs2 : List ColumnBuilder) → (k : KeepsItems depth inside rest heavy bs bs2)
+    → KeepsRow names (array k.found) heavy bs bs2
+items_row depth names inside rest heavy bs bs2 k cs rows e distinct kept =
+    let h = k.keeps cs rows kept in
+    let count : (item_count k.found == column_count (columns_of cs)) ≡ true = eq-eqb _ _ (k.count ∙ kept.count ∙ sym (columns_counted cs)) in
+    record { row = h.row; read = rw count h.read; weighs = h.weighs; keeps = h.keeps }
+
 pub array_kept : (names : List (List ℕ)) (inside rest : List Token) (heavy : ℕ) (bs bs2 : List ColumnBuilder) → rest ≡ [] → KeepsItems 126 inside rest heavy bs bs2
     → KeepsTokens names (tokens.begin_array ∷ inside) heavy bs bs2
 array_kept names inside rest heavy bs bs2 ends k =
     let one = value-begin_array 127 inside (omega arith) in
-    let whole : converted of_json (value 127 (tokens.begin_array ∷ inside)) ≡ Some (array k.found, []) =
-    ap (converted of_json) one ∙ array_read (items (value 126) (length inside) inside) ∙ ap (parse_map array) (k.read ∙ ap (λ (ts : List Token). Some (k.found, ts)) ends) in
     record {
       data_is = array k.found;
-      read = whole;
-      keeps = λ cs rows e kept.
-          let h = k.keeps cs rows kept in
-          let count : (item_count k.found == column_count (columns_of cs)) ≡ true = eq-eqb _ _ (k.count ∙ kept.count ∙ sym (columns_counted cs)) in
-          record { row = h.row; read = rw count h.read; weighs = h.weighs; keeps = h.keeps };
+      read = ap (converted of_json) one ∙ array_read (items (value 126) (length inside) inside) ∙ ap (parse_map array) (k.read ∙ ap (λ (ts : List Token). Some (k.found, ts)) ends);
+      keeps = items_row 126 names inside rest heavy bs bs2 k;
     }
 
 -- ---- what a call tells

@@ -14,6 +14,7 @@ pub mod TokenCells
 pub mod MemberGrammar
 pub mod LineRows
 pub mod ItemRows
+pub mod StructFields
 pub mod Nulls
 pub mod ListCells
 pub mod Starts

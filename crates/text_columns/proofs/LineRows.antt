@@ -1,5 +1,6 @@
 -- Rows of lines of JSON that come after others, by the buffers of their columns.
 use Rattle.std.specs.Borrow.{Bor}
+use Rattle.std.specs.Global.{Vec}
 use Rattle.std.specs.Str.{is_utf8}
 use Rattle.std.specs.Cmp.Lexicographic.{slice_cmp}
 use Rattle.std.specs.Ordering.{match_ordering, nat_cmp}
@@ -20,6 +21,11 @@ use Rattle.serde_json.specs.Read.{converted, of_json, of_members, read}
 use Rattle.serde_json.proofs.Views.{get_member-put, get_member-put_other}
 use Rattle.arrow_schema.specs.Column.{Column, columns_of, PlainSchema}
 use Rattle.arrow_schema.specs.Parts.{name_of_column}
+use Rattle.arrow_schema.specs.View.{column_of}
+use Rattle.arrow_schema.specs.declared.types.Field.{Field}
+use Rattle.arrow_schema.specs.laws.Parts.{field_parts}
+use Rattle.std.specs.Prelude.{map, string_bytes}
+use Rattle.std.proofs.lemmas.List.{map-append, take_more}
 use Rattle.text_import.specs.declared.refusal.Refusal.{Refusal}
 use Rattle.cells.specs.Cell.{Cell, Cells, null, cells_of}
 use Rattle.cells.specs.Dictionary.{dictionaries_fit}
@@ -35,8 +41,8 @@ use Rattle.text_import.proofs.ObjectLemmas.{name_more, names_end}
 use Rattle.text_import.proofs.RowLemmas.{cells_behind}
 use Rattle.text_columns.specs.declared.builder.ColumnBuilder.{ColumnBuilder}
 use Rattle.text_columns.specs.declared.records.RowsRead.{RowsRead}
-use Rattle.text_columns.specs.inner.Kept.{HasRows, KeepAll, Keeps, column_at}
-use Rattle.text_columns.specs.inner.Lines.{Completes, CompletesRow, HasKeptValue, HasNamedRow, HoldMembers, HoldsMember, KeepsLine, KeepsTokens, PushesMember, PushesMembers, token_data}
+use Rattle.text_columns.specs.inner.Kept.{HasRows, KeepAll, Keeps, column_at, key_list}
+use Rattle.text_columns.specs.inner.Lines.{Completes, CompletesRow, HasKeptValue, HasNamedRow, HoldMembers, HoldsMember, KeepsFields, KeepsLine, KeepsTokens, PushesMember, PushesMembers, token_data}
 use Rattle.text_columns.proofs.MemberGrammar.{member_read, members_over, object_read, text_read, value_shorter}
 use Rattle.text_columns.proofs.FewEntries.{row_fits}
 use Rattle.text_columns.proofs.Rows.{at_end, at_front, at_other, at_set, column_more, dropped_all, dropped_here, length_put, length_taken, none_weigh, parts_weigh, taken_all, taken_here, there_within}
@@ -156,15 +162,15 @@ pub record MembersRead (depth : ℕ) (names : List (List ℕ)) (all left : List 
   pub enough : length left ≤ turns
   pub read : converted (λ ms. of_members ms no_members) (members (value depth) (length all) all) ≡ converted (λ ms. of_members ms found) (members (value depth) turns left)
   pub known : has_unknown names (keys_of found) ≡ false
-  pub each : (cs : List Column) (rows : List (List Cell)) → names_of (columns_of cs) ≡ names → HoldMembers cs rows no_members ws0 bs0 → HoldMembers cs rows found ws bs
+  pub each : (cs : List Column) (rows : List (List Cell)) → names_of (columns_of cs) ≡ names → repeats names ≡ false → HoldMembers cs rows no_members ws0 bs0 → HoldMembers cs rows found ws bs
 
 pub members_none : (depth : ℕ) (names : List (List ℕ)) (all : List Token) (ws : List (Option ℕ)) (bs : List ColumnBuilder) → MembersRead depth names all all ws ws bs bs
-members_none depth names all ws bs = record { found = no_members; turns = length all; enough = omega arith; read = refl; known = refl; each = λ cs rows e h. h }
+members_none depth names all ws bs = record { found = no_members; turns = length all; enough = omega arith; read = refl; known = refl; each = λ cs rows e distinct h. h }
 
-pub members_more : (depth : ℕ) (names : List (List ℕ)) (all left behind_key new : List Token) (k : List ℕ) (place : ℕ) (ws0 ws ws2 : List (Option ℕ)) (bs0 bs bs2 : List ColumnBuilder) → repeats names ≡ false
+pub members_more : (depth : ℕ) (names : List (List ℕ)) (all left behind_key new : List Token) (k : List ℕ) (place : ℕ) (ws0 ws ws2 : List (Option ℕ)) (bs0 bs bs2 : List ColumnBuilder)
     → read_key left ≡ Some (Some k, behind_key) → slice_get names place ≡ Some k → PushesMember depth place behind_key new ws ws2 bs bs2 → MembersRead depth names all left ws0 ws bs0 bs
     → MembersRead depth names all new ws0 ws2 bs0 bs2
-members_more depth names all left behind_key new k place ws0 ws ws2 bs0 bs bs2 distinct key named p m =
+members_more depth names all left behind_key new k place ws0 ws ws2 bs0 bs bs2 key named p m =
     let d = p.keeps.data_is in
     let less = read_key-shorter left (Some k) behind_key key in
     let one = value_shorter depth behind_key new d p.keeps.read in
@@ -175,8 +181,8 @@ members_more depth names all left behind_key new k place ws0 ws ws2 bs0 bs bs2 d
       enough = omega (arith, less, m.enough, one);
       read = m.read ∙ member_read (value depth) m.found m.turns k left behind_key new d some key p.keeps.read;
       known = known_put names k d m.found (has_here names place k named) m.known;
-      each = λ cs rows e h.
-          member_held cs rows m.found k d depth place behind_key new ws ws2 bs bs2 (rw e distinct) (rw e named) p refl (m.each cs rows e h);
+      each = λ cs rows e distinct h.
+          member_held cs rows m.found k d depth place behind_key new ws ws2 bs bs2 (rw e distinct) (rw e named) p refl (m.each cs rows e distinct h);
     }
 
 pub members_all : (depth : ℕ) (names : List (List ℕ)) (all left new : List Token) (ws0 ws : List (Option ℕ)) (bs0 bs : List ColumnBuilder) → read_key left ≡ Some (None, new)
@@ -289,28 +295,34 @@ none_more ws i j w within none lt e = elim (cases_lt j i) [
       sym (some_same (sym (at_set ws i None within) ∙ subst (λ (n : ℕ). slice_get (set ws i None) n ≡ Some w) is e))
 ]
 
-pub object_kept : (names : List (List ℕ)) (all inside rest : List Token) (heavy : ℕ) (ws ws2 : List (Option ℕ)) (bs bs2 bs3 : List ColumnBuilder) → all ≡ tokens.begin_object ∷ inside → rest ≡ []
-    → repeats names ≡ false → length ws ≡ length bs → ((j : ℕ) (w : Option ℕ) → slice_get ws j ≡ Some w → w ≡ None) → PushesMembers 126 names inside rest ws ws2 bs bs2 → CompletesRow ws2 heavy bs2 bs3 → KeepsTokens names all heavy bs bs3
-object_kept names all inside rest heavy ws ws2 bs bs2 bs3 opens ends distinct size none m completes =
+-- and then all
+fields_kept : (depth : ℕ) (names : List (List ℕ)) (inside rest : List Token) (heavy : ℕ) (ws ws2 : List (Option ℕ)) (bs bs2 bs3 : List ColumnBuilder) → length ws ≡ length bs
+    → ((j : ℕ) (w : Option ℕ) → slice_get ws j ≡ Some w → w ≡ None) → PushesMembers depth names inside rest ws ws2 bs bs2 → CompletesRow ws2 heavy bs2 bs3 → KeepsFields depth names inside rest heavy bs bs3
+fields_kept depth names inside rest heavy ws ws2 bs bs2 bs3 size none m completes = record {
+  found = m.found;
+  read = m.read;
+  keeps = λ cs rows e distinct k.
+      let h = completes cs rows m.found (m.each cs rows e distinct (hold_none cs rows ws bs size none k)) in
+      let own : repeats (names_of (columns_of cs)) ≡ false = rw e distinct in
+      let known : has_unknown (names_of (columns_of cs)) (keys_of m.found) ≡ false = rw e m.known in
+      record { row = h.row; read = rw (own, known) h.read; weighs = h.weighs; keeps = h.keeps };
+}
+
+pub fields_step : {E : Type 0} (depth : ℕ) (names : List (List ℕ)) (inside rest : List Token) (ws ws2 : List (Option ℕ)) (bs bs2 bs3 : List ColumnBuilder) (r : Result (Option ℕ) E) → length ws ≡ length bs
+    → ((j : ℕ) (w : Option ℕ) → slice_get ws j ≡ Some w → w ≡ None) → PushesMembers depth names inside rest ws ws2 bs bs2
+    → IfOk r (λ taken. IfSome taken (λ heavy. CompletesRow ws2 heavy bs2 bs3)) → IfOk r (λ taken. IfSome taken (λ heavy. KeepsFields depth names inside rest heavy bs bs3))
+fields_step depth names inside rest ws ws2 bs bs2 bs3 (Err e) size none m h = tt
+fields_step depth names inside rest ws ws2 bs bs2 bs3 (Ok None) size none m h = tt
+fields_step depth names inside rest ws ws2 bs bs2 bs3 (Ok (Some heavy)) size none m h = fields_kept depth names inside rest heavy ws ws2 bs bs2 bs3 size none m h
+
+pub object_kept : (names : List (List ℕ)) (inside rest : List Token) (heavy : ℕ) (bs bs2 : List ColumnBuilder) → rest ≡ [] → KeepsFields 126 names inside rest heavy bs bs2
+    → KeepsTokens names (tokens.begin_object ∷ inside) heavy bs bs2
+object_kept names inside rest heavy bs bs2 ends k =
     let one = value-begin_object 127 inside (omega arith) in
-    let whole : converted of_json (value 127 all) ≡ Some (object m.found, []) =
-    ap (λ (ts : List Token). converted of_json (value 127 ts)) opens
-    ∙ ap (converted of_json) one
-    ∙ object_read (members (value 126) (length inside) inside)
-    ∙ ap (parse_map object) (m.read ∙ ap (λ (ts : List Token). Some (m.found, ts)) ends) in
     record {
-      data_is = object m.found;
-      read = whole;
-      keeps = λ cs rows e k.
-          let h = completes cs rows m.found (m.each cs rows e (hold_none cs rows ws bs size none k)) in
-          let own : repeats (names_of (columns_of cs)) ≡ false = rw e distinct in
-          let known : has_unknown (names_of (columns_of cs)) (keys_of m.found) ≡ false = rw e m.known in
-          record {
-            row = h.row;
-            read = rw (own, known) h.read;
-            weighs = h.weighs;
-            keeps = h.keeps;
-          };
+      data_is = object k.found;
+      read = ap (converted of_json) one ∙ object_read (members (value 126) (length inside) inside) ∙ ap (parse_map object) (k.read ∙ ap (λ (ts : List Token). Some (k.found, ts)) ends);
+      keeps = k.keeps;
     }
 
 -- ---- the rows of lines
@@ -354,10 +366,10 @@ line_accepted s line d row heavy value cells weighs few full =
     rw (value, cells, cells_listed row, light, full) refl
 
 pub lines_more : (s : PlainSchema) (names : List (List ℕ)) (lines : List (Bor (List ℕ))) (n i heavy more : ℕ) (line : Bor (List ℕ)) (bs bs2 : List ColumnBuilder) → drop n lines ≡ line ∷ drop (n + 1) lines
-    → is_blank line.now ≡ false → names_of (columns_of s.columns) ≡ names → more ≤ 16777216 → KeepsLine names line.now more bs bs2
+    → is_blank line.now ≡ false → names_of (columns_of s.columns) ≡ names → repeats names ≡ false → more ≤ 16777216 → KeepsLine names line.now more bs bs2
     → LinesRead s lines (drop n lines) i heavy bs → LinesRead s lines (drop (n + 1) lines) (i + 1) (heavy + more) bs2
-lines_more s names lines n i heavy more line bs bs2 here blank named few keeps h =
-    let v = keeps.keeps s.columns h.rows named h.keeps in
+lines_more s names lines n i heavy more line bs bs2 here blank named distinct few keeps h =
+    let v = keeps.keeps s.columns h.rows named distinct h.keeps in
     let full = row_fits s h.rows bs v.row h.keeps in
     let row = line_accepted s line.now keeps.data_is v.row more keeps.read v.read v.weighs few full in
     let given : numbered (i + 1) (line_row s line.now) ≡ Ok v.row = rw row refl in
@@ -385,22 +397,15 @@ lines_all s lines n i heavy bs read none few rows weight h = record {
 
 -- ---- names as the code keeps them
 
-text_at : (keys : List (Bor (List ℕ))) (i : ℕ) (t : Bor (List ℕ)) → slice_get keys i ≡ Some t → slice_get (text_list keys) i ≡ Some t.now
-text_at [] i t e = absurd cc
-text_at (k ∷ keys) zero t e = ap (λ (b : Bor (List ℕ)). Some b.now) (some_same e)
-text_at (k ∷ keys) (suc i) t e = text_at keys i t e
+name_bytes_at : (keys : List (Vec ℕ)) (i : ℕ) (k : Vec ℕ) → slice_get keys i ≡ Some k → slice_get (key_list keys) i ≡ Some k.items
+name_bytes_at [] i k e = absurd cc
+name_bytes_at (x ∷ keys) zero k e = ap (λ (v : Vec ℕ). Some v.items) (some_same e)
+name_bytes_at (x ∷ keys) (suc i) k e = name_bytes_at keys i k e
 
-pub stands : (keys : List (Bor (List ℕ))) (i : ℕ) (t : Bor (List ℕ)) (name : List ℕ) → slice_get keys i ≡ Some t → bytes_eq t.now name ≡ true → slice_get (text_list keys) i ≡ Some name
-stands keys i t name e same = text_at keys i t e ∙ ap Some ((bytes_eq-Decides t.now name).0 same)
+pub stands : (keys : List (Vec ℕ)) (i : ℕ) (k : Vec ℕ) (name : List ℕ) → slice_get keys i ≡ Some k → bytes_eq k.items name ≡ true → slice_get (key_list keys) i ≡ Some name
+stands keys i k name e same = name_bytes_at keys i k e ∙ ap Some ((bytes_eq-Decides k.items name).0 same)
 
 -- ---- what a call tells, where it appended the row
-
-pub object_step : {E : Type 0} (names : List (List ℕ)) (all inside rest : List Token) (ws ws2 : List (Option ℕ)) (bs bs2 bs3 : List ColumnBuilder) (r : Result (Option ℕ) E) → all ≡ tokens.begin_object ∷ inside
-    → rest ≡ [] → repeats names ≡ false → length ws ≡ length bs → ((j : ℕ) (w : Option ℕ) → slice_get ws j ≡ Some w → w ≡ None) → PushesMembers 126 names inside rest ws ws2 bs bs2
-    → IfOk r (λ taken. IfSome taken (λ heavy. CompletesRow ws2 heavy bs2 bs3)) → IfOk r (λ taken. IfSome taken (λ heavy. KeepsTokens names all heavy bs bs3))
-object_step names all inside rest ws ws2 bs bs2 bs3 (Err e) opens ends distinct size none m h = tt
-object_step names all inside rest ws ws2 bs bs2 bs3 (Ok None) opens ends distinct size none m h = tt
-object_step names all inside rest ws ws2 bs bs2 bs3 (Ok (Some heavy)) opens ends distinct size none m h = object_kept names all inside rest heavy ws ws2 bs bs2 bs3 opens ends distinct size none m h
 
 utf8_text : (t line : List ℕ) → Some t ≡ text_where_utf8 line → (is_utf8 line ≡ true) × (t ≡ line)
 utf8_text t line e = by (is_utf8 line) refl e
@@ -431,3 +436,19 @@ free_at (w ∷ ws) (suc i) d lt e = free_at ws i d (omega arith) e
 pub none_next : {X : Type 0} (o : Option X) (P : Type 0) (Q : X → Type 0) → is_some o ≡ false → MatchOption o P Q → P
 none_next None P Q e h = h
 none_next (Some x) P Q e h = absurd (false≢true (sym e))
+
+-- ---- the names of fields, one after another
+
+names_more : (cs : List Column) (c : Column) → names_of (columns_of (cs ++ c ∷ [])) ≡ names_of (columns_of cs) ++ name_of_column c ∷ []
+names_more [] c = refl
+names_more (d ∷ cs) c = ap (λ (ns : List (List ℕ)). name_of_column d ∷ ns) (names_more cs c)
+
+pub name_added : (fields : List Field) (i : ℕ) (f : Field) (old new : List (List ℕ)) → i < length fields → f ≡ get_or fields i f → old ≡ names_of (columns_of (map column_of (take i fields)))
+    → new ≡ old ++ string_bytes f.name ∷ [] → new ≡ names_of (columns_of (map column_of (take (i + 1) fields)))
+name_added fields i f old new lt is before added =
+    let more : take (i + 1) fields ≡ take i fields ++ f ∷ [] = take_more fields i f lt ∙ ap (λ (x : Field). take i fields ++ x ∷ []) (sym is) in
+    let own : name_of_column (column_of f) ≡ string_bytes f.name = ap name_of_column (field_parts f) in
+    added
+    ∙ (λ j. before j ++ sym own j ∷ [])
+    ∙ sym (names_more (map column_of (take i fields)) (column_of f))
+    ∙ ap (λ (cs : List Column). names_of (columns_of cs)) (sym (map-append column_of (take i fields) (f ∷ [])) ∙ ap (map column_of) (sym more))

@@ -1,38 +1,42 @@
 -- Lists that come behind the cells of a column, by the items that a reader stands at.
+use Rattle.text_columns.specs.declared.builder.Names.{Names}
 use Rattle.std.specs.Prelude.{Option, Some, None, Ok, Err, Result, IfOk, IfSome}
+use Rattle.std.specs.Global.{Vec}
 use Rattle.std.specs.List.{flat_map}
-use Rattle.std.proofs.Common.{◌≡◌, ℕ, ◌+◌, ◌-◌, ◌≤◌, ◌<◌, ◌==◌, Bool, true, false, List, [], ◌∷◌, ◌++◌, length, refl, arith, ap, sym, subst, ◌∙◌, append_assoc, append-nil, length-append}
+use Rattle.std.proofs.Common.{◌≡◌, ℕ, ◌+◌, ◌-◌, ◌≤◌, ◌<◌, ◌==◌, Bool, true, false, List, [], ◌∷◌, ◌++◌, length, refl, arith, ap, sym, subst, ◌∙◌, append_assoc, append-nil, length-append, map}
 use Rattle.std.specs.Bool.{MatchBool}
 use Rattle.std.proofs.lemmas.Bool.{eq-eqb, false≢true}
 use Rattle.facts.specs.laws.Lists.{flat_map-push}
 use Rattle.json.specs.Token.{Token}
 use Rattle.json.specs.Token as tokens
-use Rattle.json.specs.Json.{after_end_array, items as token_items, parse_map, value}
-use Rattle.json.proofs.Grammar.{items_end, value-begin_array}
-use Rattle.serde_json.specs.Data.{Data, Items, array, no_items}
+use Rattle.json.specs.Json.{after_end_array, items as token_items, members, parse_map, value}
+use Rattle.json.proofs.Grammar.{items_end, value-begin_array, value-begin_object}
+use Rattle.serde_json.specs.Data.{Data, Items, array, object, no_items}
 use Rattle.serde_json.specs.Data as json
 use Rattle.serde_json.specs.Read.{converted, of_items, of_json}
-use Rattle.arrow_schema.specs.Column.{Column, Index, Kind, lists, large_lists, fixed_lists, column}
-use Rattle.cells.specs.Cell.{Cell, items, cells_of}
-use Rattle.cells.specs.Dictionary.{item_list}
+use Rattle.arrow_schema.specs.Column.{Column, Columns, columns_of, Index, Kind, lists, large_lists, fixed_lists, structs, column}
+use Rattle.cells.specs.Cell.{Cell, items, cells_of, parts}
+use Rattle.cells.specs.Dictionary.{item_list, part_list}
 use Rattle.cells.specs.Nulls.{is_there}
-use Rattle.cells.specs.Weight.{kind_weight, sum_of, weight}
+use Rattle.cells.specs.Weight.{kind_weight, parts_weight, sum_of, weight}
 use Rattle.cells.specs.laws.Cells.{cells_listed}
 use Rattle.columns.specs.Built.{fixed_items}
 use Rattle.columns.specs.declared.numbers.OffsetWidth.{OffsetWidth}
-use Rattle.text_import.specs.Objects.{cell_in, each_item, item_count, kind_in}
+use Rattle.text_import.specs.Objects.{cell_in, cells_in, each_item, item_count, kind_in, names_of, null_or_in, repeats}
+use Rattle.text_import.specs.declared.refusal.Refusal.{Refusal}
 use Rattle.text_import.specs.Refusals.{given}
 use Rattle.text_import.proofs.RowLemmas.{cells_behind, cells_behind_end, cells_behind_more}
-use Rattle.text_columns.specs.declared.builder.ColumnBuilder.{ColumnBuilder, List', FixedList'}
+use Rattle.text_columns.specs.declared.builder.ColumnBuilder.{ColumnBuilder, List', FixedList', Struct}
 use Rattle.text_columns.specs.declared.builder.ListOffsets.{ListOffsets}
 use Rattle.text_columns.specs.declared.builder.Slots.{Slots}
 use Rattle.text_columns.specs.declared.next.ItemsTaken.{ItemsTaken}
-use Rattle.text_columns.specs.inner.Kept.{HoldsLists, Keeps, KeepsBelow, KeepsSlots, PushesEnd, PushesThere}
-use Rattle.text_columns.specs.inner.Lines.{EndsFixedList, EndsList, HasItems, KeepsArray, KeepsListItems, KeepsNext, KeepsNull, KeepsToken, KeepsValue}
-use Rattle.text_columns.proofs.ItemRows.{array_read, item_read, prepend, prepend_count, prepend_more, prepended_more, prepended_none}
+use Rattle.text_columns.specs.inner.Kept.{HoldsLists, KeepAll, Keeps, KeepsAt, KeepsBelow, column_list, key_list, KeepsSlots, PushesEnd, PushesThere}
+use Rattle.text_columns.specs.inner.Lines.{EndsFixedList, EndsList, EndsStruct, HasItems, KeepsArray, KeepsFields, KeepsItems, KeepsListItems, KeepsObject, KeepsRow, KeepsNext, KeepsNull, KeepsToken, KeepsValue}
+use Rattle.text_columns.proofs.ItemRows.{array_read, item_read, items_row, prepend, prepend_count, prepend_more, prepended_more, prepended_none}
 use Rattle.text_columns.proofs.LineRows.{none_behind, token_read}
-use Rattle.text_columns.proofs.MemberGrammar.{value_shorter, value_there}
+use Rattle.text_columns.proofs.MemberGrammar.{object_read, value_shorter, value_there}
 use Rattle.text_columns.proofs.Nulls.{offsets_pushed}
+use Rattle.text_columns.proofs.StructFields.{fields_hold, fields_kept, held_by, holds_so, list_columns, no_struct_fixed_list, no_struct_list, parts_more}
 use Rattle.text_columns.proofs.Taken.{one_mapped}
 use Rattle.text_columns.proofs.TokenCells.{null_token}
 
@@ -167,6 +171,7 @@ list_kept (lists item) depth inside rest taken so slots slots2 offsets offsets2 
 list_kept (large_lists item) depth inside rest taken so slots slots2 offsets offsets2 p p2 old new list pushed k =
     let h = list.keeps item (flat_map item_list so) k.below in
     record { kept = h.kept; read = ap (given items) h.read; weighs = h.weighs; parts = lists_more _ item so offsets offsets2 old new list.found taken.count taken.weight h list.count pushed k }
+list_kept (structs columns) depth inside rest taken so slots slots2 offsets offsets2 p p2 old new list pushed k = absurd (no_struct_list columns (KeepsAt columns) so slots offsets p old k)
 list_kept _ depth inside rest taken so slots slots2 offsets offsets2 p p2 old new list pushed k = absurd k
 
 fixed_list_kept : (kind : Kind) (depth : ℕ) (inside rest : List Token) (taken : ItemsTaken) (so : List Cell) (slots slots2 : Slots) (size : ℕ) (p p2 : _) (old new : ColumnBuilder)
@@ -185,6 +190,7 @@ fixed_list_kept (fixed_lists width item) depth inside rest taken so slots slots2
         below = subst (λ (xs : List Cell). Keeps item xs new) (fixed_listed_more width so h.kept) h.keeps;
       };
     }
+fixed_list_kept (structs columns) depth inside rest taken so slots slots2 size p p2 old new list many k = absurd (no_struct_fixed_list columns (KeepsAt columns) so slots size p old k)
 fixed_list_kept _ depth inside rest taken so slots slots2 size p p2 old new list many k = absurd k
 
 list_pushed_behind : (depth : ℕ) (inside rest : List Token) (taken : ItemsTaken) (slots slots2 : Slots) (offsets offsets2 : ListOffsets) (p p2 : _) (old new : ColumnBuilder)
@@ -253,6 +259,89 @@ fixed_list_step depth inside rest taken slots slots2 size p p2 old new (Err e) h
 fixed_list_step depth inside rest taken slots slots2 size p p2 old new (Ok None) h ends = tt
 fixed_list_step depth inside rest taken slots slots2 size p p2 old new (Ok (Some heavy)) h ends = fixed_list_ended depth inside rest taken heavy slots slots2 size p p2 old new h ends
 
+-- ---- the struct of such cells
+
+-- the struct of a type that a value is, and the buffers below it
+record HasStruct (kind : Kind) (d : Data) (heavy : ℕ) (so : List Cell) (new : ColumnBuilder) : Type 0 where
+  pub kept : List Cell
+  pub read : kind_in kind d ≡ Ok (parts (cells_of kept))
+  pub weighs : kind_weight kind (parts (cells_of kept)) ≡ heavy
+  pub below : KeepsBelow kind (so ++ parts (cells_of kept) ∷ []) new
+
+-- an object or an array
+record IsOpened (d : Data) : Type 0 where
+  pub none : (nullable : Bool) (f : Data → Result Cell Refusal) → null_or_in nullable f d ≡ f d
+
+struct_kept : (kind : Kind) (d : Data) (heavy : ℕ) (so : List Cell) (slots slots2 : Slots) (names names2 : Names) (old new : Vec ColumnBuilder) → names2.names ≡ names.names
+    → KeepsRow (key_list names.names.keys) d heavy old.items new.items → KeepsBelow kind so (Struct slots names old) → HasStruct kind d heavy so (Struct slots2 names2 new)
+unfolding kind_in kind_weight
+struct_kept (structs columns) d heavy so slots slots2 names names2 old new same row below =
+    let k = held_by columns so slots names old below in
+    let all : columns_of (column_list columns) ≡ columns = list_columns columns in
+    let named : names_of (columns_of (column_list columns)) ≡ key_list names.names.keys = ap names_of all ∙ sym k.names_are in
+    let h = row (column_list columns) (map part_list so) named (ap repeats k.names_are ∙ k.distinct) (fields_kept columns so (key_list names.names.keys) old.items k) in
+    record {
+      kept = h.row;
+      read = ap (given parts) (subst (λ (cs : Columns). cells_in cs d ≡ Ok (cells_of h.row)) all h.read);
+      weighs = subst (λ (cs : Columns). 1 + parts_weight cs (cells_of h.row) ≡ heavy) all h.weighs;
+      below = holds_so columns (so ++ parts (cells_of h.row) ∷ []) slots2 names2 new
+          (fields_hold columns (so ++ parts (cells_of h.row) ∷ []) (key_list names2.names.keys) new.items (ap (λ s. key_list s.keys) same ∙ k.names_are) k.distinct k.unlimited
+          (subst (λ (rows : List (List Cell)). KeepAll (column_list columns) rows new.items) (parts_more so h.row) h.keeps));
+    }
+struct_kept _ d heavy so slots slots2 names names2 old new same row below = absurd below
+
+struct_value : (d : Data) (heavy : ℕ) (slots slots2 : Slots) (names names2 : Names) (old new : Vec ColumnBuilder) → IsOpened d → names2.names ≡ names.names → PushesThere slots slots2
+    → KeepsRow (key_list names.names.keys) d heavy old.items new.items → KeepsValue d heavy (Struct slots names old) (Struct slots2 names2 new)
+unfolding cell_in weight
+struct_value d heavy slots slots2 names names2 old new opened same slot row (column name nullable kind dictionary pairs) so k =
+    let h = struct_kept kind d heavy so slots slots2 names names2 old new same row k.parts in
+    record {
+      kept = parts (cells_of h.kept);
+      read = opened.none nullable (kind_in kind) ∙ h.read;
+      weighs = h.weighs;
+      keeps = record { slots = slots_behind nullable dictionary kind so (parts (cells_of h.kept)) slots slots2 refl slot k.slots; parts = h.below };
+    }
+
+struct_items : (depth : ℕ) (inside rest : List Token) (taken : Option ℕ) (heavy : ℕ) (slots slots2 : Slots) (names names2 : Names) (old new : Vec ColumnBuilder) → names2.names ≡ names.names
+    → IfSome taken (λ w. KeepsItems depth inside rest w old.items new.items) → EndsStruct taken heavy slots slots2
+    → KeepsArray depth inside rest heavy (Struct slots names old) (Struct slots2 names2 new)
+struct_items depth inside rest taken heavy slots slots2 names names2 old new same h e =
+    let k : KeepsItems depth inside rest heavy old.items new.items = rw e.is at h in
+    record {
+      found = k.found;
+      read = k.read;
+      keeps = struct_value (array k.found) heavy slots slots2 names names2 old new (record { none = λ nullable f. refl }) same e.slot
+          (items_row depth (key_list names.names.keys) inside rest heavy old.items new.items k);
+    }
+
+pub struct_items_step : {E : Type 0} (depth : ℕ) (inside rest : List Token) (taken : Option ℕ) (slots slots2 : Slots) (names names2 : Names) (old new : Vec ColumnBuilder) (bs : List ColumnBuilder) (r : Result (Option ℕ) E)
+    → names2.names ≡ names.names → new.items ≡ bs → IfSome taken (λ w. KeepsItems depth inside rest w old.items bs) → IfOk r (λ ended. IfSome ended (λ heavy. EndsStruct taken heavy slots slots2))
+    → IfOk r (λ ended. IfSome ended (λ heavy. KeepsArray depth inside rest heavy (Struct slots names old) (Struct slots2 names2 new)))
+struct_items_step depth inside rest taken slots slots2 names names2 old new bs (Err e) same written h ends = tt
+struct_items_step depth inside rest taken slots slots2 names names2 old new bs (Ok None) same written h ends = tt
+struct_items_step depth inside rest taken slots slots2 names names2 old new bs (Ok (Some heavy)) same written h ends =
+    struct_items depth inside rest taken heavy slots slots2 names names2 old new same (rw written h) ends
+
+struct_fields : (depth : ℕ) (inside rest : List Token) (taken : Option ℕ) (heavy : ℕ) (slots slots2 : Slots) (names names2 : Names) (old new : Vec ColumnBuilder) → names2.names ≡ names.names
+    → IfSome taken (λ w. KeepsFields depth (key_list names.names.keys) inside rest w old.items new.items) → EndsStruct taken heavy slots slots2
+    → KeepsObject depth inside rest heavy (Struct slots names old) (Struct slots2 names2 new)
+struct_fields depth inside rest taken heavy slots slots2 names names2 old new same h e =
+    let k : KeepsFields depth (key_list names.names.keys) inside rest heavy old.items new.items = rw e.is at h in
+    record {
+      found = k.found;
+      read = k.read;
+      keeps = struct_value (object k.found) heavy slots slots2 names names2 old new (record { none = λ nullable f. refl }) same e.slot k.keeps;
+    }
+
+pub struct_fields_step : {E : Type 0} (depth : ℕ) (inside rest : List Token) (taken : Option ℕ) (slots slots2 : Slots) (names names2 : Names) (old new : Vec ColumnBuilder) (bs : List ColumnBuilder) (r : Result (Option ℕ) E)
+    → names2.names ≡ names.names → new.items ≡ bs → IfSome taken (λ w. KeepsFields depth (key_list names.names.keys) inside rest w old.items bs)
+    → IfOk r (λ ended. IfSome ended (λ heavy. EndsStruct taken heavy slots slots2))
+    → IfOk r (λ ended. IfSome ended (λ heavy. KeepsObject depth inside rest heavy (Struct slots names old) (Struct slots2 names2 new)))
+struct_fields_step depth inside rest taken slots slots2 names names2 old new bs (Err e) same written h ends = tt
+struct_fields_step depth inside rest taken slots slots2 names names2 old new bs (Ok None) same written h ends = tt
+struct_fields_step depth inside rest taken slots slots2 names names2 old new bs (Ok (Some heavy)) same written h ends =
+    struct_fields depth inside rest taken heavy slots slots2 names names2 old new same (rw written h) ends
+
 -- the reader stays where no bracket was taken
 pub unmatched : (P Q : Type 0) (b : Bool) → b ≡ false → MatchBool b P Q → Q
 unmatched P Q true e h = absurd (false≢true (sym e))
@@ -295,3 +384,20 @@ pub array_next_step : {E : Type 0} (depth below : ℕ) (old inside new : List To
 array_next_step depth below old inside new b b2 (Err e) some less is h = tt
 array_next_step depth below old inside new b b2 (Ok None) some less is h = tt
 array_next_step depth below old inside new b b2 (Ok (Some heavy)) some less is h = array_next depth old inside new heavy b b2 some is (rw less at h)
+
+object_next : (depth : ℕ) (old inside new : List Token) (heavy : ℕ) (b b2 : ColumnBuilder) → 0 < depth → old ≡ tokens.begin_object ∷ inside → KeepsObject (depth - 1) inside new heavy b b2
+    → KeepsNext depth old new heavy b b2
+object_next depth old inside new heavy b b2 some is k = record {
+  data_is = object k.found;
+  read = ap (λ (ts : List Token). converted of_json (value depth ts)) is
+      ∙ ap (converted of_json) (value-begin_object depth inside some)
+      ∙ object_read (members (value (depth - 1)) (length inside) inside)
+      ∙ ap (parse_map object) k.read;
+  keeps = k.keeps;
+}
+
+pub object_next_step : {E : Type 0} (depth below : ℕ) (old inside new : List Token) (b b2 : ColumnBuilder) (r : Result (Option ℕ) E) → 0 < depth → below ≡ depth - 1 → old ≡ tokens.begin_object ∷ inside
+    → IfOk r (λ taken. IfSome taken (λ heavy. KeepsObject below inside new heavy b b2)) → IfOk r (λ taken. IfSome taken (λ heavy. KeepsNext depth old new heavy b b2))
+object_next_step depth below old inside new b b2 (Err e) some less is h = tt
+object_next_step depth below old inside new b b2 (Ok None) some less is h = tt
+object_next_step depth below old inside new b b2 (Ok (Some heavy)) some less is h = object_next depth old inside new heavy b b2 some is (rw less at h)

@@ -1,26 +1,32 @@
 -- Nulls that come behind the cells of a column, and what stands below them.
-use Rattle.std.specs.Prelude.{Option, Ok, Err, Result, OnOk, replicate}
+use Rattle.std.specs.Prelude.{get_or, slice_get, Option, Ok, Err, Result, OnOk, replicate, Some}
+use Rattle.std.specs.Global.{Vec}
 use Rattle.std.specs.List.{flat_map}
-use Rattle.std.proofs.Common.{◌≡◌, ℕ, zero, suc, ◌+◌, ◌*◌, Bool, true, false, List, [], ◌∷◌, ◌++◌, length, map, refl, arith, ap, sym, subst, ◌∙◌, append_assoc, append-nil, length-append}
+use Rattle.std.proofs.Common.{Bool, List, [], ap, append-nil, append_assoc, arith, false, inl, inr, length, length-append, map, refl, set, subst, suc, sym, true, zero, ℕ, ◌*◌, ◌++◌, ◌+◌, ◌<◌, ◌∙◌, ◌∷◌, ◌≡◌, ◌≤◌}
 use Rattle.std.proofs.lemmas.List.{map-append, replicate-append-replicate, replicate_more}
 use Rattle.std.proofs.lemmas.List.Concat.{flat_map-append}
 use Rattle.facts.specs.laws.Lists.{flat_map-push}
-use Rattle.arrow_schema.specs.Column.{Column, Index, Kind, lists, large_lists, fixed_lists, column}
+use Rattle.arrow_schema.specs.Column.{Column, Index, Kind, lists, large_lists, fixed_lists, structs, column}
 use Rattle.arrow_schema.specs.Parts.{is_nullable_column}
 use Rattle.cells.specs.Cell.{Cell, null}
-use Rattle.cells.specs.Dictionary.{item_list}
+use Rattle.cells.specs.Dictionary.{item_list, part_list}
 use Rattle.cells.specs.Nulls.{is_there}
 use Rattle.cells.specs.Weight.{weight}
 use Rattle.columns.specs.Built.{fixed_items}
 use Rattle.columns.specs.Offsets.{width_of}
 use Rattle.columns.specs.declared.numbers.OffsetWidth.{OffsetWidth}
-use Rattle.text_columns.specs.declared.builder.ColumnBuilder.{ColumnBuilder, Flat, List', FixedList'}
+use Rattle.text_columns.specs.declared.builder.ColumnBuilder.{ColumnBuilder, Flat, List', FixedList', Struct, Struct'}
+use Rattle.text_columns.specs.declared.builder.Names.{Names}
 use Rattle.text_columns.specs.declared.builder.ListOffsets.{ListOffsets}
 use Rattle.text_columns.specs.declared.builder.Slots.{Slots}
 use Rattle.text_columns.specs.declared.flat.FlatBuilder.{FlatBuilder}
-use Rattle.text_columns.specs.inner.Kept.{AppendsNulls, HoldsLists, Keeps, KeepsBelow, KeepsOffsets, KeepsSlots, PushesEmpty, PushesEnd, TakesNullCell, is_nullable, null_heavy_of}
+use Rattle.text_columns.specs.inner.Kept.{AllAppendNulls, AppendsNulls, HoldsLists, Keeps, KeepsAt, column_at, column_list, key_list, KeepsBelow, KeepsOffsets, KeepsSlots, PushesEmpty, PushesEnd, TakesNullCell, is_nullable, null_heavy_of}
 use Rattle.text_columns.specs.inner.Lines.{KeepsNull}
 use Rattle.text_columns.proofs.Coded.{own_kind}
+use Rattle.std.proofs.lemmas.Bool.{cases_lt}
+use Rattle.std.proofs.lemmas.Option.{slice_get_within}
+use Rattle.text_columns.proofs.Rows.{at_other, at_set, length_put}
+use Rattle.text_columns.proofs.StructFields.{at_list, held_by, holds_so, list_at, no_struct_fixed_list, no_struct_list, nulls_at, there_too}
 use Rattle.text_columns.proofs.Taken.{null_weighs, offset_more}
 use Rattle.text_columns.proofs.TokenCells.{null_behind}
 
@@ -109,6 +115,7 @@ lists_below : (kind : Kind) (so : List Cell) (n : ℕ) (slots slots2 : Slots) (o
     → KeepsBelow kind so (List' slots offsets p items) → KeepsBelow kind (so ++ replicate n null) (List' slots2 offsets2 p2 items)
 lists_below (lists item) so n slots slots2 offsets offsets2 p p2 items e k = lists_behind _ item so n offsets offsets2 items e k
 lists_below (large_lists item) so n slots slots2 offsets offsets2 p p2 items e k = lists_behind _ item so n offsets offsets2 items e k
+lists_below (structs columns) so n slots slots2 offsets offsets2 p p2 items e k = absurd (no_struct_list columns (KeepsAt columns) so slots offsets p items k)
 lists_below _ so n slots slots2 offsets offsets2 p p2 items e k = absurd k
 
 pub list_nulls : (n : ℕ) (slots slots2 : Slots) (offsets offsets2 : ListOffsets) (p p2 : _) (items : ColumnBuilder) → slots2.nullable ≡ slots.nullable → slots2.null_weight ≡ slots.null_weight
@@ -128,6 +135,7 @@ fixed_below (fixed_lists width item) so n below slots slots2 size p p2 items ite
       below = subst (λ (xs : List Cell). Keeps item xs items2) (ap (λ (m : ℕ). flat_map (fixed_items width) so ++ replicate m null) all ∙ fixed_more width n so)
           (a item (flat_map (fixed_items width) so) k.below);
     }
+fixed_below (structs columns) so n below slots slots2 size p p2 items items2 many a k = absurd (no_struct_fixed_list columns (KeepsAt columns) so slots size p items k)
 fixed_below _ so n below slots slots2 size p p2 items items2 many a k = absurd k
 
 pub fixed_list_nulls : (n below : ℕ) (slots slots2 : Slots) (size : ℕ) (p p2 : _) (items items2 : ColumnBuilder) → slots2.nullable ≡ slots.nullable → slots2.null_weight ≡ slots.null_weight
@@ -137,18 +145,45 @@ fixed_list_nulls n below slots slots2 size p p2 items items2 same weighs valid m
   parts = fixed_below kind so n below slots slots2 size p p2 items items2 many a k.parts;
 }
 
+structs_below : (kind : Kind) (so : List Cell) (n : ℕ) (slots slots2 : Slots) (names names2 : Names) (fields fields2 : Vec ColumnBuilder) → names2.names ≡ names.names
+    → AllAppendNulls n fields.items fields2.items → KeepsBelow kind so (Struct slots names fields) → KeepsBelow kind (so ++ replicate n null) (Struct slots2 names2 fields2)
+structs_below (structs columns) so n slots slots2 names names2 fields fields2 same a h =
+    let k = held_by columns so slots names fields h in
+    holds_so columns (so ++ replicate n null) slots2 names2 fields2 (record {
+      names_are = ap (λ s. key_list s.keys) same ∙ k.names_are;
+      distinct = k.distinct;
+      unlimited = k.unlimited;
+      count = a.same ∙ k.count;
+      each = λ j b2 db2.
+          let (b, db) = there_too fields2.items fields.items j b2 (sym a.same) db2 in
+          let (c, dc) = there_too fields.items (column_list columns) j b (sym k.count) db in
+          let own = a.each j b b2 db db2 c (column_at j (map part_list so)) (at_list columns j c (column_at j (map part_list so)) b dc (k.each j b db)) in
+          list_at columns j c (column_at j (map part_list (so ++ replicate n null))) b2 dc (subst (λ (xs : List Cell). Keeps c xs b2) (nulls_at j n so) own);
+    })
+structs_below _ so n slots slots2 names names2 fields fields2 same a h = absurd h
+
+pub struct_nulls : (n : ℕ) (slots slots2 : Slots) (names names2 : Names) (fields fields2 : Vec ColumnBuilder) → slots2.nullable ≡ slots.nullable → slots2.null_weight ≡ slots.null_weight
+    → slots2.valid.items ≡ slots.valid.items ++ replicate n false → names2.names ≡ names.names → AllAppendNulls n fields.items fields2.items
+    → AppendsNulls n (Struct slots names fields) (Struct slots2 names2 fields2)
+struct_nulls n slots slots2 names names2 fields fields2 same weighs valid named a (column name nullable kind dictionary pairs) so k = record {
+  slots = slots_behind nullable dictionary kind so n slots slots2 same weighs valid k.slots;
+  parts = structs_below kind so n slots slots2 names names2 fields fields2 named a k.parts;
+}
+
 -- ---- one null, where nulls are allowed
 
 is_nullable_of : (c : Column) (so : List Cell) (b : ColumnBuilder) → Keeps c so b → is_nullable_column c ≡ is_nullable b
 is_nullable_of (column name nullable kind dictionary pairs) so (Flat b) k = sym k.0
 is_nullable_of (column name nullable kind dictionary pairs) so (List' slots offsets p items) k = sym k.slots.same
 is_nullable_of (column name nullable kind dictionary pairs) so (FixedList' slots size p items) k = sym k.slots.same
+is_nullable_of (column name nullable kind dictionary pairs) so (Struct' slots names v row) k = sym k.slots.same
 
 pub null_is_heavy : (c : Column) (so : List Cell) (b : ColumnBuilder) → Keeps c so b → weight c null ≡ null_heavy_of b
 unfolding weight
 null_is_heavy (column name nullable kind dictionary pairs) so (Flat b) k = null_weighs kind b.values (own_kind dictionary kind so b.values b.coding k.2)
 null_is_heavy (column name nullable kind dictionary pairs) so (List' slots offsets p items) k = k.slots.null_weighs
 null_is_heavy (column name nullable kind dictionary pairs) so (FixedList' slots size p items) k = k.slots.null_weighs
+null_is_heavy (column name nullable kind dictionary pairs) so (Struct' slots names v row) k = k.slots.null_weighs
 
 pub null_pushed : (old new : ColumnBuilder) → is_nullable old ≡ true → AppendsNulls 1 old new → KeepsNull (null_heavy_of old) old new
 null_pushed old new is a c so k = (is_nullable_of c so old k ∙ is, null_is_heavy c so old k, a c so k)
@@ -168,3 +203,57 @@ pub fixed_list_nulls_step : {A E : Type 0} (r : Result A E) (n below : ℕ) (slo
     → slots2.null_weight ≡ slots.null_weight → slots2.valid.items ≡ slots.valid.items ++ replicate n false → below ≡ n * size → OnOk r (AppendsNulls below items items2)
     → OnOk r (AppendsNulls n (FixedList' slots size p items) (FixedList' slots2 size p2 items2))
 fixed_list_nulls_step r n below slots slots2 size p p2 items items2 same weighs valid many h = on_ok r h (λ a. fixed_list_nulls n below slots slots2 size p p2 items items2 same weighs valid many a)
+
+pub struct_nulls_step : {A E : Type 0} (r : Result A E) (n : ℕ) (slots slots2 : Slots) (names names2 : Names) (fields fields2 : Vec ColumnBuilder) (new : List ColumnBuilder) → slots2.nullable ≡ slots.nullable
+    → slots2.null_weight ≡ slots.null_weight → slots2.valid.items ≡ slots.valid.items ++ replicate n false → names2.names ≡ names.names → fields2.items ≡ new → OnOk r (AllAppendNulls n fields.items new)
+    → OnOk r (AppendsNulls n (Struct slots names fields) (Struct slots2 names2 fields2))
+struct_nulls_step r n slots slots2 names names2 fields fields2 new same weighs valid named written h =
+    on_ok r h (λ a. struct_nulls n slots slots2 names names2 fields fields2 same weighs valid named (subst (λ (bs : List ColumnBuilder). AllAppendNulls n fields.items bs) (sym written) a))
+
+-- ---- nulls of each column, one after another
+
+-- the first columns have them, and the others are as they were
+pub record NullsHalf (count i : ℕ) (old bs : List ColumnBuilder) : Type 0 where
+  pub same : length bs ≡ length old
+  pub done : (j : ℕ) (b b2 : ColumnBuilder) → j < i → slice_get old j ≡ Some b → slice_get bs j ≡ Some b2 → AppendsNulls count b b2
+  pub rest : (j : ℕ) (b b2 : ColumnBuilder) → i ≤ j → slice_get old j ≡ Some b → slice_get bs j ≡ Some b2 → b ≡ b2
+
+some_same : {X : Type 0} {x y : X} → Some x ≡ Some y → x ≡ y
+some_same e = cc
+
+pub nulls_half_none : (count : ℕ) (bs : List ColumnBuilder) → NullsHalf count 0 bs bs
+nulls_half_none count bs = record { same = refl; done = λ j b b2 lt. absurd (omega arith); rest = λ j b b2 le db db2. some_same (sym db ∙ db2) }
+
+pub nulls_half_more : (count i : ℕ) (old bs : List ColumnBuilder) (b new : ColumnBuilder) → slice_get bs i ≡ Some b → AppendsNulls count b new → NullsHalf count i old bs → NullsHalf count (i + 1) old (set bs i new)
+nulls_half_more count i old bs b new here a h =
+    let within : i < length bs = slice_get_within bs i b here in
+    record {
+      same = length_put bs i new ∙ h.same;
+      done = λ j x y lt dx dy. elim (cases_lt j i) [
+        | inl before ↦ h.done j x y before dx (sym (at_other bs i j new (λ e. omega arith)) ∙ dy)
+        | inr after ↦
+            let at : j ≡ i = omega arith in
+            let is_new : new ≡ y = some_same (sym (at_set bs i new within) ∙ subst (λ (n : ℕ). slice_get (set bs i new) n ≡ Some y) at dy) in
+            let is_old : x ≡ b = h.rest i x b (omega arith) (subst (λ (n : ℕ). slice_get old n ≡ Some x) at dx) here in
+            rw (is_old, ← is_new) a
+      ];
+      rest = λ j x y le dx dy. h.rest j x y (omega (arith, le)) dx (sym (at_other bs i j new (λ e. omega arith)) ∙ dy);
+    }
+
+pub nulls_half_all : (count i : ℕ) (old bs : List ColumnBuilder) → length old ≤ i → NullsHalf count i old bs → AllAppendNulls count old bs
+nulls_half_all count i old bs le h = record {
+  same = h.same;
+  each = λ j b b2 db db2. (let lt = slice_get_within old j b db in h.done j b b2 (omega (arith, lt, le)) db db2);
+}
+
+get_other : (bs : List ColumnBuilder) (i k : ℕ) (new d : ColumnBuilder) → i < k → get_or (set bs i new) k d ≡ get_or bs k d
+get_other [] i k new d lt = refl
+get_other (b ∷ bs) zero zero new d lt = absurd (omega arith)
+get_other (b ∷ bs) zero (suc k) new d lt = refl
+get_other (b ∷ bs) (suc i) zero new d lt = absurd (omega arith)
+get_other (b ∷ bs) (suc i) (suc k) new d lt = get_other bs i k new d (omega arith)
+
+-- columns that were not visited yet stay
+pub unvisited_set : (old bs : List ColumnBuilder) (i : ℕ) (new : ColumnBuilder) → (length bs ≡ length old) × ((k : ℕ) (d : ColumnBuilder) → i ≤ k → get_or bs k d ≡ get_or old k d)
+    → (length (set bs i new) ≡ length old) × ((k : ℕ) (d : ColumnBuilder) → i + 1 ≤ k → get_or (set bs i new) k d ≡ get_or old k d)
+unvisited_set old bs i new h = (length_put bs i new ∙ h.0, λ k d le. get_other bs i k new d (omega (arith, le)) ∙ h.1 k d (omega (arith, le)))

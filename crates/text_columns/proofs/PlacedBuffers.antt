@@ -8,7 +8,7 @@ use Rattle.std.proofs.lemmas.List.{map-append}
 use Rattle.std.proofs.lemmas.List.Folds.{list_all-append}
 use Rattle.std.proofs.lemmas.Option.{slice_get_within}
 use Rattle.bitmap.specs.Bits.{packed}
-use Rattle.columns.specs.Array.{Array, Layout, array, arrays_of, null_layout, bit_layout, fixed_layout, binary_layout, list_layout, fixed_list_layout, dictionary_layout}
+use Rattle.columns.specs.Array.{Array, Layout, array, arrays_of, null_layout, bit_layout, fixed_layout, binary_layout, list_layout, fixed_list_layout, struct_layout, dictionary_layout}
 use Rattle.columns.specs.Places.{within}
 use Rattle.columns.specs.View.{array_in, array_step, arrays_in, arrays_numbered, layout_step, no_dictionary}
 use Rattle.columns.specs.Within.{array_within, ends_within, is_placed_within, is_within_by, layout_within, stands_within}
@@ -25,13 +25,14 @@ use Rattle.columns.specs.laws.Longer.{within_more}
 use Rattle.text_columns.specs.declared.coding.Coding.{Coding}
 use Rattle.text_columns.specs.declared.column_values.Values.{Values}
 use Rattle.text_columns.specs.declared.column_values.Values.TheVariants.{Nulls, Booleans, Integers, Texts, Binaries, FixedBinaries}
-use Rattle.text_columns.specs.declared.builder.ColumnBuilder.{ColumnBuilder, Flat, List', FixedList'}
+use Rattle.text_columns.specs.declared.builder.ColumnBuilder.{ColumnBuilder, Flat, List', FixedList', Struct}
+use Rattle.text_columns.specs.declared.builder.Names.{Names}
 use Rattle.text_columns.specs.declared.builder.ListOffsets.{ListOffsets}
 use Rattle.text_columns.specs.declared.builder.Slots.{Slots}
 use Rattle.text_columns.specs.declared.flat.FlatBuilder.{FlatBuilder}
-use Rattle.text_columns.proofs.BuiltArrays.{all_built, fixed_list_column, flat_built, list_column}
+use Rattle.text_columns.proofs.BuiltArrays.{all_built, fixed_list_column, flat_built, list_column, struct_column}
 use Rattle.text_columns.proofs.Rows.{last_or_before}
-use Rattle.text_columns.specs.inner.Placed.{AreBuilt, AreEntriesPlaced, ArePlaced, IsAppended, IsBuilt, IsLaid, IsPlaced, IsPlacedAs, column_layout, entries_array, has_validity, is_layout_within, layout_by, layout_of, validity_in, validity_of_bits}
+use Rattle.text_columns.specs.inner.Placed.{AreBuilt, AreEntriesPlaced, ArePlaced, ArePlacedBehind, IsAppended, IsBuilt, IsLaid, IsPlaced, IsPlacedAs, column_layout, entries_array, has_validity, is_layout_within, layout_by, layout_of, validity_in, validity_of_bits}
 
 -- ---- buffers
 
@@ -356,3 +357,56 @@ placed_pushed bs b old new before behind arrays longer a so p pushed =
 pub all_placed : (bs : List ColumnBuilder) (bytes : List ℕ) (dictionaries : List Dictionary) (arrays : List PlacedArray) → SoFar bs bytes dictionaries arrays → ArePlaced bs bytes dictionaries arrays
 all_placed bs bytes dictionaries arrays so cs rows k =
     all_built cs rows bs (map (array_in bytes (arrays_in bytes dictionaries)) arrays) k.count so.placed.count k.each so.placed.each
+
+-- ---- fields of structs
+
+pub none_behind_it : (bytes : List ℕ) (dictionaries : List Dictionary) (arrays : List PlacedArray) → arrays ≡ [] → ArePlacedBehind [] bytes bytes dictionaries dictionaries arrays
+none_behind_it bytes dictionaries arrays is = rw is (record {
+  more = [];
+  whole = sym (append-nil bytes);
+  own = [];
+  longer = sym (append-nil dictionaries);
+  placed = record { count = refl; each = λ j b a db da. absurd cc };
+  ends = refl;
+})
+
+pub one_behind_it : (bs : List ColumnBuilder) (b : ColumnBuilder) (old mid new : List ℕ) (before between behind : List Dictionary) (arrays longer : List PlacedArray) (a : PlacedArray)
+    → ArePlacedBehind bs old mid before between arrays → IsPlaced b mid new between behind a → longer ≡ arrays ++ a ∷ [] → ArePlacedBehind (bs ++ b ∷ []) old new before behind longer
+one_behind_it bs b old mid new before between behind arrays longer a h p pushed =
+    let so = placed_more bs b mid new between behind arrays a (record { placed = h.placed; ends = h.ends }) p in
+    rw pushed (record {
+      more = h.more ++ p.more;
+      whole = p.whole ∙ ap (λ (xs : List ℕ). xs ++ p.more) h.whole ∙ append_assoc old h.more p.more;
+      own = h.own ++ p.own;
+      longer = p.longer ∙ ap (λ (xs : List Dictionary). xs ++ p.own) h.longer ∙ append_assoc before h.own p.own;
+      placed = so.placed;
+      ends = so.ends;
+    })
+
+structs_are : (bytes : List ℕ) (known : DictionaryPart → List Array) (children : Vec PlacedArray) → layout_by bytes known (layouts.Struct children) ≡ struct_layout (arrays_of (map (array_in bytes known) children.items))
+structs_are bytes known children =
+    ap (layout_by bytes known) (sym (layouts.rolls-Struct children)) ∙ fold-roll-PlacedLayout Layout Array (layout_step bytes known) (array_step bytes) (placed.Struct children)
+
+structs_within : (size : ℕ) (stands : DictionaryPart → Bool) (children : Vec PlacedArray) → is_layout_within size stands (layouts.Struct children) ≡ list_all (λ b. b) (map (is_within_by size stands) children.items)
+structs_within size stands children =
+    ap (is_layout_within size stands) (sym (layouts.rolls-Struct children)) ∙ fold-roll-PlacedLayout Bool Bool (layout_within size stands) (array_within size) (placed.Struct children)
+
+all_mapped : {X : Type 0} (f : X → Bool) (xs : List X) → list_all (λ b. b) (map f xs) ≡ list_all f xs
+all_mapped f [] = refl
+all_mapped f (x ∷ xs) = ap (λ (b : Bool). f x && b) (all_mapped f xs)
+
+pub struct_placed : (slots : Slots) (names : Names) (fields : Vec ColumnBuilder) (count : ℕ) (old mid new : List ℕ) (before behind : List Dictionary) (validity : Span) (children : Vec PlacedArray)
+    → count ≡ length slots.valid.items → IsAppended old (validity_of_bits slots.valid.items) mid validity → ArePlacedBehind fields.items mid new before behind children.items
+    → IsPlaced (Struct slots names fields) old new before behind (roll-PlacedArray (record { slots = count; validity = validity; layout = layouts.Struct children }))
+struct_placed slots names fields count old mid new before behind validity children same a h =
+    let own : List Array = map (array_in new (arrays_in new behind)) children.items in
+    let laid : IsPlacedAs (struct_layout (arrays_of own)) mid new before behind (layouts.Struct children) = record {
+      more = h.more;
+      whole = h.whole;
+      own = h.own;
+      longer = h.longer;
+      laid = structs_are new (arrays_in new behind) children;
+      ends = structs_within (length new) (stands_within (length new) behind) children ∙ all_mapped (is_placed_within (length new) behind) children.items ∙ h.ends;
+    } in
+    array_placed (validity_of_bits slots.valid.items) (struct_layout (arrays_of own)) count (length slots.valid.items) old mid new before behind validity (layouts.Struct children) same a laid
+    (Struct slots names fields) (struct_column slots names fields own h.placed)

@@ -1,16 +1,19 @@
 -- Columns that have no cell yet.
-use Rattle.std.specs.Prelude.{Option, Some, None, Ok, Err, Result, IfOk, IfSome, map, option_map, string_bytes}
-use Rattle.std.proofs.Common.{◌≡◌, ℕ, ◌+◌, ◌*◌, Bool, List, [], refl, arith, ap, sym, ◌∙◌}
+use Rattle.std.specs.Prelude.{slice_get, sum_by, Option, Some, None, Ok, Err, Result, IfOk, IfSome, map, option_map, string_bytes}
+use Rattle.std.proofs.Common.{Bool, List, [], ap, arith, inl, inr, length, refl, subst, suc, sym, ℕ, ◌*◌, ◌++◌, ◌+◌, ◌∙◌, ◌∷◌, ◌≡◌}
 use Rattle.std.proofs.Math.Nat.{mul_comm}
-use Rattle.arrow_schema.specs.Column.{Column, Kind, Pair, lists, large_lists, fixed_lists, column}
+use Rattle.std.proofs.lemmas.List.Sums.{sum_by-cons}
+use Rattle.arrow_schema.specs.Column.{Column, Kind, Pair, lists, large_lists, fixed_lists, structs, columns_of, column}
 use Rattle.arrow_schema.specs.View.{column_of, index_of, kind_of, pair_of}
 use Rattle.arrow_schema.specs.declared.types.Field.{Field}
 use Rattle.arrow_schema.specs.laws.Parts.{field_parts}
-use Rattle.cells.specs.Cell.{null}
-use Rattle.cells.specs.Weight.{kind_weight, weight}
+use Rattle.cells.specs.Cell.{null, no_cell}
+use Rattle.cells.specs.Weight.{kind_weight, parts_weight, weight}
 use Rattle.columns.specs.declared.numbers.OffsetWidth.TheVariants.{Four, Eight}
 use Rattle.text_columns.specs.declared.builder.ColumnBuilder.{ColumnBuilder}
-use Rattle.text_columns.specs.inner.Kept.{Keeps, StartsFixedLists, StartsLists, null_heavy_of}
+use Rattle.text_columns.specs.inner.Kept.{Keeps, StartsFixedLists, StartsLists, StartsStructs, AreUnlimited, IsUnlimited, KeepAll, column_list, key_list, null_heavy_of}
+use Rattle.text_columns.proofs.Rows.{last_or_before}
+use Rattle.text_columns.proofs.StructFields.{columns_listed, fields_hold, holds_so}
 use Rattle.text_columns.proofs.Nulls.{null_is_heavy}
 
 -- a column of lists, from its buffers without cells
@@ -67,3 +70,45 @@ pub fixed_lists_step : {E : Type 0} (f : Field) (size : ℕ) (item : Column) (r 
     → IfOk r (λ found. IfSome found (StartsFixedLists f.nullable size item)) → IfOk r (λ found. IfSome found (Keeps (column_of f) []))
 fixed_lists_step f size item r is plain h =
     started r (λ b s. rw (column_is f (fixed_lists size item) is plain) (fixed_lists_start (string_bytes f.name) f.nullable size item (map pair_of f.pairs.items) b s)) h
+
+-- ---- structs
+
+-- a null weighs one, and what nulls of its fields weigh
+parts_null_weigh : (cs : List Column) (bs : List ColumnBuilder) → length bs ≡ length cs → ((j : ℕ) (c : Column) (b : ColumnBuilder) → slice_get cs j ≡ Some c → slice_get bs j ≡ Some b → Keeps c [] b)
+    → parts_weight (columns_of cs) no_cell ≡ sum_by null_heavy_of bs
+unfolding parts_weight
+parts_null_weigh [] [] count each = refl
+parts_null_weigh [] (b ∷ bs) count each = absurd (omega arith)
+parts_null_weigh (c ∷ cs) [] count each = absurd (omega arith)
+parts_null_weigh (c ∷ cs) (b ∷ bs) count each =
+    let here = null_is_heavy c [] b (each 0 c b refl refl) in
+    let others = parts_null_weigh cs bs (omega arith) (λ j d e dc db. each (suc j) d e dc db) in
+    let sum = sum_by-cons null_heavy_of b bs in
+    (λ j. here j + others j) ∙ sym sum
+
+structs_start : (name : List ℕ) (nullable : Bool) (cs : List Column) (pairs : List Pair) (b : ColumnBuilder) → StartsStructs nullable cs b → Keeps (column name nullable (structs (columns_of cs)) None pairs) [] b
+unfolding kind_weight
+structs_start name nullable cs pairs b s =
+    let listed : column_list (columns_of cs) ≡ cs = columns_listed cs in
+    let heavy = parts_null_weigh cs s.fields.items s.keeps.count (λ j c own dc db. s.keeps.each j c own dc db) in
+    rw s.is (record {
+      slots = record { same = s.same; valid = s.none; null_weighs = omega (arith, heavy, s.null_weighs); plain = refl };
+      parts = holds_so (columns_of cs) [] s.slots s.names s.fields
+          (fields_hold (columns_of cs) [] (key_list s.names.names.keys) s.fields.items s.names_are s.distinct (subst AreUnlimited (sym listed) s.unlimited)
+          (subst (λ (xs : List Column). KeepAll xs [] s.fields.items) (sym listed) s.keeps));
+    })
+
+pub structs_step : {E : Type 0} (f : Field) (cs : List Column) (r : Result (Option ColumnBuilder) E) → kind_of f.data_type ≡ structs (columns_of cs) → f.dictionary ≡ None
+    → IfOk r (λ found. IfSome found (StartsStructs f.nullable cs)) → IfOk r (λ found. IfSome found (Keeps (column_of f) []))
+structs_step f cs r is plain h =
+    started r (λ b s. rw (column_is f (structs (columns_of cs)) is plain) (structs_start (string_bytes f.name) f.nullable cs (map pair_of f.pairs.items) b s)) h
+
+-- fields whose dictionaries have no limit, one after another
+pub unlimited_none : AreUnlimited []
+unlimited_none j c e = absurd cc
+
+pub unlimited_more : (cs : List Column) (c : Column) → IsUnlimited c → AreUnlimited cs → AreUnlimited (cs ++ c ∷ [])
+unlimited_more cs c own before j d e = elim (last_or_before cs c d j e) [
+  | inl there ↦ before j d there
+  | inr last ↦ rw (← last.1) own
+]

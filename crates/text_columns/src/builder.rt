@@ -2,20 +2,31 @@
 ghost use Rattle.std.specs.Prelude.{◌≡◌, ◌+◌, ◌*◌, ◌++◌, ◌∷◌, [], IfOk, IfSome, OnOk, true, false, replicate};
 ghost use Rattle.byteorder.specs.Endian.{little_bytes};
 ghost use Rattle.columns.specs.Offsets.{width_of};
-ghost use Rattle.text_columns.specs.inner.Kept.{AppendsNulls, KeepsField, PushesEmpty, PushesEnd, PushesThere, is_nullable, null_heavy_of};
+ghost use Rattle.text_columns.specs.inner.Kept.{AllAppendNulls, AppendsNulls, KeepsField, PushesEmpty, PushesEnd, PushesThere, is_nullable, null_heavy_of};
 ghost use Rattle.text_columns.specs.inner.Lines.{KeepsNull};
 
 use crate::flat::FlatBuilder;
 use cells::MAX_ROW_WEIGHT;
 use columns::{OffsetWidth, push_offset};
+use indexmap::IndexSet;
 use std::alloc::AllocError;
 
-/// The cells of a column so far: those of a column without parts, or of lists or lists of one size, with the cells of their items.
+/// The cells of a column so far: those of a column without parts, of lists or lists of one size with the cells of their items, or of structs with those of
+/// their fields.
 #[derive(Drop)]
 pub(crate) enum ColumnBuilder {
     Flat(FlatBuilder),
     List(Slots, ListOffsets, Box<ColumnBuilder>),
     FixedList(Slots, u32, Box<ColumnBuilder>),
+    Struct(Slots, Names, Vec<ColumnBuilder>),
+}
+
+/// The names of columns or fields; the places of those that the members of the object before went into; and what the cells of this one weigh.
+#[derive(Drop)]
+pub(crate) struct Names {
+    pub(crate) names: IndexSet<Vec<u8>>,
+    pub(crate) order: Vec<usize>,
+    pub(crate) heavies: Vec<Option<u64>>,
 }
 
 /// Which cells of a column with parts are there, and what a null of it weighs.
@@ -89,6 +100,25 @@ fn items_of(lists: usize, size: u32) -> Result<usize, AllocError>
     }
 }
 
+// Appends so many nulls to each column.
+#[cycle(nulls)]
+fn push_nulls_each(builders: &mut [ColumnBuilder], count: usize) -> Result<(), AllocError>
+    ensures { OnOk result (AllAppendNulls count builders.old builders.new) }
+{
+    for i in 0..builders.len() {
+        builders[i].push_nulls(count)?;
+    }
+    Ok(())
+}
+
+// The same of columns in a vector.
+#[cycle(nulls)]
+fn push_nulls_all(builders: &mut Vec<ColumnBuilder>, count: usize) -> Result<(), AllocError>
+    ensures { OnOk result (AllAppendNulls count builders.old.items builders.new.items) }
+{
+    push_nulls_each(builders.as_mut_slice(), count)
+}
+
 impl ColumnBuilder {
     fn is_nullable(&self) -> bool
         ensures { result ≡ is_nullable self.now }
@@ -97,6 +127,7 @@ impl ColumnBuilder {
             ColumnBuilder::Flat(flat) => flat.nullable,
             ColumnBuilder::List(slots, _, _) => slots.nullable,
             ColumnBuilder::FixedList(slots, _, _) => slots.nullable,
+            ColumnBuilder::Struct(slots, _, _) => slots.nullable,
         }
     }
 
@@ -108,10 +139,13 @@ impl ColumnBuilder {
             ColumnBuilder::Flat(flat) => flat.values.null_weight(),
             ColumnBuilder::List(slots, _, _) => slots.null_weight,
             ColumnBuilder::FixedList(slots, _, _) => slots.null_weight,
+            ColumnBuilder::Struct(slots, _, _) => slots.null_weight,
         }
     }
 
-    /// Appends so many nulls, whether the column is nullable or not: below a null list is nothing, and below one of a size are nulls.
+    /// Appends so many nulls, whether the column is nullable or not: below a null list is nothing, and below
+    /// one of a size or a struct are nulls.
+    #[cycle(nulls)]
     pub(crate) fn push_nulls(&mut self, count: usize) -> Result<(), AllocError>
         ensures { OnOk result (AppendsNulls count self.old self.new) }
     {
@@ -125,6 +159,10 @@ impl ColumnBuilder {
                 slots.push_nulls(count)?;
                 let below = items_of(count, *size)?;
                 items.push_nulls(below)
+            }
+            ColumnBuilder::Struct(slots, _, fields) => {
+                slots.push_nulls(count)?;
+                push_nulls_all(fields, count)
             }
         }
     }

@@ -43,15 +43,15 @@ fn has_room(index: IntegerType, count: usize) -> bool
     }
 }
 
-// Where the entry stands that has these bytes.
-fn find(keys: &IndexSet<Vec<u8>>, key: &[u8]) -> Option<usize>
+/// Where the entry stands that has these bytes.
+pub(crate) fn find(keys: &IndexSet<Vec<u8>>, key: &[u8]) -> Option<usize>
     ensures { result ≡ position (bytes_eq key.now) (key_list keys.now.keys) }
 {
     keys.get_index_of(key)
 }
 
-// Adds the bytes of an entry, and answers whether they were not among the others.
-fn add_key(keys: &mut IndexSet<Vec<u8>>, key: &[u8]) -> Result<bool, AllocError>
+/// Adds the bytes of an entry, and answers whether they were not among the others.
+pub(crate) fn add_key(keys: &mut IndexSet<Vec<u8>>, key: &[u8]) -> Result<bool, AllocError>
     ensures { IfOk result (λ added. added ≡ true → key_list keys.new.keys ≡ key_list keys.old.keys ++ key.now ∷ []) }
 {
     let mut owned = Vec::new(*keys.allocator());

@@ -1,17 +1,16 @@
 // Lines of JSON, member by member into the buffers of their columns.
-ghost use Rattle.std.specs.Prelude.{◌≡◌, ◌≤◌, ℕ, List, not, Option, Some, None, [], ◌∷◌, false, length, slice_get, IfOk, IfSome};
+ghost use Rattle.std.specs.Prelude.{◌≡◌, ◌≤◌, ℕ, List, not, [], ◌∷◌, false, IfOk, IfSome};
 ghost use Rattle.std.specs.List.{filter};
 ghost use Rattle.arrow_schema.specs.Column.{PlainSchema, columns_of};
 ghost use Rattle.facts.specs.Texts.{text_list};
 ghost use Rattle.json.specs.Token as tokens;
 ghost use Rattle.text_import.specs.Objects.{is_blank, line_row, names_of, repeats};
 ghost use Rattle.text_import.specs.Rows.{rows_from};
-ghost use Rattle.text_columns.specs.inner.Kept.{HasRows, KeepAll};
-ghost use Rattle.text_columns.specs.inner.Lines.{Completes, CompletesRow, KeepsLine, KeepsTokens};
+ghost use Rattle.text_columns.specs.inner.Kept.{HasRows, KeepAll, key_list};
+ghost use Rattle.text_columns.specs.inner.Lines.{KeepsLine, KeepsTokens};
 
 use crate::builder::ColumnBuilder;
-use crate::items::push_items;
-use crate::members::push_members;
+use crate::next::{push_fields, push_items};
 use crate::records::RowsRead;
 use cells::{MAX_ROW_WEIGHT, MAX_TABLE_WEIGHT};
 use indexmap::IndexSet;
@@ -22,72 +21,25 @@ use text_import::{is_blank, text_of};
 // How deep the values of a line's object or array may nest.
 const BELOW: u32 = 126;
 
-// What the cell weighs that a column has of a row; where it has none, a null comes after its cells.
-fn complete(builder: &mut ColumnBuilder, heavy: Option<u64>) -> Result<Option<u64>, AllocError>
-    ensures { IfOk result (λ taken. IfSome taken (λ weighs. Completes heavy weighs builder.old builder.new)) }
-{
-    match heavy {
-        Some(heavy) => Ok(Some(heavy)),
-        None => builder.push_null(),
-    }
-}
-
-// Completes a row of which some columns have a cell, and answers what it weighs; none where it lacks a cell, or is too heavy.
-fn complete_row(
-    builders: &mut [ColumnBuilder],
-    heavies: &[Option<u64>],
-) -> Result<Option<u64>, AllocError>
-    requires { length heavies.now ≡ length builders.old }
-    ensures few { IfOk result (λ taken. IfSome taken (λ heavy. heavy ≤ MAX_ROW_WEIGHT)) }
-    ensures kept { IfOk result (λ taken. IfSome taken (λ heavy. CompletesRow heavies.now heavy builders.old builders.new)) }
-{
-    let mut weight = 1;
-    for i in 0..builders.len() {
-        let builder = &mut builders[i];
-        let Some(heavy) = complete(builder, heavies[i])? else {
-            return Ok(None);
-        };
-        if heavy > MAX_ROW_WEIGHT - weight {
-            return Ok(None);
-        }
-        weight += heavy;
-    }
-    Ok(Some(weight))
-}
-
-// No column has a cell of the next row.
-fn clear(heavies: &mut [Option<u64>])
-    ensures { (j : ℕ) (w : Option ℕ) → slice_get heavies.new j ≡ Some w → w ≡ None }
-{
-    for i in 0..heavies.len() {
-        heavies[i] = None;
-    }
-}
-
 // Appends the cells of the object that a reader stands in, and answers what its row weighs; none where it does not go in.
 fn push_object(
-    names: &IndexSet<&str>,
+    names: &IndexSet<Vec<u8>>,
     order: &mut [usize],
     builders: &mut [ColumnBuilder],
     heavies: &mut [Option<u64>],
     reader: &mut Reader<'_>,
 ) -> Result<Option<u64>, AllocError>
-    requires { repeats (text_list names.now.keys) ≡ false }
     ensures few { IfOk result (λ taken. IfSome taken (λ heavy. heavy ≤ MAX_ROW_WEIGHT)) }
     ensures kept { IfOk result (λ taken. IfSome taken (λ heavy.
-        KeepsTokens (text_list names.now.keys) (tokens.begin_object ∷ reader.old) heavy builders.old builders.new)) }
+        KeepsTokens (key_list names.now.keys) (tokens.begin_object ∷ reader.old) heavy builders.old builders.new)) }
 {
-    if heavies.len() != builders.len() {
+    let Some(weight) = push_fields(names, order, builders, heavies, reader, BELOW)? else {
         return Ok(None);
-    }
-    clear(heavies);
-    if !push_members(names, order, builders, heavies, reader, BELOW)? {
-        return Ok(None);
-    }
+    };
     if reader.next().is_some() {
         return Ok(None);
     }
-    complete_row(builders, heavies)
+    Ok(Some(weight))
 }
 
 // The same of the array that a reader stands in, by the places of its items.
@@ -110,15 +62,14 @@ fn push_array(
 
 // The same of the value that a reader stands at, which is an object or an array.
 fn push_value(
-    names: &IndexSet<&str>,
+    names: &IndexSet<Vec<u8>>,
     order: &mut [usize],
     builders: &mut [ColumnBuilder],
     heavies: &mut [Option<u64>],
     reader: &mut Reader<'_>,
 ) -> Result<Option<u64>, AllocError>
-    requires { repeats (text_list names.now.keys) ≡ false }
     ensures few { IfOk result (λ taken. IfSome taken (λ heavy. heavy ≤ MAX_ROW_WEIGHT)) }
-    ensures kept { IfOk result (λ taken. IfSome taken (λ heavy. KeepsTokens (text_list names.now.keys) reader.old heavy builders.old builders.new)) }
+    ensures kept { IfOk result (λ taken. IfSome taken (λ heavy. KeepsTokens (key_list names.now.keys) reader.old heavy builders.old builders.new)) }
 {
     match reader.next() {
         Some(Token::BeginObject) => push_object(names, order, builders, heavies, reader),
@@ -129,16 +80,15 @@ fn push_value(
 
 // The same of the line that a text is.
 fn push_line(
-    names: &IndexSet<&str>,
+    names: &IndexSet<Vec<u8>>,
     order: &mut [usize],
     builders: &mut [ColumnBuilder],
     heavies: &mut [Option<u64>],
     scratch: &mut Scratch,
     line: &[u8],
 ) -> Result<Option<u64>, AllocError>
-    requires { repeats (text_list names.now.keys) ≡ false }
     ensures few { IfOk result (λ taken. IfSome taken (λ heavy. heavy ≤ MAX_ROW_WEIGHT)) }
-    ensures kept { IfOk result (λ taken. IfSome taken (λ heavy. KeepsLine (text_list names.now.keys) line.now heavy builders.old builders.new)) }
+    ensures kept { IfOk result (λ taken. IfSome taken (λ heavy. KeepsLine (key_list names.now.keys) line.now heavy builders.old builders.new)) }
 {
     let Some(text) = text_of(line) else {
         return Ok(None);
@@ -151,12 +101,12 @@ fn push_line(
 /// array of an item for each column, or where the rows are too heavy for a table.
 pub(crate) fn push_lines(
     alloc: Global,
-    names: &IndexSet<&str>,
+    names: &IndexSet<Vec<u8>>,
     lines: &[&[u8]],
     builders: &mut [ColumnBuilder],
 ) -> Result<Option<RowsRead>, AllocError>
-    requires { repeats (text_list names.now.keys) ≡ false }
-    ensures { (s : PlainSchema) → names_of (columns_of s.columns) ≡ text_list names.now.keys → KeepAll s.columns [] builders.old
+    requires { repeats (key_list names.now.keys) ≡ false }
+    ensures { (s : PlainSchema) → names_of (columns_of s.columns) ≡ key_list names.now.keys → KeepAll s.columns [] builders.old
         → IfOk result (λ read. IfSome read (λ r.
         HasRows s (rows_from (line_row s) 1 (filter (λ line. not (is_blank line)) (text_list lines.now))) r builders.new)) }
 {

@@ -3,7 +3,7 @@ ghost use Rattle.std.specs.Prelude.{◌≡◌, ◌≤◌, ◌++◌, true, [], �
 ghost use Rattle.std.specs.List.{list_all};
 ghost use Rattle.bitmap.specs.Bits.{packed};
 ghost use Rattle.text_columns.specs.declared.builder.ColumnBuilder.{Flat};
-ghost use Rattle.text_columns.specs.inner.Placed.{AreEntriesPlaced, ArePlaced, IsAppended, IsCodedLaid, IsLaid, IsLayoutPlaced, IsPlaced, has_bitmap, has_validity, validity_in};
+ghost use Rattle.text_columns.specs.inner.Placed.{AreEntriesPlaced, ArePlaced, ArePlacedBehind, IsAppended, IsCodedLaid, IsLaid, IsLayoutPlaced, IsPlaced, has_bitmap, has_validity, validity_in};
 
 use crate::builder::ColumnBuilder;
 use crate::coding::Coding;
@@ -175,7 +175,9 @@ fn place_flat(
     })
 }
 
-// Appends the buffers of a column, and says where they stand: those of items come behind those of their lists.
+// Appends the buffers of a column, and says where they stand: those of items and fields come behind
+// those of their lists and structs.
+#[cycle(place)]
 fn place(
     alloc: Global,
     bytes: &mut Vec<u8>,
@@ -205,7 +207,34 @@ fn place(
                 layout: PlacedLayout::FixedList(below),
             })
         }
+        ColumnBuilder::Struct(slots, _, fields) => {
+            let validity = append_validity(alloc, bytes, true, &slots.valid)?;
+            let children = place_fields(alloc, bytes, dictionaries, fields)?;
+            Ok(PlacedArray {
+                slots: slots.valid.len(),
+                validity,
+                layout: PlacedLayout::Struct(children),
+            })
+        }
     }
+}
+
+// Appends the buffers of the fields of structs, and says where they stand.
+#[cycle(place)]
+fn place_fields(
+    alloc: Global,
+    bytes: &mut Vec<u8>,
+    dictionaries: &mut Vec<Dictionary>,
+    fields: &[ColumnBuilder],
+) -> Result<Vec<PlacedArray>, AllocError>
+    ensures { IfOk result (λ arrays. ArePlacedBehind fields.now bytes.old.items bytes.new.items dictionaries.old.items dictionaries.new.items arrays.items) }
+{
+    let mut arrays = Vec::with_capacity(alloc, fields.len())?;
+    for field in fields {
+        let array = place(alloc, bytes, dictionaries, field)?;
+        arrays.push(array)?;
+    }
+    Ok(arrays)
 }
 
 /// The arrays of columns, and the bytes and the dictionaries that they stand in.

@@ -8,12 +8,13 @@ ghost use Rattle.text_columns.specs.inner.Kept.{HasRows};
 
 use crate::builder::ColumnBuilder;
 use crate::lines::push_lines;
+use crate::members::names_of;
 use crate::plain::push_plain_text;
 use crate::records::{RowsRead, push_rows};
 use crate::starting::no_rows;
 use arrow_schema::Schema;
 use std::alloc::{AllocError, Global};
-use text_import::{TextError, csv_records, distinct_names, split_lines};
+use text_import::{TextError, csv_records, split_lines};
 
 /// The columns of a text, and how many rows were read into them.
 #[derive(Drop)]
@@ -92,7 +93,7 @@ pub(crate) fn read_lines(
     let Some(mut builders) = no_rows(alloc, &schema.fields)? else {
         return Ok(None);
     };
-    let Some(names) = distinct_names(alloc, &schema.fields)? else {
+    let Some(names) = names_of(alloc, &schema.fields)? else {
         return Ok(None);
     };
     let lines = split_lines(alloc, text)?;

@@ -1,15 +1,16 @@
 // The buffers of the columns of a schema, before there is a row.
-ghost use Rattle.std.specs.Prelude.{◌≡◌, ◌++◌, true, false, None, Some, [], ◌∷◌, map, option_map, IfOk, IfSome};
+ghost use Rattle.std.specs.Prelude.{◌≡◌, ◌+◌, ◌++◌, true, false, sum_by, None, Some, [], ◌∷◌, map, option_map, IfOk, IfSome};
 ghost use Rattle.byteorder.specs.Endian.{little_bytes};
 ghost use Rattle.arrow_schema.specs.Parts.{index_of_column};
 ghost use Rattle.arrow_schema.specs.View.{column_of, index_of, kind_of};
 ghost use Rattle.cells.specs.Dictionary.{has_limit};
-ghost use Rattle.text_columns.specs.inner.Kept.{HoldContents, KeepAll, Keeps, StartsBinaries, StartsFixedLists, StartsLists, StartsTexts, Takes};
+ghost use Rattle.text_columns.specs.inner.Kept.{AreUnlimited, HoldContents, KeepAll, Keeps, StartsBinaries, StartsFixedLists, StartsLists, StartsStructs, StartsTexts, Takes, null_heavy_of};
 
-use crate::builder::{ColumnBuilder, ListOffsets, Slots};
+use crate::builder::{ColumnBuilder, ListOffsets, Names, Slots};
 use crate::coding::Coding;
 use crate::column_values::Values;
 use crate::flat::FlatBuilder;
+use crate::members::names_of;
 use arrow_schema::{DataType, DictSpec, Field};
 use cells::entry_limit;
 use columns::{OffsetWidth, date_integer, push_offset, timestamp_integer};
@@ -176,6 +177,69 @@ fn no_fixed_lists(
     Ok(Some(ColumnBuilder::FixedList(slots, size, Box::new(alloc, items)?)))
 }
 
+// Whether a dictionary of a field has a limit.
+fn has_limits(fields: &[Field]) -> bool
+    ensures { result ≡ false → AreUnlimited (map column_of fields.now) }
+{
+    for field in fields {
+        if has_limit(&field.dictionary) {
+            return true;
+        }
+    }
+    false
+}
+
+// What a null weighs in each column, and one; none where that is no number of 64 bits.
+fn nulls_weight(builders: &[ColumnBuilder]) -> Option<u64>
+    ensures { IfSome result (λ weight. weight ≡ 1 + sum_by null_heavy_of builders.now) }
+{
+    let mut weight: u64 = 1;
+    for builder in builders {
+        weight = weight.checked_add(builder.null_weight())?;
+    }
+    Some(weight)
+}
+
+// The names of so many fields, where there was no object yet.
+fn no_object(alloc: Global, names: IndexSet<Vec<u8>>, count: usize) -> Result<Names, AllocError>
+    ensures { IfOk result (λ own. own.names ≡ names) }
+{
+    Ok(Names {
+        names,
+        order: vec![in alloc; 0; count]?,
+        heavies: vec![in alloc; None; count]?,
+    })
+}
+
+#[cycle(starting)]
+fn no_structs(
+    alloc: Global,
+    nullable: bool,
+    fields: &[Field],
+) -> Result<Option<ColumnBuilder>, AllocError>
+    ensures { IfOk result (λ started. IfSome started (StartsStructs nullable (map column_of fields.now))) }
+{
+    if has_limits(fields) {
+        return Ok(None);
+    }
+    let Some(builders) = no_rows(alloc, fields)? else {
+        return Ok(None);
+    };
+    let Some(names) = names_of(alloc, fields)? else {
+        return Ok(None);
+    };
+    let Some(null_weight) = nulls_weight(&builders) else {
+        return Ok(None);
+    };
+    let slots = Slots {
+        nullable,
+        valid: Vec::new(alloc),
+        null_weight,
+    };
+    let own = no_object(alloc, names, builders.len())?;
+    Ok(Some(ColumnBuilder::Struct(slots, own, builders)))
+}
+
 #[cycle(starting)]
 fn no_plain_cells(alloc: Global, field: &Field) -> Result<Option<ColumnBuilder>, AllocError>
     requires { field.now.dictionary ≡ None }
@@ -185,6 +249,7 @@ fn no_plain_cells(alloc: Global, field: &Field) -> Result<Option<ColumnBuilder>,
         DataType::List(item) => no_lists(alloc, field.nullable, OffsetWidth::Four, item),
         DataType::LargeList(item) => no_lists(alloc, field.nullable, OffsetWidth::Eight, item),
         DataType::FixedSizeList(size, item) => no_fixed_lists(alloc, field.nullable, *size, item),
+        DataType::Struct(fields) => no_structs(alloc, field.nullable, fields),
         _ => no_flat_cells(alloc, field),
     }
 }
@@ -200,6 +265,7 @@ fn no_cells(alloc: Global, field: &Field) -> Result<Option<ColumnBuilder>, Alloc
 }
 
 /// The buffers of columns that have no cell yet, where each column has a type that is read into arrays.
+#[cycle(starting)]
 pub(crate) fn no_rows(
     alloc: Global,
     fields: &[Field],

@@ -100,8 +100,8 @@ pub fn csv_table(
 }
 
 /// The table of the rows of a text of JSON Lines, kept in one record batch, and what its rows weigh; none where a line is refused, or has a member twice,
-/// where a column has structs, or a dictionary below lists whose indices have fewer than 32 bits, or more entries than its indices name, or where the rows
-/// are too heavy for a table: the rows are then those of `text_import::jsonl_rows`, or its refusal.
+/// where a dictionary below lists or structs has indices of fewer than 32 bits, or one has more entries than its indices name, or where the rows are too
+/// heavy for a table: the rows are then those of `text_import::jsonl_rows`, or its refusal.
 ///
 /// # Errors
 /// `AllocError` where memory was refused. A text that is refused is answered as none.

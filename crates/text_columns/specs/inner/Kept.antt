@@ -1,16 +1,16 @@
 -- What the buffers of columns hold once some rows were read.
-use Rattle.std.specs.Prelude.{◌≡◌, ◌⊎◌, ◌≤◌, ◌+◌, ◌*◌, ◌/◌, ◌++◌, ℕ, ℤ, true, false, Bool, bytes_eq, List, [], ◌∷◌, length, map, get_or, Option, Some, None, IfSome, position, replicate, Result, Ok, Err, slice_get}
+use Rattle.std.specs.Prelude.{zero, suc, sum_by, ◌≡◌, ◌⊎◌, ◌≤◌, ◌+◌, ◌*◌, ◌/◌, ◌++◌, ℕ, ℤ, true, false, Bool, bytes_eq, List, [], ◌∷◌, length, map, get_or, Option, Some, None, IfSome, position, replicate, Result, Ok, Err, slice_get}
 use Rattle.std.specs.Global.{Vec}
 use Rattle.byteorder.specs.Endian.{little_bytes}
 use Rattle.hex.specs.Hex.{decode_of}
 use Rattle.std.specs.List.{flat_map, list_all}
-use Rattle.arrow_schema.specs.Column.{Index, Kind, Column, booleans, integers, dates, timestamps, nulls, texts, large_texts, binaries, large_binaries, fixed_binaries, lists, large_lists, fixed_lists, column, columns_of, PlainSchema}
+use Rattle.arrow_schema.specs.Column.{Index, Kind, Column, booleans, integers, dates, timestamps, nulls, texts, large_texts, binaries, large_binaries, fixed_binaries, lists, large_lists, fixed_lists, structs, Columns, no_column, and_column, column, columns_of, PlainSchema}
 use Rattle.arrow_schema.specs.Parts.{index_of_column}
 use Rattle.arrow_schema.specs.View.{bits_of}
 use Rattle.arrow_schema.specs.declared.types.IntegerType.{IntegerType}
 use Rattle.cells.specs.declared.limits.TheConstants.{MAX_TABLE_WEIGHT}
 use Rattle.cells.specs.Cell.{Cell, null, number, cells_of}
-use Rattle.cells.specs.Dictionary.{entries_of, entry_limit, has_limit, is_within, item_list}
+use Rattle.cells.specs.Dictionary.{entries_of, entry_limit, has_limit, is_within, item_list, part_list}
 use Rattle.cells.specs.Fit.{date_bits, fits_kind, in_range}
 use Rattle.cells.specs.Nulls.{is_there}
 use Rattle.cells.specs.Typed.{typed_boolean, typed_integer}
@@ -20,6 +20,7 @@ use Rattle.columns.specs.Offsets.{width_of}
 use Rattle.columns.specs.declared.numbers.OffsetWidth.{OffsetWidth}
 use Rattle.columns.specs.declared.numbers.OffsetWidth.TheVariants.{Four, Eight}
 use Rattle.facts.specs.Outcomes.{Reports}
+use Rattle.text_import.specs.Objects.{names_of, repeats}
 use Rattle.text_import.specs.Flat.{cell_of_text, field_cell, number_cell}
 use Rattle.text_import.specs.Records.{field_cells}
 use Rattle.text_import.specs.Refusals.{refused_by}
@@ -29,7 +30,9 @@ use Rattle.text_import.specs.declared.refusal.TextError.{TextError}
 use Rattle.text_columns.specs.declared.coding.Coding.{Coding}
 use Rattle.text_columns.specs.declared.column_values.Values.{Values}
 use Rattle.text_columns.specs.declared.column_values.Values.TheVariants.{Nulls, Booleans, Integers, Texts, Binaries, FixedBinaries}
-use Rattle.text_columns.specs.declared.builder.ColumnBuilder.{ColumnBuilder, Flat, List', FixedList'}
+use Rattle.text_columns.specs.declared.builder.ColumnBuilder.{ColumnBuilder, ColumnBuilder-F, Flat, List', FixedList', Struct, Struct', out-ColumnBuilder}
+use Rattle.text_columns.specs.declared.builder.ColumnBuilder.TheOpen as builders
+use Rattle.text_columns.specs.declared.builder.Names.{Names}
 use Rattle.text_columns.specs.declared.builder.ListOffsets.{ListOffsets}
 use Rattle.text_columns.specs.declared.builder.Slots.{Slots}
 use Rattle.text_columns.specs.declared.records.RowsRead.{RowsRead}
@@ -267,6 +270,39 @@ abbrev pub KeepsFixedLists : ℕ → Column → (List Cell → ColumnBuilder →
 KeepsFixedLists size item keeps cells (FixedList' slots own p items) = HoldsFixedLists size item keeps cells own items
 KeepsFixedLists size item keeps cells _ = ⊥
 
+-- ---- the cells at a place of rows
+
+-- an absent one is null
+abbrev pub column_at : ℕ → List (List Cell) → List Cell
+column_at j rows = map (λ row. get_or row j null) rows
+
+-- columns one after another
+abbrev pub column_list : Columns → List Column
+column_list no_column = []
+column_list (and_column c cs) = c ∷ column_list cs
+
+abbrev pub AreUnlimited : List Column → Type 0
+AreUnlimited cs = (j : ℕ) (c : Column) → slice_get cs j ≡ Some c → IsUnlimited c
+
+-- the fields of structs: each holds the parts at its place
+pub record HoldsStructs (columns : Columns) (keeps : ℕ → List Cell → ColumnBuilder → Type 0) (cells : List Cell) (names : List (List ℕ)) (fields : List ColumnBuilder) : Type 0 where
+  pub names_are : names ≡ names_of columns
+  pub distinct : repeats (names_of columns) ≡ false
+  pub unlimited : AreUnlimited (column_list columns)
+  pub count : length fields ≡ length (column_list columns)
+  pub each : (j : ℕ) (b : ColumnBuilder) → slice_get fields j ≡ Some b → keeps j (column_at j (map part_list cells)) b
+
+abbrev pub HoldsFields : Columns → (ℕ → List Cell → ColumnBuilder → Type 0) → List Cell → ColumnBuilder-F ColumnBuilder → Type 0
+HoldsFields columns keeps cells (builders.Struct slots names fields) = HoldsStructs columns keeps cells (key_list names.names.keys) fields.items
+HoldsFields columns keeps cells _ = ⊥
+
+abbrev pub KeepsStructs : Columns → (ℕ → List Cell → ColumnBuilder → Type 0) → List Cell → ColumnBuilder → Type 0
+KeepsStructs columns keeps cells b = HoldsFields columns keeps cells (out-ColumnBuilder b)
+
+abbrev pub at_place : ℕ → Type 0 → (ℕ → Type 0) → Type 0
+at_place zero first others = first
+at_place (suc j) first others = others j
+
 pub record HoldsSlots (nullable : Bool) (dictionary : Option Index) (kind : Kind) (keeps : List Cell → ColumnBuilder → Type 0) (cells : List Cell) (s : Slots) (b : ColumnBuilder) : Type 0 where
   pub slots : KeepsSlots nullable dictionary kind cells s
   pub parts : keeps cells b
@@ -276,6 +312,7 @@ abbrev pub KeepsAs : Bool → Option Index → Kind → (List Cell → ColumnBui
 KeepsAs nullable dictionary kind keeps cells (Flat b) = (b.nullable ≡ nullable) × (b.valid.items ≡ map is_there cells) × HoldsCells dictionary kind cells b.values b.coding
 KeepsAs nullable dictionary kind keeps cells (List' slots offsets p items) = HoldsSlots nullable dictionary kind keeps cells slots (List' slots offsets p items)
 KeepsAs nullable dictionary kind keeps cells (FixedList' slots size p items) = HoldsSlots nullable dictionary kind keeps cells slots (FixedList' slots size p items)
+KeepsAs nullable dictionary kind keeps cells (Struct' slots names v row) = HoldsSlots nullable dictionary kind keeps cells slots (Struct' slots names v row)
 
 -- the buffers of a column that hold these cells
 abbrev mutual
@@ -286,7 +323,18 @@ abbrev mutual
   KeepsBelow (lists item) = KeepsLists Four item (Keeps item)
   KeepsBelow (large_lists item) = KeepsLists Eight item (Keeps item)
   KeepsBelow (fixed_lists size item) = KeepsFixedLists size item (Keeps item)
+  KeepsBelow (structs columns) = KeepsStructs columns (KeepsAt columns)
   KeepsBelow _ = λ cells b. ⊥
+
+  -- the column at a place
+  pub KeepsAt : Columns → ℕ → List Cell → ColumnBuilder → Type 0
+  KeepsAt no_column = λ j cells b. ⊥
+  KeepsAt (and_column c cs) = λ j cells b. at_place j (Keeps c cells b) (λ i. KeepsAt cs i cells b)
+
+-- the buffers of columns that hold these rows
+pub record KeepAll (cs : List Column) (rows : List (List Cell)) (bs : List ColumnBuilder) : Type 0 where
+  pub count : length bs ≡ length cs
+  pub each : (j : ℕ) (c : Column) (b : ColumnBuilder) → slice_get cs j ≡ Some c → slice_get bs j ≡ Some b → Keeps c (column_at j rows) b
 
 -- so many nulls come after the cells
 abbrev pub AppendsNulls : ℕ → ColumnBuilder → ColumnBuilder → Type 0
@@ -296,12 +344,19 @@ abbrev pub is_nullable : ColumnBuilder → Bool
 is_nullable (Flat b) = b.nullable
 is_nullable (List' slots offsets p items) = slots.nullable
 is_nullable (FixedList' slots size p items) = slots.nullable
+is_nullable (Struct' slots names v row) = slots.nullable
 
 -- what a null of a column weighs
 abbrev pub null_heavy_of : ColumnBuilder → ℕ
 null_heavy_of (Flat b) = null_heavy b.values
 null_heavy_of (List' slots offsets p items) = slots.null_weight
 null_heavy_of (FixedList' slots size p items) = slots.null_weight
+null_heavy_of (Struct' slots names v row) = slots.null_weight
+
+-- so many nulls come after the cells of each column
+pub record AllAppendNulls (count : ℕ) (old new : List ColumnBuilder) : Type 0 where
+  pub same : length new ≡ length old
+  pub each : (j : ℕ) (b b2 : ColumnBuilder) → slice_get old j ≡ Some b → slice_get new j ≡ Some b2 → AppendsNulls count b b2
 
 -- a cell that is there comes behind the others
 pub record PushesThere (old new : Slots) : Type 0 where
@@ -344,6 +399,19 @@ pub record StartsFixedLists (nullable : Bool) (size : ℕ) (item : Column) (b : 
   pub unlimited : IsUnlimited item
   pub below : Keeps item [] items
 
+pub record StartsStructs (nullable : Bool) (columns : List Column) (b : ColumnBuilder) : Type 0 where
+  pub slots : Slots
+  pub names : Names
+  pub fields : Vec ColumnBuilder
+  pub is : b ≡ Struct slots names fields
+  pub same : slots.nullable ≡ nullable
+  pub none : slots.valid.items ≡ []
+  pub null_weighs : slots.null_weight ≡ 1 + sum_by null_heavy_of fields.items
+  pub names_are : key_list names.names.keys ≡ names_of (columns_of columns)
+  pub distinct : repeats (names_of (columns_of columns)) ≡ false
+  pub unlimited : AreUnlimited columns
+  pub keeps : KeepAll columns [] fields.items
+
 -- no text yet, of offsets of this width
 abbrev pub StartsTexts : OffsetWidth → Values → Type 0
 StartsTexts width values = (offsets : Vec ℕ) × (contents : Vec ℕ) × (values ≡ Texts width offsets contents) × HoldContents width [] offsets.items contents.items
@@ -363,15 +431,6 @@ abbrev pub KeepsField : (null_text text : List ℕ) → ℕ → ColumnBuilder �
 KeepsField null_text text heavy old new = (c : Column) (cells : List Cell) → Keeps c cells old → HasKept c null_text text heavy cells new
 
 -- ---- rows
-
--- the cells at a place of rows
-abbrev pub column_at : ℕ → List (List Cell) → List Cell
-column_at j rows = map (λ row. get_or row j null) rows
-
--- the buffers of columns that hold these rows
-pub record KeepAll (cs : List Column) (rows : List (List Cell)) (bs : List ColumnBuilder) : Type 0 where
-  pub count : length bs ≡ length cs
-  pub each : (j : ℕ) (c : Column) (b : ColumnBuilder) → slice_get cs j ≡ Some c → slice_get bs j ≡ Some b → Keeps c (column_at j rows) b
 
 -- the cells of fields come after the rows: the row weighs so much
 pub record HasRow (cs : List Column) (null_text : List ℕ) (ts : List (List ℕ)) (heavy : ℕ) (rows : List (List Cell)) (new : List ColumnBuilder) : Type 0 where

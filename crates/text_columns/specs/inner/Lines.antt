@@ -6,7 +6,7 @@ use Rattle.fast_float.specs.Text.{Parts}
 use Rattle.json.specs.Token.{Token}
 use Rattle.json.specs.Token as tokens
 use Rattle.json.specs.Json.{items, members, value}
-use Rattle.serde_json.specs.Data.{Data, null, boolean, number, string, array, Items, Members, no_members}
+use Rattle.serde_json.specs.Data.{Data, null, boolean, number, string, array, object, Items, Members, no_members}
 use Rattle.serde_json.specs.Find.{as_integer, get_member}
 use Rattle.serde_json.specs.Read.{converted, number_from, number_of, of_items, of_json, of_members}
 use Rattle.arrow_schema.specs.Column.{Index, Kind, Column, columns_of, integers}
@@ -21,7 +21,7 @@ use Rattle.columns.specs.Built.{integer_bytes}
 use Rattle.columns.specs.Offsets.{width_of}
 use Rattle.columns.specs.declared.numbers.OffsetWidth.{OffsetWidth}
 use Rattle.text_import.specs.Flat.{number_cell}
-use Rattle.text_import.specs.Objects.{cell_in, cells_by_name, cells_by_place, cells_in, each_item, item_count, has_unknown, keys_of, kind_in, line_value, member_in, names_of}
+use Rattle.text_import.specs.Objects.{cell_in, cells_by_name, cells_by_place, cells_in, each_item, item_count, has_unknown, keys_of, kind_in, line_value, member_in, names_of, repeats}
 use Rattle.text_columns.specs.declared.coding.Coding.{Coding}
 use Rattle.text_columns.specs.declared.column_values.Values.{Values}
 use Rattle.text_columns.specs.declared.builder.ColumnBuilder.{ColumnBuilder}
@@ -186,6 +186,17 @@ pub record KeepsArray (depth : ℕ) (old new : List Token) (heavy : ℕ) (b b2 :
   pub read : converted of_items (items (value depth) (length old) old) ≡ Some (found, new)
   pub keeps : KeepsValue (array found) heavy b b2
 
+-- and the object that it stands in
+pub record KeepsObject (depth : ℕ) (old new : List Token) (heavy : ℕ) (b b2 : ColumnBuilder) : Type 0 where
+  pub found : Members
+  pub read : converted (λ ms. of_members ms no_members) (members (value depth) (length old) old) ≡ Some (found, new)
+  pub keeps : KeepsValue (object found) heavy b b2
+
+-- the slot of a struct comes behind the others, once its cells were taken
+pub record EndsStruct (taken : Option ℕ) (heavy : ℕ) (slots slots2 : Slots) : Type 0 where
+  pub is : taken ≡ Some heavy
+  pub slot : PushesThere slots slots2
+
 -- ---- the members of an object
 
 -- the value that a reader stands at comes behind the cells of the column at a place
@@ -217,7 +228,8 @@ pub record PushesMembers (depth : ℕ) (names : List (List ℕ)) (old new : List
   pub found : Members
   pub read : converted (λ ms. of_members ms no_members) (members (value depth) (length old) old) ≡ Some (found, new)
   pub known : has_unknown names (keys_of found) ≡ false
-  pub each : (cs : List Column) (rows : List (List Cell)) → names_of (columns_of cs) ≡ names → HoldMembers cs rows no_members weights bs → HoldMembers cs rows found weights2 bs2
+  pub each : (cs : List Column) (rows : List (List Cell)) → names_of (columns_of cs) ≡ names → repeats names ≡ false → HoldMembers cs rows no_members weights bs
+      → HoldMembers cs rows found weights2 bs2
 
 -- ---- rows
 
@@ -249,8 +261,16 @@ pub record HasValueRow (cs : List Column) (d : Data) (heavy : ℕ) (rows : List 
   pub weighs : 1 + parts_weight (columns_of cs) (cells_of row) ≡ heavy
   pub keeps : KeepAll cs (rows ++ row ∷ []) new
 
+-- where no two columns have one name
 abbrev pub KeepsRow : List (List ℕ) → Data → ℕ → List ColumnBuilder → List ColumnBuilder → Type 0
-KeepsRow names d heavy old new = (cs : List Column) (rows : List (List Cell)) → names_of (columns_of cs) ≡ names → KeepAll cs rows old → HasValueRow cs d heavy rows new
+KeepsRow names d heavy old new =
+    (cs : List Column) (rows : List (List Cell)) → names_of (columns_of cs) ≡ names → repeats names ≡ false → KeepAll cs rows old → HasValueRow cs d heavy rows new
+
+-- all members of an object, which end with its brace, and nulls where there is none
+pub record KeepsFields (depth : ℕ) (names : List (List ℕ)) (old new : List Token) (heavy : ℕ) (bs bs2 : List ColumnBuilder) : Type 0 where
+  pub found : Members
+  pub read : converted (λ ms. of_members ms no_members) (members (value depth) (length old) old) ≡ Some (found, new)
+  pub keeps : KeepsRow names (object found) heavy bs bs2
 
 -- the cells of items come behind the rows
 pub record HasItemRow (cs : List Column) (found : Items) (heavy : ℕ) (rows : List (List Cell)) (new : List ColumnBuilder) : Type 0 where

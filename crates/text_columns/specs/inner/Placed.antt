@@ -1,5 +1,5 @@
 -- The arrays that the buffers of columns are, and where they are placed.
-use Rattle.std.specs.Prelude.{◌≡◌, ◌++◌, ℕ, Bool, true, false, List, [], ◌∷◌, Option, Some, None, length, slice_get, if◌then◌else◌}
+use Rattle.std.specs.Prelude.{◌≡◌, ◌++◌, ℕ, Bool, true, false, List, [], ◌∷◌, Option, Some, None, length, slice_get, if◌then◌else◌, map}
 use Rattle.std.specs.List.{list_all}
 use Rattle.bitmap.specs.Bits.{packed}
 use Rattle.arrow_schema.specs.Column.{Column, columns_of}
@@ -118,6 +118,15 @@ pub record IsPlaced (b : ColumnBuilder) (old new : List ℕ) (before behind : Li
 pub record AreBuilt (bs : List ColumnBuilder) (arrays : List Array) : Type 0 where
   pub count : length arrays ≡ length bs
   pub each : (j : ℕ) (b : ColumnBuilder) (a : Array) → slice_get bs j ≡ Some b → slice_get arrays j ≡ Some a → IsBuilt b a
+
+-- those of all come after other bytes
+pub record ArePlacedBehind (bs : List ColumnBuilder) (old new : List ℕ) (before behind : List Dictionary) (arrays : List PlacedArray) : Type 0 where
+  pub more : List ℕ
+  pub whole : new ≡ old ++ more
+  pub own : List Dictionary
+  pub longer : behind ≡ before ++ own
+  pub placed : AreBuilt bs (map (array_in new (arrays_in new behind)) arrays)
+  pub ends : list_all (is_placed_within (length new) behind) arrays ≡ true
 
 -- and those of all
 abbrev pub ArePlaced : List ColumnBuilder → List ℕ → List Dictionary → List PlacedArray → Type 0

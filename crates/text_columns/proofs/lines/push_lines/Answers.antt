@@ -1,6 +1,6 @@
 use Rattle.std.proofs.Common.{◌≡◌, ◌∙◌, refl, sym, [], drop, arith}
 use Rattle.std.proofs.lemmas.List.{drop_all, drop_more}
-use Rattle.facts.specs.Texts.{text_list}
+use Rattle.text_columns.specs.inner.Kept.{key_list}
 use Rattle.text_columns.proofs.LineRows.{lines_all, lines_more, lines_none, lines_skipped}
 use Rattle.text_columns.proofs.lines.push_lines.Goals as goal
 
@@ -26,8 +26,8 @@ loop-line-preserved c =
       counted = omega (arith, c.loop-line.invariant.counted);
       few = omega (arith, c.loop-line.invariant.few, c.if-heavy-weight.false);
       read = λ s named keeps.
-          lines_more s (text_list c.args.names.now.keys) c.args.lines.now n c.loop-line.rows c.loop-line.weight c.in-Some.heavy _ c.loop-line.builders c.push_line.new.builders (drop_more c.args.lines.now n _ c.loop-line-test.true)
-          (sym c.is_blank.ensures ∙ c.if-is_blank.false) named light taken (c.loop-line.invariant.read s named keeps);
+          lines_more s (key_list c.args.names.now.keys) c.args.lines.now n c.loop-line.rows c.loop-line.weight c.in-Some.heavy _ c.loop-line.builders c.push_line.new.builders (drop_more c.args.lines.now n _ c.loop-line-test.true)
+          (sym c.is_blank.ensures ∙ c.if-is_blank.false) named c.requires light taken (c.loop-line.invariant.read s named keeps);
     }
 
 pub returns : goal.returns

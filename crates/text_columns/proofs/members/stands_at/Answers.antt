@@ -5,5 +5,5 @@ use Rattle.text_columns.proofs.members.stands_at.Goals as goal
 
 pub returns-in-Some : goal.returns-in-Some
 returns-in-Some c = λ same.
-    let equal : bytes_eq c.in-Some.found.now.now c.args.name.now ≡ true = rw (c.as_bytes.ensures.value, c.as_bytes-in-Some.ensures.value) at (sym c.eq.ensures ∙ same) in
+    let equal : bytes_eq c.in-Some.found.now.items c.args.name.now ≡ true = rw (c.as_slice.ensures.value, c.as_bytes.ensures.value) at (sym c.eq.ensures ∙ same) in
     stands c.args.names.now.keys c.args.at c.in-Some.found.now c.args.name.now (sym c.in-Some.ensures.key) equal

@@ -1,8 +1,11 @@
-use Rattle.std.proofs.Common.{◌≡◌, ◌∙◌, append-nil, refl, rules, sym}
-use Rattle.arrow_schema.specs.Column.{fixed_lists, large_lists, lists}
+use Rattle.text_columns.proofs.Rows.{keep_more}
+use Rattle.text_columns.specs.inner.Kept.{KeepAll}
+use Rattle.std.proofs.lemmas.List.{map-append, take_all, take_more}
+use Rattle.std.proofs.Common.{arith, ◌≡◌, ◌∙◌, append-nil, refl, rules, sym, map, take, ◌++◌, ◌+◌, List, ◌∷◌, ap, subst, []}
+use Rattle.arrow_schema.specs.Column.{columns_of, fixed_lists, large_lists, lists, structs}
 use Rattle.arrow_schema.specs.View.{column_of, kind_of}
-use Rattle.arrow_schema.specs.declared.types.Field.{the_lemmas as field_lemmas}
-use Rattle.text_columns.proofs.Starts.{fixed_lists_step, fixed_null, large_lists_step, lists_step}
+use Rattle.arrow_schema.specs.declared.types.Field.{the_lemmas as field_lemmas, Field}
+use Rattle.text_columns.proofs.Starts.{fixed_lists_step, fixed_null, large_lists_step, lists_step, structs_step}
 use Rattle.text_columns.proofs.starting.+starting.Goals as goal
 
 pub no_lists-returns : goal.no_lists-returns
@@ -51,3 +54,44 @@ pub no_plain_cells-returns-in-FixedSizeList : goal.no_plain_cells-returns-in-Fix
 no_plain_cells-returns-in-FixedSizeList t c =
     let kind : kind_of c.args.field.now.data_type ≡ fixed_lists c.in-FixedSizeList.size (column_of c.in-FixedSizeList.item.value) = rw c.in-FixedSizeList.is (search (rules, field_lemmas)) in
     fixed_lists_step c.args.field.now c.in-FixedSizeList.size (column_of c.in-FixedSizeList.item.value) c.no_fixed_lists.result kind c.requires (rw c.deref-in-FixedSizeList.ensures at c.no_fixed_lists.ensures)
+
+pub no_plain_cells-returns-in-Struct : goal.no_plain_cells-returns-in-Struct
+no_plain_cells-returns-in-Struct t c =
+    let kind : kind_of c.args.field.now.data_type ≡ structs (columns_of (map column_of c.in-Struct.fields.items)) = rw c.in-Struct.is (search (rules, field_lemmas)) in
+    structs_step c.args.field.now (map column_of c.in-Struct.fields.items) c.no_structs.result kind c.requires (rw c.deref-in-Struct.ensures.value at c.no_structs.ensures)
+
+pub no_structs-returns : goal.no_structs-returns
+no_structs-returns t c =
+    let names = rw c.in-Some-2.is at c.in_ok-names.ensures in
+    record {
+      slots = _;
+      names = c.in_ok-own.own;
+      fields = c.in-Some.builders;
+      is = refl;
+      same = refl;
+      none = c.new.ensures.items;
+      null_weighs = rw c.deref.ensures.value at c.in-Some-nulls_weight.ensures;
+      names_are = rw c.in_ok-own.ensures names.0;
+      distinct = names.1;
+      unlimited = c.has_limits.ensures c.if-has_limits.false;
+      keeps = rw c.in-Some.is at c.in_ok-builders.ensures;
+    }
+
+pub no_rows-loop-field-preserved : goal.no_rows-loop-field-preserved
+no_rows-loop-field-preserved t c =
+    let f = c.field-item.result in
+    let i = c.loop-field.field-index in
+    let before = take i c.args.fields.now in
+    let more : take (i + 1) c.args.fields.now ≡ before ++ f ∷ [] = take_more c.args.fields.now i f c.loop-field-test.true ∙ ap (λ (x : Field). before ++ x ∷ []) (sym c.field-item.is) in
+    let taken = rw c.in-Some.is at c.in_ok-builder.ensures in
+    record {
+      keep = rw (more, map-append column_of before (f ∷ []), c.push_reserved.ensures.items)
+          (keep_more (map column_of before) c.loop-field.builders.items (column_of f) c.in-Some.builder c.loop-field.invariant.keep taken);
+      len = omega (arith, c.push_reserved.ensures.len, c.loop-field.invariant.len);
+      room = omega (arith, c.push_reserved.ensures.capacity, c.loop-field.invariant.room);
+    }
+
+pub no_rows-returns : goal.no_rows-returns
+no_rows-returns t c =
+    let all = take_all c.loop-field.field-index c.args.fields.now c.loop-field-test.false in
+    subst (λ (fs : List Field). KeepAll (map column_of fs) [] c.loop-field.builders.items) all c.loop-field.invariant.keep

@@ -4,7 +4,7 @@ use Rattle.arrow_schema.specs.Column.{Column}
 use Rattle.cells.specs.Cell.{Cell}
 use Rattle.text_columns.specs.inner.Lines.{HoldMembers}
 use Rattle.text_columns.proofs.LineRows.{NamedHalf}
-use Rattle.text_columns.proofs.lines.complete_row.Given as goal
+use Rattle.text_columns.proofs.complete.complete_row.Given as goal
 
 abbrev pub invariant-loop-i : goal.invariant-loop-i
 invariant-loop-i l = record {

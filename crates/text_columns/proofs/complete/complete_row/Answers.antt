@@ -2,7 +2,7 @@ use Rattle.std.proofs.Common.{◌≡◌, ◌<◌, length, sym, ap, ◌∙◌, ar
 use Rattle.std.specs.Prelude.{Some, slice_get}
 use Rattle.std.proofs.lemmas.Option.{slice_get-get_or}
 use Rattle.text_columns.proofs.LineRows.{named_all, named_more, named_none}
-use Rattle.text_columns.proofs.lines.complete_row.Goals as goal
+use Rattle.text_columns.proofs.complete.complete_row.Goals as goal
 
 pub loop-i-init : goal.loop-i-init
 loop-i-init c = record { some = omega arith; few = omega arith; half = λ cs rows found holds. named_none cs found rows c.args.heavies.now c.args.builders.now holds }

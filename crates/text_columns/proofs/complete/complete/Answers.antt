@@ -1,5 +1,5 @@
 use Rattle.text_columns.proofs.TokenCells.{absent_step, member_kept}
-use Rattle.text_columns.proofs.lines.complete.Goals as goal
+use Rattle.text_columns.proofs.complete.complete.Goals as goal
 
 pub returns-in-Some : goal.returns-in-Some
 returns-in-Some c = rw c.in-Some.is (member_kept c.in-Some.heavy c.args.builder.now)

@@ -1,7 +1,7 @@
 use Rattle.std.proofs.Common.{◌<◌, length, arith}
 use Rattle.std.proofs.lemmas.Option.{slice_get_within}
 use Rattle.text_columns.proofs.LineRows.{none_more}
-use Rattle.text_columns.proofs.lines.clear.Goals as goal
+use Rattle.text_columns.proofs.complete.clear.Goals as goal
 
 pub loop-i-preserved : goal.loop-i-preserved
 loop-i-preserved c = record {
