@@ -17,7 +17,7 @@ ghost use Rattle.cli_commands.specs.Selecting.{named_columns, conditions_of, sta
 
 use arrow_schema::Field;
 use cli_refusals::{Refusal, write_whole};
-use query::{Condition, Query, QueryError, RowForm, are_named_apart, push_line_in};
+use query::{Condition, Query, QueryError, RowForm, are_named_apart, line_in};
 use sector_dev::SectorDevice;
 use selection::select;
 use std::alloc::{AllocError, Global};
@@ -93,7 +93,7 @@ fn push_line(
 ) -> Result<(), AllocError>
     ensures { OnOk result (text.new.items ≡ text.old.items ++ line_in form (map column_of fields.now) (borrowed_cells row.entry) ++ codes "\n") }
 {
-    push_line_in(alloc, text, form, fields, row)?;
+    text.extend_from_slice(&line_in(alloc, form, fields, row)?)?;
     text.extend_from_slice(b"\n")
 }
 
