@@ -1,11 +1,11 @@
 -- Runs that stand as they are written.
 use Rattle.std.specs.Prelude.{Some, None, ◌==◌, ◌||◌, replicate}
 use Rattle.std.specs.List.{list_all, range_with_len}
-use Rattle.std.proofs.Common.{◌≡◌, ℕ, Bool, true, false, List, [], ◌∷◌, length, refl, ap₂}
+use Rattle.std.proofs.Common.{◌≡◌, ℕ, true, false, List, [], ◌∷◌, length, refl, ap₂}
 use Rattle.std.proofs.lemmas.Bool.{and_parts, eqb-true, or_left}
 use Rattle.arrow_schema.specs.Column.{Kind, nulls, booleans, integers, dates, timestamps, texts, large_texts, binaries, large_binaries, fixed_binaries, lists, large_lists, fixed_lists, structs}
 use Rattle.array_build.specs.Batch.{plain_column}
-use Rattle.array_build.specs.inner.Runs.{AreAsWritten, AreReady, are_runs_as_written, are_zeros, contents_width, fixed_width, has_nothing_below, is_as_written, is_run_as_written, offsets_width}
+use Rattle.array_build.specs.inner.Runs.{are_runs_as_written, are_zeros, contents_width, fixed_width, has_nothing_below, is_as_written, is_run_as_written, offsets_width}
 use Rattle.columns.specs.Runs.{are_runs_valid, is_run_sound, is_run_valid}
 use Rattle.columns.specs.declared.slot_runs.SlotRun.{SlotRun}
 use Rattle.columns.specs.declared.slot_runs.SlotRun.TheVariants.{Slots, Nulls}
@@ -87,10 +87,6 @@ no_bytes_written kind width a i is h = let none = no_values kind width is in rw 
 
 -- ---- valid slots
 
-or_none : (b : Bool) → (b || false) ≡ true → b ≡ true
-or_none true h = refl
-or_none false h = h
-
 slots_written : (kind : Kind) (a : Array) (is : List ℕ) → list_all (is_valid a) is ≡ true → list_all (is_as_written kind a) is ≡ true
 slots_written kind a [] h = refl
 slots_written kind a (i ∷ is) h =
@@ -107,36 +103,3 @@ valid_runs_written kind [] h = refl
 valid_runs_written kind (run ∷ runs) h =
     let parts = and_parts (is_run_valid run) (are_runs_valid runs) h in
     rw (valid_written kind run parts.0) (valid_runs_written kind runs parts.1)
-
--- nulls of other types do not stand as they are written
-slots_valid : (kind : Kind) (a : Array) (is : List ℕ) → fixed_width kind ≡ None → offsets_width kind ≡ None → list_all (is_as_written kind a) is ≡ true → list_all (is_valid a) is ≡ true
-slots_valid kind a [] values offsets h = refl
-slots_valid kind a (i ∷ is) values offsets h =
-    let parts = and_parts (is_as_written kind a i) (list_all (is_as_written kind a) is) h in
-    let own : (is_valid a i || false) ≡ true = rw (values, offsets) at parts.0 in
-    rw (or_none (is_valid a i) own) (slots_valid kind a is values offsets parts.1)
-
-run_valid : (kind : Kind) (run : SlotRun) → fixed_width kind ≡ None → offsets_width kind ≡ None → is_run_as_written kind run ≡ true → is_run_valid run ≡ true
-run_valid kind (Slots v from n) values offsets h = slots_valid kind (view_array v) (range_with_len from n) values offsets h
-run_valid kind (Nulls n) values offsets h = refl
-
-runs_valid : (kind : Kind) (runs : List SlotRun) → fixed_width kind ≡ None → offsets_width kind ≡ None → are_runs_as_written kind runs ≡ true → are_runs_valid runs ≡ true
-runs_valid kind [] values offsets h = refl
-runs_valid kind (run ∷ runs) values offsets h =
-    let parts = and_parts (is_run_as_written kind run) (are_runs_as_written kind runs) h in
-    rw (run_valid kind run values offsets parts.0) (runs_valid kind runs values offsets parts.1)
-
-pub ready_of : (kind : Kind) (runs : List SlotRun) → fixed_width kind ≡ None → offsets_width kind ≡ None → AreAsWritten kind runs → AreReady kind runs
-ready_of kind runs values offsets are = record {
-  sound = are.sound;
-  valid = runs_valid kind runs values offsets are.written;
-  fit = are.fit;
-}
-
--- runs of valid slots stand so
-pub written_of : (kind : Kind) (runs : List SlotRun) → AreReady kind runs → AreAsWritten kind runs
-written_of kind runs ready = record {
-  sound = ready.sound;
-  written = valid_runs_written kind runs ready.valid;
-  fit = ready.fit;
-}

@@ -13,7 +13,7 @@ use Rattle.array_build.proofs.Entries.{nowhere_from}
 use Rattle.array_build.proofs.RunArrays.{slots_are}
 use Rattle.array_build.specs.Batch.{PlainBatch}
 use Rattle.array_build.proofs.Known.{is_within}
-use Rattle.array_build.specs.inner.Codes.{AreKnown, IsCoded, IsNumber, IsWritten, code_in, known_at, noted, sized_code}
+use Rattle.array_build.specs.inner.Codes.{AreKnown, IsCoded, IsNumber, IsUnderway, IsWritten, code_in, known_at, noted, sized_code}
 use Rattle.array_build.specs.inner.Coded.{with_indices}
 use Rattle.array_build.specs.inner.Nodes.{with_buffer, with_slots}
 use Rattle.array_build.specs.inner.RunCells.{is_coded}
@@ -169,10 +169,6 @@ code_stays es cs c =
     ap (λ (xs : List Cell). code_in xs c) more.1 ∙ (cell_stays (with_entry es c) more.0 c (twice es c)).1
 
 -- ---- codes, cell by cell
-
-pub record IsUnderway (start : List Cell) (all : List Cell) (es : List Cell) (ks : List (Option ℕ)) (left : List Cell) : Type 0 where
-  pub entries : with_entries es left ≡ with_entries start all
-  pub codes : (more : List Cell) → ks ++ map (code_in (with_entries (with_entries start all) more)) left ≡ map (code_in (with_entries (with_entries start all) more)) all
 
 pub begun : (start : List Cell) (all : List Cell) → IsUnderway start all start [] all
 begun start all = record { entries = refl; codes = λ more. refl }

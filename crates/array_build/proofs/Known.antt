@@ -1,11 +1,11 @@
 -- Entries that were seen, their numbers, and the places of those that are named.
-use Rattle.std.specs.Prelude.{Option, Some, None, not, set, slice_get, get_or, ◌||◌, if◌then◌else◌}
+use Rattle.std.specs.Prelude.{IfSome, Option, Some, None, not, set, slice_get, get_or, ◌||◌, if◌then◌else◌}
 use Rattle.std.specs.List.{All, AllByRecursion, IsDistinct, list_any, position_from}
 use Rattle.std.proofs.Common.{◌≡◌, ◌≢◌, ◌<◌, ℕ, zero, suc, ◌+◌, ◌++◌, ◌⊎◌, Bool, true, false, List, [], ◌∷◌, map, length, inl, inr, refl, ap, ap₂, sym, ◌∙◌, subst, arith}
 use Rattle.std.proofs.lemmas.Bool.{cases_lt}
 use Rattle.std.proofs.lemmas.Bool.Decides.{Decides-int_eq}
 use Rattle.std.proofs.lemmas.Iterator.Adapters.{position_from-zero}
-use Rattle.std.proofs.lemmas.List.{get_or-set_other, get_or-set_same, map-append}
+use Rattle.std.proofs.lemmas.List.{get_or-set_other, get_or-set_same, get_or_default, map-append}
 use Rattle.std.proofs.lemmas.List.Elements.{All-append}
 use Rattle.std.proofs.lemmas.Option.{slice_get_within}
 use Rattle.std.proofs.lemmas.Slice.Eq.{bytes_eq-Decides}
@@ -210,6 +210,16 @@ named_already seen places named c n p h is at =
       sym (ap (with_option cells) one ∙ rw found refl),
       sym (position_from-zero (is_entry c) cells ∙ first_at (is_entry c) f named p n 0 own is only ∙ ap Some zero_up),
     )
+
+-- what stands at the place of a number is its place, if it is one
+pub place_is_named : (seen : List Cell) (places : List (Option ℕ)) (named : List ℕ) (n : ℕ) (place : Option ℕ) → AreNumbered seen places named
+    → n < length places → place ≡ get_or places n place
+    → IfSome place (λ p. (c : Cell) → is_entry c (get_or seen n null) ≡ true
+    → (cells_numbered seen named ≡ with_entry (cells_numbered seen named) c) × (Some p ≡ code_in (cells_numbered seen named) c))
+place_is_named seen places named n None h within at = tt
+place_is_named seen places named n (Some p) h within at =
+    let here : get_or places n None ≡ Some p = get_or_default places n None (Some p) within ∙ sym at in
+    λ c is. named_already seen places named c n p h is here
 
 -- one that has none is the next
 pub named_now : (seen : List Cell) (places : List (Option ℕ)) (named : List ℕ) (c : Cell) (n : ℕ) → AreNumbered seen places named

@@ -11,6 +11,12 @@ mod Fields
 mod FirstCells
 mod Known
 mod Low
+mod MaskedContents
+mod MaskedItems
+mod MaskedParts
+mod MaskedRuns
+mod MaskedValues
+mod Masks
 mod Numbers
 mod Offsets
 mod PartColumns

@@ -10,11 +10,13 @@ use Rattle.arrow_schema.specs.View.{column_of, kind_of, index_of, pair_of}
 use Rattle.arrow_schema.specs.declared.types.DictSpec.{DictSpec}
 use Rattle.arrow_schema.specs.declared.types.Field.{Field}
 use Rattle.arrow_schema.specs.laws.Parts.{field_parts}
+use Rattle.array_build.proofs.AsWritten.{valid_runs_written}
 use Rattle.array_build.proofs.Fields.{plain_can_be_built, plain_field}
 use Rattle.array_build.specs.Batch.{PlainBatch, built_at, built_below, plain_column, with_arrays}
-use Rattle.array_build.specs.inner.Runs.{AreReady, built_columns, kind_cells}
+use Rattle.array_build.specs.inner.Masked.{masked, masked_cells, slots_mask}
+use Rattle.array_build.specs.inner.Runs.{AreAsWritten, built_columns, kind_cells}
 use Rattle.array_build.specs.laws.Joined.{more_arrays, no_arrays}
-use Rattle.columns.specs.Runs.{HaveRuns, HaveSameCells, are_columns_sound, are_runs_sound, are_runs_valid, can_build_columns, has_validity, is_run_sound, run_cells, runs_cells}
+use Rattle.columns.specs.Runs.{HaveRuns, are_columns_sound, are_runs_sound, are_runs_valid, can_build_columns, has_validity, is_run_sound, run_cells, runs_cells}
 use Rattle.columns.specs.laws.ReadableRuns.{sound_have_validity}
 use Rattle.columns.specs.declared.slot_runs.SlotRun.{SlotRun}
 use Rattle.columns.specs.declared.slot_runs.SlotRun.TheVariants.{Slots, Nulls}
@@ -30,15 +32,13 @@ use Rattle.columns.specs.Tests.{Typed, every_array}
 pub have_validity : (kind : Kind) (runs : List SlotRun) → are_runs_sound (plain_column kind None) runs ≡ true → list_all has_validity runs ≡ true
 have_validity kind runs h = sound_have_validity (plain_column kind None) runs h
 
-pub same_cells : (kind : Kind) (valid runs : List SlotRun) → HaveSameCells valid runs → are_runs_sound (plain_column kind None) runs ≡ true → kind_cells kind valid ≡ kind_cells kind runs
-same_cells kind valid runs same sound = (same (plain_column kind None) sound).1
-
-pub are_ready : (kind : Kind) (valid runs : List SlotRun) → HaveSameCells valid runs → are_runs_valid valid ≡ true → are_runs_sound (plain_column kind None) runs ≡ true
-    → can_build (plain_column kind None) (kind_cells kind runs) ≡ true → AreReady kind valid
-are_ready kind valid runs same there sound fit = record {
-  sound = (same (plain_column kind None) sound).0;
-  valid = there;
-  fit = ap (can_build (plain_column kind None)) (same_cells kind valid runs same sound) ∙ fit;
+-- runs that are split under a mask stand as they are written
+pub split_written : (kind : Kind) (mask : List ℕ) (split runs : List SlotRun) → are_runs_sound (plain_column kind None) split ≡ true → are_runs_valid split ≡ true
+    → kind_cells kind split ≡ masked_cells (plain_column kind None) mask runs → can_build (plain_column kind None) (masked_cells (plain_column kind None) mask runs) ≡ true → AreAsWritten kind split
+split_written kind mask split runs sound valid cells fit = record {
+  sound = sound;
+  written = valid_runs_written kind split valid;
+  fit = ap (can_build (plain_column kind None)) cells ∙ fit;
 }
 
 -- ---- a column of any name
@@ -66,7 +66,7 @@ plain_form : (f : Field) → f.dictionary ≡ None → column_of f ≡ column (s
 plain_form f none =
     field_parts f ∙ ap (λ (o : Option DictSpec). column (string_bytes f.name) f.nullable (kind_of f.data_type) (option_map index_of o) (map pair_of f.pairs.items)) none
 
-pub field_cells : (f : Field) (runs : List SlotRun) → f.dictionary ≡ None → runs_cells (column_of f) runs ≡ kind_cells (kind_of f.data_type) runs
+field_cells : (f : Field) (runs : List SlotRun) → f.dictionary ≡ None → runs_cells (column_of f) runs ≡ kind_cells (kind_of f.data_type) runs
 field_cells f runs none =
     ap (λ (c : Column). runs_cells c runs) (plain_form f none) ∙ names_cells (string_bytes f.name) f.nullable (kind_of f.data_type) (map pair_of f.pairs.items) runs
 
@@ -74,15 +74,19 @@ pub field_sound : (f : Field) (runs : List SlotRun) → f.dictionary ≡ None �
 field_sound f runs none h =
     sym (ap (λ (c : Column). are_runs_sound c runs) (plain_form f none) ∙ names_sound (string_bytes f.name) f.nullable (kind_of f.data_type) (map pair_of f.pairs.items) runs) ∙ h
 
-pub field_fits : (f : Field) (runs : List SlotRun) → f.dictionary ≡ None → can_build (column_of f) (runs_cells (column_of f) runs) ≡ true
-    → can_build (plain_column (kind_of f.data_type) None) (kind_cells (kind_of f.data_type) runs) ≡ true
-field_fits f runs none h =
-    ap (can_build (plain_column (kind_of f.data_type) None)) (sym (field_cells f runs none)) ∙ plain_can_be_built f (runs_cells (column_of f) runs) none h
+field_masked : (f : Field) (mask : List ℕ) (runs : List SlotRun) → f.dictionary ≡ None → masked_cells (column_of f) mask runs ≡ masked_cells (plain_column (kind_of f.data_type) None) mask runs
+field_masked f mask runs none = ap (masked (slots_mask mask runs)) (field_cells f runs none)
 
-pub field_built : (p : PlainBatch) (f : Field) (runs : List SlotRun) → f.dictionary ≡ None
-    → with_arrays p (built_at (plain_column (kind_of f.data_type) None) (kind_cells (kind_of f.data_type) runs)) ≡ with_arrays p (built_at (column_of f) (runs_cells (column_of f) runs))
-field_built p f runs none =
-    ap (λ (cells : List Cell). with_arrays p (built_at (plain_column (kind_of f.data_type) None) cells)) (sym (field_cells f runs none)) ∙ plain_field p f (runs_cells (column_of f) runs) none
+pub field_fits : (f : Field) (mask : List ℕ) (runs : List SlotRun) → f.dictionary ≡ None → can_build (column_of f) (masked_cells (column_of f) mask runs) ≡ true
+    → can_build (plain_column (kind_of f.data_type) None) (masked_cells (plain_column (kind_of f.data_type) None) mask runs) ≡ true
+field_fits f mask runs none h =
+    ap (can_build (plain_column (kind_of f.data_type) None)) (sym (field_masked f mask runs none)) ∙ plain_can_be_built f (masked_cells (column_of f) mask runs) none h
+
+pub field_built : (p : PlainBatch) (f : Field) (mask : List ℕ) (runs : List SlotRun) → f.dictionary ≡ None
+    → with_arrays p (built_at (plain_column (kind_of f.data_type) None) (masked_cells (plain_column (kind_of f.data_type) None) mask runs))
+    ≡ with_arrays p (built_at (column_of f) (masked_cells (column_of f) mask runs))
+field_built p f mask runs none =
+    ap (λ (cells : List Cell). with_arrays p (built_at (plain_column (kind_of f.data_type) None) cells)) (sym (field_masked f mask runs none)) ∙ plain_field p f (masked_cells (column_of f) mask runs) none
 
 -- ---- columns, one after another
 

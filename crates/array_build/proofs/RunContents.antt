@@ -126,7 +126,7 @@ module _ (width : ℕ) (a : Array) (up : are_unordered width (length (contents_i
         let parts = and_parts (p from) (list_all p (range_with_len (from + 1) n)) h in
         ap₂ (λ (k : ℕ) (ks : List ℕ). k ∷ ks) (ap length (is from (omega arith) parts.0) ∙ slot_size from (omega arith)) (sizes (from + 1) n (omega arith) parts.1)
 
-slot_contents : (kind : Kind) (width : ℕ) (a : Array) → contents_width kind ≡ Some width → (i : ℕ) → i < slots_in a → is_valid a i ≡ true → contents_of (plain_cell kind a i) ≡ contents_at width a i
+pub slot_contents : (kind : Kind) (width : ℕ) (a : Array) → contents_width kind ≡ Some width → (i : ℕ) → i < slots_in a → is_valid a i ≡ true → contents_of (plain_cell kind a i) ≡ contents_at width a i
 unfolding cell_at kind_cell
 slot_contents texts width a is i lt valid = let e : 4 ≡ width = cc in rw (valid, ← e) refl
 slot_contents large_texts width a is i lt valid = let e : 8 ≡ width = cc in rw (valid, ← e) refl

@@ -8,14 +8,18 @@ use Rattle.std.proofs.lemmas.List.FromFn.{length-map-range_with_len}
 use Rattle.std.proofs.lemmas.List.Folds.{list_all-append}
 use Rattle.facts.specs.laws.Lists.{flat_map-push}
 use Rattle.array_build.proofs.Arrays.{structs_are}
+use Rattle.array_build.proofs.MaskedItems.{alike_kept, masked_append, masked_map, masked_twice}
+use Rattle.array_build.proofs.MaskedRuns.{cells_counted}
+use Rattle.array_build.proofs.Masks.{bits_counted}
 use Rattle.array_build.proofs.Premises.{parts_can_be_built}
 use Rattle.array_build.proofs.Repeated.{repeated_map, repeated_more}
-use Rattle.array_build.proofs.RunArrays.{kind_slots}
+use Rattle.array_build.proofs.RunArrays.{masked_kind_slots}
 use Rattle.array_build.specs.Batch.{PlainBatch, built_at, built_below, plain_column, with_arrays}
+use Rattle.array_build.specs.inner.Masked.{IsMask, bitmap_bits, masked, masked_by, masked_cells, masked_parts, masked_slots, slots_mask}
 use Rattle.array_build.specs.inner.RunParts.{arrays_from, children_behind, child_at, parts_behind, part_cells_behind, has_sound_part, IsPartOf, IsPart, IsPartIn}
-use Rattle.array_build.specs.inner.Runs.{AreReady, kind_cells, run_bits, runs_bits, with_run_slots}
+use Rattle.array_build.specs.inner.Runs.{bitmap_of, kind_cells, run_bits, runs_bits, with_run_slots}
 use Rattle.array_build.specs.laws.Joined.{no_arrays, more_arrays}
-use Rattle.columns.specs.Runs.{run_cells, runs_cells, is_run_sound, are_runs_sound, is_run_valid, are_runs_valid}
+use Rattle.columns.specs.Runs.{run_cells, runs_cells, is_run_sound, are_runs_sound}
 use Rattle.columns.specs.declared.slot_runs.SlotRun.{SlotRun}
 use Rattle.columns.specs.declared.slot_runs.SlotRun.TheVariants.{Slots, Nulls}
 use Rattle.arrow_schema.specs.Column.{Column, Columns, column, nulls, and_column, columns_of, structs}
@@ -195,29 +199,46 @@ own_parts j c cs (r ∷ runs) h =
     let more = own_parts j c cs runs both.1 in
     (and_from _ _ here.0 more.0, and_from _ _ here.1 more.1)
 
--- ---- structs whose slots are valid
+-- ---- the parts of structs, whatever stands below nulls
 
-slot_parts : (cs : Columns) (a : Array) (i : ℕ) → is_valid a i ≡ true → part_list (cell_at (plain_column (structs cs) None) a i) ≡ row_at cs (children_in a) i
+slot_parts : (b : Bool) (cs : Columns) (a : Array) (i : ℕ) → is_valid a i ≡ b → part_list (cell_at (plain_column (structs cs) None) a i) ≡ (if b then row_at cs (children_in a) i else [])
 unfolding cell_at kind_cell
-slot_parts cs a i valid = rw valid refl
+slot_parts true cs a i valid = rw valid refl
+slot_parts false cs a i valid = rw valid refl
 
-slots_parts : (cs : Columns) (a : Array) (from n : ℕ) → list_all (is_valid a) (range_with_len from n) ≡ true
-    → map part_list (cells_from (cell_at (plain_column (structs cs) None) a) from n) ≡ map (row_at cs (children_in a)) (range_with_len from n)
-slots_parts cs a from zero valid = refl
-slots_parts cs a from (suc n) valid =
-    let both = and_parts (is_valid a from) (list_all (is_valid a) (range_with_len (from + 1) n)) valid in
-    ap₂ (λ (row : List Cell) (rows : List (List Cell)). row ∷ rows) (slot_parts cs a from both.0) (slots_parts cs a (from + 1) n both.1)
+slots_parts : (cs : Columns) (a : Array) (from n : ℕ) → map part_list (cells_from (cell_at (plain_column (structs cs) None) a) from n)
+    ≡ masked_by [] (map (is_valid a) (range_with_len from n)) (map (row_at cs (children_in a)) (range_with_len from n))
+slots_parts cs a from zero = refl
+slots_parts cs a from (suc n) = ap₂ (λ (row : List Cell) (rows : List (List Cell)). row ∷ rows) (slot_parts (is_valid a from) cs a from refl) (slots_parts cs a (from + 1) n)
 
-run_parts : (cs : Columns) (run : SlotRun) → is_run_valid run ≡ true → map part_list (run_cells (plain_column (structs cs) None) run) ≡ parts_behind 0 cs run
-run_parts cs (Slots v from n) valid = slots_parts cs (view_array v) from n valid
-run_parts cs (Nulls n) valid = repeated_map part_list n null
+run_parts : (cs : Columns) (run : SlotRun) → map part_list (run_cells (plain_column (structs cs) None) run) ≡ masked_by [] (run_bits run) (parts_behind 0 cs run)
+run_parts cs (Slots v from n) = slots_parts cs (view_array v) from n
+run_parts cs (Nulls n) = repeated_map part_list n null ∙ sym (alike_kept [] (replicate n false) n)
 
-runs_parts : (cs : Columns) (runs : List SlotRun) → are_runs_valid runs ≡ true → map part_list (kind_cells (structs cs) runs) ≡ flat_map (parts_behind 0 cs) runs
-runs_parts cs [] valid = refl
-runs_parts cs (run ∷ runs) valid =
-    let both = and_parts (is_run_valid run) (are_runs_valid runs) valid in
+parts_counted : (j : ℕ) (cs : Columns) (run : SlotRun) → length (run_bits run) ≡ length (parts_behind j cs run)
+parts_counted j cs (Slots v from n) = length-map-range_with_len (is_valid (view_array v)) from n ∙ sym (length-map-range_with_len (row_at cs (children_behind j v)) from n)
+parts_counted j cs (Nulls n) = length-replicate n false ∙ sym (length-replicate n [])
+
+runs_parts : (cs : Columns) (runs : List SlotRun) → map part_list (kind_cells (structs cs) runs) ≡ masked_by [] (runs_bits runs) (flat_map (parts_behind 0 cs) runs)
+runs_parts cs [] = refl
+runs_parts cs (run ∷ runs) =
     map-append part_list (run_cells (plain_column (structs cs) None) run) (kind_cells (structs cs) runs)
-    ∙ ap₂ (λ (xs ys : List (List Cell)). xs ++ ys) (run_parts cs run both.0) (runs_parts cs runs both.1)
+    ∙ ap₂ (λ (xs ys : List (List Cell)). xs ++ ys) (run_parts cs run) (runs_parts cs runs)
+    ∙ sym (masked_append [] (run_bits run) (runs_bits runs) (parts_behind 0 cs run) (flat_map (parts_behind 0 cs) runs) (parts_counted 0 cs run))
+
+-- and under a mask, where this is the mask of what stands below
+pub parts_masked : (cs : Columns) (mask below : List ℕ) (runs : List SlotRun) → slots_mask below runs ≡ masked_slots mask runs
+    → map part_list (masked_cells (plain_column (structs cs) None) mask runs) ≡ masked_parts cs below runs
+parts_masked cs mask below runs is =
+    masked_map part_list null (slots_mask mask runs) (kind_cells (structs cs) runs)
+    ∙ ap (masked_by [] (slots_mask mask runs)) (runs_parts cs runs)
+    ∙ masked_twice [] (slots_mask mask runs) (runs_bits runs) (flat_map (parts_behind 0 cs) runs) (bits_counted mask (length (runs_bits runs)))
+    ∙ ap (λ (bits : List Bool). masked_by [] bits (flat_map (parts_behind 0 cs) runs)) (sym is)
+
+pub parts_can_be_masked : (cs : Columns) (mask below : List ℕ) (runs : List SlotRun) → slots_mask below runs ≡ masked_slots mask runs
+    → can_build (plain_column (structs cs) None) (masked_cells (plain_column (structs cs) None) mask runs) ≡ true → can_build_parts cs (masked_parts cs below runs) ≡ true
+parts_can_be_masked cs mask below runs is h =
+    ap (can_build_parts cs) (sym (parts_masked cs mask below runs is)) ∙ parts_can_be_built cs (masked_cells (plain_column (structs cs) None) mask runs) h
 
 children_sound : (cs : Columns) (a : Array) → is_sound (plain_column (structs cs) None) a ≡ true → are_sound cs (slots_in a) (children_in a) ≡ true
 unfolding is_sound has_sound_children
@@ -237,83 +258,106 @@ runs_sound cs (run ∷ runs) h =
 
 -- ---- field by field
 
--- the rows of the parts that the fields from a place on have
-abbrev pub rows_behind : ℕ → Columns → List SlotRun → List (List Cell)
-rows_behind j cs runs = flat_map (parts_behind j cs) runs
+-- the rows of the parts that the fields from a place on have under bits
+abbrev pub rows_behind : ℕ → Columns → List Bool → List SlotRun → List (List Cell)
+rows_behind j cs bits runs = masked_by [] bits (flat_map (parts_behind j cs) runs)
 
 -- the arrays of the fields from a place on can be built
-pub record AreBehind (j : ℕ) (cs : Columns) (runs : List SlotRun) : Type 0 where
+pub record AreBehind (j : ℕ) (cs : Columns) (bits : List Bool) (runs : List SlotRun) : Type 0 where
   pub sound : list_all (is_sound_behind j cs) runs ≡ true
-  pub fit : can_build_parts cs (rows_behind j cs runs) ≡ true
+  pub fit : can_build_parts cs (rows_behind j cs bits runs) ≡ true
 
-pub all_behind : (cs : Columns) (runs : List SlotRun) → AreReady (structs cs) runs → AreBehind 0 cs runs
-all_behind cs runs ready = record {
-  sound = runs_sound cs runs ready.sound;
-  fit = ap (can_build_parts cs) (sym (runs_parts cs runs ready.valid)) ∙ parts_can_be_built cs (kind_cells (structs cs) runs) ready.fit;
-}
+pub all_behind : (cs : Columns) (bits : List Bool) (runs : List SlotRun) → are_runs_sound (plain_column (structs cs) None) runs ≡ true → can_build_parts cs (rows_behind 0 cs bits runs) ≡ true
+    → AreBehind 0 cs bits runs
+all_behind cs bits runs sound fit = record { sound = runs_sound cs runs sound; fit = fit }
+
+masked_first : (j : ℕ) (c : Column) (cs : Columns) (bits : List Bool) (runs : List SlotRun)
+    → map first_cell (rows_behind j (and_column c cs) bits runs) ≡ masked bits (flat_map (part_cells_behind j c) runs)
+masked_first j c cs bits runs = masked_map first_cell [] bits (flat_map (parts_behind j (and_column c cs)) runs) ∙ ap (masked bits) (rows_first j c cs runs)
+
+masked_others : (j : ℕ) (c : Column) (cs : Columns) (bits : List Bool) (runs : List SlotRun)
+    → map other_cells (rows_behind j (and_column c cs) bits runs) ≡ rows_behind (j + 1) cs bits runs
+masked_others j c cs bits runs = masked_map other_cells [] bits (flat_map (parts_behind j (and_column c cs)) runs) ∙ ap (masked_by [] bits) (rows_others j c cs runs)
+
+-- the field has a slot for each of the structs
+own_counted : (j : ℕ) (c : Column) (runs : List SlotRun) → length (flat_map (part_cells_behind j c) runs) ≡ length (runs_bits runs)
+own_counted j c [] = refl
+own_counted j c (run ∷ runs) =
+    length-append (part_cells_behind j c run) (flat_map (part_cells_behind j c) runs)
+    ∙ ap₂ (λ (m n : ℕ). m + n) (one run) (own_counted j c runs) ∙ sym (length-append (run_bits run) (runs_bits runs))
+  where
+    one : (run : SlotRun) → length (part_cells_behind j c run) ≡ length (run_bits run)
+    one (Slots v from n) = length-map-range_with_len (cell_at c (child_at j v)) from n ∙ sym (length-map-range_with_len (is_valid (view_array v)) from n)
+    one (Nulls n) = length-replicate n null ∙ sym (length-replicate n false)
 
 -- of the field at a place, and of those after it
-pub record IsNext (j : ℕ) (c : Column) (cs : Columns) (runs part : List SlotRun) : Type 0 where
+pub record IsNext (j : ℕ) (c : Column) (cs : Columns) (mask : List ℕ) (runs part : List SlotRun) : Type 0 where
   pub sound : are_runs_sound c part ≡ true
-  pub fits : can_build c (runs_cells c part) ≡ true
-  pub behind : AreBehind (j + 1) cs runs
+  pub whole : IsMask mask part
+  pub fits : can_build c (masked_cells c mask part) ≡ true
+  pub cells : masked_cells c mask part ≡ masked (slots_mask mask runs) (flat_map (part_cells_behind j c) runs)
+  pub behind : AreBehind (j + 1) cs (slots_mask mask runs) runs
 
-next_part : (j : ℕ) (c : Column) (cs : Columns) (runs part : List SlotRun) → IsPartIn c j runs part → AreBehind j (and_column c cs) runs → IsNext j c cs runs part
+next_part : (j : ℕ) (c : Column) (cs : Columns) (mask : List ℕ) (runs part : List SlotRun) → IsPartIn c j runs part → IsMask mask runs → AreBehind j (and_column c cs) (slots_mask mask runs) runs
+    → IsNext j c cs mask runs part
 unfolding can_build
-next_part j c cs runs part is behind =
+next_part j c cs mask runs part is whole behind =
+    let bits : List Bool = slots_mask mask runs in
     let parts = own_parts j c cs runs behind.sound in
     let own = is parts.0 in
-    let rows : List (List Cell) = rows_behind j (and_column c cs) runs in
+    let rows : List (List Cell) = rows_behind j (and_column c cs) bits runs in
     let can = and_parts (can_build c (map first_cell rows)) (can_build_parts cs (map other_cells rows)) behind.fit in
+    let count : length (runs_bits part) ≡ length (runs_bits runs) = sym (cells_counted c part) ∙ ap length own.0 ∙ own_counted j c runs in
+    let cells : masked_cells c mask part ≡ masked bits (flat_map (part_cells_behind j c) runs) = ap₂ (λ (n : ℕ) (xs : List Cell). masked (bitmap_bits mask n) xs) count own.0 in
     record {
       sound = own.1;
-      fits = ap (can_build c) (own.0 ∙ sym (rows_first j c cs runs)) ∙ can.0;
-      behind = record { sound = parts.1; fit = ap (can_build_parts cs) (sym (rows_others j c cs runs)) ∙ can.1 };
+      whole = whole ∙ ap (λ (n : ℕ). bitmap_of (bitmap_bits mask n)) (sym count);
+      fits = ap (can_build c) (cells ∙ sym (masked_first j c cs bits runs)) ∙ can.0;
+      cells = cells;
+      behind = record { sound = parts.1; fit = ap (can_build_parts cs) (sym (masked_others j c cs bits runs)) ∙ can.1 };
     }
 
-next_built : (j : ℕ) (c : Column) (cs : Columns) (runs part : List SlotRun) → IsPartIn c j runs part → AreBehind j (and_column c cs) runs
-    → built_below (and_column c cs) (rows_behind j (and_column c cs) runs) ≡ built_at c (runs_cells c part) ++ built_below cs (rows_behind (j + 1) cs runs)
+next_built : (j : ℕ) (c : Column) (cs : Columns) (mask : List ℕ) (runs part : List SlotRun) → IsNext j c cs mask runs part
+    → built_below (and_column c cs) (rows_behind j (and_column c cs) (slots_mask mask runs) runs)
+    ≡ built_at c (masked_cells c mask part) ++ built_below cs (rows_behind (j + 1) cs (slots_mask mask runs) runs)
 unfolding built every_array
-next_built j c cs runs part is behind =
-    let parts = own_parts j c cs runs behind.sound in
-    let own = is parts.0 in
-    ap₂ (λ (cells : List Cell) (rows : List (List Cell)). built_at c cells ++ built_below cs rows) (rows_first j c cs runs ∙ sym own.0) (rows_others j c cs runs)
+next_built j c cs mask runs part next =
+    ap₂ (λ (cells : List Cell) (rows : List (List Cell)). built_at c cells ++ built_below cs rows) (masked_first j c cs (slots_mask mask runs) runs ∙ sym next.cells)
+    (masked_others j c cs (slots_mask mask runs) runs)
 
 abbrev pub columns_behind : ℕ → List Field → Columns
 columns_behind j fields = columns_of (map column_of (drop j fields))
 
-pub place_next : (fields : List Field) (j : ℕ) (f : Field) (runs part : List SlotRun) → drop j fields ≡ f ∷ drop (j + 1) fields → IsPartIn (column_of f) j runs part
-    → AreBehind j (columns_behind j fields) runs → IsNext j (column_of f) (columns_behind (j + 1) fields) runs part
-place_next fields j f runs part item is behind =
-    next_part j (column_of f) (columns_behind (j + 1) fields) runs part is (subst (λ (fs : List Field). AreBehind j (columns_of (map column_of fs)) runs) item behind)
+pub place_next : (fields : List Field) (j : ℕ) (f : Field) (mask : List ℕ) (runs part : List SlotRun) → drop j fields ≡ f ∷ drop (j + 1) fields → IsPartIn (column_of f) j runs part → IsMask mask runs
+    → AreBehind j (columns_behind j fields) (slots_mask mask runs) runs → IsNext j (column_of f) (columns_behind (j + 1) fields) mask runs part
+place_next fields j f mask runs part item is whole behind =
+    next_part j (column_of f) (columns_behind (j + 1) fields) mask runs part is whole (subst (λ (fs : List Field). AreBehind j (columns_of (map column_of fs)) (slots_mask mask runs) runs) item behind)
 
 -- the arrays of this field, and then those of the others
-pub place_built : (fields : List Field) (j : ℕ) (f : Field) (runs part : List SlotRun) (p q : PlainBatch) → drop j fields ≡ f ∷ drop (j + 1) fields → IsPartIn (column_of f) j runs part
-    → AreBehind j (columns_behind j fields) runs → q ≡ with_arrays p (built_at (column_of f) (runs_cells (column_of f) part))
-    → with_arrays q (built_below (columns_behind (j + 1) fields) (rows_behind (j + 1) (columns_behind (j + 1) fields) runs))
-    ≡ with_arrays p (built_below (columns_behind j fields) (rows_behind j (columns_behind j fields) runs))
-place_built fields j f runs part p q item is behind h =
-    let own : List Typed = built_at (column_of f) (runs_cells (column_of f) part) in
-    let others : List Typed = built_below (columns_behind (j + 1) fields) (rows_behind (j + 1) (columns_behind (j + 1) fields) runs) in
-    let all : built_below (columns_behind j fields) (rows_behind j (columns_behind j fields) runs) ≡ own ++ others =
-    ap (λ (fs : List Field). built_below (columns_of (map column_of fs)) (rows_behind j (columns_of (map column_of fs)) runs)) item
-    ∙ next_built j (column_of f) (columns_behind (j + 1) fields) runs part is (subst (λ (fs : List Field). AreBehind j (columns_of (map column_of fs)) runs) item behind) in
+pub place_built : (fields : List Field) (j : ℕ) (f : Field) (mask : List ℕ) (runs part : List SlotRun) (p q : PlainBatch) → drop j fields ≡ f ∷ drop (j + 1) fields
+    → IsNext j (column_of f) (columns_behind (j + 1) fields) mask runs part → q ≡ with_arrays p (built_at (column_of f) (masked_cells (column_of f) mask part))
+    → with_arrays q (built_below (columns_behind (j + 1) fields) (rows_behind (j + 1) (columns_behind (j + 1) fields) (slots_mask mask runs) runs))
+    ≡ with_arrays p (built_below (columns_behind j fields) (rows_behind j (columns_behind j fields) (slots_mask mask runs) runs))
+place_built fields j f mask runs part p q item next h =
+    let bits : List Bool = slots_mask mask runs in
+    let own : List Typed = built_at (column_of f) (masked_cells (column_of f) mask part) in
+    let others : List Typed = built_below (columns_behind (j + 1) fields) (rows_behind (j + 1) (columns_behind (j + 1) fields) bits runs) in
+    let all : built_below (columns_behind j fields) (rows_behind j (columns_behind j fields) bits runs) ≡ own ++ others =
+    ap (λ (fs : List Field). built_below (columns_of (map column_of fs)) (rows_behind j (columns_of (map column_of fs)) bits runs)) item
+    ∙ next_built j (column_of f) (columns_behind (j + 1) fields) mask runs part next in
     ap (λ (x : PlainBatch). with_arrays x others) h ∙ more_arrays p own others ∙ ap (with_arrays p) (sym all)
 
 -- after the last field there is nothing
-pub no_field : (fields : List Field) (j : ℕ) (runs : List SlotRun) (p : PlainBatch) → length fields ≤ j
-    → with_arrays p (built_below (columns_behind j fields) (rows_behind j (columns_behind j fields) runs)) ≡ p
+pub no_field : (fields : List Field) (j : ℕ) (bits : List Bool) (runs : List SlotRun) (p : PlainBatch) → length fields ≤ j
+    → with_arrays p (built_below (columns_behind j fields) (rows_behind j (columns_behind j fields) bits runs)) ≡ p
 unfolding built every_array
-no_field fields j runs p end =
-    ap (λ (fs : List Field). with_arrays p (built_below (columns_of (map column_of fs)) (rows_behind j (columns_of (map column_of fs)) runs))) (drop_all j fields end) ∙ no_arrays p
-
--- the rows of the parts of structs
-pub rows_of_parts : (cs : Columns) (runs : List SlotRun) → AreReady (structs cs) runs → rows_behind 0 cs runs ≡ map part_list (kind_cells (structs cs) runs)
-rows_of_parts cs runs ready = sym (runs_parts cs runs ready.valid)
+no_field fields j bits runs p end =
+    ap (λ (fs : List Field). with_arrays p (built_below (columns_of (map column_of fs)) (rows_behind j (columns_of (map column_of fs)) bits runs))) (drop_all j fields end) ∙ no_arrays p
 
 -- the node and the validity bitmap of structs, and the arrays of their parts
-pub struct_runs_are : (p q : PlainBatch) (cs : Columns) (runs : List SlotRun) → q ≡ with_run_slots p (runs_bits runs)
-    → with_arrays q (built_below cs (map part_list (kind_cells (structs cs) runs))) ≡ with_arrays p (built_at (plain_column (structs cs) None) (kind_cells (structs cs) runs))
-struct_runs_are p q cs runs slots =
-    let cells : List Cell = kind_cells (structs cs) runs in
-    ap (λ (x : PlainBatch). with_arrays x (built_below cs (map part_list cells))) (slots ∙ kind_slots p (structs cs) runs refl) ∙ structs_are cs p cells
+pub struct_runs_are : (p q : PlainBatch) (cs : Columns) (mask below : List ℕ) (runs : List SlotRun) → slots_mask below runs ≡ masked_slots mask runs → q ≡ with_run_slots p (masked_slots mask runs)
+    → with_arrays q (built_below cs (masked_parts cs below runs)) ≡ with_arrays p (built_at (plain_column (structs cs) None) (masked_cells (plain_column (structs cs) None) mask runs))
+struct_runs_are p q cs mask below runs is slots =
+    let cells : List Cell = masked_cells (plain_column (structs cs) None) mask runs in
+    ap₂ (λ (x : PlainBatch) (rows : List (List Cell)). with_arrays x (built_below cs rows)) (slots ∙ masked_kind_slots p (structs cs) mask runs refl) (sym (parts_masked cs mask below runs is))
+    ∙ structs_are cs p cells

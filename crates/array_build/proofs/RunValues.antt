@@ -46,7 +46,7 @@ many g cell valid w slots vs one from (suc n) fits h =
     ∙ ap (λ (k : ℕ). take k (drop (from * w) vs)) size
 
 -- there is room for one more value after those before a slot
-room : (i slots w : ℕ) (vs : List ℕ) → slots * w ≤ length vs → i < slots → w ≤ length (drop (i * w) vs)
+pub room : (i slots w : ℕ) (vs : List ℕ) → slots * w ≤ length vs → i < slots → w ≤ length (drop (i * w) vs)
 room i slots w vs long lt =
     let left = length-drop (i * w) vs in
     let most : (i + 1) * w ≤ slots * w = mul-le-mul_right w (omega arith) in

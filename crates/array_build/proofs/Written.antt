@@ -1,27 +1,20 @@
 -- Indices of codes, and which slots have one, as they are written over what stands where there is room for them.
-use Rattle.std.specs.Prelude.{Option, None, is_some, set}
+use Rattle.std.specs.Prelude.{Option, None, get_or, is_some, set}
 use Rattle.std.specs.List.{flat_map}
-use Rattle.std.proofs.Common.{◌≡◌, ◌≤◌, ◌<◌, ◌+◌, ◌*◌, ◌-◌, ◌++◌, ◌∙◌, ℕ, Bool, false, List, [], ◌∷◌, arith, ap, ap₂, drop, length, length-append, length-drop, map, refl, replicate, sym, take}
+use Rattle.std.proofs.Common.{◌≡◌, ◌≤◌, ◌<◌, ◌+◌, ◌*◌, ◌-◌, ◌++◌, ◌∙◌, ℕ, zero, suc, Bool, true, false, List, [], ◌∷◌, arith, ap, ap₂, drop, length, length-append, length-drop, refl, replicate, sym, take}
 use Rattle.std.proofs.lemmas.Grind.{flat_map-append}
-use Rattle.std.proofs.lemmas.List.{append_assoc, append-nil, length-take-le, map-append, take_all, take_at, take_more_set}
+use Rattle.std.proofs.lemmas.List.{append_assoc, append-nil, get_or-set_other, length-take-le, map-append, set-get_or, take_all, take_at, take_more_set}
 use Rattle.byteorder.specs.Numbers.{length-bytes_low_first}
-use Rattle.array_build.proofs.Codes.{IsUnderway, all_coded, begun, one_coded, some_coded, nulls_coded}
+use Rattle.array_build.proofs.Codes.{all_coded, begun, one_coded, some_coded, nulls_coded}
 use Rattle.array_build.proofs.Low.{zero_bytes}
 use Rattle.array_build.proofs.Repeated.{repeated_each, repeated_map}
-use Rattle.array_build.specs.inner.Codes.{IsPut, IsWritten, code_in, sized_code}
+use Rattle.array_build.specs.inner.Codes.{AreSetFrom, IsPartWritten, IsPut, IsWritten, code_in, sized_code}
 use Rattle.cells.specs.Cell.{Cell, null}
 use Rattle.cells.specs.Dictionary.{with_entry}
 use Rattle.columns.specs.Built.{place_or_zero}
 use borrow.Rule.Slice.PartMut.{mid_of}
 
 -- ---- slot by slot, in room for all
-
--- n slots are written, and some cells are left
-pub record IsPartWritten (size : ℕ) (start all es left : List Cell) (bytes : List ℕ) (bits : List Bool) (done : ℕ) : Type 0 where
-  pub codes : List (Option ℕ)
-  pub coded : IsUnderway start all es codes left
-  pub indices : take (size * done) bytes ≡ flat_map (sized_code size) codes
-  pub valid : take done bits ≡ map is_some codes
 
 pub none_written : (size : ℕ) (start all : List Cell) (indices : List ℕ) (valid : List Bool) (done : ℕ) → done ≡ 0 → IsPartWritten size start all start all indices valid done
 none_written size start all indices valid done none =
@@ -52,6 +45,19 @@ one_written size start all es c left es' old new rest valid valid' done done' k 
       ap (λ (n : ℕ). take n valid') next ∙ ap (take (done + 1)) bits ∙ take_more_set valid done (is_some k) within ∙ ap (λ (bs : List Bool). bs ++ is_some k ∷ []) h.valid
       ∙ sym (map-append is_some h.codes (k ∷ []));
 }
+
+-- to set a bit that is set changes nothing
+pub set_already : (bits : List Bool) (n : ℕ) → get_or bits n true ≡ true → bits ≡ set bits n true
+set_already bits n is = sym (ap (set bits n) (sym is) ∙ set-get_or bits n true)
+
+-- those after one stay set
+pub later_set : (bits : List Bool) (done next : ℕ) (b : Bool) → AreSetFrom done bits → next ≡ done + 1 → AreSetFrom next (set bits done b)
+later_set bits done next b h one = λ n le. get_or-set_other bits done n b true (λ e. omega (arith, le, one, e)) ∙ h n (omega (arith, le, one))
+
+pub all_set : (count n : ℕ) → get_or (replicate count true) n true ≡ true
+all_set zero n = refl
+all_set (suc count) zero = refl
+all_set (suc count) (suc n) = all_set count n
 
 -- what is put for a code is put for the cell that has it
 pub put_is : (size place : ℕ) (es : List Cell) (c : Cell) (old new : List ℕ) (valid valid' : List Bool) (k : Option ℕ) → k ≡ code_in es c

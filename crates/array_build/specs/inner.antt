@@ -1,6 +1,8 @@
 pub mod Coded
 pub mod Codes
 pub mod Known
+pub mod Masked
+pub mod MaskedContents
 pub mod Named
 pub mod Nodes
 pub mod RunCells

@@ -1,14 +1,15 @@
 // Arrays of columns that are given as runs of slots: bytes of slots stay where they stand or are copied, and no cell is made but of the entries of a dictionary.
-ghost use Rattle.std.specs.Prelude.{◌≡◌, true, OnOk, IfOk, List, Some, None, map};
+ghost use Rattle.std.specs.Prelude.{◌≡◌, true, OnOk, IfOk, List, Some, None, is_some, length, map};
 ghost use Rattle.arrow_schema.specs.Column.{columns_of, fixed_lists, structs};
 ghost use Rattle.arrow_schema.specs.View.{kind_of, column_of};
 ghost use Rattle.array_build.specs.Batch.{batch_in, batch_of, built_at, built_below, plain_column, with_arrays};
 ghost use Rattle.array_build.specs.inner.Nodes.{list_kind};
-ghost use Rattle.array_build.specs.inner.Runs.{AddsRuns, AreAsWritten, AreReady, built_columns, contents_width, fixed_width, kind_cells};
+ghost use Rattle.array_build.specs.inner.Masked.{AddsMasked, IsMask, masked_cells, masked_parts};
+ghost use Rattle.array_build.specs.inner.RunItems.{fixed_column};
+ghost use Rattle.array_build.specs.inner.Runs.{AddsRuns, AreAsWritten, are_runs_as_written, built_columns, contents_width, fixed_width, offsets_width};
 ghost use Rattle.columns.specs.Runs.{HaveRuns, are_columns_sound, are_runs_sound, can_build_columns, runs_cells};
 ghost use Rattle.cells.specs.Cell.{Cell};
-ghost use Rattle.cells.specs.Dictionary.{part_list};
-ghost use Rattle.columns.specs.Buildable.{can_build};
+ghost use Rattle.columns.specs.Buildable.{can_build, can_build_parts};
 
 use crate::as_written::are_as_written;
 use crate::batch::{BuiltBatch, empty_batch, push_buffer};
@@ -16,17 +17,20 @@ use crate::building::build_values;
 use crate::coded_cells::{push_dictionary, push_run_indices};
 use crate::flat_runs::{build_run_bits, build_run_contents, build_run_nulls, build_run_values};
 use crate::known_entries::KnownEntries;
-use crate::run_fixed_items::fixed_item_runs;
+use crate::masked_contents::build_masked_contents;
+use crate::masked_runs::{masked_runs, split_runs};
+use crate::run_fixed_items::{fixed_item_runs, item_mask};
 use crate::run_items::{item_runs, run_list_offsets};
 use crate::run_parts::field_runs;
-use crate::run_slots::push_run_slots;
-use crate::widths::{contents_width, value_width};
+use crate::run_slots::{count_slots, push_run_slots};
+use crate::slot_masks::push_masked_slots;
+use crate::widths::{contents_width, offsets_width, value_width};
 use arrow_schema::{DataType, DictSpec, Field};
-use columns::{OffsetWidth, SlotRun, valid_runs};
+use columns::{OffsetWidth, SlotRun};
 use std::alloc::{AllocError, Global};
 
 // Adds the indices of a column with a dictionary, and its entries.
-fn build_coded_column<'k, 'a: 'k>(
+fn build_coded_runs<'k, 'a: 'k>(
     alloc: Global,
     batch: &mut BuiltBatch<'_>,
     entries: &mut KnownEntries<'k>,
@@ -45,23 +49,46 @@ fn build_coded_column<'k, 'a: 'k>(
     push_dictionary(batch, values)
 }
 
-// Adds the array of runs that stand as they are written, and all below it, of a type that has no values or contents.
+// The same under a mask.
+fn build_coded_column<'k, 'a: 'k>(
+    alloc: Global,
+    batch: &mut BuiltBatch<'_>,
+    entries: &mut KnownEntries<'k>,
+    field: &'k Field,
+    spec: DictSpec,
+    runs: &[SlotRun<'a>],
+    mask: &[u8],
+) -> Result<(), AllocError>
+    requires spec { field.now.dictionary ≡ Some spec }
+    requires sound { are_runs_sound (column_of field.now) runs.now ≡ true }
+    requires mask { IsMask mask.now runs.now }
+    requires fits { can_build (column_of field.now) (masked_cells (column_of field.now) mask.now runs.now) ≡ true }
+    ensures { OnOk result (batch_in batch.new ≡ with_arrays (batch_in batch.old)
+        (built_at (column_of field.now) (masked_cells (column_of field.now) mask.now runs.now))) }
+{
+    if mask.is_empty() {
+        return build_coded_runs(alloc, batch, entries, field, spec, runs);
+    }
+    let slots = count_slots(runs)?;
+    let split = masked_runs(alloc, slots, runs, mask)?;
+    build_coded_runs(alloc, batch, entries, field, spec, &split)
+}
+
+// Lists that stand as they are written.
 #[cycle(by_runs)]
-fn build_other_kind<'k, 'a: 'k>(
+fn build_list_kind<'k, 'a: 'k>(
     alloc: Global,
     batch: &mut BuiltBatch<'a>,
     entries: &mut KnownEntries<'k>,
     data_type: &'k DataType,
     runs: &[SlotRun<'a>],
 ) -> Result<(), AllocError>
-    requires values { fixed_width (kind_of data_type.now) ≡ None }
     requires contents { contents_width (kind_of data_type.now) ≡ None }
+    requires offsets { is_some (offsets_width (kind_of data_type.now)) ≡ true }
     requires ready { AreAsWritten (kind_of data_type.now) runs.now }
     ensures { OnOk result (AddsRuns (kind_of data_type.now) runs.now batch.old batch.new) }
 {
     match data_type {
-        DataType::Null => build_run_nulls(batch, data_type, runs),
-        DataType::Bool => build_run_bits(alloc, batch, data_type, runs),
         DataType::List(item) => build_run_lists(
             alloc,
             batch,
@@ -78,30 +105,7 @@ fn build_other_kind<'k, 'a: 'k>(
             item,
             runs,
         ),
-        DataType::FixedSizeList(size, item) => {
-            build_run_fixed_lists(alloc, batch, entries, *size as usize, item, runs)
-        }
-        DataType::Struct(fields) => build_run_structs(alloc, batch, entries, fields, runs),
         _ => unreachable!(),
-    }
-}
-
-// The same of runs that stand as they are written, of a type that has no values.
-#[cycle(by_runs)]
-fn build_written_kind<'k, 'a: 'k>(
-    alloc: Global,
-    batch: &mut BuiltBatch<'a>,
-    entries: &mut KnownEntries<'k>,
-    data_type: &'k DataType,
-    runs: &[SlotRun<'a>],
-) -> Result<(), AllocError>
-    requires values { fixed_width (kind_of data_type.now) ≡ None }
-    requires ready { AreAsWritten (kind_of data_type.now) runs.now }
-    ensures { OnOk result (AddsRuns (kind_of data_type.now) runs.now batch.old batch.new) }
-{
-    match contents_width(data_type) {
-        Some(width) => build_run_contents(alloc, batch, data_type, width, runs),
-        None => build_other_kind(alloc, batch, entries, data_type, runs),
     }
 }
 
@@ -121,7 +125,64 @@ fn build_run_lists<'k, 'a: 'k>(
     push_run_slots(alloc, batch, runs)?;
     push_buffer(batch, run_list_offsets(alloc, item, width, runs)?)?;
     let items = item_runs(alloc, item, width, runs)?;
-    build_run_column(alloc, batch, entries, item, &items)
+    build_run_column(alloc, batch, entries, item, &items, &[])
+}
+
+// The array of runs that stand as they are written, and all below it, of a type that has offsets.
+#[cycle(by_runs)]
+fn build_written_kind<'k, 'a: 'k>(
+    alloc: Global,
+    batch: &mut BuiltBatch<'a>,
+    entries: &mut KnownEntries<'k>,
+    data_type: &'k DataType,
+    runs: &[SlotRun<'a>],
+) -> Result<(), AllocError>
+    requires offsets { is_some (offsets_width (kind_of data_type.now)) ≡ true }
+    requires ready { AreAsWritten (kind_of data_type.now) runs.now }
+    ensures { OnOk result (AddsRuns (kind_of data_type.now) runs.now batch.old batch.new) }
+{
+    match contents_width(data_type) {
+        Some(width) => build_run_contents(alloc, batch, data_type, width, runs),
+        None => build_list_kind(alloc, batch, entries, data_type, runs),
+    }
+}
+
+// Whether runs under a mask can be copied as they stand.
+fn are_copied(data_type: &DataType, runs: &[SlotRun<'_>], mask: &[u8]) -> bool
+    requires { are_runs_sound (plain_column (kind_of data_type.now) None) runs.now ≡ true }
+    ensures mask { result ≡ true → length mask.now ≡ 0 }
+    ensures written { result ≡ true → are_runs_as_written (kind_of data_type.now) runs.now ≡ true }
+{
+    if mask.is_empty() {
+        return are_as_written(data_type, runs);
+    }
+    false
+}
+
+// The same under a mask: lists that do not stand as they are written are split at their nulls.
+#[cycle(by_runs)]
+fn build_split_kind<'k, 'a: 'k>(
+    alloc: Global,
+    batch: &mut BuiltBatch<'a>,
+    entries: &mut KnownEntries<'k>,
+    data_type: &'k DataType,
+    runs: &[SlotRun<'a>],
+    mask: &[u8],
+) -> Result<(), AllocError>
+    requires offsets { is_some (offsets_width (kind_of data_type.now)) ≡ true }
+    requires sound { are_runs_sound (plain_column (kind_of data_type.now) None) runs.now ≡ true }
+    requires mask { IsMask mask.now runs.now }
+    requires fits { can_build (plain_column (kind_of data_type.now) None) (masked_cells (plain_column (kind_of data_type.now) None) mask.now runs.now) ≡ true }
+    ensures { OnOk result (AddsMasked (kind_of data_type.now) runs.now mask.now batch.old batch.new) }
+{
+    if are_copied(data_type, runs, mask) {
+        return build_written_kind(alloc, batch, entries, data_type, runs);
+    }
+    if let Some(width) = contents_width(data_type) {
+        return build_masked_contents(alloc, batch, data_type, width, runs, mask);
+    }
+    let split = split_runs(alloc, data_type, runs, mask)?;
+    build_written_kind(alloc, batch, entries, data_type, &split)
 }
 
 // Fixed lists have a node and a validity bitmap, and below them the items of all, which are nulls below a null.
@@ -133,16 +194,21 @@ fn build_run_fixed_lists<'k, 'a: 'k>(
     size: usize,
     item: &'k Field,
     runs: &[SlotRun<'a>],
+    mask: &[u8],
 ) -> Result<(), AllocError>
-    requires ready { AreAsWritten (fixed_lists size (column_of item.now)) runs.now }
-    ensures { OnOk result (AddsRuns (fixed_lists size (column_of item.now)) runs.now batch.old batch.new) }
+    requires sound { are_runs_sound (fixed_column size (column_of item.now)) runs.now ≡ true }
+    requires mask { IsMask mask.now runs.now }
+    requires fits { can_build (fixed_column size (column_of item.now)) (masked_cells (fixed_column size (column_of item.now)) mask.now runs.now) ≡ true }
+    ensures { OnOk result (AddsMasked (fixed_lists size (column_of item.now)) runs.now mask.now batch.old batch.new) }
 {
-    push_run_slots(alloc, batch, runs)?;
+    let below = push_masked_slots(alloc, batch, runs, mask)?;
     let items = fixed_item_runs(alloc, item, size, runs)?;
-    build_run_column(alloc, batch, entries, item, &items)
+    let slots = count_slots(runs)?;
+    let mask = item_mask(alloc, &below, slots, size)?;
+    build_run_column(alloc, batch, entries, item, &items, &mask)
 }
 
-// Structs have a node and a validity bitmap, and below them the same slots of each field.
+// Structs have a node and a validity bitmap, and below them the same slots of each field, which are nulls below a null.
 #[cycle(by_runs)]
 fn build_run_structs<'k, 'a: 'k>(
     alloc: Global,
@@ -150,12 +216,16 @@ fn build_run_structs<'k, 'a: 'k>(
     entries: &mut KnownEntries<'k>,
     fields: &'k [Field],
     runs: &[SlotRun<'a>],
+    mask: &[u8],
 ) -> Result<(), AllocError>
-    requires ready { AreAsWritten (structs (columns_of (map column_of fields.now))) runs.now }
-    ensures { OnOk result (AddsRuns (structs (columns_of (map column_of fields.now))) runs.now batch.old batch.new) }
+    requires sound { are_runs_sound (plain_column (structs (columns_of (map column_of fields.now))) None) runs.now ≡ true }
+    requires mask { IsMask mask.now runs.now }
+    requires fits { can_build (plain_column (structs (columns_of (map column_of fields.now))) None)
+        (masked_cells (plain_column (structs (columns_of (map column_of fields.now))) None) mask.now runs.now) ≡ true }
+    ensures { OnOk result (AddsMasked (structs (columns_of (map column_of fields.now))) runs.now mask.now batch.old batch.new) }
 {
-    push_run_slots(alloc, batch, runs)?;
-    build_struct_parts(alloc, batch, entries, fields, runs)
+    let below = push_masked_slots(alloc, batch, runs, mask)?;
+    build_struct_parts(alloc, batch, entries, fields, runs, &below)
 }
 
 // Adds the arrays of the fields of structs. The runs of a field are let go before those of the next one are made.
@@ -166,80 +236,78 @@ fn build_struct_parts<'k, 'a: 'k>(
     entries: &mut KnownEntries<'k>,
     fields: &'k [Field],
     runs: &[SlotRun<'a>],
+    mask: &[u8],
 ) -> Result<(), AllocError>
-    requires ready { AreReady (structs (columns_of (map column_of fields.now))) runs.now }
+    requires sound { are_runs_sound (plain_column (structs (columns_of (map column_of fields.now))) None) runs.now ≡ true }
+    requires mask { IsMask mask.now runs.now }
+    requires fits { can_build_parts (columns_of (map column_of fields.now)) (masked_parts (columns_of (map column_of fields.now)) mask.now runs.now) ≡ true }
     ensures { OnOk result (batch_in batch.new ≡ with_arrays (batch_in batch.old) (built_below (columns_of (map column_of fields.now))
-        (map part_list (kind_cells (structs (columns_of (map column_of fields.now))) runs.now)))) }
+        (masked_parts (columns_of (map column_of fields.now)) mask.now runs.now))) }
 {
     for (place, field) in fields.iter().enumerate() {
         let part = field_runs(alloc, field, runs, place)?;
-        build_run_column(alloc, batch, entries, field, &part)?;
+        build_run_column(alloc, batch, entries, field, &part, mask)?;
     }
     Ok(())
 }
 
-// The same of runs that are split at their nulls, of a type that has no values of one width.
+// The array of runs under a mask, and all below it, of a type that has no values of one width and no offsets.
 #[cycle(by_runs)]
-fn build_valid_kind<'k, 'a: 'k>(
+fn build_other_kind<'k, 'a: 'k>(
     alloc: Global,
     batch: &mut BuiltBatch<'a>,
     entries: &mut KnownEntries<'k>,
     data_type: &'k DataType,
     runs: &[SlotRun<'a>],
+    mask: &[u8],
 ) -> Result<(), AllocError>
     requires values { fixed_width (kind_of data_type.now) ≡ None }
+    requires offsets { offsets_width (kind_of data_type.now) ≡ None }
     requires sound { are_runs_sound (plain_column (kind_of data_type.now) None) runs.now ≡ true }
-    requires fits { can_build (plain_column (kind_of data_type.now) None) (kind_cells (kind_of data_type.now) runs.now) ≡ true }
-    ensures { OnOk result (AddsRuns (kind_of data_type.now) runs.now batch.old batch.new) }
+    requires mask { IsMask mask.now runs.now }
+    requires fits { can_build (plain_column (kind_of data_type.now) None) (masked_cells (plain_column (kind_of data_type.now) None) mask.now runs.now) ≡ true }
+    ensures { OnOk result (AddsMasked (kind_of data_type.now) runs.now mask.now batch.old batch.new) }
 {
-    let valid = valid_runs(alloc, runs)?;
-    build_written_kind(alloc, batch, entries, data_type, &valid)
-}
-
-// Structs of which some are null: their bits are those of whole runs, and the slots of each field those of runs that are split at the nulls.
-#[cycle(by_runs)]
-fn build_split_structs<'k, 'a: 'k>(
-    alloc: Global,
-    batch: &mut BuiltBatch<'a>,
-    entries: &mut KnownEntries<'k>,
-    fields: &'k [Field],
-    runs: &[SlotRun<'a>],
-) -> Result<(), AllocError>
-    requires sound { are_runs_sound (plain_column (structs (columns_of (map column_of fields.now))) None) runs.now ≡ true }
-    requires fits { can_build (plain_column (structs (columns_of (map column_of fields.now))) None)
-        (kind_cells (structs (columns_of (map column_of fields.now))) runs.now) ≡ true }
-    ensures { OnOk result (AddsRuns (structs (columns_of (map column_of fields.now))) runs.now batch.old batch.new) }
-{
-    push_run_slots(alloc, batch, runs)?;
-    let valid = valid_runs(alloc, runs)?;
-    build_struct_parts(alloc, batch, entries, fields, &valid)
-}
-
-// Adds the array of a column of a type that has no values of one width, whatever its name, and all below it. Runs that do not stand as they are written are
-// split at their nulls.
-#[cycle(by_runs)]
-fn build_split_kind<'k, 'a: 'k>(
-    alloc: Global,
-    batch: &mut BuiltBatch<'a>,
-    entries: &mut KnownEntries<'k>,
-    data_type: &'k DataType,
-    runs: &[SlotRun<'a>],
-) -> Result<(), AllocError>
-    requires values { fixed_width (kind_of data_type.now) ≡ None }
-    requires sound { are_runs_sound (plain_column (kind_of data_type.now) None) runs.now ≡ true }
-    requires fits { can_build (plain_column (kind_of data_type.now) None) (kind_cells (kind_of data_type.now) runs.now) ≡ true }
-    ensures { OnOk result (AddsRuns (kind_of data_type.now) runs.now batch.old batch.new) }
-{
-    if are_as_written(data_type, runs) {
-        return build_written_kind(alloc, batch, entries, data_type, runs);
-    }
     match data_type {
-        DataType::Struct(fields) => build_split_structs(alloc, batch, entries, fields, runs),
-        _ => build_valid_kind(alloc, batch, entries, data_type, runs),
+        DataType::Null => build_run_nulls(batch, data_type, runs, mask),
+        DataType::Bool => build_run_bits(alloc, batch, data_type, runs, mask),
+        DataType::FixedSizeList(size, item) => build_run_fixed_lists(
+            alloc,
+            batch,
+            entries,
+            *size as usize,
+            item,
+            runs,
+            mask,
+        ),
+        DataType::Struct(fields) => build_run_structs(alloc, batch, entries, fields, runs, mask),
+        _ => unreachable!(),
     }
 }
 
-// The same of any type. Runs that have values are not split: zeros are put below their nulls.
+// The same of a type that has no values of one width.
+#[cycle(by_runs)]
+fn build_wide_kind<'k, 'a: 'k>(
+    alloc: Global,
+    batch: &mut BuiltBatch<'a>,
+    entries: &mut KnownEntries<'k>,
+    data_type: &'k DataType,
+    runs: &[SlotRun<'a>],
+    mask: &[u8],
+) -> Result<(), AllocError>
+    requires values { fixed_width (kind_of data_type.now) ≡ None }
+    requires sound { are_runs_sound (plain_column (kind_of data_type.now) None) runs.now ≡ true }
+    requires mask { IsMask mask.now runs.now }
+    requires fits { can_build (plain_column (kind_of data_type.now) None) (masked_cells (plain_column (kind_of data_type.now) None) mask.now runs.now) ≡ true }
+    ensures { OnOk result (AddsMasked (kind_of data_type.now) runs.now mask.now batch.old batch.new) }
+{
+    match offsets_width(data_type) {
+        Some(_) => build_split_kind(alloc, batch, entries, data_type, runs, mask),
+        None => build_other_kind(alloc, batch, entries, data_type, runs, mask),
+    }
+}
+
+// The same of any type.
 #[cycle(by_runs)]
 fn build_run_kind<'k, 'a: 'k>(
     alloc: Global,
@@ -247,14 +315,16 @@ fn build_run_kind<'k, 'a: 'k>(
     entries: &mut KnownEntries<'k>,
     data_type: &'k DataType,
     runs: &[SlotRun<'a>],
+    mask: &[u8],
 ) -> Result<(), AllocError>
     requires sound { are_runs_sound (plain_column (kind_of data_type.now) None) runs.now ≡ true }
-    requires fits { can_build (plain_column (kind_of data_type.now) None) (kind_cells (kind_of data_type.now) runs.now) ≡ true }
-    ensures { OnOk result (AddsRuns (kind_of data_type.now) runs.now batch.old batch.new) }
+    requires mask { IsMask mask.now runs.now }
+    requires fits { can_build (plain_column (kind_of data_type.now) None) (masked_cells (plain_column (kind_of data_type.now) None) mask.now runs.now) ≡ true }
+    ensures { OnOk result (AddsMasked (kind_of data_type.now) runs.now mask.now batch.old batch.new) }
 {
     match value_width(data_type) {
-        Some(width) => build_run_values(alloc, batch, data_type, width, runs),
-        None => build_split_kind(alloc, batch, entries, data_type, runs),
+        Some(width) => build_run_values(alloc, batch, data_type, width, runs, mask),
+        None => build_wide_kind(alloc, batch, entries, data_type, runs, mask),
     }
 }
 
@@ -266,15 +336,17 @@ fn build_run_column<'k, 'a: 'k>(
     entries: &mut KnownEntries<'k>,
     field: &'k Field,
     runs: &[SlotRun<'a>],
+    mask: &[u8],
 ) -> Result<(), AllocError>
     requires sound { are_runs_sound (column_of field.now) runs.now ≡ true }
-    requires fits { can_build (column_of field.now) (runs_cells (column_of field.now) runs.now) ≡ true }
+    requires mask { IsMask mask.now runs.now }
+    requires fits { can_build (column_of field.now) (masked_cells (column_of field.now) mask.now runs.now) ≡ true }
     ensures { OnOk result (batch_in batch.new ≡ with_arrays (batch_in batch.old)
-        (built_at (column_of field.now) (runs_cells (column_of field.now) runs.now))) }
+        (built_at (column_of field.now) (masked_cells (column_of field.now) mask.now runs.now))) }
 {
     match field.dictionary {
-        None => build_run_kind(alloc, batch, entries, &field.data_type, runs),
-        Some(spec) => build_coded_column(alloc, batch, entries, field, spec, runs),
+        None => build_run_kind(alloc, batch, entries, &field.data_type, runs, mask),
+        Some(spec) => build_coded_column(alloc, batch, entries, field, spec, runs, mask),
     }
 }
 
@@ -292,7 +364,7 @@ fn build_run_parts<'k, 'a: 'k>(
         (built_columns (columns_of (map column_of fields.now)) (map (λ v. v.items) columns.now))) }
 {
     for (place, field) in fields.iter().enumerate() {
-        build_run_column(alloc, batch, entries, field, &columns[place])?;
+        build_run_column(alloc, batch, entries, field, &columns[place], &[])?;
     }
     Ok(())
 }

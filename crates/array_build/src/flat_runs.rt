@@ -1,5 +1,6 @@
-// Arrays of types that have no fields below them, from runs whose slots are all valid or stand as they are written.
+// Arrays of types that have no fields below them, from runs under a mask or such as stand as they are written.
 ghost use Rattle.std.specs.Prelude.{◌≡◌, true, OnOk, Some, None};
+ghost use Rattle.array_build.specs.inner.Masked.{AddsMasked, IsMask};
 ghost use Rattle.arrow_schema.specs.Column.{nulls, booleans};
 ghost use Rattle.arrow_schema.specs.View.{kind_of};
 ghost use Rattle.array_build.specs.Batch.{plain_column};
@@ -11,7 +12,8 @@ use crate::batch::{BuiltBatch, push_any_buffer, push_buffer, push_node};
 use crate::run_bits::run_booleans;
 use crate::run_contents::{run_contents, run_offsets};
 use crate::run_slots::{count_slots, push_run_slots};
-use crate::run_values::run_values;
+use crate::run_values::masked_values;
+use crate::slot_masks::push_masked_slots;
 use arrow_schema::DataType;
 use columns::{OffsetWidth, SlotRun};
 use std::alloc::{AllocError, Global};
@@ -22,27 +24,29 @@ pub(crate) fn build_run_nulls(
     batch: &mut BuiltBatch<'_>,
     data_type: &DataType,
     runs: &[SlotRun<'_>],
+    mask: &[u8],
 ) -> Result<(), AllocError>
     requires nulls { kind_of data_type.now ≡ nulls }
-    ensures { OnOk result (AddsRuns (kind_of data_type.now) runs.now batch.old batch.new) }
+    ensures { OnOk result (AddsMasked (kind_of data_type.now) runs.now mask.now batch.old batch.new) }
 {
     let slots = count_slots(runs)?;
     push_node(batch, slots, slots)
 }
 
-#[tactic(auto, using(crate::proofs::RunArrays::boolean_runs_are))]
 pub(crate) fn build_run_bits(
     alloc: Global,
     batch: &mut BuiltBatch<'_>,
     data_type: &DataType,
     runs: &[SlotRun<'_>],
+    mask: &[u8],
 ) -> Result<(), AllocError>
     requires booleans { kind_of data_type.now ≡ booleans }
-    requires ready { AreAsWritten (kind_of data_type.now) runs.now }
-    ensures { OnOk result (AddsRuns (kind_of data_type.now) runs.now batch.old batch.new) }
+    requires sound { are_runs_sound (plain_column (kind_of data_type.now) None) runs.now ≡ true }
+    requires mask { IsMask mask.now runs.now }
+    ensures { OnOk result (AddsMasked (kind_of data_type.now) runs.now mask.now batch.old batch.new) }
 {
-    push_run_slots(alloc, batch, runs)?;
-    push_buffer(batch, run_booleans(alloc, runs)?)
+    let below = push_masked_slots(alloc, batch, runs, mask)?;
+    push_buffer(batch, run_booleans(alloc, runs, &below)?)
 }
 
 /// Values of one width.
@@ -53,13 +57,15 @@ pub(crate) fn build_run_values<'a>(
     data_type: &DataType,
     width: usize,
     runs: &[SlotRun<'a>],
+    mask: &[u8],
 ) -> Result<(), AllocError>
     requires width { fixed_width (kind_of data_type.now) ≡ Some width }
     requires sound { are_runs_sound (plain_column (kind_of data_type.now) None) runs.now ≡ true }
-    ensures { OnOk result (AddsRuns (kind_of data_type.now) runs.now batch.old batch.new) }
+    requires mask { IsMask mask.now runs.now }
+    ensures { OnOk result (AddsMasked (kind_of data_type.now) runs.now mask.now batch.old batch.new) }
 {
-    push_run_slots(alloc, batch, runs)?;
-    push_any_buffer(batch, run_values(alloc, data_type, width, runs)?)
+    push_masked_slots(alloc, batch, runs, mask)?;
+    push_any_buffer(batch, masked_values(alloc, data_type, width, runs, mask)?)
 }
 
 /// Texts and binaries.

@@ -236,6 +236,18 @@ impl<'a> KnownEntries<'a> {
         }
     }
 
+    /// The place of an entry of this number, if it is named.
+    #[inline]
+    pub(crate) fn named_place(&self, number: usize) -> Option<usize>
+        requires { number < length (seen_cells self.now) }
+        ensures named { IfSome result (λ place. (c : Cell) → is_entry c (get_or (seen_cells self.now) number null) ≡ true
+            → named_cells self.now ≡ with_entry (named_cells self.now) c) }
+        ensures place { IfSome result (λ place. (c : Cell) → is_entry c (get_or (seen_cells self.now) number null) ≡ true
+            → Some place ≡ code_in (named_cells self.now) c) }
+    {
+        self.places[number]
+    }
+
     /// How many entries are named.
     pub(crate) fn count(&self) -> usize
         ensures { result ≡ length (named_cells self.now) }

@@ -1,26 +1,24 @@
-// Values of booleans, of runs whose slots are all valid.
-ghost use Rattle.std.specs.Prelude.{◌≡◌, ◌++◌, true, OnOk, IfOk, None, map};
+// Values of booleans.
+ghost use Rattle.std.specs.Prelude.{◌≡◌, ◌++◌, true, OnOk, IfOk, None, length};
 ghost use Rattle.array_build.specs.Batch.{plain_column};
-ghost use Rattle.array_build.specs.inner.Runs.{AreReady, kind_cells};
-ghost use Rattle.columns.specs.Runs.{is_run_sound, is_run_valid, run_cells};
+ghost use Rattle.array_build.specs.inner.Masked.{IsMask, joined, slots_mask};
+ghost use Rattle.array_build.specs.inner.Runs.{run_values, runs_bits, runs_values};
+ghost use Rattle.columns.specs.Runs.{are_runs_sound, is_run_sound};
 ghost use Rattle.arrow_schema.specs.Column.{booleans};
-ghost use Rattle.arrow_schema.specs.View.{kind_of};
 ghost use Rattle.bitmap.specs.Bits.{packed};
-ghost use Rattle.columns.specs.Built.{is_set};
 
 use crate::run_flags::{are_short, push_alike, push_booleans};
 use crate::run_slots::count_slots;
-use arrow_schema::DataType;
-use bitmap::{MaskBuilder, pack};
+use crate::slot_masks::both_set;
+use bitmap::{MaskBuilder, pack, packed_reads_back};
 use columns::SlotRun;
 use std::alloc::{AllocError, Global};
 
-// The values of a run of booleans.
-#[tactic(auto, using(crate::proofs::RunBits::no_bits))]
+// The values of a run of booleans, whatever stands below nulls.
+#[tactic(auto, using(crate::proofs::RunBits::no_values))]
 fn push_run(bits: &mut MaskBuilder, run: &SlotRun<'_>) -> Result<(), AllocError>
-    requires sound { is_run_sound (plain_column booleans None) run.now ≡ true }
-    requires valid { is_run_valid run.now ≡ true }
-    ensures { OnOk result (bits.new ≡ bits.old ++ map is_set (run_cells (plain_column booleans None) run.now)) }
+    requires { is_run_sound (plain_column booleans None) run.now ≡ true }
+    ensures { OnOk result (bits.new ≡ bits.old ++ run_values run.now) }
 {
     match run {
         SlotRun::Slots { array, from, len } => {
@@ -33,11 +31,10 @@ fn push_run(bits: &mut MaskBuilder, run: &SlotRun<'_>) -> Result<(), AllocError>
 }
 
 // The same, a flag for each slot.
-#[tactic(auto, using(crate::proofs::RunBits::no_bits))]
+#[tactic(auto, using(crate::proofs::RunBits::no_values))]
 fn push_flags(flags: &mut Vec<bool>, run: &SlotRun<'_>) -> Result<(), AllocError>
-    requires sound { is_run_sound (plain_column booleans None) run.now ≡ true }
-    requires valid { is_run_valid run.now ≡ true }
-    ensures { OnOk result (flags.new.items ≡ flags.old.items ++ map is_set (run_cells (plain_column booleans None) run.now)) }
+    requires { is_run_sound (plain_column booleans None) run.now ≡ true }
+    ensures { OnOk result (flags.new.items ≡ flags.old.items ++ run_values run.now) }
 {
     match run {
         SlotRun::Slots { array, from, len } => push_booleans(flags, *array, *from, *len),
@@ -47,8 +44,8 @@ fn push_flags(flags: &mut Vec<bool>, run: &SlotRun<'_>) -> Result<(), AllocError
 
 // A flag for each slot of runs, of which there are about n.
 fn boolean_flags(alloc: Global, slots: usize, runs: &[SlotRun<'_>]) -> Result<Vec<bool>, AllocError>
-    requires { AreReady booleans runs.now }
-    ensures { IfOk result (λ flags. flags.items ≡ map is_set (kind_cells booleans runs.now)) }
+    requires { are_runs_sound (plain_column booleans None) runs.now ≡ true }
+    ensures { IfOk result (λ flags. flags.items ≡ runs_values runs.now) }
 {
     let mut flags = Vec::with_capacity(alloc, slots)?;
     for run in runs {
@@ -57,12 +54,15 @@ fn boolean_flags(alloc: Global, slots: usize, runs: &[SlotRun<'_>]) -> Result<Ve
     Ok(flags)
 }
 
-/// A bit for each slot, set where it is the boolean true.
-pub(crate) fn run_booleans(alloc: Global, runs: &[SlotRun<'_>]) -> Result<Vec<u8>, AllocError>
-    requires { AreReady booleans runs.now }
-    ensures { IfOk result (λ bytes. bytes.items ≡ packed (map is_set (kind_cells booleans runs.now))) }
+// A bit for each of the n slots of runs, whatever stands below nulls.
+fn written_booleans(
+    alloc: Global,
+    slots: usize,
+    runs: &[SlotRun<'_>],
+) -> Result<Vec<u8>, AllocError>
+    requires { are_runs_sound (plain_column booleans None) runs.now ≡ true }
+    ensures { IfOk result (λ bytes. bytes.items ≡ packed (runs_values runs.now)) }
 {
-    let slots = count_slots(runs)?;
     if are_short(slots, runs) {
         return pack(alloc, &boolean_flags(alloc, slots, runs)?);
     }
@@ -71,4 +71,23 @@ pub(crate) fn run_booleans(alloc: Global, runs: &[SlotRun<'_>]) -> Result<Vec<u8
         push_run(&mut bits, run)?;
     }
     Ok(bits.into_mask())
+}
+
+/// A bit for each slot under a mask, set where it is the boolean true.
+pub(crate) fn run_booleans(
+    alloc: Global,
+    runs: &[SlotRun<'_>],
+    mask: &[u8],
+) -> Result<Vec<u8>, AllocError>
+    requires sound { are_runs_sound (plain_column booleans None) runs.now ≡ true }
+    requires mask { IsMask mask.now runs.now }
+    ensures { IfOk result (λ bytes. bytes.items ≡ packed (joined (slots_mask mask.now runs.now) (runs_values runs.now))) }
+{
+    let slots = count_slots(runs)?;
+    let bits = written_booleans(alloc, slots, runs)?;
+    if mask.is_empty() {
+        return Ok(bits);
+    }
+    packed_reads_back();
+    both_set(alloc, mask, &bits, slots)
 }

@@ -1,9 +1,9 @@
 // The places of cells among the entries of a dictionary, of runs of slots. An entry of an array's own dictionary is looked up once, and then known by its
 // number.
-ghost use Rattle.std.specs.Prelude.{◌≡◌, ◌≤◌, ◌+◌, ◌-◌, ◌*◌, ◌/◌, ◌++◌, true, false, OnOk, IfOk, IfSome, Some, drop, is_some, length, replicate, set, take};
+ghost use Rattle.std.specs.Prelude.{◌≡◌, ◌≤◌, ◌<◌, ◌+◌, ◌-◌, ◌*◌, ◌/◌, ◌++◌, List, true, false, OnOk, IfOk, IfSome, Some, drop, get_or, is_some, length, replicate, set, take};
 ghost use Rattle.std.specs.List.{list_all};
 ghost use Rattle.arrow_schema.specs.View.{bits_of, column_of, index_of};
-ghost use Rattle.array_build.specs.inner.Codes.{AreCodedSlots, AreKnown, HasPlace, IsCodedSlot, IsNumber, IsPut, IsWritten, code_in, coded_cell, known_at, noted, own_entries, sized_code};
+ghost use Rattle.array_build.specs.inner.Codes.{AreCodedSlots, AreKnown, AreSetFrom, HasPlace, IsCodedSlot, IsNumber, IsPartWritten, IsPut, IsWritten, code_in, coded_cell, known_at, noted, own_entries, sized_code};
 ghost use Rattle.array_build.specs.inner.Named.{named_cells, seen_cells};
 ghost use Rattle.array_build.specs.inner.RunCells.{is_coded};
 ghost use Rattle.array_build.specs.inner.Runs.{run_bits, runs_bits};
@@ -102,7 +102,19 @@ fn new_code<'a>(
     code_at(entries, number)
 }
 
-// Writes the index that a code is, and whether there is one, at the place of a slot.
+// Writes the index that a code is at the place of a slot.
+#[inline]
+fn put_index<const SIZE: usize>(indices: &mut [u8], place: usize, code: Option<usize>)
+    requires small { SIZE ≤ 8 }
+    requires room { SIZE * place + SIZE ≤ length indices.old }
+    ensures { indices.new ≡ take (SIZE * place) indices.old ++ (sized_code SIZE code ++ drop (SIZE * place + SIZE) indices.old) }
+{
+    // a number of the code is below 2^64, so that the place of the index is too
+    let _room = indices.len();
+    put_code::<SIZE>(indices, SIZE * place, code);
+}
+
+// The same, and whether there is one.
 #[inline]
 fn put_at<const SIZE: usize>(
     indices: &mut [u8],
@@ -114,14 +126,11 @@ fn put_at<const SIZE: usize>(
     ensures index { indices.new ≡ take (SIZE * place) indices.old ++ (sized_code SIZE code ++ drop (SIZE * place + SIZE) indices.old) }
     ensures valid { valid.new ≡ set valid.old place (is_some code) }
 {
-    // a number of the code is below 2^64, so that the place of the index is too
-    let _room = indices.len();
-    put_code::<SIZE>(indices, SIZE * place, code);
+    put_index::<SIZE>(indices, place, code);
     valid[place] = code.is_some();
 }
 
-// Writes what a slot has that is valid, and whose entry is not known. It is no part of the loop over slots, which would keep its variables in memory for it.
-#[inline(never)]
+// Writes what a slot has that is valid, and whose entry is not known.
 fn put_new_code<'a, const SIZE: usize>(
     entries: &mut KnownEntries<'a>,
     known: &mut StampedNumbers,
@@ -146,8 +155,8 @@ fn put_new_code<'a, const SIZE: usize>(
     Ok(())
 }
 
-// Writes what a slot has. Each way writes by itself, so that none asks again whether there is a code.
-#[inline]
+// Writes what a slot has that is valid. It is no part of the loop over slots, which would keep its variables in memory for it.
+#[inline(never)]
 fn put_slot_code<'a, const SIZE: usize, const SIGNED: bool>(
     entries: &mut KnownEntries<'a>,
     known: &mut StampedNumbers,
@@ -161,6 +170,7 @@ fn put_slot_code<'a, const SIZE: usize, const SIGNED: bool>(
     requires size { SIZE ≡ (index_of slots.spec).bits / 8 }
     requires signed { SIGNED ≡ (index_of slots.spec).signed }
     requires slot { IsCodedSlot field.now slots i }
+    requires valid { is_valid (view_array slots.view) i ≡ true }
     requires known { AreKnown (seen_cells entries.old) (own_entries field.now slots.view) known.old }
     requires place { HasPlace SIZE place indices.old valid.old }
     ensures entries { OnOk result (named_cells entries.new ≡ with_entry (named_cells entries.old) (coded_cell field.now slots.entry i)) }
@@ -168,10 +178,6 @@ fn put_slot_code<'a, const SIZE: usize, const SIGNED: bool>(
         indices.old indices.new valid.old valid.new) }
     ensures known { OnOk result (AreKnown (seen_cells entries.new) (own_entries field.now slots.entry.view) known.new) }
 {
-    if !slots.is_valid(i) {
-        put_at::<SIZE>(indices, valid, place, None);
-        return Ok(());
-    }
     let number = slots.number_below::<SIZE, SIGNED>(i, known.len() as u64);
     if let Some(known) = known_code(known, number) {
         let code = entries.place_of(known)?;
@@ -179,6 +185,116 @@ fn put_slot_code<'a, const SIZE: usize, const SIGNED: bool>(
         return Ok(());
     }
     put_new_code::<SIZE>(entries, known, indices, valid, field, slots, i, place)
+}
+
+// The place of the entry of a slot, which is valid, if it is named.
+#[inline]
+fn named_code<const SIZE: usize, const SIGNED: bool>(
+    entries: &KnownEntries<'_>,
+    known: &StampedNumbers,
+    field: &Field,
+    slots: CodedSlots<'_>,
+    i: usize,
+) -> Option<usize>
+    requires size { SIZE ≡ (index_of slots.spec).bits / 8 }
+    requires signed { SIGNED ≡ (index_of slots.spec).signed }
+    requires slot { IsCodedSlot field.now slots i }
+    requires valid { is_valid (view_array slots.view) i ≡ true }
+    requires known { AreKnown (seen_cells entries.now) (own_entries field.now slots.view) known.now }
+    ensures entries { IfSome result (λ code. named_cells entries.now ≡ with_entry (named_cells entries.now) (coded_cell field.now slots.entry i)) }
+    ensures code { IfSome result (λ code. Some code ≡ code_in (named_cells entries.now) (coded_cell field.now slots.entry i)) }
+{
+    let number = slots.number_below::<SIZE, SIGNED>(i, known.len() as u64);
+    match known_code(known, number) {
+        Some(number) => entries.named_place(number),
+        None => None,
+    }
+}
+
+// Writes what a slot has whose bit is set, if it is null or its entry is named, and tells whether it is.
+#[inline]
+fn put_named_code<const SIZE: usize, const SIGNED: bool>(
+    entries: &KnownEntries<'_>,
+    known: &StampedNumbers,
+    indices: &mut [u8],
+    valid: &mut [bool],
+    field: &Field,
+    slots: CodedSlots<'_>,
+    i: usize,
+    place: usize,
+) -> bool
+    requires size { SIZE ≡ (index_of slots.spec).bits / 8 }
+    requires signed { SIGNED ≡ (index_of slots.spec).signed }
+    requires slot { IsCodedSlot field.now slots i }
+    requires known { AreKnown (seen_cells entries.now) (own_entries field.now slots.view) known.now }
+    requires place { HasPlace SIZE place indices.old valid.old }
+    requires set { get_or valid.old place true ≡ true }
+    ensures entries { result ≡ true → named_cells entries.now ≡ with_entry (named_cells entries.now) (coded_cell field.now slots.entry i) }
+    ensures put { result ≡ true → IsPut SIZE place (named_cells entries.now) (coded_cell field.now slots.entry i)
+        indices.old indices.new valid.old valid.new }
+    ensures valid { result ≡ false → is_valid (view_array slots.entry.view) i ≡ true }
+    ensures indices { result ≡ false → indices.new ≡ indices.old }
+    ensures bits { result ≡ false → valid.new ≡ valid.old }
+{
+    if !slots.is_valid(i) {
+        put_at::<SIZE>(indices, valid, place, None);
+        return true;
+    }
+    match named_code::<SIZE, SIGNED>(entries, known, field, slots, i) {
+        Some(code) => {
+            put_index::<SIZE>(indices, place, Some(code));
+            true
+        }
+        None => false,
+    }
+}
+
+// Writes what slots have from one on, up to the first whose entry is not named, and gives that one. Their bits are set before, and written for nulls alone.
+fn put_named_codes<const SIZE: usize, const SIGNED: bool>(
+    entries: &KnownEntries<'_>,
+    known: &StampedNumbers,
+    indices: &mut [u8],
+    valid: &mut [bool],
+    field: &Field,
+    slots: CodedSlots<'_>,
+    from: usize,
+    first: usize,
+    to: usize,
+) -> usize
+    requires small { SIZE ≤ 8 }
+    requires size { SIZE ≡ (index_of slots.spec).bits / 8 }
+    requires signed { SIGNED ≡ (index_of slots.spec).signed }
+    requires order { from ≤ first }
+    requires within { first ≤ to }
+    requires slots { AreCodedSlots field.now slots first to }
+    requires known { AreKnown (seen_cells entries.now) (own_entries field.now slots.view) known.now }
+    requires room { length indices.old ≡ SIZE * (to - from) }
+    requires places { length valid.old ≡ to - from }
+    requires set { AreSetFrom (first - from) valid.old }
+    ensures order { first ≤ result }
+    ensures within { result ≤ to }
+    ensures valid { result < to → is_valid (view_array slots.entry.view) result ≡ true }
+    ensures slots { AreCodedSlots field.now slots.entry result to }
+    ensures set { AreSetFrom (result - from) valid.new }
+    ensures written { let cells = coded_cell field.now slots.entry in let entries = named_cells entries.now in (start all : List Cell)
+        → IsPartWritten SIZE start all entries (cells_from cells first (to - first)) indices.old valid.old (first - from)
+        → IsPartWritten SIZE start all entries (cells_from cells result (to - result)) indices.new valid.new (result - from) }
+{
+    for i in first..to {
+        if !put_named_code::<SIZE, SIGNED>(
+            entries,
+            known,
+            indices,
+            valid,
+            field,
+            slots,
+            i,
+            i - from,
+        ) {
+            return i;
+        }
+    }
+    to
 }
 
 // Writes the indices of n bytes, with a sign or without, of some slots of an array, and whether each slot has one, where there is room for just these.
@@ -195,6 +311,7 @@ fn put_sized_codes<'a, const SIZE: usize, const SIGNED: bool>(
     requires small { SIZE ≤ 8 }
     requires size { SIZE ≡ (index_of slots.spec).bits / 8 }
     requires signed { SIGNED ≡ (index_of slots.spec).signed }
+    requires order { from ≤ to }
     requires slots { AreCodedSlots field.now slots from to }
     requires known { AreKnown (seen_cells entries.old) (own_entries field.now slots.view) known.old }
     requires room { length indices.old ≡ SIZE * (to - from) }
@@ -205,10 +322,27 @@ fn put_sized_codes<'a, const SIZE: usize, const SIGNED: bool>(
 {
     // a number of the code is below 2^64, so that the places of all indices are too
     let _room = indices.len();
-    for i in from..to {
-        put_slot_code::<SIZE, SIGNED>(entries, known, indices, valid, field, slots, i, i - from)?;
+    valid.fill(true);
+    let mut i = from;
+    loop {
+        let next = put_named_codes::<SIZE, SIGNED>(
+            entries, known, indices, valid, field, slots, from, i, to,
+        );
+        if next == to {
+            return Ok(());
+        }
+        put_slot_code::<SIZE, SIGNED>(
+            entries,
+            known,
+            indices,
+            valid,
+            field,
+            slots,
+            next,
+            next - from,
+        )?;
+        i = next + 1;
     }
-    Ok(())
 }
 
 // The same, by a loop for indices with a sign and one for those without.
@@ -224,6 +358,7 @@ fn put_codes_of_size<'a, const SIZE: usize>(
 ) -> Result<(), AllocError>
     requires small { SIZE ≤ 8 }
     requires size { SIZE ≡ (index_of slots.spec).bits / 8 }
+    requires order { from ≤ to }
     requires slots { AreCodedSlots field.now slots from to }
     requires known { AreKnown (seen_cells entries.old) (own_entries field.now slots.view) known.old }
     requires room { length indices.old ≡ SIZE * (to - from) }
@@ -250,6 +385,7 @@ fn put_slot_codes<'a>(
     from: usize,
     to: usize,
 ) -> Result<(), AllocError>
+    requires order { from ≤ to }
     requires slots { AreCodedSlots field.now slots from to }
     requires known { AreKnown (seen_cells entries.old) (own_entries field.now slots.view) known.old }
     requires room { length indices.old ≡ bits_of slots.spec.index.width / 8 * (to - from) }

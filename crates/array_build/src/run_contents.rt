@@ -21,8 +21,13 @@ use byteorder::{ByteOrder, LittleEndian};
 use columns::{ArrayView, OffsetWidth, SlotRun, bytes_at, push_offset};
 use std::alloc::{AllocError, Global};
 
-// The bytes of some slots' texts or binaries.
-fn slot_contents<'a>(array: ArrayView<'a>, width: OffsetWidth, from: usize, len: usize) -> &'a [u8]
+/// The bytes of some slots' texts or binaries.
+pub(crate) fn slot_contents<'a>(
+    array: ArrayView<'a>,
+    width: OffsetWidth,
+    from: usize,
+    len: usize,
+) -> &'a [u8]
     requires long { are_few_offsets (width_of width) (view_array array) ≡ false }
     requires within { from + len ≤ slots_in (view_array array) }
     ensures { result.now ≡ span_contents (width_of width) (view_array array.entry) from len }
@@ -143,8 +148,8 @@ fn push_slot_offsets(
     Ok(next)
 }
 
-// The same offset for each of some nulls.
-fn push_null_offsets(
+/// The same offset for each of some nulls.
+pub(crate) fn push_null_offsets(
     offsets: &mut Vec<u8>,
     width: OffsetWidth,
     count: usize,

@@ -1,15 +1,16 @@
-// The items of lists of one size, of runs that are all valid.
-ghost use Rattle.std.specs.Prelude.{◌≡◌, true, IfOk, None};
+// The items of lists of one size, whatever stands below nulls, and the mask of these items.
+ghost use Rattle.std.specs.Prelude.{◌≡◌, ◌≤◌, ◌*◌, ◌++◌, true, OnOk, IfOk, length, replicate};
 ghost use Rattle.std.specs.List.{flat_map};
-ghost use Rattle.array_build.specs.inner.RunItems.{AreItems, fixed_column};
-ghost use Rattle.array_build.specs.inner.Runs.{AreReady, kind_cells};
-ghost use Rattle.columns.specs.Runs.{are_runs_sound, is_run_sound, is_run_valid, run_cells, runs_cells};
-ghost use Rattle.arrow_schema.specs.Column.{fixed_lists};
+ghost use Rattle.array_build.specs.inner.Masked.{bitmap_bits, mask_bits, repeated};
+ghost use Rattle.array_build.specs.inner.RunItems.{AreFixedItems, fixed_below, fixed_column};
+ghost use Rattle.array_build.specs.inner.Runs.{bitmap_of};
+ghost use Rattle.bitmap.specs.Bits.{packed};
+ghost use Rattle.columns.specs.Runs.{are_runs_sound, is_run_sound, runs_cells};
 ghost use Rattle.arrow_schema.specs.View.{column_of};
-ghost use Rattle.columns.specs.Built.{fixed_items};
 
 use crate::item_slots::item_slots;
 use arrow_schema::Field;
+use bitmap::{MaskBuilder, get, packed_reads_back, run_end};
 use columns::SlotRun;
 use std::alloc::{AllocError, Global};
 
@@ -20,9 +21,8 @@ fn fixed_item_run<'a>(
     size: usize,
     run: &SlotRun<'a>,
 ) -> Result<SlotRun<'a>, AllocError>
-    requires sound { is_run_sound (fixed_column size (column_of item.now)) run.now ≡ true }
-    requires valid { is_run_valid run.now ≡ true }
-    ensures { IfOk result (λ part. AreItems (fixed_items size) (column_of item.now) part (run_cells (fixed_column size (column_of item.now)) run.now)) }
+    requires { is_run_sound (fixed_column size (column_of item.now)) run.now ≡ true }
+    ensures { IfOk result (λ part. AreFixedItems size (column_of item.now) run.now part) }
 {
     match run {
         SlotRun::Slots { array, from, len } => {
@@ -39,16 +39,15 @@ fn fixed_item_run<'a>(
     }
 }
 
-/// The items of lists of one size, one after another; below a null all are nulls.
+/// The items of lists of one size, one after another, whatever stands below nulls.
 pub(crate) fn fixed_item_runs<'a>(
     alloc: Global,
     item: &Field,
     size: usize,
     runs: &[SlotRun<'a>],
 ) -> Result<Vec<SlotRun<'a>>, AllocError>
-    requires { AreReady (fixed_lists size (column_of item.now)) runs.now }
-    ensures cells { IfOk result (λ items. runs_cells (column_of item.now) items.items
-        ≡ flat_map (fixed_items size) (kind_cells (fixed_lists size (column_of item.now)) runs.now)) }
+    requires { are_runs_sound (fixed_column size (column_of item.now)) runs.now ≡ true }
+    ensures cells { IfOk result (λ items. runs_cells (column_of item.now) items.items ≡ flat_map (fixed_below size (column_of item.now)) runs.now) }
     ensures sound { IfOk result (λ items. are_runs_sound (column_of item.now) items.items ≡ true) }
 {
     let mut items = Vec::with_capacity(alloc, runs.len())?;
@@ -56,4 +55,74 @@ pub(crate) fn fixed_item_runs<'a>(
         items.push_reserved(fixed_item_run(item, size, run)?);
     }
     Ok(items)
+}
+
+// Adds the same bit `count * size` times. More than a number counts have no room in memory.
+fn push_repeated(
+    bits: &mut MaskBuilder,
+    count: usize,
+    size: usize,
+    set: bool,
+) -> Result<(), AllocError>
+    ensures { OnOk result (bits.new ≡ bits.old ++ replicate (count * size) set) }
+{
+    match count.checked_mul(size) {
+        Some(count) => bits.push_alike(count, set),
+        None => Err(AllocError),
+    }
+}
+
+// Each of n bits of a mask, so many times.
+fn repeated_bits(
+    alloc: Global,
+    mask: &[u8],
+    slots: usize,
+    size: usize,
+) -> Result<Vec<u8>, AllocError>
+    requires { slots ≤ 8 * length mask.now }
+    ensures { IfOk result (λ bytes. bytes.items ≡ packed (repeated size (mask_bits mask.now 0 slots))) }
+{
+    let mut bits = MaskBuilder::with_capacity(alloc, slots.saturating_mul(size))?;
+    let mut next = 0;
+    while next < slots {
+        let stop = run_end(mask, next, slots);
+        push_repeated(&mut bits, stop - next, size, get(mask, next))?;
+        next = stop;
+    }
+    Ok(bits.into_mask())
+}
+
+// The same of a mask that may have no byte.
+fn repeated_mask(
+    alloc: Global,
+    mask: &[u8],
+    slots: usize,
+    size: usize,
+) -> Result<Vec<u8>, AllocError>
+    requires { mask.now ≡ bitmap_of (bitmap_bits mask.now slots) }
+    ensures { IfOk result (λ bytes. bytes.items ≡ bitmap_of (repeated size (bitmap_bits mask.now slots))) }
+{
+    if size == 0 {
+        return Ok(Vec::new(alloc));
+    }
+    if mask.is_empty() {
+        return Ok(Vec::new(alloc));
+    }
+    repeated_bits(alloc, mask, slots, size)
+}
+
+/// The mask of the items of lists of one size: each bit of the mask of the lists, so many times.
+pub(crate) fn item_mask(
+    alloc: Global,
+    mask: &[u8],
+    slots: usize,
+    size: usize,
+) -> Result<Vec<u8>, AllocError>
+    requires { mask.now ≡ bitmap_of (bitmap_bits mask.now slots) }
+    ensures exact { IfOk result (λ bytes. bytes.items ≡ bitmap_of (repeated size (bitmap_bits mask.now slots))) }
+    ensures bits { IfOk result (λ bytes. bitmap_bits bytes.items (slots * size) ≡ repeated size (bitmap_bits mask.now slots)) }
+{
+    let bytes = repeated_mask(alloc, mask, slots, size)?;
+    packed_reads_back();
+    Ok(bytes)
 }

@@ -123,8 +123,12 @@ fn push_run_bits(bits: &mut MaskBuilder, run: &SlotRun<'_>) -> Result<(), AllocE
     }
 }
 
-// The validity bitmap of runs that have n slots.
-fn run_validity(alloc: Global, slots: usize, runs: &[SlotRun<'_>]) -> Result<Vec<u8>, AllocError>
+/// The validity bitmap of runs that have n slots.
+pub(crate) fn run_validity(
+    alloc: Global,
+    slots: usize,
+    runs: &[SlotRun<'_>],
+) -> Result<Vec<u8>, AllocError>
     requires count { slots ≡ length (runs_bits runs.now) }
     requires validity { list_all has_validity runs.now ≡ true }
     ensures bits { IfOk result (λ bytes. bytes.items ≡ bitmap_of (runs_bits runs.now)) }

@@ -2,6 +2,7 @@
 ghost use Rattle.std.specs.Prelude.{◌≡◌, ◌≤◌, ◌+◌, ◌-◌, ◌*◌, ◌++◌, true, false, OnOk, IfOk, Some, None, map, take, drop, replicate, length};
 ghost use Rattle.std.specs.List.{flat_map, range_with_len};
 ghost use Rattle.array_build.specs.Batch.{buffer_bytes, plain_column};
+ghost use Rattle.array_build.specs.inner.Masked.{IsMask, masked_cells};
 ghost use Rattle.array_build.specs.inner.Runs.{cleared, fixed_value, fixed_width, is_run_as_written, kind_cells};
 ghost use Rattle.bitmap.specs.Bits.{bit};
 ghost use Rattle.columns.specs.Runs.{are_runs_sound, is_run_sound, run_cells};
@@ -16,15 +17,11 @@ ghost use Rattle.facts.specs.Bytes.{AreBytes};
 use crate::as_written::are_slots_as_written;
 use crate::batch::Buffer;
 use crate::run_slots::{count_slots, only_run};
+use crate::slot_masks::are_bytes;
 use arrow_schema::DataType;
 use bitmap::alike_end;
 use columns::{ArrayView, SlotRun};
 use std::alloc::{AllocError, Global};
-
-// A byte is below 256: a contract knows it of a slice that it is given.
-fn are_bytes(bytes: &[u8])
-    ensures { AreBytes bytes.now }
-{}
 
 // The values of some slots of an array.
 fn slot_values<'a>(array: ArrayView<'a>, width: usize, from: usize, len: usize) -> &'a [u8]
@@ -165,8 +162,8 @@ fn copied_values(
     Ok(values)
 }
 
-/// The values of runs, with zeros where there is a null: where they stand, if the slots of one run are all and stand as they are written.
-pub(crate) fn run_values<'a>(
+// The values of runs, with zeros where there is a null: where they stand, if the slots of one run are all and stand as they are written.
+fn run_values<'a>(
     alloc: Global,
     data_type: &DataType,
     width: usize,
@@ -182,4 +179,27 @@ pub(crate) fn run_values<'a>(
         }
     }
     Ok(Buffer::Made(copied_values(alloc, data_type, width, runs)?))
+}
+
+/// The values of runs under a mask, with zeros where there is a null.
+pub(crate) fn masked_values<'a>(
+    alloc: Global,
+    data_type: &DataType,
+    width: usize,
+    runs: &[SlotRun<'a>],
+    mask: &[u8],
+) -> Result<Buffer<'a>, AllocError>
+    requires width { fixed_width (kind_of data_type.now) ≡ Some width }
+    requires sound { are_runs_sound (plain_column (kind_of data_type.now) None) runs.now ≡ true }
+    requires mask { IsMask mask.now runs.now }
+    ensures { IfOk result (λ buffer. buffer_bytes buffer
+        ≡ flat_map (fixed_value (kind_of data_type.now)) (masked_cells (plain_column (kind_of data_type.now) None) mask.now runs.now)) }
+{
+    if mask.is_empty() {
+        return run_values(alloc, data_type, width, runs);
+    }
+    let slots = count_slots(runs)?;
+    let mut values = copied_values(alloc, data_type, width, runs)?;
+    clear_unset(values.as_mut_slice(), 0, width, mask, 0, slots);
+    Ok(Buffer::Made(values))
 }

@@ -64,6 +64,22 @@ pub record IsWritten (size : ℕ) (old_entries new_entries : List Cell) (bytes :
   pub indices : bytes ≡ flat_map (sized_code size) codes
   pub valid : bits ≡ map is_some codes
 
+-- the codes of some of all cells, as others are left
+pub record IsUnderway (start : List Cell) (all : List Cell) (es : List Cell) (ks : List (Option ℕ)) (left : List Cell) : Type 0 where
+  pub entries : with_entries es left ≡ with_entries start all
+  pub codes : (more : List Cell) → ks ++ map (code_in (with_entries (with_entries start all) more)) left ≡ map (code_in (with_entries (with_entries start all) more)) all
+
+-- the same, written over the first of the bytes and bits that stand for all
+pub record IsPartWritten (size : ℕ) (start all es left : List Cell) (bytes : List ℕ) (bits : List Bool) (done : ℕ) : Type 0 where
+  pub codes : List (Option ℕ)
+  pub coded : IsUnderway start all es codes left
+  pub indices : take (size * done) bytes ≡ flat_map (sized_code size) codes
+  pub valid : take done bits ≡ map is_some codes
+
+-- all bits from a place on are set
+abbrev pub AreSetFrom : ℕ → List Bool → Type 0
+AreSetFrom from bits = (n : ℕ) → from ≤ n → get_or bits n true ≡ true
+
 -- ---- what is known of the entries of an array's own dictionary
 
 abbrev pub own_entries : Field → ArrayView → List Cell

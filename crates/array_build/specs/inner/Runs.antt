@@ -3,14 +3,14 @@ use Rattle.std.specs.Prelude.{◌≡◌, ℕ, ◌+◌, ◌-◌, ◌/◌, Bool, t
 use Rattle.std.specs.List.{flat_map, list_all, range_with_len}
 use Rattle.byteorder.specs.Endian.{little_bytes}
 use Rattle.arrow_schema.specs.Column.{Kind, Columns, integers, dates, timestamps, texts, large_texts, binaries, large_binaries, fixed_binaries, lists, large_lists, no_column, and_column}
-use Rattle.columns.specs.Runs.{runs_cells, are_runs_sound, are_runs_valid}
+use Rattle.columns.specs.Runs.{runs_cells, are_runs_sound}
 use Rattle.columns.specs.declared.slot_runs.SlotRun.{SlotRun}
 use Rattle.columns.specs.declared.slot_runs.SlotRun.TheVariants.{Slots, Nulls}
-use Rattle.bitmap.specs.Bits.{packed}
+use Rattle.bitmap.specs.Bits.{bit, packed}
 use Rattle.cells.specs.Cell.{Cell}
 use Rattle.cells.specs.Fit.{date_bits}
 use Rattle.columns.specs.Buildable.{can_build}
-use Rattle.columns.specs.Array.{Array, contents_in, offsets_in, values_in}
+use Rattle.columns.specs.Array.{Array, bits_in, contents_in, offsets_in, values_in}
 use Rattle.columns.specs.Built.{contents_of, integer_bytes, fixed_bytes, sums_from}
 use Rattle.columns.specs.CellAt.{is_valid, number_at, span_size, value_at}
 use Rattle.columns.specs.Tests.{Typed, unset_bits}
@@ -33,12 +33,6 @@ kind_cells kind runs = runs_cells (plain_column kind None) runs
 abbrev pub AddsRuns : Kind → List SlotRun → (old new : BuiltBatch) → Type 0
 AddsRuns kind runs old new = batch_in new ≡ with_arrays (batch_in old) (built_at (plain_column kind None) (kind_cells kind runs))
 
--- the array of such runs can be built run by run
-pub record AreReady (kind : Kind) (runs : List SlotRun) : Type 0 where
-  pub sound : are_runs_sound (plain_column kind None) runs ≡ true
-  pub valid : are_runs_valid runs ≡ true
-  pub fit : can_build (plain_column kind None) (kind_cells kind runs) ≡ true
-
 -- ---- which slots are valid
 
 abbrev pub run_bits : SlotRun → List Bool
@@ -50,6 +44,14 @@ runs_bits runs = flat_map run_bits runs
 
 abbrev pub bitmap_of : List Bool → List ℕ
 bitmap_of bits = if list_all (λ b. b) bits then [] else packed bits
+
+-- the bits of booleans, whatever stands below nulls
+abbrev pub run_values : SlotRun → List Bool
+run_values (Slots view from len) = map (bit (bits_in (view_array view))) (range_with_len from len)
+run_values (Nulls n) = replicate n false
+
+abbrev pub runs_values : List SlotRun → List Bool
+runs_values runs = flat_map run_values runs
 
 -- the node and the validity bitmap of slots
 abbrev pub with_validity : PlainBatch → (slots : ℕ) → (validity : List ℕ) → PlainBatch

@@ -1,49 +1,36 @@
-use Rattle.std.specs.Prelude.{None}
-use Rattle.std.proofs.Common.{◌∙◌, ◌+◌, ◌++◌, Bool, List, ap, drop, map, refl, sym}
-use Rattle.std.proofs.lemmas.Bool.{and_parts}
-use Rattle.std.proofs.lemmas.List.{map-append}
-use Rattle.arrow_schema.specs.Column.{Column, booleans}
-use Rattle.bitmap.specs.Bits.{packed}
-use Rattle.cells.specs.Cell.{Cell}
-use Rattle.columns.specs.Built.{is_set}
-use Rattle.facts.specs.laws.Lists.{drop-item}
-use Rattle.array_build.proofs.Ended.{ended}
-use Rattle.array_build.proofs.Turns.{turned}
+use Rattle.std.proofs.Common.{◌≡◌, ◌∙◌, ℕ, Bool, List, ap, arith, length, sym}
+use Rattle.std.proofs.lemmas.Bool.{eqb-false, eqb-true}
+use Rattle.std.proofs.lemmas.Result.{IfOk-weaker}
+use Rattle.array_build.proofs.MaskedRuns.{mask_long}
+use Rattle.array_build.proofs.Masks.{joined_packed, joined_without, packed_long}
+use Rattle.array_build.proofs.RunArrays.{runs_values_counted}
 use Rattle.array_build.proofs.run_bits.run_booleans.Goals as goal
-use Rattle.array_build.specs.Batch.{plain_column}
-use Rattle.array_build.specs.inner.Runs.{kind_cells}
-use Rattle.columns.specs.Runs.{are_runs_sound, are_runs_valid, is_run_sound, is_run_valid, run_cells}
-use Rattle.columns.specs.declared.slot_runs.SlotRun.{SlotRun}
+use Rattle.array_build.specs.inner.Masked.{bitmap_bits, joined}
+use Rattle.array_build.specs.inner.Runs.{runs_bits, runs_values}
+use Rattle.bitmap.specs.Bits.{packed}
 
-pub push_run-requires-clause-sound : goal.push_run-requires-clause-sound
-push_run-requires-clause-sound c =
-    let col : Column = plain_column booleans None in
-    let others : List SlotRun = drop (c.loop-run.run-index + 1) c.args.runs.now in
-    let item = drop-item c.args.runs.now c.loop-run.run-index c.run-item.result c.loop-run-test.true c.run-item.is in
-    (and_parts (is_run_sound col c.run-item.result) (are_runs_sound col others) (sym (ap (are_runs_sound col) item) ∙ c.loop-run.invariant.sound)).0
+pub returns-then-is_empty : goal.returns-then-is_empty
+returns-then-is_empty c =
+    let none : length c.args.mask.now ≡ 0 = eqb-true _ 0 (sym c.is_empty.ensures ∙ c.if-is_empty.true) in
+    c.in_ok-bits.ensures ∙ ap packed (sym (joined_without c.args.mask.now (runs_values c.args.runs.now) (length (runs_bits c.args.runs.now)) (runs_values_counted c.args.runs.now) none))
 
-pub push_run-requires-clause-valid : goal.push_run-requires-clause-valid
-push_run-requires-clause-valid c =
-    let others : List SlotRun = drop (c.loop-run.run-index + 1) c.args.runs.now in
-    let item = drop-item c.args.runs.now c.loop-run.run-index c.run-item.result c.loop-run-test.true c.run-item.is in
-    (and_parts (is_run_valid c.run-item.result) (are_runs_valid others) (sym (ap are_runs_valid item) ∙ c.loop-run.invariant.valid)).0
+pub both_set-requires-clause-first : goal.both_set-requires-clause-first
+both_set-requires-clause-first c =
+    let long = mask_long c.args.mask.now c.args.runs.now c.requires.mask (eqb-false _ 0 (sym c.is_empty.ensures ∙ c.if-is_empty.false)) in
+    omega (arith, long, c.in_ok-slots.ensures)
 
-pub loop-run-preserved : goal.loop-run-preserved
-loop-run-preserved c =
-    let col : Column = plain_column booleans None in
-    let made : List Bool = c.loop-run.bits in
-    let own : List Cell = run_cells col c.run-item.result in
-    let others : List SlotRun = drop (c.loop-run.run-index + 1) c.args.runs.now in
-    let item = drop-item c.args.runs.now c.loop-run.run-index c.run-item.result c.loop-run-test.true c.run-item.is in
-    let kept = ap (λ (bits : List Bool). made ++ bits) (sym (map-append is_set own (kind_cells booleans others)))
-    ∙ sym (ap (λ (rs : List SlotRun). made ++ map is_set (kind_cells booleans rs)) item) ∙ c.loop-run.invariant.bits in
-    record {
-      sound = (and_parts (is_run_sound col c.run-item.result) (are_runs_sound col others) (sym (ap (are_runs_sound col) item) ∙ c.loop-run.invariant.sound)).1;
-      valid = (and_parts (is_run_valid c.run-item.result) (are_runs_valid others) (sym (ap are_runs_valid item) ∙ c.loop-run.invariant.valid)).1;
-      bits = turned made (map is_set own) (map is_set (kind_cells booleans others)) _ _ c.in_ok-push_run.ensures kept;
-    }
+pub both_set-requires-clause-second : goal.both_set-requires-clause-second
+both_set-requires-clause-second c =
+    let long = packed_long c.deref.result.now (runs_values c.args.runs.now) (c.deref.ensures.value ∙ c.in_ok-bits.ensures) in
+    omega (arith, long, c.in_ok-slots.ensures, runs_values_counted c.args.runs.now)
 
 pub returns : goal.returns
 returns c =
-    let bits = ended (λ (rs : List SlotRun). map is_set (kind_cells booleans rs)) c.loop-run.bits _ c.args.runs.now c.loop-run.run-index refl c.loop-run-test.false c.loop-run.invariant.bits in
-    c.into_mask.ensures.exact ∙ ap packed bits
+    let values : List Bool = runs_values c.args.runs.now in
+    let count = c.in_ok-slots.ensures in
+    let some = eqb-false _ 0 (sym c.is_empty.ensures ∙ c.if-is_empty.false) in
+    IfOk-weaker c.both_set.result _ _
+    (λ bytes is. is ∙ joined_packed c.packed_reads_back.ensures c.args.mask.now c.deref.result.now values c.in_ok-slots.slots (count ∙ runs_values_counted c.args.runs.now)
+    (c.deref.ensures.value ∙ c.in_ok-bits.ensures) some
+    ∙ ap (λ (n : ℕ). packed (joined (bitmap_bits c.args.mask.now n) values)) count)
+    c.both_set.ensures

@@ -7,8 +7,9 @@ use Rattle.arrow_schema.specs.Column.{Column}
 use Rattle.arrow_schema.specs.View.{bits_of, column_of}
 use Rattle.array_build.specs.inner.Named.{named_cells}
 use Rattle.array_build.proofs.CodedRuns.{all_front}
-use Rattle.array_build.proofs.Written.{IsPartWritten, all_written, part_size, some_written}
+use Rattle.array_build.proofs.Written.{all_written, part_size, some_written}
 use Rattle.array_build.proofs.run_codes.put_codes.Goals as goal
+use Rattle.array_build.specs.inner.Codes.{IsPartWritten}
 use Rattle.array_build.specs.inner.RunCells.{is_coded}
 use Rattle.array_build.specs.inner.Runs.{run_bits, runs_bits}
 use Rattle.columns.specs.Runs.{are_runs_sound, is_run_sound, run_cells, runs_cells}

@@ -2,7 +2,7 @@ use Rattle.std.proofs.Common.{◌≡◌, ◌+◌, ◌/◌, true, drop, length}
 use Rattle.std.specs.List.{list_all}
 use Rattle.arrow_schema.specs.View.{bits_of, column_of}
 use Rattle.array_build.specs.inner.Named.{named_cells}
-use Rattle.array_build.proofs.Written.{IsPartWritten}
+use Rattle.array_build.specs.inner.Codes.{IsPartWritten}
 use Rattle.array_build.specs.inner.RunCells.{is_coded}
 use Rattle.array_build.specs.inner.Runs.{runs_bits}
 use Rattle.columns.specs.Runs.{are_runs_sound, runs_cells}

@@ -1,36 +1,33 @@
-use Rattle.std.proofs.Common.{List, arith, drop, subst, sym}
-use Rattle.std.proofs.lemmas.List.{drop_all}
-use Rattle.array_build.proofs.RunItems.{AreItemsLeft, no_items_yet, first_is, items_more, all_items}
+use Rattle.std.specs.List.{flat_map}
+use Rattle.std.proofs.Common.{◌+◌, ◌++◌, ◌∙◌, List, ap, arith, drop, refl, sym}
+use Rattle.std.proofs.lemmas.Bool.{and_parts}
+use Rattle.array_build.proofs.Ended.{ended}
+use Rattle.array_build.proofs.Turns.{turned}
 use Rattle.array_build.proofs.run_fixed_items.fixed_item_runs.Goals as goal
-use Rattle.array_build.specs.inner.RunItems.{fixed_column}
-use Rattle.columns.specs.Runs.{is_run_valid}
-use Rattle.columns.specs.declared.slot_runs.SlotRun.{SlotRun}
+use Rattle.array_build.specs.inner.RunItems.{fixed_below, fixed_column}
 use Rattle.arrow_schema.specs.Column.{Column}
 use Rattle.arrow_schema.specs.View.{column_of}
-use Rattle.columns.specs.Built.{fixed_items}
-use Rattle.facts.specs.laws.Lists.{drop-item}
+use Rattle.cells.specs.Cell.{Cell}
+use Rattle.columns.specs.Runs.{are_runs_sound, is_run_sound, run_cells, runs_cells}
+use Rattle.columns.specs.declared.slot_runs.SlotRun.{SlotRun}
+use Rattle.facts.specs.laws.Lists.{all_pushed, drop-item, flat_map-push}
 
 pub loop-run-init : goal.loop-run-init
 loop-run-init c =
     let item : Column = column_of c.args.item.now in
     record {
-      items = subst (λ (xs : List SlotRun). AreItemsLeft is_run_valid (fixed_items c.args.size) (fixed_column c.args.size item) item c.args.runs.now c.args.runs.now xs) (sym c.in_ok-items.ensures.items)
-          (no_items_yet is_run_valid (fixed_items c.args.size) (fixed_column c.args.size item) item c.args.runs.now c.requires.sound c.requires.valid);
+      left = c.requires;
+      cells = ap (λ (xs : List SlotRun). runs_cells item xs ++ flat_map (fixed_below c.args.size item) c.args.runs.now) c.in_ok-items.ensures.items;
+      sound = ap (are_runs_sound item) c.in_ok-items.ensures.items;
       len = c.in_ok-items.ensures.len;
       room = omega (arith, c.in_ok-items.ensures.capacity);
     }
 
-pub fixed_item_run-requires-clause-sound : goal.fixed_item_run-requires-clause-sound
-fixed_item_run-requires-clause-sound c =
-    let item : Column = column_of c.args.item.now in
+pub fixed_item_run-requires : goal.fixed_item_run-requires
+fixed_item_run-requires c =
+    let col : Column = fixed_column c.args.size (column_of c.args.item.now) in
     let here = drop-item c.args.runs.now c.loop-run.run-index c.run-item.result c.loop-run-test.true c.run-item.is in
-    (first_is is_run_valid (fixed_items c.args.size) (fixed_column c.args.size item) item c.args.runs.now _ _ c.loop-run.items.items c.run-item.result here c.loop-run.invariant.items).0
-
-pub fixed_item_run-requires-clause-valid : goal.fixed_item_run-requires-clause-valid
-fixed_item_run-requires-clause-valid c =
-    let item : Column = column_of c.args.item.now in
-    let here = drop-item c.args.runs.now c.loop-run.run-index c.run-item.result c.loop-run-test.true c.run-item.is in
-    (first_is is_run_valid (fixed_items c.args.size) (fixed_column c.args.size item) item c.args.runs.now _ _ c.loop-run.items.items c.run-item.result here c.loop-run.invariant.items).1
+    (and_parts (is_run_sound col c.run-item.result) (are_runs_sound col (drop (c.loop-run.run-index + 1) c.args.runs.now)) (sym (ap (are_runs_sound col) here) ∙ c.loop-run.invariant.left)).0
 
 pub push_reserved-requires : goal.push_reserved-requires
 push_reserved-requires c = omega (arith, c.loop-run-test.true, c.loop-run.invariant.len, c.loop-run.invariant.room)
@@ -38,10 +35,19 @@ push_reserved-requires c = omega (arith, c.loop-run-test.true, c.loop-run.invari
 pub loop-run-preserved : goal.loop-run-preserved
 loop-run-preserved c =
     let item : Column = column_of c.args.item.now in
-    let here = drop-item c.args.runs.now c.loop-run.run-index c.run-item.result c.loop-run-test.true c.run-item.is in
+    let col : Column = fixed_column c.args.size item in
+    let run : SlotRun = c.run-item.result in
+    let part : SlotRun = c.in_ok-fixed_item_run.field-0 in
+    let others : List SlotRun = drop (c.loop-run.run-index + 1) c.args.runs.now in
+    let old : List SlotRun = c.loop-run.items.items in
+    let here = drop-item c.args.runs.now c.loop-run.run-index run c.loop-run-test.true c.run-item.is in
+    let kept = sym (ap (λ (rs : List SlotRun). runs_cells item old ++ flat_map (fixed_below c.args.size item) rs) here) ∙ c.loop-run.invariant.cells in
+    let added = ap (runs_cells item) c.push_reserved.ensures.items ∙ flat_map-push (run_cells item) old part
+    ∙ ap (λ (cells : List Cell). runs_cells item old ++ cells) c.in_ok-fixed_item_run.ensures.cells in
     record {
-      items = items_more is_run_valid (fixed_items c.args.size) (fixed_column c.args.size item) item c.args.runs.now _ _ c.loop-run.items.items c.push_reserved.new.self.items c.run-item.result c.in_ok-fixed_item_run.field-0 here
-          c.push_reserved.ensures.items c.in_ok-fixed_item_run.ensures c.loop-run.invariant.items;
+      left = (and_parts (is_run_sound col run) (are_runs_sound col others) (sym (ap (are_runs_sound col) here) ∙ c.loop-run.invariant.left)).1;
+      cells = turned (runs_cells item old) (fixed_below c.args.size item run) (flat_map (fixed_below c.args.size item) others) _ _ added kept;
+      sound = ap (are_runs_sound item) c.push_reserved.ensures.items ∙ all_pushed (is_run_sound item) old part c.loop-run.invariant.sound c.in_ok-fixed_item_run.ensures.sound;
       len = omega (arith, c.push_reserved.ensures.len, c.loop-run.invariant.len);
       room = omega (arith, c.push_reserved.ensures.capacity, c.loop-run.invariant.room);
     }
@@ -49,8 +55,8 @@ loop-run-preserved c =
 pub returns-clause-cells : goal.returns-clause-cells
 returns-clause-cells c =
     let item : Column = column_of c.args.item.now in
-    all_items is_run_valid (fixed_items c.args.size) (fixed_column c.args.size item) item c.args.runs.now (drop c.loop-run.run-index c.args.runs.now) c.loop-run.items.items
-    (drop_all c.loop-run.run-index c.args.runs.now c.loop-run-test.false) c.loop-run.invariant.items
+    ended (λ (rs : List SlotRun). flat_map (fixed_below c.args.size item) rs) (runs_cells item c.loop-run.items.items) _ c.args.runs.now c.loop-run.run-index refl c.loop-run-test.false
+    c.loop-run.invariant.cells
 
 pub returns-clause-sound : goal.returns-clause-sound
-returns-clause-sound c = c.loop-run.invariant.items.good
+returns-clause-sound c = c.loop-run.invariant.sound

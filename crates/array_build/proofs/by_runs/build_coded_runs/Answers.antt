@@ -1,0 +1,35 @@
+use Rattle.std.specs.Prelude.{OnOk, None, is_some}
+use Rattle.std.proofs.Common.{◌≡◌, ◌∙◌, List, ap, map, subst}
+use Rattle.arrow_schema.specs.Column.{Kind}
+use Rattle.arrow_schema.specs.View.{column_of, index_of, kind_of}
+use Rattle.array_build.proofs.Coded.{dictionary_built, entries_can}
+use Rattle.array_build.proofs.CodedRuns.{field_coded}
+use Rattle.array_build.proofs.Fields.{dictionary_can_be_built, dictionary_field}
+use Rattle.array_build.proofs.by_runs.build_coded_runs.Goals as goal
+use Rattle.array_build.specs.Batch.{PlainBatch, batch_in, dictionary_in, plain_column}
+use Rattle.columns.specs.Runs.{runs_cells}
+use Rattle.cells.specs.Cell.{Cell}
+use Rattle.columns.specs.Buildable.{can_build}
+use Rattle.values.specs.Borrowed.{borrowed_cell}
+
+pub push_run_indices-requires-clause-coded : goal.push_run_indices-requires-clause-coded
+push_run_indices-requires-clause-coded c =
+    field_coded c.args.field.now (runs_cells (column_of c.args.field.now) c.args.runs.now) (ap is_some c.requires.spec) c.requires.fits
+
+pub build_values-requires : goal.build_values-requires
+build_values-requires c =
+    let kind : Kind = kind_of c.args.field.now.data_type in
+    let cells : List Cell = runs_cells (column_of c.args.field.now) c.args.runs.now in
+    let entries = ap (map borrowed_cell) c.deref.ensures.value ∙ c.in_ok-cells.ensures.entries in
+    ap (can_build (plain_column kind None)) entries
+    ∙ entries_can kind (index_of c.args.spec) cells (dictionary_can_be_built c.args.field.now c.args.spec cells c.requires.spec c.requires.fits)
+
+pub returns : goal.returns
+returns c =
+    let kind : Kind = kind_of c.args.field.now.data_type in
+    let cells : List Cell = runs_cells (column_of c.args.field.now) c.args.runs.now in
+    let entries = ap (map borrowed_cell) c.deref.ensures.value ∙ c.in_ok-cells.ensures.entries in
+    let built = dictionary_built kind (index_of c.args.spec) cells (map borrowed_cell c.deref.result.now) (batch_in c.args.batch.now) (batch_in c.push_run_indices.new.batch)
+    (dictionary_in c.in_ok-values.values) entries c.in_ok-cells.ensures.batch c.in_ok-values.ensures
+    ∙ dictionary_field (batch_in c.args.batch.now) c.args.field.now c.args.spec cells c.requires.spec in
+    subst (λ (p : PlainBatch). OnOk c.push_dictionary.result (batch_in c.push_dictionary.new.batch ≡ p)) built c.push_dictionary.ensures

@@ -1,0 +1,291 @@
+// Texts and binaries under a mask: a slot whose bit is not set has no bytes, whatever stands there.
+ghost use Rattle.std.specs.Prelude.{◌≡◌, ◌≤◌, ◌<◌, ◌+◌, ◌-◌, ◌*◌, ◌^◌, ◌++◌, [], false, true, OnOk, IfOk, Some, None, length, if◌then◌else◌};
+ghost use Rattle.std.specs.List.{flat_map};
+ghost use Rattle.array_build.specs.Batch.{batch_in, plain_column};
+ghost use Rattle.array_build.specs.inner.Masked.{AddsMasked, IsMask, are_below, mask_bits, masked_cells};
+ghost use Rattle.array_build.specs.inner.MaskedContents.{AreUnder, masked_sizes, masked_spans, run_under, runs_under, with_contents};
+ghost use Rattle.array_build.specs.inner.Runs.{AreAsWritten, AreOffsetsAdded, cell_sizes, contents_width, kind_cells, run_bits, span_contents};
+ghost use Rattle.arrow_schema.specs.View.{kind_of};
+ghost use Rattle.bitmap.specs.Bits.{bit};
+ghost use Rattle.columns.specs.Array.{slots_in, contents_in};
+ghost use Rattle.columns.specs.Buildable.{can_build, large_offset};
+ghost use Rattle.columns.specs.Built.{contents_of, offsets_of};
+ghost use Rattle.columns.specs.CellAt.{number_at};
+ghost use Rattle.columns.specs.Offsets.{width_of};
+ghost use Rattle.columns.specs.Runs.{are_runs_sound, is_run_sound};
+ghost use Rattle.columns.specs.Tests.{are_few_offsets, are_unordered};
+ghost use Rattle.columns.specs.View.{view_array};
+
+use crate::batch::{BuiltBatch, push_any_buffer, push_buffer};
+use crate::run_contents::{offset_at, push_null_offsets, run_contents, run_offsets, slot_contents};
+use crate::run_slots::{count_slots, run_len};
+use crate::slot_masks::push_masked_slots;
+use arrow_schema::DataType;
+use bitmap::{get, run_end};
+use columns::{ArrayView, OffsetWidth, SlotRun, push_offset};
+use std::alloc::{AllocError, Global};
+
+// How many bytes stand between an offset and the next, if a bit is set.
+fn masked_size(offsets: &[u8], width: OffsetWidth, i: usize, mask: &[u8], at: usize) -> u64
+    requires within { (i + 1 + 1) * width_of width ≤ length offsets.now }
+    requires counted { i + 1 < 2 ^ 64 }
+    requires ordered { number_at (width_of width) offsets.now i ≤ number_at (width_of width) offsets.now (i + 1) }
+    requires bit { at < 8 * length mask.now }
+    ensures { result ≡ (if bit mask.now at then number_at (width_of width) offsets.now (i + 1) - number_at (width_of width) offsets.now i else 0) }
+{
+    if get(mask, at) {
+        offset_at(offsets, width, i + 1) - offset_at(offsets, width, i)
+    } else {
+        0
+    }
+}
+
+// The offsets at which the bytes of some slots begin, by the bits of a mask from one on up to another; and where the last end.
+fn push_slot_offsets(
+    offsets: &mut Vec<u8>,
+    width: OffsetWidth,
+    array: ArrayView<'_>,
+    from: usize,
+    mask: &[u8],
+    at: usize,
+    to: usize,
+    start: u64,
+) -> Result<u64, AllocError>
+    requires long { are_few_offsets (width_of width) (view_array array) ≡ false }
+    requires ordered { are_unordered (width_of width) (length (contents_in (view_array array))) (view_array array) ≡ false }
+    requires order { at ≤ to }
+    requires bits { to ≤ 8 * length mask.now }
+    requires within { from + (to - at) ≤ slots_in (view_array array) }
+    requires room { start + length (masked_spans (width_of width) (view_array array) from (mask_bits mask.now at (to - at))) ≤ large_offset }
+    ensures offsets { IfOk result (λ next. AreOffsetsAdded (width_of width) offsets.old.items offsets.new.items start next
+        (masked_sizes (width_of width) (view_array array.entry) from (mask_bits mask.now at (to - at)))) }
+    ensures next { IfOk result (λ next. next
+        ≡ start + length (masked_spans (width_of width) (view_array array.entry) from (mask_bits mask.now at (to - at)))) }
+{
+    // a number of the code is below 2^64, so that each place is too
+    let _slots = array.slots();
+    let source = array.offsets();
+    let mut next = start;
+    for i in at..to {
+        push_offset(offsets, width, next)?;
+        next += masked_size(source, width, from + (i - at), mask, i);
+    }
+    Ok(next)
+}
+
+// The offsets at which the bytes of a run begin, by the bits of a mask from one on; and where its last end.
+fn push_run_offsets(
+    offsets: &mut Vec<u8>,
+    data_type: &DataType,
+    width: OffsetWidth,
+    run: &SlotRun<'_>,
+    mask: &[u8],
+    at: usize,
+    start: u64,
+) -> Result<u64, AllocError>
+    requires width { contents_width (kind_of data_type.now) ≡ Some (width_of width) }
+    requires sound { is_run_sound (plain_column (kind_of data_type.now) None) run.now ≡ true }
+    requires counted { at + length (run_bits run.now) < 2 ^ 64 }
+    requires long { at + length (run_bits run.now) ≤ 8 * length mask.now }
+    requires below { are_below (mask_bits mask.now at (length (run_bits run.now))) (run_bits run.now) ≡ true }
+    requires room { start + length (flat_map contents_of (run_under (kind_of data_type.now) mask.now at run.now)) ≤ large_offset }
+    ensures offsets { IfOk result (λ next. AreOffsetsAdded (width_of width) offsets.old.items offsets.new.items start next
+        (cell_sizes (run_under (kind_of data_type.now) mask.now at run.now))) }
+    ensures next { IfOk result (λ next. next ≡ start + length (flat_map contents_of (run_under (kind_of data_type.now) mask.now at run.now))) }
+{
+    match run {
+        SlotRun::Slots { array, from, len } => {
+            push_slot_offsets(offsets, width, *array, *from, mask, at, at + *len, start)
+        }
+        SlotRun::Nulls(count) => {
+            push_null_offsets(offsets, width, *count, start)?;
+            Ok(start)
+        }
+    }
+}
+
+/// The offsets of texts or binaries under a mask: 0, and then where each ends.
+pub(crate) fn masked_offsets(
+    alloc: Global,
+    data_type: &DataType,
+    width: OffsetWidth,
+    runs: &[SlotRun<'_>],
+    mask: &[u8],
+) -> Result<Vec<u8>, AllocError>
+    requires width { contents_width (kind_of data_type.now) ≡ Some (width_of width) }
+    requires under { AreUnder (kind_of data_type.now) mask.now runs.now }
+    ensures { IfOk result (λ bytes. bytes.items
+        ≡ offsets_of (width_of width) (cell_sizes (runs_under (kind_of data_type.now) mask.now 0 runs.now))) }
+{
+    let slots = count_slots(runs)?;
+    let size = slots.saturating_add(1).saturating_mul(8);
+    let mut offsets = Vec::with_capacity(alloc, size)?;
+    let mut next = 0;
+    let mut at = 0;
+    for run in runs {
+        next = push_run_offsets(&mut offsets, data_type, width, run, mask, at, next)?;
+        at += run_len(run);
+    }
+    push_offset(&mut offsets, width, next)?;
+    Ok(offsets)
+}
+
+// The bytes of some slots, if they are to be there.
+fn push_span(
+    contents: &mut Vec<u8>,
+    array: ArrayView<'_>,
+    width: OffsetWidth,
+    from: usize,
+    len: usize,
+    is_there: bool,
+) -> Result<(), AllocError>
+    requires long { are_few_offsets (width_of width) (view_array array) ≡ false }
+    requires within { from + len ≤ slots_in (view_array array) }
+    ensures { OnOk result (contents.new.items ≡ contents.old.items
+        ++ (if is_there then span_contents (width_of width) (view_array array.entry) from len else [])) }
+{
+    if is_there {
+        contents.extend_from_slice(slot_contents(array, width, from, len))?;
+    }
+    Ok(())
+}
+
+// The bytes of some slots by the bits of a mask from one on up to another: those of bits that are set in a row are copied at once.
+fn push_slot_contents(
+    contents: &mut Vec<u8>,
+    array: ArrayView<'_>,
+    width: OffsetWidth,
+    from: usize,
+    mask: &[u8],
+    at: usize,
+    to: usize,
+) -> Result<(), AllocError>
+    requires long { are_few_offsets (width_of width) (view_array array) ≡ false }
+    requires ordered { are_unordered (width_of width) (length (contents_in (view_array array))) (view_array array) ≡ false }
+    requires order { at ≤ to }
+    requires bits { to ≤ 8 * length mask.now }
+    requires within { from + (to - at) ≤ slots_in (view_array array) }
+    ensures { OnOk result (contents.new.items ≡ contents.old.items
+        ++ masked_spans (width_of width) (view_array array.entry) from (mask_bits mask.now at (to - at))) }
+{
+    // a number of the code is below 2^64, so that each place is too
+    let _slots = array.slots();
+    let mut i = at;
+    while i < to {
+        let end = run_end(mask, i, to);
+        push_span(
+            contents,
+            array,
+            width,
+            from + (i - at),
+            end - i,
+            get(mask, i),
+        )?;
+        i = end;
+    }
+    Ok(())
+}
+
+// The bytes of a run by the bits of a mask from one on.
+fn push_run_contents(
+    contents: &mut Vec<u8>,
+    data_type: &DataType,
+    width: OffsetWidth,
+    run: &SlotRun<'_>,
+    mask: &[u8],
+    at: usize,
+) -> Result<(), AllocError>
+    requires width { contents_width (kind_of data_type.now) ≡ Some (width_of width) }
+    requires sound { is_run_sound (plain_column (kind_of data_type.now) None) run.now ≡ true }
+    requires counted { at + length (run_bits run.now) < 2 ^ 64 }
+    requires long { at + length (run_bits run.now) ≤ 8 * length mask.now }
+    requires below { are_below (mask_bits mask.now at (length (run_bits run.now))) (run_bits run.now) ≡ true }
+    ensures { OnOk result (contents.new.items ≡ contents.old.items ++ flat_map contents_of (run_under (kind_of data_type.now) mask.now at run.now)) }
+{
+    match run {
+        SlotRun::Slots { array, from, len } => {
+            push_slot_contents(contents, *array, width, *from, mask, at, at + *len)
+        }
+        SlotRun::Nulls(_) => Ok(()),
+    }
+}
+
+/// The bytes of texts or binaries under a mask, one after another.
+pub(crate) fn masked_contents(
+    alloc: Global,
+    data_type: &DataType,
+    width: OffsetWidth,
+    runs: &[SlotRun<'_>],
+    mask: &[u8],
+) -> Result<Vec<u8>, AllocError>
+    requires width { contents_width (kind_of data_type.now) ≡ Some (width_of width) }
+    requires under { AreUnder (kind_of data_type.now) mask.now runs.now }
+    ensures { IfOk result (λ bytes. bytes.items ≡ flat_map contents_of (runs_under (kind_of data_type.now) mask.now 0 runs.now)) }
+{
+    // as many slots as a number counts, so that each place is below 2^64
+    let _slots = count_slots(runs)?;
+    let mut contents = Vec::new(alloc);
+    let mut at = 0;
+    for run in runs {
+        push_run_contents(&mut contents, data_type, width, run, mask, at)?;
+        at += run_len(run);
+    }
+    Ok(contents)
+}
+
+/// Adds the offsets and the bytes of texts or binaries under a mask.
+pub(crate) fn push_masked_contents(
+    alloc: Global,
+    batch: &mut BuiltBatch<'_>,
+    data_type: &DataType,
+    width: OffsetWidth,
+    runs: &[SlotRun<'_>],
+    mask: &[u8],
+) -> Result<(), AllocError>
+    requires width { contents_width (kind_of data_type.now) ≡ Some (width_of width) }
+    requires under { AreUnder (kind_of data_type.now) mask.now runs.now }
+    ensures { OnOk result (batch_in batch.new
+        ≡ with_contents (width_of width) (batch_in batch.old) (runs_under (kind_of data_type.now) mask.now 0 runs.now)) }
+{
+    push_buffer(batch, masked_offsets(alloc, data_type, width, runs, mask)?)?;
+    push_buffer(batch, masked_contents(alloc, data_type, width, runs, mask)?)
+}
+
+// The same of runs that stand as they are written.
+fn push_written_contents<'a>(
+    alloc: Global,
+    batch: &mut BuiltBatch<'a>,
+    data_type: &DataType,
+    width: OffsetWidth,
+    runs: &[SlotRun<'a>],
+) -> Result<(), AllocError>
+    requires width { contents_width (kind_of data_type.now) ≡ Some (width_of width) }
+    requires ready { AreAsWritten (kind_of data_type.now) runs.now }
+    ensures { OnOk result (batch_in batch.new
+        ≡ with_contents (width_of width) (batch_in batch.old) (kind_cells (kind_of data_type.now) runs.now)) }
+{
+    push_buffer(batch, run_offsets(alloc, data_type, width, runs)?)?;
+    push_any_buffer(batch, run_contents(alloc, data_type, width, runs)?)
+}
+
+/// Adds the array of texts or binaries under a mask, whatever stands below their nulls.
+pub(crate) fn build_masked_contents<'a>(
+    alloc: Global,
+    batch: &mut BuiltBatch<'a>,
+    data_type: &DataType,
+    width: OffsetWidth,
+    runs: &[SlotRun<'a>],
+    mask: &[u8],
+) -> Result<(), AllocError>
+    requires width { contents_width (kind_of data_type.now) ≡ Some (width_of width) }
+    requires sound { are_runs_sound (plain_column (kind_of data_type.now) None) runs.now ≡ true }
+    requires mask { IsMask mask.now runs.now }
+    requires fits { can_build (plain_column (kind_of data_type.now) None) (masked_cells (plain_column (kind_of data_type.now) None) mask.now runs.now) ≡ true }
+    ensures { OnOk result (AddsMasked (kind_of data_type.now) runs.now mask.now batch.old batch.new) }
+{
+    let below = push_masked_slots(alloc, batch, runs, mask)?;
+    if below.is_empty() {
+        return push_written_contents(alloc, batch, data_type, width, runs);
+    }
+    push_masked_contents(alloc, batch, data_type, width, runs, &below)
+}
