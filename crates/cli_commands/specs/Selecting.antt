@@ -1,13 +1,12 @@
 -- What a query asks of a store, and what is printed of it.
-use Rattle.std.specs.Prelude.{◌≡◌, ◌==◌, ℕ, Bool, true, List, [], ◌∷◌, ◌++◌, codes, map, Option, Some, None, option_map, Result, Ok, Err, if◌then◌else◌}
+use Rattle.std.specs.Prelude.{◌≡◌, ◌==◌, ℕ, Bool, true, List, [], map, Option, Some, None, option_map, Result, Ok, Err, if◌then◌else◌}
 use Rattle.std.specs.List.{slice_split}
 use Rattle.sector_dev.specs.Disk.{Image}
-use Rattle.arrow_schema.specs.Column.{Column}
-use Rattle.cells.specs.Cell.{Cell, PlainTable}
+use Rattle.cells.specs.Cell.{PlainTable}
 use Rattle.catalogue.specs.Entries.{PlainEntry}
 use Rattle.query.specs.Bound as query
 use Rattle.query.specs.ConditionText.{condition_of}
-use Rattle.query.specs.ObjectLine.{are_named_apart, line_in}
+use Rattle.query.specs.ObjectLine.{are_named_apart, lines_text}
 use Rattle.query.specs.Query.{PlainCondition, PlainQuery}
 use Rattle.query.specs.Selection.{all_some, selection}
 use Rattle.query.specs.declared.row_form.RowForm.{RowForm}
@@ -36,12 +35,7 @@ RefusesWords stated (Query BadCondition) = stated ≡ None
 RefusesWords stated OutOfMemory = Unit {0}
 RefusesWords stated _ = ⊥
 
--- a line for each of the rows
-abbrev pub lines_text : RowForm → List Column → List (List Cell) → List ℕ
-lines_text form columns [] = []
-lines_text form columns (row ∷ rows) = line_in form columns row ++ codes "\n" ++ lines_text form columns rows
-
--- those of a table
+-- a line for each of the rows of a table
 abbrev pub rows_text : RowForm → PlainTable → List ℕ
 rows_text form t = lines_text form t.schema.columns t.rows
 

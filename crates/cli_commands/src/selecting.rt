@@ -1,29 +1,25 @@
 // Queries of the tables of an open store.
-ghost use Rattle.std.specs.Prelude.{◌≡◌, ◌≢◌, ◌++◌, codes, map, string_bytes, Some, Ok, IfOk, IfErr, OnOk};
+ghost use Rattle.std.specs.Prelude.{◌≡◌, ◌≢◌, map, string_bytes, Some, Ok, IfOk, IfErr, OnOk};
 ghost use Rattle.std.specs.Option.{option_copied};
 ghost use Rattle.std.specs.Io.KnownBytes.{Appends};
 ghost use Rattle.sector_dev.specs.Disk.{now, shown_image};
 ghost use Rattle.catalogue.specs.Edits.{entry_of};
-ghost use Rattle.arrow_schema.specs.View.{column_of};
 ghost use Rattle.cells.specs.Cell.{PlainTable};
 ghost use Rattle.values.specs.TableView.{table_of};
-ghost use Rattle.values.specs.Borrowed.{borrowed_cells};
-ghost use Rattle.query.specs.ObjectLine.{line_in};
 ghost use Rattle.query.specs.View.{query_in, condition_in, Reports};
 ghost use Rattle.store.specs.Fits.{device_of, is_halted, listed_in};
 ghost use Rattle.store.specs.Reading.{OnlyReadsStore};
 ghost use Rattle.cli_commands.specs.Reading.{store_ended};
 ghost use Rattle.cli_commands.specs.Selecting.{named_columns, conditions_of, stated_query, RefusesWords, rows_text, is_printable, printed_selection, AreLines, RefusesLines, QueryAnswers, RefusesQuery};
 
-use arrow_schema::Field;
 use cli_refusals::{Refusal, write_whole};
-use query::{Condition, Query, QueryError, RowForm, are_named_apart, line_in};
+use query::{Condition, Query, QueryError, RowForm, are_named_apart, push_lines};
 use sector_dev::SectorDevice;
 use selection::select;
 use std::alloc::{AllocError, Global};
 use std::io::Write;
 use store::Store;
-use values::{Table, Values};
+use values::Table;
 
 fn words_between_commas(alloc: Global, word: &str) -> Result<Vec<&str>, AllocError>
     ensures { IfOk result (λ v. map (λ t. t.now) v.items ≡ named_columns (Some word.now)) }
@@ -84,27 +80,11 @@ pub fn query_of(
     })
 }
 
-fn push_line(
-    alloc: Global,
-    text: &mut Vec<u8>,
-    form: RowForm,
-    fields: &[Field],
-    row: Values<'_>,
-) -> Result<(), AllocError>
-    ensures { OnOk result (text.new.items ≡ text.old.items ++ line_in form (map column_of fields.now) (borrowed_cells row.entry) ++ codes "\n") }
-{
-    text.extend_from_slice(&line_in(alloc, form, fields, row)?)?;
-    text.extend_from_slice(b"\n")
-}
-
 fn lines_of_rows(alloc: Global, form: RowForm, table: &Table) -> Result<Vec<u8>, AllocError>
     ensures { IfOk result (λ v. v.items ≡ rows_text form (table_of table.now)) }
 {
     let mut text = Vec::new(alloc);
-    let fields = table.schema().fields.as_slice();
-    for row in table.rows() {
-        push_line(alloc, &mut text, form, fields, row)?;
-    }
+    push_lines(alloc, &mut text, form, table)?;
     Ok(text)
 }
 

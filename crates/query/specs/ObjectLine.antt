@@ -40,3 +40,8 @@ are_named_apart cs = list_all (is_of_one cs) (map name_of_column cs)
 abbrev pub line_in : RowForm → List Column → List Cell → List ℕ
 line_in Array cs row = line row
 line_in Object cs row = object_line (map name_of_column cs) row
+
+-- a line for each of the rows
+abbrev pub lines_text : RowForm → List Column → List (List Cell) → List ℕ
+lines_text form columns [] = []
+lines_text form columns (row ∷ rows) = line_in form columns row ++ codes "\n" ++ lines_text form columns rows

@@ -7,3 +7,5 @@ pub mod Masks
 pub mod Nulls
 pub mod SlotTests
 pub mod Slots
+pub mod SlotLines
+pub mod PlainBytes

@@ -52,8 +52,8 @@ pub(crate) fn integer_columns(
     Ok(Some(columns))
 }
 
-// The number of a slot, unless it is null.
-fn slot_number(integer: IntegerType, view: ArrayView<'_>, slot: usize) -> Option<i128>
+/// The number of a slot, unless it is null.
+pub(crate) fn slot_number(integer: IntegerType, view: ArrayView<'_>, slot: usize) -> Option<i128>
     requires { has_integers integer (slot + 1) (view_array view) ≡ true }
     ensures { number_or_null result ≡ unless_null (integer_cell integer) (view_array view.entry) slot }
 {

@@ -35,6 +35,8 @@ mod query;
 mod row_form;
 mod selecting;
 mod slot_test;
+mod slot_value;
+mod table_lines;
 
 pub use choice::Choice;
 pub use condition::{Condition, Test};
@@ -48,3 +50,4 @@ pub use operator::Operator;
 pub use query::Query;
 pub use row_form::RowForm;
 pub use selecting::{choose, chosen_cells, pick_schema};
+pub use table_lines::push_lines;

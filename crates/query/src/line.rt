@@ -1,19 +1,20 @@
 // A row as a line of JSON.
 ghost use Rattle.std.specs.Prelude.{◌≡◌, ◌++◌, ◌^◌, ◌<◌, IfOk, OnOk, codes, slice_index};
 ghost use Rattle.std.specs.Fmt.{signed_decimal};
+ghost use Rattle.std.specs.List.{list_all};
 ghost use Rattle.json.specs.Print.{quoted};
 ghost use Rattle.hex.specs.Hex.{encode_lower, lower_digits};
 ghost use Rattle.cells.specs.Cell.{cells_of};
 ghost use Rattle.values.specs.Borrowed.{borrowed_cell, borrowed_cells};
 ghost use Rattle.query.specs.Line.{json_of, json_of_all, line};
+ghost use Rattle.query.specs.inner.PlainBytes.{is_plain_byte};
 
 use json::Writer;
 use std::alloc::{AllocError, Global};
-use std::mem;
 use values::{ValueRef, Values};
 
 /// The line of a row without its end: a JSON array of its values, without spaces. Bytes are strings of hexadecimal digits in
-/// lower case; lists and structs are arrays. No value takes memory of its own.
+/// lower case; lists and structs are arrays. No value takes memory of its own, but for a string with an escape.
 ///
 /// # Errors
 /// `AllocError` where memory was refused.
@@ -31,21 +32,54 @@ pub(crate) fn push_bytes(out: &mut Vec<u8>, bytes: &[u8]) -> Result<(), AllocErr
     out.extend_from_slice(bytes)
 }
 
-fn push_number(out: &mut Vec<u8>, number: i128) -> Result<(), AllocError>
+pub(crate) fn push_number(out: &mut Vec<u8>, number: i128) -> Result<(), AllocError>
     ensures { OnOk result (out.new.items ≡ out.old.items ++ signed_decimal number) }
 {
     let mut digits = itoa::Buffer::new();
     out.extend_from_slice(digits.format(number).as_bytes())
 }
 
+fn is_plain_byte(byte: u8) -> bool
+    ensures { result ≡ is_plain_byte byte }
+{
+    byte >= 32 && byte != b'"' && byte != b'\\'
+}
+
+/// Whether bytes stand in a JSON string as themselves: one by one, since most texts are short.
+pub(crate) fn are_plain(bytes: &[u8]) -> bool
+    ensures { result ≡ list_all is_plain_byte bytes.now }
+{
+    bytes.iter().all(|byte| is_plain_byte(*byte))
+}
+
+/// Adds bytes between quotes.
+pub(crate) fn push_in_quotes(out: &mut Vec<u8>, bytes: &[u8]) -> Result<(), AllocError>
+    ensures { OnOk result (out.new.items ≡ out.old.items ++ (codes "\"" ++ bytes.now ++ codes "\"")) }
+{
+    push_bytes(out, b"\"")?;
+    push_bytes(out, bytes)?;
+    push_bytes(out, b"\"")
+}
+
+// Adds a text that has a byte to be escaped. It is written by itself, since the writer clears all the room that it is given.
 #[tactic(auto, unfolding(json::specs::Print::print_from))]
+fn push_escaped(alloc: Global, out: &mut Vec<u8>, text: &str) -> Result<(), AllocError>
+    ensures { OnOk result (out.new.items ≡ out.old.items ++ quoted text.now) }
+{
+    let mut writer = Writer::new(Vec::new(alloc));
+    writer.string(text)?;
+    let written = writer.into_inner();
+    push_bytes(out, &written)
+}
+
 pub(crate) fn push_text(alloc: Global, out: &mut Vec<u8>, text: &str) -> Result<(), AllocError>
     ensures { OnOk result (out.new.items ≡ out.old.items ++ quoted text.now) }
 {
-    let mut writer = Writer::new(mem::replace(out, Vec::new(alloc)));
-    writer.string(text)?;
-    *out = writer.into_inner();
-    Ok(())
+    let bytes = text.as_bytes();
+    if are_plain(bytes) {
+        return push_in_quotes(out, bytes);
+    }
+    push_escaped(alloc, out, text)
 }
 
 // The digit of four bits.
@@ -68,7 +102,7 @@ fn push_hex(out: &mut Vec<u8>, bytes: &[u8]) -> Result<(), AllocError>
 }
 
 // The string of hexadecimal digits that bytes are.
-fn push_quoted_hex(out: &mut Vec<u8>, bytes: &[u8]) -> Result<(), AllocError>
+pub(crate) fn push_quoted_hex(out: &mut Vec<u8>, bytes: &[u8]) -> Result<(), AllocError>
     ensures { OnOk result (out.new.items ≡ out.old.items ++ (codes "\"" ++ encode_lower bytes.now ++ codes "\"")) }
 {
     push_bytes(out, b"\"")?;

@@ -116,7 +116,7 @@ pub fn json_object(alloc: Global, fields: &[Field], row: Values<'_>) -> Result<V
     Ok(text)
 }
 
-/// Appends the line of a row of these fields in a form, without its end. Neither the line nor a value takes memory of its own.
+/// Appends the line of a row of these fields in a form, without its end. Neither the line nor a value takes memory of its own, but for a string with an escape.
 ///
 /// # Errors
 /// `AllocError` where memory was refused: some of the line may be appended then.

@@ -1,8 +1,0 @@
--- The lines so far, and those of the rows that are left, are the lines of all.
-use Rattle.std.proofs.Common.{◌≡◌, ◌++◌}
-use Rattle.values.specs.TableView.{table_of, rows_left}
-use Rattle.cli_commands.specs.Selecting.{lines_text}
-use Rattle.cli_commands.proofs.selecting.lines_of_rows.Given as goal
-
-abbrev pub invariant-loop-row : goal.invariant-loop-row
-invariant-loop-row l = l.text.items ++ lines_text l.form (table_of l.table).schema.columns (rows_left l.row-iterator) ≡ lines_text l.form (table_of l.table).schema.columns (table_of l.table).rows

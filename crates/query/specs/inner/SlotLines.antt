@@ -1,0 +1,63 @@
+-- The line of a row of record batches, value by value from the arrays.
+use Rattle.std.specs.Prelude.{◌≡◌, ℕ, zero, suc, Bool, true, false, ◌&&◌, nat_lt, List, [], ◌++◌, codes, map, if◌then◌else◌}
+use Rattle.std.specs.List.{list_all}
+use Rattle.json.specs.Print.{quoted}
+use Rattle.arrow_schema.specs.Column.{Kind, Column, Columns}
+use Rattle.arrow_schema.specs.Parts.{name_of_column}
+use Rattle.cells.specs.Cell.{Cell, Cells, text, cells_of, cell_list}
+use Rattle.columns.specs.Array.{Array}
+use Rattle.columns.specs.CellAt.{cell_at, kind_cell, contents_at, unless_null}
+use Rattle.columns.specs.Sound.{is_sound}
+use Rattle.columns.specs.Tests.{has_short_validity, has_short_buffer, are_few_offsets}
+use Rattle.columns.specs.Texts.{have_utf8_texts}
+use Rattle.values.specs.declared.part.Batch.{Batch}
+use Rattle.values.specs.declared.part.Part.{Part}
+use Rattle.values.specs.Parts.{batch_rows, is_batch_sound}
+use Rattle.query.specs.Line.{json_of_all, json_of_others}
+use Rattle.query.specs.ObjectLine.{members, other_members}
+use Rattle.query.specs.declared.row_form.RowForm.{RowForm}
+use Rattle.query.specs.declared.row_form.RowForm.TheVariants as forms
+
+-- the values of a type are strings, whose offsets are so wide
+pub record IsTextKind (kind : Kind) (width : ℕ) : Type 0 where
+  pub cells : (a : Array) (i : ℕ) → kind_cell kind a i ≡ text (contents_at width a i)
+  pub buffer : (a : Array) → has_short_buffer kind a ≡ are_few_offsets width a
+
+-- the cells of a column are strings or nulls, in the bytes of its arrays
+pub record IsTextColumn (c : Column) (width : ℕ) : Type 0 where
+  pub cells : (a : Array) (i : ℕ) → cell_at c a i ≡ unless_null (λ b j. text (contents_at width b j)) a i
+  pub validity : (a : Array) → is_sound c a ≡ true → has_short_validity a ≡ false
+  pub offsets : (a : Array) → is_sound c a ≡ true → are_few_offsets width a ≡ false
+
+abbrev pub opening : RowForm → List ℕ
+opening forms.Array = codes "["
+opening forms.Object = codes "{"
+
+abbrev pub closing : RowForm → List ℕ
+closing forms.Array = codes "]"
+closing forms.Object = codes "}"
+
+abbrev pub separator : ℕ → List ℕ
+separator place = if nat_lt 0 place then codes "," else []
+
+-- what stands before the value of the column at a place
+abbrev pub lead : RowForm → ℕ → Column → List ℕ
+lead forms.Array place c = separator place
+lead forms.Object place c = separator place ++ quoted (name_of_column c) ++ codes ":"
+
+-- the values of the columns from a place on, each with what stands before it
+abbrev pub rest_of_line : RowForm → ℕ → List Column → Cells → List ℕ
+rest_of_line forms.Array zero cs cells = json_of_all cells
+rest_of_line forms.Array (suc place) cs cells = json_of_others cells
+rest_of_line forms.Object zero cs cells = members (map name_of_column cs) (cell_list cells)
+rest_of_line forms.Object (suc place) cs cells = other_members (map name_of_column cs) (cell_list cells)
+
+abbrev pub has_texts : List Cell → Bool
+has_texts row = have_utf8_texts (cells_of row)
+
+-- the slots of a batch can be looked up, and its texts are UTF-8
+abbrev pub is_batch_readable : Columns → Part → Batch → Bool
+is_batch_readable columns p b = is_batch_sound columns p b && list_all has_texts (batch_rows columns p b)
+
+abbrev pub is_part_readable : Columns → Part → Bool
+is_part_readable columns p = list_all (is_batch_readable columns p) p.batches.items
