@@ -2,6 +2,12 @@
 _arrowstore() {
     local word=${COMP_WORDS[COMP_CWORD]} before=${COMP_WORDS[COMP_CWORD-1]} flags=
     COMPREPLY=()
+    # bash splits a word at '='
+    if [ "$word" = = ]; then
+        word=
+    elif [ "$before" = = ]; then
+        before=${COMP_WORDS[COMP_CWORD-2]}
+    fi
     if [ $COMP_CWORD -eq 1 ]; then
         COMPREPLY=($(compgen -W 'format create import append query export rename drop tables schema check salvage info compact upgrade copy replay recode help -h --help --version' -- "$word"))
         return
