@@ -1,4 +1,4 @@
--- Depths against a number of levels, and what a tally has counted.
+-- Depths against a number of levels, and what a totals has counted.
 use Rattle.std.proofs.Common.{◌≡◌, ℕ, suc, ◌+◌, ◌-◌, ◌^◌, ◌≤◌, ◌<◌, Bool, true, false, ◌&&◌, List, [], ◌∷◌, ◌++◌, length, refl, ap, sym, ◌∙◌, arith}
 use Rattle.std.proofs.Common.{◌↔◌, get_or, drop, map, add-one, drop-cons}
 use Rattle.std.proofs.Math.Bool.{and_assoc, and-true}
@@ -6,7 +6,7 @@ use Rattle.std.specs.Prelude.{nat_le, not, sum_by, Result, Ok, Err, IsOk, if◌t
 use Rattle.std.proofs.lemmas.Bool.{lt-leb, le-leb, leb-true, false≢true}
 use Rattle.std.specs.List.{list_all}
 use Rattle.arrow_schema.specs.declared.limits.TheConstants.{MAX_FIELDS, MAX_DEPTH, MAX_PAIRS, MAX_TEXT_BYTES}
-use Rattle.arrow_schema.specs.declared.limits.Tally.{Tally}
+use Rattle.arrow_schema.specs.declared.limits.SchemaTotals.{SchemaTotals}
 use Rattle.arrow_schema.specs.declared.types.Field.{Field}
 use Rattle.arrow_schema.specs.declared.limits.SchemaError.{SchemaError}
 use Rattle.arrow_schema.specs.declared.limits.SchemaError.TheVariants.{Depth, Fields, Pairs, Bytes, Number, Dictionary}
@@ -14,40 +14,40 @@ use Rattle.arrow_schema.specs.Column.{Column, columns_of, PlainSchema}
 use Rattle.arrow_schema.specs.View.{column_of}
 use Rattle.arrow_schema.specs.Preorder.{preorder, preorder_all, depth, depth_all, every_column}
 use Rattle.arrow_schema.specs.Limits.{IsWithinLimits, first_exceeded, count_of_pairs, count_of_bytes, pairs_in, bytes_in, has_number_in_range, has_flat_dictionary}
-use Rattle.arrow_schema.specs.inner.Tally.{saturated, tallied, tallied_one}
+use Rattle.arrow_schema.specs.inner.SchemaTotals.{saturated, tallied, tallied_one}
 use Rattle.arrow_schema.proofs.Sound.{IsSound}
 use Rattle.std.proofs.lemmas.List.Sums.{sum_by-cons, AllPass-from_list_all, list_all-from_AllPass}
 use Rattle.facts.specs.laws.Levels.{nat_le_max}
 use Rattle.facts.specs.laws.Lists.{drop-item}
 
 -- after two lists in turn
-pub tallied-append : (t : Tally) (xs ys : List Column) → tallied t (xs ++ ys) ≡ tallied (tallied t xs) ys
+pub tallied-append : (t : SchemaTotals) (xs ys : List Column) → tallied t (xs ++ ys) ≡ tallied (tallied t xs) ys
 unfolding tallied
 tallied-append t [] ys = refl
 tallied-append t (x ∷ xs) ys = tallied-append (tallied_one t x) xs ys
 
--- what each number of a tally says
-pub tallied_fields : (t : Tally) (cs : List Column) → t.fields ≤ 2 ^ 64 - 1 → (tallied t cs).fields ≡ saturated (t.fields + length cs)
+-- what each number of a totals says
+pub tallied_fields : (t : SchemaTotals) (cs : List Column) → t.fields ≤ 2 ^ 64 - 1 → (tallied t cs).fields ≡ saturated (t.fields + length cs)
 unfolding tallied tallied_one
 tallied_fields t [] h = omega arith
 tallied_fields t (c ∷ cs) h = tallied_fields (tallied_one t c) cs (omega arith) ∙ omega arith
 
-pub tallied_pairs : (t : Tally) (cs : List Column) → t.pairs ≤ 2 ^ 64 - 1 → (tallied t cs).pairs ≡ saturated (t.pairs + sum_by pairs_in cs)
+pub tallied_pairs : (t : SchemaTotals) (cs : List Column) → t.pairs ≤ 2 ^ 64 - 1 → (tallied t cs).pairs ≡ saturated (t.pairs + sum_by pairs_in cs)
 unfolding tallied tallied_one
 tallied_pairs t [] h = omega arith
 tallied_pairs t (c ∷ cs) h = tallied_pairs (tallied_one t c) cs (omega arith) ∙ omega (arith, sum_by-cons pairs_in c cs)
 
-pub tallied_bytes : (t : Tally) (cs : List Column) → t.bytes ≤ 2 ^ 64 - 1 → (tallied t cs).bytes ≡ saturated (t.bytes + sum_by bytes_in cs)
+pub tallied_bytes : (t : SchemaTotals) (cs : List Column) → t.bytes ≤ 2 ^ 64 - 1 → (tallied t cs).bytes ≡ saturated (t.bytes + sum_by bytes_in cs)
 unfolding tallied tallied_one
 tallied_bytes t [] h = omega arith
 tallied_bytes t (c ∷ cs) h = tallied_bytes (tallied_one t c) cs (omega arith) ∙ omega (arith, sum_by-cons bytes_in c cs)
 
-pub tallied_numbers : (t : Tally) (cs : List Column) → (tallied t cs).numbers_fit ≡ (t.numbers_fit && list_all has_number_in_range cs)
+pub tallied_numbers : (t : SchemaTotals) (cs : List Column) → (tallied t cs).numbers_fit ≡ (t.numbers_fit && list_all has_number_in_range cs)
 unfolding tallied tallied_one
 tallied_numbers t [] = sym (and-true t.numbers_fit)
 tallied_numbers t (c ∷ cs) = tallied_numbers (tallied_one t c) cs ∙ and_assoc t.numbers_fit (has_number_in_range c) (list_all has_number_in_range cs)
 
-pub tallied_dictionaries : (t : Tally) (cs : List Column) → (tallied t cs).dictionaries_fit ≡ (t.dictionaries_fit && list_all has_flat_dictionary cs)
+pub tallied_dictionaries : (t : SchemaTotals) (cs : List Column) → (tallied t cs).dictionaries_fit ≡ (t.dictionaries_fit && list_all has_flat_dictionary cs)
 unfolding tallied tallied_one
 tallied_dictionaries t [] = sym (and-true t.dictionaries_fit)
 tallied_dictionaries t (c ∷ cs) = tallied_dictionaries (tallied_one t c) cs ∙ and_assoc t.dictionaries_fit (has_flat_dictionary c) (list_all has_flat_dictionary cs)
@@ -64,10 +64,10 @@ next_depth fs i f levels b lt is found =
     ∙ nat_le_max (depth (column_of f)) rest levels
     ∙ ap (λ (x : Bool). x && nat_le rest levels) (sym found)
 
-pub ruleset tally_rules = tallied-append
+pub ruleset totals_rules = tallied-append
 
 -- the step of a loop over fields
-pub next_field : (t u : Tally) (fields : List Field) (i : ℕ) (x : Field) → i < length fields → x ≡ get_or fields i x → u ≡ tallied t (preorder (column_of x))
+pub next_field : (t u : SchemaTotals) (fields : List Field) (i : ℕ) (x : Field) → i < length fields → x ≡ get_or fields i x → u ≡ tallied t (preorder (column_of x))
     → tallied u (preorder_all (columns_of (map column_of (drop (i + 1) fields)))) ≡ tallied t (preorder_all (columns_of (map column_of (drop i fields))))
 unfolding preorder_all
 next_field t u fields i x lt is e =

@@ -1,3 +1,3 @@
 -- What only the code's own steps and their proofs speak of.
-pub mod Tally
+pub mod SchemaTotals
 pub mod Alike

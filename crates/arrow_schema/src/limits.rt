@@ -5,7 +5,7 @@ ghost use Rattle.arrow_schema.specs.Column.{columns_of};
 ghost use Rattle.arrow_schema.specs.View.{schema_of, kind_of, column_of, pair_of};
 ghost use Rattle.arrow_schema.specs.Preorder.{preorder, preorder_below, preorder_all, depth, depth_below, depth_all, every_column};
 ghost use Rattle.arrow_schema.specs.Limits.{IsWithinLimits, first_exceeded, number_of, is_nested, timezone_of, bytes_of_pairs, count_of_pairs, count_of_bytes, has_number_in_range, has_flat_dictionary};
-ghost use Rattle.arrow_schema.specs.inner.Tally.{saturated, tallied, tallied_one};
+ghost use Rattle.arrow_schema.specs.inner.SchemaTotals.{saturated, tallied, tallied_one};
 
 use crate::types::{DataType, Field, Schema};
 
@@ -39,7 +39,7 @@ pub enum SchemaError {
 
 // What has been counted so far.
 #[derive(Clone, Copy)]
-pub(crate) struct Tally {
+pub(crate) struct SchemaTotals {
     pub(crate) fields: u64,
     pub(crate) pairs: u64,
     pub(crate) bytes: u64,
@@ -130,8 +130,8 @@ fn bytes_of_pairs(pairs: &[(String, String)]) -> u64
     total
 }
 
-impl Tally {
-    #[tactic(auto, unfolding(crate::specs::inner::Tally::tallied_one))]
+impl SchemaTotals {
+    #[tactic(auto, unfolding(crate::specs::inner::SchemaTotals::tallied_one))]
     fn add(&mut self, field: &Field)
         ensures { self.new ≡ tallied_one self.old (column_of field.now) }
     {
@@ -148,55 +148,55 @@ impl Tally {
     }
 }
 
-#[tactic(auto, unfolding(crate::specs::Preorder::preorder, crate::specs::inner::Tally::tallied))]
-#[cycle(tally)]
-fn tally_field(tally: &mut Tally, field: &Field)
-    ensures { tally.new ≡ tallied tally.old (preorder (column_of field.now)) }
+#[tactic(auto, unfolding(crate::specs::Preorder::preorder, crate::specs::inner::SchemaTotals::tallied))]
+#[cycle(totals)]
+fn totals_field(totals: &mut SchemaTotals, field: &Field)
+    ensures { totals.new ≡ tallied totals.old (preorder (column_of field.now)) }
 {
-    tally.add(field);
-    tally_type(tally, &field.data_type);
+    totals.add(field);
+    totals_type(totals, &field.data_type);
 }
 
-#[tactic(auto, unfolding(crate::specs::Preorder::preorder_below, crate::specs::inner::Tally::tallied))]
-#[cycle(tally)]
-fn tally_type(tally: &mut Tally, data_type: &DataType)
-    ensures { tally.new ≡ tallied tally.old (preorder_below (kind_of data_type.now)) }
+#[tactic(auto, unfolding(crate::specs::Preorder::preorder_below, crate::specs::inner::SchemaTotals::tallied))]
+#[cycle(totals)]
+fn totals_type(totals: &mut SchemaTotals, data_type: &DataType)
+    ensures { totals.new ≡ tallied totals.old (preorder_below (kind_of data_type.now)) }
 {
     match data_type {
-        DataType::List(item) => tally_field(tally, item),
-        DataType::LargeList(item) => tally_field(tally, item),
-        DataType::FixedSizeList(_, item) => tally_field(tally, item),
-        DataType::Struct(fields) => tally_fields(tally, fields),
+        DataType::List(item) => totals_field(totals, item),
+        DataType::LargeList(item) => totals_field(totals, item),
+        DataType::FixedSizeList(_, item) => totals_field(totals, item),
+        DataType::Struct(fields) => totals_fields(totals, fields),
         _ => {}
     }
 }
 
-#[tactic(auto, using(crate::proofs::Counting::tally_rules), unfolding(crate::specs::Preorder::preorder_all, crate::specs::inner::Tally::tallied))]
-#[cycle(tally)]
-fn tally_fields(tally: &mut Tally, fields: &[Field])
-    ensures { tally.new ≡ tallied tally.old (preorder_all (columns_of (map column_of fields.now))) }
+#[tactic(auto, using(crate::proofs::Counting::totals_rules), unfolding(crate::specs::Preorder::preorder_all, crate::specs::inner::SchemaTotals::tallied))]
+#[cycle(totals)]
+fn totals_fields(totals: &mut SchemaTotals, fields: &[Field])
+    ensures { totals.new ≡ tallied totals.old (preorder_all (columns_of (map column_of fields.now))) }
 {
     for field in fields {
-        tally_field(tally, field);
+        totals_field(totals, field);
     }
 }
 
-fn tally_of(schema: &Schema) -> Tally
+fn totals_of(schema: &Schema) -> SchemaTotals
     ensures fields { result.fields ≡ saturated (length (every_column (schema_of schema.now))) }
     ensures pairs { result.pairs ≡ saturated (count_of_pairs (schema_of schema.now)) }
     ensures bytes { result.bytes ≡ saturated (count_of_bytes (schema_of schema.now)) }
     ensures numbers { result.numbers_fit ≡ list_all has_number_in_range (every_column (schema_of schema.now)) }
     ensures dictionaries { result.dictionaries_fit ≡ list_all has_flat_dictionary (every_column (schema_of schema.now)) }
 {
-    let mut tally = Tally {
+    let mut totals = SchemaTotals {
         fields: 0,
         pairs: schema.pairs.len() as u64,
         bytes: bytes_of_pairs(&schema.pairs),
         numbers_fit: true,
         dictionaries_fit: true,
     };
-    tally_fields(&mut tally, &schema.fields);
-    tally
+    totals_fields(&mut totals, &schema.fields);
+    totals
 }
 
 fn first_exceeded(schema: &Schema) -> Result<(), SchemaError>
@@ -205,16 +205,16 @@ fn first_exceeded(schema: &Schema) -> Result<(), SchemaError>
     if !are_within_depth(MAX_DEPTH, &schema.fields) {
         return Err(SchemaError::Depth);
     }
-    let tally = tally_of(schema);
-    if tally.fields > MAX_FIELDS {
+    let totals = totals_of(schema);
+    if totals.fields > MAX_FIELDS {
         Err(SchemaError::Fields)
-    } else if tally.pairs > MAX_PAIRS {
+    } else if totals.pairs > MAX_PAIRS {
         Err(SchemaError::Pairs)
-    } else if tally.bytes > MAX_TEXT_BYTES {
+    } else if totals.bytes > MAX_TEXT_BYTES {
         Err(SchemaError::Bytes)
-    } else if !tally.numbers_fit {
+    } else if !totals.numbers_fit {
         Err(SchemaError::Number)
-    } else if !tally.dictionaries_fit {
+    } else if !totals.dictionaries_fit {
         Err(SchemaError::Dictionary)
     } else {
         Ok(())

@@ -30,7 +30,7 @@ use store::Store;
 use tables::Command;
 use text_columns::{csv_table, jsonl_table};
 use text_import::{RefusedPart, TextError, TextForm, refused_part, rows_of_text};
-use values::Weighed;
+use values::WeighedTable;
 
 // The part of the first refused record that is refused. Where memory is refused for it, no part is answered.
 #[tactic(auto, using(crate::proofs::TextLemmas::hints_at))]
@@ -64,7 +64,7 @@ fn read_table(
     form: &TextForm<'_>,
     schema: &Schema,
     text: &[u8],
-) -> Result<Option<Weighed>, TextError>
+) -> Result<Option<WeighedTable>, TextError>
     requires { IsWithinLimits (schema_of schema.now) }
     ensures read { IfOk result (λ found. IfSome found (λ w. rows_of_text form.now (schema_of schema.now) text.now ≡ Ok (table_of w.table).rows)) }
     ensures refused { IfErr result (λ e. Reports (refused_by e) (rows_of_text form.now (schema_of schema.now) text.now)) }

@@ -7,8 +7,8 @@ use Rattle.tables.specs.Commands.{PlainCommand}
 use Rattle.tables.specs.Verdict.{after}
 use Rattle.store.specs.declared.call.Call.{Call}
 use Rattle.store.specs.declared.call.Call.TheVariants as calls_in
-use Rattle.store.specs.declared.call.Place.{Place}
-use Rattle.store.specs.declared.call.Place.TheVariants as places
+use Rattle.store.specs.declared.call.StoreOrDevice.{StoreOrDevice}
+use Rattle.store.specs.declared.call.StoreOrDevice.TheVariants as places
 use Rattle.store.specs.Answering.{AnswersCall}
 use Rattle.store.specs.Beginning.{IsLeftOf}
 use Rattle.store.specs.Calls.{PlainCall, open_call, tables_call, PlainReply, done, counts}
@@ -100,16 +100,16 @@ listed_kept remaining lines replies plains settled doubt listed next are settles
 -- ---- a replay
 
 module _ {D : Type 0} (g : Ghosts D) {R : Type 0} (is_over : D → Bool) (remaining : R → Option (List ℕ)) (tells : g.tells ≡ true) where
-  place_device : (base : Tables) (m : Machine) (place : Place D g) → PlaceFits g.size g.story base m place → DeviceFits g.size g.story base m (device_in place)
+  place_device : (base : Tables) (m : Machine) (place : StoreOrDevice D g) → PlaceFits g.size g.story base m place → DeviceFits g.size g.story base m (device_in place)
   place_device base m (places.Open store) fits = fits.device
   place_device base m (places.Shut device) fits = fits.fits
 
-  pub replay_keeps : SettlesRuns → (device : D) → ShutFits g.size g.story no_tables resumed device → (begin : Place D g)
-      → AnswersCall g.size g.story g.failed g.tells remaining (places.Shut device) calls_in.Open done begin → (lines : List (Call R)) (replies : List PlainReply) (end : Place D g)
+  pub replay_keeps : SettlesRuns → (device : D) → ShutFits g.size g.story no_tables resumed device → (begin : StoreOrDevice D g)
+      → AnswersCall g.size g.story g.failed g.tells remaining (places.Shut device) calls_in.Open done begin → (lines : List (Call R)) (replies : List PlainReply) (end : StoreOrDevice D g)
       → Plays g is_over remaining begin lines replies end → (left : D)
       → ((base : Tables) (m : Machine) → DeviceFits g.size g.story base m (device_in end) → IsLeftOf g.size g.story (device_in end) left → ShutFits g.size g.story base (shut_down m) left)
-      → IsLeftOf g.size g.story (device_in end) left → (reply : PlainReply) (found : Place D g)
-      → AnswersCall g.size g.story g.failed g.tells remaining (places.Shut left) calls_in.Open reply found → (listing : PlainReply) (last : Place D g)
+      → IsLeftOf g.size g.story (device_in end) left → (reply : PlainReply) (found : StoreOrDevice D g)
+      → AnswersCall g.size g.story g.failed g.tells remaining (places.Shut left) calls_in.Open reply found → (listing : PlainReply) (last : StoreOrDevice D g)
       → AnswersCall g.size g.story g.failed g.tells remaining found calls_in.Tables listing last → reply ≡ done → (listed : List (List ℕ × ℕ)) → listing ≡ counts listed
       → IsKept remaining lines replies listed
   replay_keeps settles device stands begin opening lines replies end plays left goes_on crash reply found opens listing last lists is_done listed is_counts =

@@ -7,8 +7,8 @@ use Rattle.cli_refusals.specs.declared.refusal.Refusal.TheVariants.{Fault, TooMa
 use Rattle.sector_dev.specs.declared.device.SectorDevice.{Ghosts}
 use Rattle.tables.specs.Tables.{no_tables}
 use Rattle.store.specs.declared.call.Call.TheVariants as calls_in
-use Rattle.store.specs.declared.call.Place.{Place}
-use Rattle.store.specs.declared.call.Place.TheVariants as places
+use Rattle.store.specs.declared.call.StoreOrDevice.{StoreOrDevice}
+use Rattle.store.specs.declared.call.StoreOrDevice.TheVariants as places
 use Rattle.store.specs.Answering.{AnswersCall}
 use Rattle.store.specs.Calls.{PlainCall, open_call, shut_by}
 use Rattle.store.specs.Fits.{setting_of, resumed}
@@ -33,13 +33,13 @@ unfolding Step
 refused_by_memory s plain r wrote next is step = by_memory s r wrote next (subst (λ (p : PlainCall). Step s resumed p (shut_by r) wrote next) is step)
 
 pub opening_refused : {D : Type 0} (g : Ghosts D) {R : Type 0} (remaining : R → Option (List ℕ)) → g.tells ≡ true → (device : D) → ShutFits g.size g.story no_tables resumed device → (r : OpeningRefusal)
-    (place : Place D g) → AnswersCall g.size g.story g.failed g.tells remaining (places.Shut device) calls_in.Open (shut_by r) place → IsOfPlaying (Opening r)
+    (place : StoreOrDevice D g) → AnswersCall g.size g.story g.failed g.tells remaining (places.Shut device) calls_in.Open (shut_by r) place → IsOfPlaying (Opening r)
 opening_refused g remaining tells device stands r place answered =
     let goes = answered.goes tells no_tables resumed stands in
     refused_by_memory (setting_of (g.size device) no_tables) answered.plain r _ goes.next answered.is goes.goes.step
 
 pub opening_told : {D : Type 0} (g : Ghosts D) {R : Type 0} (remaining : R → Option (List ℕ)) → g.tells ≡ true → (device : D) → ShutFits g.size g.story no_tables resumed device → (reply : Reply)
-    (r : OpeningRefusal) (place : Place D g) → AnswersCall g.size g.story g.failed g.tells remaining (places.Shut device) calls_in.Open (reply_in reply) place → reply ≡ replies_in.NotOpened r
+    (r : OpeningRefusal) (place : StoreOrDevice D g) → AnswersCall g.size g.story g.failed g.tells remaining (places.Shut device) calls_in.Open (reply_in reply) place → reply ≡ replies_in.NotOpened r
     → IsOfPlaying (Opening r)
 opening_told g remaining tells device stands reply r place answered is =
     opening_refused g remaining tells device stands r place

@@ -3,7 +3,7 @@ use Rattle.std.proofs.Common.{◌≡◌, ◌∙◌, ◌∷◌, [], ℕ, Bool, tr
 use Rattle.sector_dev.specs.declared.device.SectorDevice.{Ghosts}
 use Rattle.tables.specs.Tables.{Tables}
 use Rattle.store.specs.declared.call.Call.{Call}
-use Rattle.store.specs.declared.call.Place.{Place}
+use Rattle.store.specs.declared.call.StoreOrDevice.{StoreOrDevice}
 use Rattle.store.specs.Calls.{PlainCall, PlainReply}
 use Rattle.store.specs.Machine.{Machine}
 use Rattle.store.specs.Runs.{Run}
@@ -12,20 +12,20 @@ use Rattle.store.specs.Places.{device_in, PlaceFits, PlaceGoes, PlaceRuns}
 use Rattle.cli_replay.specs.Playing.{PlaysLine, Plays, ArePlayedAsRun}
 
 module _ {D : Type 0} (g : Ghosts D) {R : Type 0} (is_over : D → Bool) (remaining : R → Option (List ℕ)) (tells : g.tells ≡ true) (base : Tables) where
-  no_call : (m : Machine) (place : Place D g) → PlaceFits g.size g.story base m place → PlaceRuns g.size g.story g.failed base m [] [] (device_in place) place
+  no_call : (m : Machine) (place : StoreOrDevice D g) → PlaceFits g.size g.story base m place → PlaceRuns g.size g.story g.failed base m [] [] (device_in place) place
   unfolding Run
   no_call m place fits = record { next = m; same = refl; run = record { machine = refl; same = refl; failures = refl }; fits = fits }
 
-  none : (m : Machine) (calls : List (Call R)) (place : Place D g) → PlaceFits g.size g.story base m place → ArePlayedAsRun g remaining base m calls [] place place
+  none : (m : Machine) (calls : List (Call R)) (place : StoreOrDevice D g) → PlaceFits g.size g.story base m place → ArePlayedAsRun g remaining base m calls [] place place
   none m calls place fits = record { plains = []; are = refl; runs = no_call m place fits }
 
-  ends : (m : Machine) (calls : List (Call R)) (replies : List PlainReply) (old new : Place D g) → PlaceFits g.size g.story base m old → replies ≡ [] → new ≡ old → ArePlayedAsRun g remaining base m calls replies old new
+  ends : (m : Machine) (calls : List (Call R)) (replies : List PlainReply) (old new : StoreOrDevice D g) → PlaceFits g.size g.story base m old → replies ≡ [] → new ≡ old → ArePlayedAsRun g remaining base m calls replies old new
   ends m calls replies old new fits without same =
       subst (λ (rs : List PlainReply). ArePlayedAsRun g remaining base m calls rs old new) (sym without)
-      (subst (λ (p : Place D g). ArePlayedAsRun g remaining base m calls [] old p) (sym same) (none m calls old fits))
+      (subst (λ (p : StoreOrDevice D g). ArePlayedAsRun g remaining base m calls [] old p) (sym same) (none m calls old fits))
 
   -- one call, and then the others
-  call_first : (m : Machine) (plain : PlainCall) (reply : PlainReply) (plains : List PlainCall) (replies : List PlainReply) (old next new : Place D g)
+  call_first : (m : Machine) (plain : PlainCall) (reply : PlainReply) (plains : List PlainCall) (replies : List PlainReply) (old next new : StoreOrDevice D g)
       → (goes : PlaceGoes g.size g.story g.failed base m plain reply (device_in old) next) → PlaceRuns g.size g.story g.failed base goes.next plains replies (device_in next) new
       → PlaceRuns g.size g.story g.failed base m (plain ∷ plains) (reply ∷ replies) (device_in old) new
   unfolding Run
@@ -43,8 +43,8 @@ module _ {D : Type 0} (g : Ghosts D) {R : Type 0} (is_over : D → Bool) (remain
   }
 
   -- one line, where its device has stopped or not, and then the others
-  line_run : (b : Bool) (call : Call R) (calls : List (Call R)) (m : Machine) (replies : List PlainReply) (old new : Place D g)
-      → ((m' : Machine) (others : List PlainReply) (next : Place D g) → Plays g is_over remaining next calls others new → PlaceFits g.size g.story base m' next
+  line_run : (b : Bool) (call : Call R) (calls : List (Call R)) (m : Machine) (replies : List PlainReply) (old new : StoreOrDevice D g)
+      → ((m' : Machine) (others : List PlainReply) (next : StoreOrDevice D g) → Plays g is_over remaining next calls others new → PlaceFits g.size g.story base m' next
       → ArePlayedAsRun g remaining base m' calls others next new)
       → PlaysLine g b remaining old call replies new (λ next others. Plays g is_over remaining next calls others new) → PlaceFits g.size g.story base m old
       → ArePlayedAsRun g remaining base m (call ∷ calls) replies old new
@@ -58,10 +58,10 @@ module _ {D : Type 0} (g : Ghosts D) {R : Type 0} (is_over : D → Bool) (remain
         runs = call_first m played.one.plain played.reply others.plains played.others old played.next new goes others.runs;
       })
 
-  pub played_run : (calls : List (Call R)) (m : Machine) (replies : List PlainReply) (old new : Place D g) → Plays g is_over remaining old calls replies new → PlaceFits g.size g.story base m old
+  pub played_run : (calls : List (Call R)) (m : Machine) (replies : List PlainReply) (old new : StoreOrDevice D g) → Plays g is_over remaining old calls replies new → PlaceFits g.size g.story base m old
       → ArePlayedAsRun g remaining base m calls replies old new
   unfolding Plays
   played_run [] m replies old new plays fits = ends m [] replies old new fits plays.0 plays.1
   played_run (call ∷ calls) m replies old new plays fits =
-      line_run (is_over (device_in old)) call calls m replies old new (λ (m' : Machine) (others : List PlainReply) (next : Place D g) rest stands. played_run calls m' others next new rest stands)
+      line_run (is_over (device_in old)) call calls m replies old new (λ (m' : Machine) (others : List PlainReply) (next : StoreOrDevice D g) rest stands. played_run calls m' others next new rest stands)
       plays fits

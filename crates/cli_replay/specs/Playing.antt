@@ -3,7 +3,7 @@ use Rattle.std.specs.Prelude.{◌≡◌, ◌++◌, ℕ, Bool, true, false, List,
 use Rattle.sector_dev.specs.declared.device.SectorDevice.{Ghosts}
 use Rattle.tables.specs.Tables.{Tables}
 use Rattle.store.specs.declared.call.Call.{Call}
-use Rattle.store.specs.declared.call.Place.{Place}
+use Rattle.store.specs.declared.call.StoreOrDevice.{StoreOrDevice}
 use Rattle.store.specs.declared.call.Reply.{Reply}
 use Rattle.store.specs.Calls.{PlainCall, PlainReply, done, counts, refused, shut_by}
 use Rattle.store.specs.Machine.{Machine}
@@ -15,36 +15,36 @@ use Rattle.cli_refusals.specs.Refusals.{refusal_text}
 use Rattle.cli_commands.specs.Printed.{tables_text}
 
 -- the call of a line is answered, and then P holds of the place after it and of the replies to the others
-pub record IsPlayed {D : Type 0} (g : Ghosts D) {R : Type 0} (remaining : R → Option (List ℕ)) (old : Place D g) (call : Call R) (replies : List PlainReply)
-    (P : Place D g → List PlainReply → Type 0) : Type 0 where
+pub record IsPlayed {D : Type 0} (g : Ghosts D) {R : Type 0} (remaining : R → Option (List ℕ)) (old : StoreOrDevice D g) (call : Call R) (replies : List PlainReply)
+    (P : StoreOrDevice D g → List PlainReply → Type 0) : Type 0 where
   pub reply : PlainReply
   pub others : List PlainReply
   pub are : replies ≡ reply ∷ others
-  pub next : Place D g
+  pub next : StoreOrDevice D g
   pub one : AnswersCall g.size g.story g.failed g.tells remaining old call reply next
   pub rest : P next others
 
 -- no line is played any more
-abbrev pub EndsAt : {D : Type 0} {g : Ghosts D} → Place D g → List PlainReply → Place D g → Type 0
+abbrev pub EndsAt : {D : Type 0} {g : Ghosts D} → StoreOrDevice D g → List PlainReply → StoreOrDevice D g → Type 0
 EndsAt old replies new = (replies ≡ []) × (new ≡ old)
 
 -- a line, where its device has stopped or not
-abbrev pub PlaysLine : {D : Type 0} → (g : Ghosts D) → {R : Type 0} → (over : Bool) → (remaining : R → Option (List ℕ)) → Place D g → Call R
-    → List PlainReply → Place D g
-    → (Place D g → List PlainReply → Type 0) → Type 0
+abbrev pub PlaysLine : {D : Type 0} → (g : Ghosts D) → {R : Type 0} → (over : Bool) → (remaining : R → Option (List ℕ)) → StoreOrDevice D g → Call R
+    → List PlainReply → StoreOrDevice D g
+    → (StoreOrDevice D g → List PlainReply → Type 0) → Type 0
 PlaysLine g true remaining old call replies new P = EndsAt old replies new
 PlaysLine g false remaining old call replies new P = IsPlayed g remaining old call replies P
 
 -- lines one after another, each answered as a call of the place, until the device has stopped
-unfoldable pub Plays : {D : Type 0} → (g : Ghosts D) → {R : Type 0} → (is_over : D → Bool) → (remaining : R → Option (List ℕ)) → Place D g → List (Call R)
-    → List PlainReply → Place D g → Type 0
+unfoldable pub Plays : {D : Type 0} → (g : Ghosts D) → {R : Type 0} → (is_over : D → Bool) → (remaining : R → Option (List ℕ)) → StoreOrDevice D g → List (Call R)
+    → List PlainReply → StoreOrDevice D g → Type 0
 Plays g is_over remaining old [] replies new = EndsAt old replies new
 Plays g is_over remaining old (call ∷ calls) replies new =
     PlaysLine g (is_over (device_in old)) remaining old call replies new (λ next others. Plays g is_over remaining next calls others new)
 
 -- one line of the code, which has no reply where the device has stopped
-abbrev pub IsPlayedLine : {D : Type 0} → (g : Ghosts D) → {R : Type 0} → (is_over : D → Bool) → (remaining : R → Option (List ℕ)) → Place D g → Call R
-    → Option Reply → Place D g → Type 0
+abbrev pub IsPlayedLine : {D : Type 0} → (g : Ghosts D) → {R : Type 0} → (is_over : D → Bool) → (remaining : R → Option (List ℕ)) → StoreOrDevice D g → Call R
+    → Option Reply → StoreOrDevice D g → Type 0
 IsPlayedLine g is_over remaining old call None new = (is_over (device_in old) ≡ true) × (new ≡ old)
 IsPlayedLine g is_over remaining old call (Some reply) new =
     (is_over (device_in old) ≡ false) × AnswersCall g.size g.story g.failed g.tells remaining old call (reply_in reply) new
@@ -52,7 +52,7 @@ IsPlayedLine g is_over remaining old call (Some reply) new =
 -- the lines that were played are a run of calls
 pub record ArePlayedAsRun {D : Type 0} (g : Ghosts D) {R : Type 0} (remaining : R → Option (List ℕ)) (base : Tables) (m : Machine) (calls : List (Call R))
     (replies : List PlainReply)
-    (old new : Place D g) : Type 0 where
+    (old new : StoreOrDevice D g) : Type 0 where
   pub plains : List PlainCall
   pub are : AreCallsOf remaining (take (length replies) calls) plains
   pub runs : PlaceRuns g.size g.story g.failed base m plains replies (device_in old) new

@@ -4,7 +4,7 @@ use Rattle.sector_dev.specs.Disk.{now, shown_image}
 use Rattle.sector_dev.specs.Chosen.{IsChosen}
 use Rattle.sector_dev.specs.Faults.{no_faults}
 use Rattle.sector_dev.specs.View.{size_of, failed_of, faults_of, history_of}
-use Rattle.sector_dev.specs.declared.choice.Choice.{Choice}
+use Rattle.sector_dev.specs.declared.crash_choice.CrashChoice.{CrashChoice}
 use Rattle.sector_dev.specs.declared.device.SectorDevice.{Ghosts}
 use Rattle.sector_dev.specs.declared.model.ModelDevice.{ModelDevice}
 use Rattle.arrow_schema.specs.Column.{PlainSchema}
@@ -16,8 +16,8 @@ use Rattle.tables.specs.View.{command_of}
 use Rattle.store.specs.declared.store.Store.{Store}
 use Rattle.store.specs.declared.call.Call.{Call}
 use Rattle.store.specs.declared.call.Call.TheVariants as calls
-use Rattle.store.specs.declared.call.Place.{Place}
-use Rattle.store.specs.declared.call.Place.TheVariants as places
+use Rattle.store.specs.declared.call.StoreOrDevice.{StoreOrDevice}
+use Rattle.store.specs.declared.call.StoreOrDevice.TheVariants as places
 use Rattle.store.specs.Beginning.{IsLeftOf}
 use Rattle.store.specs.Calls.{PlainCall, PlainReply, done, counts}
 use Rattle.store.specs.History.{InOrder, acknowledged, begun}
@@ -88,10 +88,10 @@ after_opening (suc k) = min (k + 2) (2 ^ 64 - 1)
 -- what is printed of the store that an opening finds on a device
 pub record IsFound {D : Type 0} (g : Ghosts D) {R : Type 0} (remaining : R → Option (List ℕ)) (device : D) (text : List ℕ) : Type 0 where
   pub opened : PlainReply
-  pub found : Place D g
+  pub found : StoreOrDevice D g
   pub opens : AnswersCall g.size g.story g.failed g.tells remaining (places.Shut device) calls.Open opened found
   pub listing : PlainReply
-  pub after : Place D g
+  pub after : StoreOrDevice D g
   pub lists : AnswersCall g.size g.story g.failed g.tells remaining found calls.Tables listing after
   pub printed : FoundText opened listing text
 
@@ -108,17 +108,17 @@ pub record IsKept {R : Type 0} (remaining : R → Option (List ℕ)) (lines : Li
 -- ---- all of it
 
 pub record IsReplay (g : Ghosts ModelDevice) {R : Type 0} (remaining : R → Option (List ℕ)) (sectors : ℕ) (version : FormatVersion) (fail stop : ℕ)
-    (choice : Choice)
+    (choice : CrashChoice)
     (lines : List (Call R)) (text : List ℕ) : Type 0 where
   -- a device with an empty store: these calls of it are to fail
   pub device : ModelDevice
   pub empty : IsEmptyStore g sectors version device
   pub faults : faults_of device ≡ record no_faults { fail = after_opening fail; stop = after_opening stop }
   -- its store is opened, and the lines are played
-  pub begin : Place ModelDevice g
+  pub begin : StoreOrDevice ModelDevice g
   pub opening : AnswersCall g.size g.story g.failed g.tells remaining (places.Shut device) calls.Open done begin
   pub replies : List PlainReply
-  pub end : Place ModelDevice g
+  pub end : StoreOrDevice ModelDevice g
   pub plays : Plays g (λ d. (faults_of d).stopped) remaining begin lines replies end
   -- what a crash leaves as the choice says
   pub left : ModelDevice
@@ -132,7 +132,7 @@ pub record IsReplay (g : Ghosts ModelDevice) {R : Type 0} (remaining : R → Opt
 
 -- a file has a script, its lines have these calls, and the replay of these is written
 pub record IsReplayOfFile (g : Ghosts ModelDevice) {F R : Type 0} (remaining : F → Option (List ℕ)) (no_reader : R → Option (List ℕ)) (sectors : ℕ)
-    (version : FormatVersion) (fail stop : ℕ) (choice : Choice) (output output' : Option (List ℕ)) : Type 0 where
+    (version : FormatVersion) (fail stop : ℕ) (choice : CrashChoice) (output output' : Option (List ℕ)) : Type 0 where
   pub script : List ℕ
   pub of_file : IsOfFile remaining script
   pub lines : List PlainLine

@@ -11,17 +11,17 @@ ghost use Rattle.store.specs.Places.{reply_in};
 ghost use Rattle.cli_replay.specs.Playing.{FoundText};
 ghost use Rattle.commit.specs.Standing.{is_size};
 ghost use Rattle.cli_replay.specs.Replay.{IsEmptyStore, IsFound, after_opening, FailsToFormat, IsOfPlaying};
-ghost use Rattle.store.specs.declared.call.Place.TheVariants.{Shut};
+ghost use Rattle.store.specs.declared.call.StoreOrDevice.TheVariants.{Shut};
 ghost use Rattle.store.specs.declared.call.Call.TheVariants as calls;
 
 use crate::playing::push_refusal;
 use cli_commands::lines_of_tables;
 use cli_refusals::Refusal;
 use commit::FormatVersion;
-use sector_dev::{Choice, ModelDevice, SectorDevice};
+use sector_dev::{CrashChoice, ModelDevice, SectorDevice};
 use std::alloc::{AllocError, Global};
 use std::io::{Empty, Read};
-use store::{Call, Place, Reply, Store, answer, devices_fit, left_devices_fit};
+use store::{Call, Reply, Store, StoreOrDevice, answer, devices_fit, left_devices_fit};
 
 /// A device of `sectors` sectors on which an empty store of this version stands. No call of it is to fail.
 pub(crate) fn empty_store(
@@ -39,7 +39,7 @@ pub(crate) fn empty_store(
     match Store::format_version(alloc, device, version) {
         Ok(store) => {
             let formatted = store.close();
-            let left = formatted.crash(Choice::New)?;
+            let left = formatted.crash(CrashChoice::New)?;
             left_devices_fit(&formatted, &left);
             Ok(left)
         }
@@ -73,7 +73,10 @@ pub(crate) fn with_faults(device: ModelDevice, fail: u64, stop: u64) -> ModelDev
 }
 
 /// Opens the store of a device.
-pub(crate) fn open(alloc: Global, device: ModelDevice) -> Result<Place<ModelDevice>, Refusal>
+pub(crate) fn open(
+    alloc: Global,
+    device: ModelDevice,
+) -> Result<StoreOrDevice<ModelDevice>, Refusal>
     ensures opened { IfOk result (λ place. AnswersCall ⟦<ModelDevice as SectorDevice>⟧.size ⟦<ModelDevice as SectorDevice>⟧.story
         ⟦<ModelDevice as SectorDevice>⟧.failed ⟦<ModelDevice as SectorDevice>⟧.tells ⟦<Empty as Read>⟧.remaining (Shut device) calls.Open done place) }
     ensures told { IfErr result (λ refusal. (sectors : ℕ) (version : FormatVersion)
@@ -81,7 +84,7 @@ pub(crate) fn open(alloc: Global, device: ModelDevice) -> Result<Place<ModelDevi
         → IsOfPlaying refusal) }
 {
     let call: Call = Call::Open;
-    let (place, reply) = answer(alloc, Place::Shut(device), call);
+    let (place, reply) = answer(alloc, StoreOrDevice::Shut(device), call);
     match reply {
         Reply::Done => Ok(place),
         Reply::NotOpened(refusal) => Err(Refusal::Opening(refusal)),
@@ -114,13 +117,16 @@ pub(crate) fn found_on(alloc: Global, device: ModelDevice) -> Result<String, Ref
 {
     let open: Call = Call::Open;
     let list: Call = Call::Tables;
-    let (place, opened) = answer(alloc, Place::Shut(device), open);
+    let (place, opened) = answer(alloc, StoreOrDevice::Shut(device), open);
     let (_place, listing) = answer(alloc, place, list);
     found_text(alloc, &opened, &listing)
 }
 
 /// What a crash leaves, as the choice says.
-pub(crate) fn left_by_crash(device: &ModelDevice, choice: Choice) -> Result<ModelDevice, AllocError>
+pub(crate) fn left_by_crash(
+    device: &ModelDevice,
+    choice: CrashChoice,
+) -> Result<ModelDevice, AllocError>
     ensures left { IfOk result (λ left. IsLeftOf size_of history_of device.now left) }
     ensures chosen { IfOk result (λ left. IsChosen choice (now (history_of device.now)) (size_of device.now) (shown_image (now (history_of left)))) }
 {

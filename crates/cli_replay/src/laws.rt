@@ -2,7 +2,7 @@
 ghost use Rattle.std.specs.Prelude.{◌≡◌, true, Bool, List};
 ghost use Rattle.tables.specs.Tables.{Tables};
 ghost use Rattle.store.specs.declared.call.Call.{Call};
-ghost use Rattle.store.specs.declared.call.Place.{Place};
+ghost use Rattle.store.specs.declared.call.StoreOrDevice.{StoreOrDevice};
 ghost use Rattle.store.specs.Calls.{PlainReply};
 ghost use Rattle.store.specs.Machine.{Machine};
 ghost use Rattle.store.specs.Places.{PlaceFits};
@@ -15,6 +15,6 @@ use std::io::Read;
 /// meanwhile leaves.
 pub fn played_lines_are_a_run<D: SectorDevice, R: Read>()
     ensures { D.tells ≡ true → (is_over : D → Bool) (base : Tables) (m : Machine) (calls : List (Call R)) (replies : List PlainReply)
-        (old new : Place D ⟦<D as SectorDevice>⟧) → Plays ⟦<D as SectorDevice>⟧ is_over R.remaining old calls replies new
+        (old new : StoreOrDevice D ⟦<D as SectorDevice>⟧) → Plays ⟦<D as SectorDevice>⟧ is_over R.remaining old calls replies new
         → PlaceFits D.size D.story base m old → ArePlayedAsRun ⟦<D as SectorDevice>⟧ R.remaining base m calls replies old new }
 {}

@@ -9,14 +9,14 @@ use sector_dev::{ModelDevice, SectorDevice};
 use std::alloc::{AllocError, Global};
 use std::fmt::Write as _;
 use std::io::{Empty, Read};
-use store::{Call, Place, Reply, answer};
+use store::{Call, Reply, StoreOrDevice, answer};
 
 // A line, unless the device has stopped.
 fn play_line(
     alloc: Global,
-    place: Place<ModelDevice>,
+    place: StoreOrDevice<ModelDevice>,
     call: Call,
-) -> (Place<ModelDevice>, Option<Reply>)
+) -> (StoreOrDevice<ModelDevice>, Option<Reply>)
     ensures { IsPlayedLine ⟦<ModelDevice as SectorDevice>⟧ (λ d. (faults_of d).stopped) ⟦<Empty as Read>⟧.remaining place call result.1 result.0 }
 {
     if place.device().has_stopped() {
@@ -31,9 +31,9 @@ fn play_line(
 /// Answers the lines in order, until the device has stopped.
 pub(crate) fn play(
     alloc: Global,
-    place: Place<ModelDevice>,
+    place: StoreOrDevice<ModelDevice>,
     calls: Vec<Call>,
-) -> Result<(Place<ModelDevice>, Vec<Reply>), AllocError>
+) -> Result<(StoreOrDevice<ModelDevice>, Vec<Reply>), AllocError>
     ensures { IfOk result (λ r. Plays ⟦<ModelDevice as SectorDevice>⟧ (λ d. (faults_of d).stopped) ⟦<Empty as Read>⟧.remaining place calls.items
         (replies_of r.1.items) r.0) }
 {

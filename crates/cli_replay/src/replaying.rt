@@ -14,7 +14,7 @@ use crate::playing::{lines_of_replies, play};
 use crate::{ScriptError, ScriptLine, parse_script};
 use cli_refusals::{Refusal, write_whole};
 use commit::FormatVersion;
-use sector_dev::{Choice, ModelDevice, SectorDevice};
+use sector_dev::{CrashChoice, ModelDevice, SectorDevice};
 use std::alloc::{AllocError, Global};
 use std::fs::OpenFile;
 use std::io::{Empty, Read, Write};
@@ -28,7 +28,7 @@ pub struct Faults {
     pub fail: u64,
     /// The one in which the device stops; 0: none.
     pub stop: u64,
-    pub choice: Choice,
+    pub choice: CrashChoice,
 }
 
 // The lines of the replies, whether the device stopped, and what was found on it.

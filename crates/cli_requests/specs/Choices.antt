@@ -2,11 +2,11 @@
 use Rattle.std.specs.Prelude.{◌≡◌, ◌⊎◌, ◌++◌, ◌-◌, ◌^◌, codes}
 use Rattle.clap.specs.Words.{Text}
 use Rattle.cli_requests.specs.Numbers.{IsNumber}
-use Rattle.sector_dev.specs.declared.choice.Choice.{Choice}
-use Rattle.sector_dev.specs.declared.choice.Choice.TheVariants.{Old, New, Bits, Lost}
+use Rattle.sector_dev.specs.declared.crash_choice.CrashChoice.{CrashChoice}
+use Rattle.sector_dev.specs.declared.crash_choice.CrashChoice.TheVariants.{Old, New, Bits, Lost}
 
 -- the bits of the sectors that are new, or after `lost:` of those that are lost; `lost` alone is of all
-abbrev pub IsChoice : Text → Choice → Type 0
+abbrev pub IsChoice : Text → CrashChoice → Type 0
 IsChoice word Old = word ≡ codes "old"
 IsChoice word New = word ≡ codes "new"
 IsChoice word (Bits bits) = IsNumber word bits

@@ -13,7 +13,7 @@ use clap::builder::ValueParser;
 use clap::error::ErrorKind;
 use clap::{Arg, ArgMatches, Command};
 use commit::FormatVersion;
-use sector_dev::Choice;
+use sector_dev::CrashChoice;
 use std::alloc::{AllocError, Global};
 
 /// A script to be played on a device in memory, as words of a command line.
@@ -28,32 +28,32 @@ pub struct ReplayWords<'a> {
     /// The one in which the device stops; 0: none.
     pub stop: u64,
     /// What a crash leaves then.
-    pub choice: Choice,
+    pub choice: CrashChoice,
     /// The version of the store on it.
     pub version: FormatVersion,
 }
 
 // The sectors that are lost: all, or those of the bits.
-fn lost_of(text: &str) -> Option<Choice>
+fn lost_of(text: &str) -> Option<CrashChoice>
     ensures read { IfSome result (IsChoice text.now) }
     ensures taken { IsLost text.now → IsSome result }
 {
     if text == "lost" {
-        return Some(Choice::Lost(u64::MAX));
+        return Some(CrashChoice::Lost(u64::MAX));
     }
-    Some(Choice::Lost(number_of(text.strip_prefix("lost:")?)?))
+    Some(CrashChoice::Lost(number_of(text.strip_prefix("lost:")?)?))
 }
 
 // What a word says that a crash leaves.
-fn choice_of(text: &str) -> Option<Choice>
+fn choice_of(text: &str) -> Option<CrashChoice>
     ensures read { IfSome result (IsChoice text.now) }
     ensures taken { NamesChoice text.now → IsSome result }
 {
     match text {
-        "old" => Some(Choice::Old),
-        "new" => Some(Choice::New),
+        "old" => Some(CrashChoice::Old),
+        "new" => Some(CrashChoice::New),
         _ => match number_of(text) {
-            Some(bits) => Some(Choice::Bits(bits)),
+            Some(bits) => Some(CrashChoice::Bits(bits)),
             None => lost_of(text),
         },
     }

@@ -5,7 +5,7 @@ use Rattle.std.specs.List.{AllByRecursion}
 use Rattle.segments.specs.declared.run.Run.{Run}
 use Rattle.segments.specs.declared.entries.Usage.{Usage}
 use Rattle.segments.specs.declared.entries.UsageEntry.{UsageEntry}
-use Rattle.segments.specs.declared.piece.Part.{Part}
+use Rattle.segments.specs.declared.piece.PiecePart.{PiecePart}
 use Rattle.segments.specs.Pieces.{PlainPiece, bytes_of_parts, plain_pieces}
 use Rattle.segments.specs.Writing.{runs_of}
 use Rattle.segments.specs.Runs.{IsLowest}
@@ -39,8 +39,8 @@ abbrev pub contents_of : List PlainPiece → List (List ℕ)
 contents_of pieces = map (λ (p : PlainPiece). p.bytes) pieces
 
 -- the bytes of contents that are given as their parts
-abbrev pub plain_contents : List (Vec Part) → List (List ℕ)
-plain_contents contents = map (λ (parts : Vec Part). bytes_of_parts parts.items) contents
+abbrev pub plain_contents : List (Vec PiecePart) → List (List ℕ)
+plain_contents contents = map (λ (parts : Vec PiecePart). bytes_of_parts parts.items) contents
 
 -- how many sectors some bytes take
 abbrev pub sectors_of : List ℕ → ℕ

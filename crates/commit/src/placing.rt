@@ -7,7 +7,7 @@ ghost use Rattle.commit.specs.Placing.{Takes, AreSome, AreShort, AreWritten, Has
 ghost use Rattle.commit.specs.laws.Taking.{TookAll};
 
 use sector_dev::SECTOR_BYTES;
-use segments::{FreeMap, Part, Piece, Run, Searched, TakeError, byte_count};
+use segments::{FreeMap, Piece, PiecePart, Run, SearchCursor, TakeError, byte_count};
 use std::alloc::{AllocError, Global};
 
 /// Where contents are to go, and the text that is to name them.
@@ -33,7 +33,7 @@ pub fn take_runs(alloc: Global, map: &mut FreeMap, counts: &[u64]) -> Result<Vec
     ensures err { OnErr result (SameUsages map.old.entries map.new.entries) }
 {
     let mut runs = Vec::with_capacity(alloc, counts.len())?;
-    let mut searched = Searched::nothing();
+    let mut searched = SearchCursor::nothing();
     for count in counts {
         match map.take_onward(*count, &mut searched) {
             Ok(run) => runs.push(run).unwrap(),
@@ -49,7 +49,7 @@ pub fn take_runs(alloc: Global, map: &mut FreeMap, counts: &[u64]) -> Result<Vec
 // How many sectors each of these contents takes, each of these pages, and then a text of `text_bytes` bytes.
 fn counts_for(
     alloc: Global,
-    contents: &[Vec<Part<'_>>],
+    contents: &[Vec<PiecePart<'_>>],
     pages: &[u64],
     text_bytes: usize,
 ) -> Result<Vec<u64>, AllocError>
@@ -70,7 +70,7 @@ fn counts_for(
 
 // Each of these contents goes into the run in its place, after those of the pieces so far.
 pub(crate) fn pieces_of<'a>(
-    contents: Vec<Vec<Part<'a>>>,
+    contents: Vec<Vec<PiecePart<'a>>>,
     runs: &[Run],
     pieces: Vec<Piece<'a>>,
 ) -> Vec<Piece<'a>>
@@ -99,7 +99,7 @@ pub(crate) fn pieces_of<'a>(
 pub fn place<'a>(
     alloc: Global,
     map: &mut FreeMap,
-    contents: Vec<Vec<Part<'a>>>,
+    contents: Vec<Vec<PiecePart<'a>>>,
     pages: &[u64],
     text_bytes: usize,
 ) -> Result<Places<'a>, TakeError>

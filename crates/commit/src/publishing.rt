@@ -11,7 +11,7 @@ use crate::placing::pieces_of;
 use crate::sector::commit_sector;
 use crate::{CatalogueKind, Commit, FormatVersion, Opened, Places, ReadCatalogue};
 use sector_dev::{DevError, SectorDevice};
-use segments::{Extent, Part, Piece, Run, write_runs};
+use segments::{Extent, Piece, PiecePart, Run, write_runs};
 
 /// What is to be published: the next commit, its catalogue, and the bytes that are written for it.
 #[derive(Drop)]
@@ -31,7 +31,7 @@ pub fn plan_next<'a, C>(
     kind: CatalogueKind,
     catalogue: C,
     places: Places<'a>,
-    texts: Vec<Vec<Part<'a>>>,
+    texts: Vec<Vec<PiecePart<'a>>>,
     text_bytes: u64,
 ) -> Plan<'a, C>
     requires epoch { old.epoch + 1 < 2 ^ 64 }

@@ -25,7 +25,7 @@ use arrow_schema::Schema;
 use ipc_canonical::pieces_can_be_built;
 use std::alloc::{AllocError, Global};
 use table_cut::{RowRun, RowsLeft, RunPiece};
-use values::Part;
+use values::TablePart;
 
 // Writes the messages of the rows that are left, of which there are n. The front that is kept for the next piece is the caller's, so that no turn of the
 // loop owns it.
@@ -86,7 +86,7 @@ fn encode_left<'a>(
 pub(crate) fn encode_parts<'a>(
     alloc: Global,
     schema: &Schema,
-    parts: &'a [Part],
+    parts: &'a [TablePart],
     rows: usize,
 ) -> Result<Stream<'a>, AllocError>
     requires table { IsTable (parts_table (schema_of schema.now) parts.now) }
@@ -102,7 +102,7 @@ pub(crate) fn encode_parts<'a>(
 pub(crate) fn messages_of_parts<'a>(
     alloc: Global,
     schema: &Schema,
-    parts: &'a [Part],
+    parts: &'a [TablePart],
     rows: usize,
 ) -> Result<Stream<'a>, AllocError>
     requires table { IsTable (parts_table (schema_of schema.now) parts.now) }
@@ -213,7 +213,7 @@ fn push_left<'k, 'a: 'k>(
 pub(crate) fn encode_parts_pieces<'a>(
     alloc: Global,
     schema: &Schema,
-    parts: &'a [Part],
+    parts: &'a [TablePart],
     rows: usize,
 ) -> Result<EncodedPieces<'a>, AllocError>
     requires table { IsTable (parts_table (schema_of schema.now) parts.now) }

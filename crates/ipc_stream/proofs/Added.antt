@@ -12,7 +12,7 @@ use Rattle.arrays.specs.Dictionaries.{dictionary_read}
 use Rattle.arrays.specs.DictionaryColumns.{dictionary_columns_of}
 use Rattle.ipc_message.specs.declared.fault.Fault.{Fault}
 use Rattle.ipc_message.specs.Raw.{RawDictionaryBatch, dictionary_header}
-use Rattle.values.specs.declared.part.Batch.{Batch}
+use Rattle.values.specs.declared.table_part.Batch.{Batch}
 use Rattle.ipc_stream.specs.declared.front.Front.{Front}
 use Rattle.ipc_stream.specs.Meaning.{Known, with_dictionary, read_after, ◌>>=◌}
 use Rattle.ipc_stream.specs.Progress.{IsFront, GivesFront, placed_rows, are_batches_sound, are_batches_within}

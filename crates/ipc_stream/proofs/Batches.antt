@@ -33,7 +33,7 @@ use Rattle.arrays.specs.Dictionaries.{dictionaries_after}
 use Rattle.arrays.specs.DictionaryColumns.{dictionary_columns_of}
 use Rattle.arrays.specs.Known.{are_readable, dictionary_values}
 use Rattle.arrays.specs.laws.Bytes.{are_bytes-take, are_bytes-drop}
-use Rattle.values.specs.declared.part.Batch.{Batch}
+use Rattle.values.specs.declared.table_part.Batch.{Batch}
 use Rattle.ipc_message.specs.declared.error.ImportError.{ImportError}
 use Rattle.ipc_message.specs.declared.error.ImportError.TheVariants as errors
 use Rattle.ipc_message.specs.declared.fault.Fault.{Fault}

@@ -15,7 +15,7 @@ use Rattle.columns.specs.declared.array.PlacedArray.{PlacedArray}
 use Rattle.columns.specs.laws.Grown.{array_grown}
 use Rattle.columns.specs.laws.Longer.{within_more}
 use Rattle.dictionary.specs.Kept.{lists_of, KeepsParts}
-use Rattle.values.specs.declared.part.Batch.{Batch}
+use Rattle.values.specs.declared.table_part.Batch.{Batch}
 use Rattle.ipc_stream.specs.Progress.{placed_rows, are_batches_sound, are_batches_within}
 
 -- ---- arrays

@@ -19,7 +19,7 @@ use Rattle.arrays.specs.Dictionaries.{dictionaries_after}
 use Rattle.arrays.specs.declared.batch.PlacedBatch.{PlacedBatch}
 use Rattle.columns.specs.Array.{Arrays}
 use Rattle.ipc_message.specs.Raw.{RawBatch}
-use Rattle.values.specs.declared.part.Batch.{Batch}
+use Rattle.values.specs.declared.table_part.Batch.{Batch}
 use Rattle.values.specs.Table.{IsTable}
 use Rattle.ipc_message.specs.declared.error.ImportError.{ImportError}
 use Rattle.ipc_message.specs.declared.fault.Fault.{Fault}

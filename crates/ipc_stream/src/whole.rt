@@ -5,22 +5,22 @@ ghost use Rattle.ipc_message.specs.Header.{supported_codes};
 ghost use Rattle.ipc_message.specs.Outcome.{Gives};
 ghost use Rattle.ipc_stream.specs.Meaning.{Known, known_table, meaning};
 ghost use Rattle.ipc_stream.specs.Progress.{IsFront};
-ghost use Rattle.values.specs.declared.part.Part.{Part as PlainPart};
+ghost use Rattle.values.specs.declared.table_part.TablePart.{TablePart as PlainPart};
 ghost use Rattle.values.specs.TableView.{table_of, is_in_parts};
 
 use crate::front::Front;
 use crate::reading::read_front;
 use ipc_message::ImportError;
 use std::alloc::Global;
-use values::{Part, Table, Weighed};
+use values::{Table, TablePart, WeighedTable};
 
 // The bytes of the only one of some parts.
-fn only_bytes(parts: Vec<Part>) -> Vec<u8>
+fn only_bytes(parts: Vec<TablePart>) -> Vec<u8>
     requires { length parts.items ≡ 1 }
     ensures { (p : PlainPart) → parts.items ≡ p ∷ [] → result.items ≡ p.bytes.items }
 {
     let mut parts = parts;
-    let Part { bytes, .. } = parts.swap_remove(0);
+    let TablePart { bytes, .. } = parts.swap_remove(0);
     bytes
 }
 
@@ -40,7 +40,7 @@ pub(crate) fn table_of_front(alloc: Global, front: Front, bytes: Vec<u8>) -> Res
     let Ok(mut parts) = Vec::with_capacity(alloc, 1) else {
         return Err(bytes);
     };
-    parts.push_reserved(Part {
+    parts.push_reserved(TablePart {
         bytes,
         dictionaries: dictionaries.into_lists(),
         batches,
@@ -55,7 +55,7 @@ pub(crate) fn table_of_front(alloc: Global, front: Front, bytes: Vec<u8>) -> Res
 ///
 /// # Errors
 /// `Fault` with the first fault of the stream; `OutOfMemory`. The bytes are freed.
-pub fn decode_weighed(alloc: Global, bytes: Vec<u8>) -> Result<Weighed, ImportError>
+pub fn decode_weighed(alloc: Global, bytes: Vec<u8>) -> Result<WeighedTable, ImportError>
     ensures exact { Gives (λ w. table_of w.table) result (meaning supported_codes bytes.items) }
     ensures weight { IfOk result (λ w. w.weight ≡ table_weight (table_of w.table).schema (table_of w.table).rows) }
     ensures in_parts { IfOk result (λ w. is_in_parts w.table ≡ true) }
@@ -63,7 +63,7 @@ pub fn decode_weighed(alloc: Global, bytes: Vec<u8>) -> Result<Weighed, ImportEr
     let front = read_front(alloc, &bytes)?;
     let weight = front.weight;
     match table_of_front(alloc, front, bytes) {
-        Ok(table) => Ok(Weighed { table, weight }),
+        Ok(table) => Ok(WeighedTable { table, weight }),
         Err(_) => Err(ImportError::OutOfMemory),
     }
 }
@@ -81,6 +81,6 @@ pub fn decode(alloc: Global, bytes: Vec<u8>) -> Result<Table, ImportError>
     ensures exact { Gives table_of result (meaning supported_codes bytes.items) }
     ensures in_parts { IfOk result (λ table. is_in_parts table ≡ true) }
 {
-    let Weighed { table, .. } = decode_weighed(alloc, bytes)?;
+    let WeighedTable { table, .. } = decode_weighed(alloc, bytes)?;
     Ok(table)
 }

@@ -5,7 +5,7 @@ use Rattle.std.specs.List.{sum_by}
 use Rattle.std.proofs.lemmas.List.{map-append, length-map, length-append}
 use Rattle.std.proofs.lemmas.List.Sums.{sum_by-cons}
 use Rattle.segments.specs.declared.run.Run.{Run}
-use Rattle.segments.specs.declared.piece.Part.{Part}
+use Rattle.segments.specs.declared.piece.PiecePart.{PiecePart}
 use Rattle.segments.specs.declared.extent.Extent.{Extent}
 use Rattle.segments.specs.Pieces.{bytes_of_parts}
 use Rattle.commit.specs.Placing.{plain_contents}
@@ -17,9 +17,9 @@ use Rattle.pages.specs.laws.Paged.{filled_length, pageless_more, pages_more}
 use Rattle.pages.proofs.Passing.{next_sum, part_sum}
 
 -- as many texts as tables that had no page
-pub texts_number : (texts : List (Vec Part)) (c : PlainCatalogue) → plain_contents texts ≡ map table_text (pageless c) → length texts ≡ length (pageless c)
+pub texts_number : (texts : List (Vec PiecePart)) (c : PlainCatalogue) → plain_contents texts ≡ map table_text (pageless c) → length texts ≡ length (pageless c)
 texts_number texts c is =
-    let one = length-map texts (λ (parts : Vec Part). bytes_of_parts parts.items) in
+    let one = length-map texts (λ (parts : Vec PiecePart). bytes_of_parts parts.items) in
     let other = length-map (pageless c) table_text in
     omega (arith, one, other, ap (λ (vs : List (List ℕ)). length vs) is)
 
@@ -31,7 +31,7 @@ pages_turn ys made more x m runs n so_far is one count =
     ∙ sym (pages_more (map plain_entry ys) (plain_entry x) runs)
     ∙ ap (λ (d : PlainCatalogue). with_pages d runs) (sym (map-append plain_entry ys (x ∷ [])))
 
-pub texts_turn : (ys : List TableEntry) (x : TableEntry) (texts more : List (Vec Part)) → plain_contents more ≡ plain_contents texts ++ map table_text (pageless (plain_entry x ∷ [])) → plain_contents texts ≡ map table_text (pageless (map plain_entry ys))
+pub texts_turn : (ys : List TableEntry) (x : TableEntry) (texts more : List (Vec PiecePart)) → plain_contents more ≡ plain_contents texts ++ map table_text (pageless (plain_entry x ∷ [])) → plain_contents texts ≡ map table_text (pageless (map plain_entry ys))
     → plain_contents more ≡ map table_text (pageless (map plain_entry (ys ++ x ∷ [])))
 texts_turn ys x texts more is so_far =
     is ∙ ap (λ (vs : List (List ℕ)). vs ++ map table_text (pageless (plain_entry x ∷ []))) so_far

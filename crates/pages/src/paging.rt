@@ -12,7 +12,7 @@ use catalogue::{
     texts_have_these_sizes,
 };
 use commit::CatalogueKind;
-use segments::{Extent, Part, Run};
+use segments::{Extent, PiecePart, Run};
 use std::alloc::{AllocError, Global};
 
 /// How a catalogue is to be kept: of which kind, how many bytes each page has that is to be written, in order of the names, and
@@ -113,12 +113,16 @@ pub fn layout_of(alloc: Global, list: &Catalogue) -> Result<Layout, AllocError>
 }
 
 // Appends a text, as what is written of its own.
-fn put_text(alloc: Global, texts: &mut Vec<Vec<Part<'_>>>, text: Vec<u8>) -> Result<(), AllocError>
+fn put_text(
+    alloc: Global,
+    texts: &mut Vec<Vec<PiecePart<'_>>>,
+    text: Vec<u8>,
+) -> Result<(), AllocError>
     ensures texts { OnOk result (plain_contents texts.new.items ≡ plain_contents texts.old.items ++ text.items ∷ []) }
     ensures count { OnOk result (vec_len texts.new ≡ vec_len texts.old + 1) }
 {
     let mut parts = Vec::new(alloc);
-    parts.push(Part::Made(text))?;
+    parts.push(PiecePart::Made(text))?;
     texts.push(parts)?;
     Ok(())
 }
@@ -128,7 +132,7 @@ fn with_page(
     alloc: Global,
     entry: TableEntry,
     runs: &[Run],
-    texts: &mut Vec<Vec<Part<'_>>>,
+    texts: &mut Vec<Vec<PiecePart<'_>>>,
 ) -> Result<TableEntry, AllocError>
     requires sound { is_entry (plain_entry entry) ≡ true }
     requires few { length (plain_entry entry).segments < 2 ^ 32 }
@@ -156,7 +160,7 @@ fn with_pages<'a>(
     alloc: Global,
     list: Catalogue,
     runs: &[Run],
-) -> Result<(Catalogue, Vec<Vec<Part<'a>>>), AllocError>
+) -> Result<(Catalogue, Vec<Vec<PiecePart<'a>>>), AllocError>
     requires { AreFilled (pageless (catalogue_of list)) runs.now }
     ensures catalogue { IfOk result (λ kept. catalogue_of kept.0 ≡ with_pages (catalogue_of list) runs.now) }
     ensures texts { IfOk result (λ kept. plain_contents kept.1.items ≡ map table_text (pageless (catalogue_of list))) }
@@ -215,7 +219,7 @@ pub fn settle<'a>(
     list: Catalogue,
     kind: CatalogueKind,
     runs: &[Run],
-) -> Result<(Catalogue, Vec<Vec<Part<'a>>>), AllocError>
+) -> Result<(Catalogue, Vec<Vec<PiecePart<'a>>>), AllocError>
     requires kind { kind ≡ kind_of (catalogue_of list) }
     requires runs { ArePageRuns (catalogue_of list) runs.now }
     ensures catalogue { IfOk result (λ kept. catalogue_of kept.0 ≡ settled (catalogue_of list) runs.now) }

@@ -19,7 +19,7 @@ use Rattle.query.specs.declared.contents_slots.ContentsComparison.{ContentsCompa
 use Rattle.query.specs.declared.contents_slots.ContentsLiteral.{ContentsLiteral}
 use Rattle.query.specs.declared.operator.Operator.{Operator}
 use Rattle.query.specs.declared.slot_test.SlotTest.TheVariants.{Contents}
-use Rattle.query.specs.Bound.{Bound, Demand, compares, accepts, meets}
+use Rattle.query.specs.Bound.{Bound, Predicate, compares, accepts, meets}
 use Rattle.query.specs.inner.Contents.{IsContentsKind, IsContentsColumn, IsContentsComparison}
 use Rattle.query.specs.inner.SlotTests.{IsSlotTest}
 
@@ -75,6 +75,6 @@ contents_test cs b c is = record {
   column = is.column;
   found = is.found;
   place = is.place;
-  answers = λ a i. ap (λ (d : Demand). meets d (cell_at is.column a i)) is.demand ∙ is.contents.answers c.operator a i;
+  answers = λ a i. ap (λ (d : Predicate). meets d (cell_at is.column a i)) is.predicate ∙ is.contents.answers c.operator a i;
   there = λ a rows within sound. and_from _ _ within (and_from _ _ (ap not (is.contents.validity a sound)) (ap not (is.contents.offsets a sound)));
 }

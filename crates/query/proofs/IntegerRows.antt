@@ -18,10 +18,10 @@ use Rattle.columns.specs.CellAt.{row_at}
 use Rattle.columns.specs.Tests.{has_short_validity, are_few}
 use Rattle.columns.specs.View.{array_in, arrays_in}
 use Rattle.values.specs.Parts.{arrays_with, batch_rows, part_rows, parts_rows, is_batch_sound, are_parts_sound, parts_table}
-use Rattle.values.specs.declared.part.Batch.{Batch}
-use Rattle.values.specs.declared.part.Part.{Part}
+use Rattle.values.specs.declared.table_part.Batch.{Batch}
+use Rattle.values.specs.declared.table_part.TablePart.{TablePart}
 use Rattle.query.specs.declared.integer_rows.IntegerColumn.{IntegerColumn}
-use Rattle.query.specs.declared.kept.Kept.{Kept}
+use Rattle.query.specs.declared.selected_rows.SelectedRows.{SelectedRows}
 use Rattle.query.specs.Selection.{pick}
 use Rattle.query.specs.inner.IntegerRows.{IsIntegerAt, AreIntegers, integer_in, integer_row, batch_integers, part_integers, parts_integers, batch_has_integers, part_has_integers}
 use Rattle.query.specs.Choice.{rows_set}
@@ -33,14 +33,14 @@ use Rattle.query.proofs.SlotFlags.{all_here, all_too, flat_is, cell_in_row, arra
 
 -- ---- what is kept
 
-pub keeps_none : (most : ℕ) (k : Kept) → Keeps most k k []
+pub keeps_none : (most : ℕ) (k : SelectedRows) → Keeps most k k []
 keeps_none most k = λ rows h. kept_same (take most rows) (take most (rows ++ [])) _ _ (ap (take most) (sym (append-nil rows))) h
 
-keeps_both : (most : ℕ) (a b c : Kept) (xs ys : List (List Cell)) → Keeps most a b xs → Keeps most b c ys → Keeps most a c (xs ++ ys)
+keeps_both : (most : ℕ) (a b c : SelectedRows) (xs ys : List (List Cell)) → Keeps most a b xs → Keeps most b c ys → Keeps most a c (xs ++ ys)
 keeps_both most a b c xs ys h g = λ rows start. kept_same (take most ((rows ++ xs) ++ ys)) (take most (rows ++ (xs ++ ys))) _ _ (ap (take most) (append_assoc rows xs ys)) (g (rows ++ xs) (h rows start))
 
 -- of one more batch, or one more part
-pub keeps_more : {X : Type 0} (g : X → List (List Cell)) (xs : List X) (i : ℕ) (x : X) (most : ℕ) (mask : List ℕ) (start next : ℕ) (a b c : Kept) → i < length xs → x ≡ get_or xs i x
+pub keeps_more : {X : Type 0} (g : X → List (List Cell)) (xs : List X) (i : ℕ) (x : X) (most : ℕ) (mask : List ℕ) (start next : ℕ) (a b c : SelectedRows) → i < length xs → x ≡ get_or xs i x
     → next ≡ start + length (flat_map g (take i xs)) → Keeps most a b (rows_set mask start (flat_map g (take i xs))) → Keeps most b c (rows_set mask next (g x))
     → Keeps most a c (rows_set mask start (flat_map g (take (i + 1) xs)))
 keeps_more g xs i x most mask start next a b c within is at h more =
@@ -61,7 +61,7 @@ room_more g xs i x within is =
 pub end_more : {X : Type 0} (g : X → List (List Cell)) (xs : List X) (i : ℕ) (x : X) → i < length xs → x ≡ get_or xs i x → length (flat_map g (take (i + 1) xs)) ≡ length (flat_map g (take i xs)) + length (g x)
 end_more g xs i x within is = ap length (flat_map-item g xs i x within is) ∙ length-append (flat_map g (take i xs)) (g x)
 
-pub batch_size : (columns : List IntegerColumn) (p : Part) (b : Batch) → length (batch_integers columns p b) ≡ b.rows
+pub batch_size : (columns : List IntegerColumn) (p : TablePart) (b : Batch) → length (batch_integers columns p b) ≡ b.rows
 batch_size columns p b = length-map-range_with_len (integer_row columns p b) 0 b.rows
 
 -- ---- the columns
@@ -74,14 +74,14 @@ one_column cs (q ∷ ps) (d ∷ columns) p c h is = (h.0, one_column cs ps colum
 
 -- ---- the rows
 
-cell_is : (cs : List Column) (p : Part) (b : Batch) (place : ℕ) (c : IntegerColumn) → IsIntegerAt cs place c → (i : ℕ) → slice_get (row_at (columns_of cs) (arrays_with p b) i) place ≡ Some (integer_in c p b i)
+cell_is : (cs : List Column) (p : TablePart) (b : Batch) (place : ℕ) (c : IntegerColumn) → IsIntegerAt cs place c → (i : ℕ) → slice_get (row_at (columns_of cs) (arrays_with p b) i) place ≡ Some (integer_in c p b i)
 cell_is cs p b place c is i =
     let f = array_in p.bytes.items (arrays_in p.bytes.items p.dictionaries.items) in
     cell_in_row f cs place is.column b.arrays.items i is.found
     ∙ ap (λ (x : Cell). Some x) (is.integers.cells (array_of place p b) i)
     ∙ ap (λ k. Some (integer_in (record { place = k; integer = c.integer }) p b i)) (sym is.place_is)
 
-row_is : (cs : List Column) (p : Part) (b : Batch) (ps : List ℕ) (columns : List IntegerColumn) → AreIntegers cs ps columns → (i : ℕ) → pick ps (row_at (columns_of cs) (arrays_with p b) i) ≡ integer_row columns p b i
+row_is : (cs : List Column) (p : TablePart) (b : Batch) (ps : List ℕ) (columns : List IntegerColumn) → AreIntegers cs ps columns → (i : ℕ) → pick ps (row_at (columns_of cs) (arrays_with p b) i) ≡ integer_row columns p b i
 row_is cs p b [] [] h i = refl
 row_is cs p b [] (c ∷ columns) h i = absurd h
 row_is cs p b (q ∷ ps) [] h i = absurd h
@@ -89,19 +89,19 @@ row_is cs p b (q ∷ ps) (c ∷ columns) h i =
     ap (λ (o : Option Cell). cons_option o (pick ps (row_at (columns_of cs) (arrays_with p b) i))) (cell_is cs p b q c h.0 i)
     ∙ ap (λ (xs : List Cell). integer_in c p b i ∷ xs) (row_is cs p b ps columns h.1 i)
 
-batch_is : (cs : List Column) (ps : List ℕ) (columns : List IntegerColumn) → AreIntegers cs ps columns → (p : Part) (b : Batch) → map (pick ps) (batch_rows (columns_of cs) p b) ≡ batch_integers columns p b
+batch_is : (cs : List Column) (ps : List ℕ) (columns : List IntegerColumn) → AreIntegers cs ps columns → (p : TablePart) (b : Batch) → map (pick ps) (batch_rows (columns_of cs) p b) ≡ batch_integers columns p b
 batch_is cs ps columns h p b =
     map_map (pick ps) (row_at (columns_of cs) (arrays_with p b)) (range_with_len 0 b.rows)
     ∙ maps_same (λ i. pick ps (row_at (columns_of cs) (arrays_with p b) i)) (integer_row columns p b) (row_is cs p b ps columns h) (range_with_len 0 b.rows)
 
 -- they are the rows of all parts, at the places of the columns
-pub integers_are : (cs : List Column) (ps : List ℕ) (columns : List IntegerColumn) → AreIntegers cs ps columns → (parts : List Part) → map (pick ps) (parts_rows (columns_of cs) parts) ≡ parts_integers columns parts
+pub integers_are : (cs : List Column) (ps : List ℕ) (columns : List IntegerColumn) → AreIntegers cs ps columns → (parts : List TablePart) → map (pick ps) (parts_rows (columns_of cs) parts) ≡ parts_integers columns parts
 integers_are cs ps columns h parts =
     flat_is (pick ps) (part_rows (columns_of cs)) (part_integers columns) (λ p. flat_is (pick ps) (batch_rows (columns_of cs) p) (batch_integers columns p) (batch_is cs ps columns h p) p.batches.items) parts
 
 -- ---- the arrays
 
-column_there : (cs : List Column) (p : Part) (b : Batch) (place : ℕ) (c : IntegerColumn) → IsIntegerAt cs place c → is_batch_sound (columns_of cs) p b ≡ true → has_integers c.integer b.rows (array_of c.place p b) ≡ true
+column_there : (cs : List Column) (p : TablePart) (b : Batch) (place : ℕ) (c : IntegerColumn) → IsIntegerAt cs place c → is_batch_sound (columns_of cs) p b ≡ true → has_integers c.integer b.rows (array_of c.place p b) ≡ true
 column_there cs p b place c is h =
     let f = array_in p.bytes.items (arrays_in p.bytes.items p.dictionaries.items) in
     let both = array_sound f cs place is.column b.arrays.items b.rows is.found h in
@@ -109,21 +109,21 @@ column_there cs p b place c is h =
     let values : not (are_few (width_of c.integer) (array_of place p b) (values_in (array_of place p b))) ≡ true = ap not (is.integers.values (array_of place p b) both.1) in
     ap (λ k. has_integers c.integer b.rows (array_of k p b)) is.place_is ∙ and_from _ _ both.0 (and_from _ _ validity values)
 
-batch_there : (cs : List Column) (p : Part) (b : Batch) (ps : List ℕ) (columns : List IntegerColumn) → AreIntegers cs ps columns → is_batch_sound (columns_of cs) p b ≡ true → batch_has_integers columns p b ≡ true
+batch_there : (cs : List Column) (p : TablePart) (b : Batch) (ps : List ℕ) (columns : List IntegerColumn) → AreIntegers cs ps columns → is_batch_sound (columns_of cs) p b ≡ true → batch_has_integers columns p b ≡ true
 batch_there cs p b [] [] h sound = refl
 batch_there cs p b [] (c ∷ columns) h sound = absurd h
 batch_there cs p b (q ∷ ps) [] h sound = absurd h
 batch_there cs p b (q ∷ ps) (c ∷ columns) h sound = and_from _ _ (column_there cs p b q c h.0 sound) (batch_there cs p b ps columns h.1 sound)
 
 -- they have the bytes of all slots
-pub integers_there : (cs : List Column) (ps : List ℕ) (columns : List IntegerColumn) (parts : List Part) → AreIntegers cs ps columns → are_parts_sound (columns_of cs) parts ≡ true
+pub integers_there : (cs : List Column) (ps : List ℕ) (columns : List IntegerColumn) (parts : List TablePart) → AreIntegers cs ps columns → are_parts_sound (columns_of cs) parts ≡ true
     → list_all (part_has_integers columns) parts ≡ true
 integers_there cs ps columns parts h sound =
     all_too (λ p. list_all (is_batch_sound (columns_of cs) p) p.batches.items) (part_has_integers columns)
     (λ p e. all_too (is_batch_sound (columns_of cs) p) (batch_has_integers columns p) (λ b. batch_there cs p b ps columns h) p.batches.items e) parts sound
 
 -- of one more part of all
-pub set_more : {X : Type 0} (g : X → List (List Cell)) (xs : List X) (i : ℕ) (x : X) (most : ℕ) (mask : List ℕ) (next : ℕ) (a b : Kept) → i < length xs → x ≡ get_or xs i x
+pub set_more : {X : Type 0} (g : X → List (List Cell)) (xs : List X) (i : ℕ) (x : X) (most : ℕ) (mask : List ℕ) (next : ℕ) (a b : SelectedRows) → i < length xs → x ≡ get_or xs i x
     → next ≡ length (flat_map g (take i xs)) → HasKept (take most (rows_set mask 0 (flat_map g (take i xs)))) a → Keeps most a b (rows_set mask next (g x))
     → HasKept (take most (rows_set mask 0 (flat_map g (take (i + 1) xs)))) b
 set_more g xs i x most mask next a b within is at h more =
@@ -143,7 +143,7 @@ fewer_slots t rows slot a h there =
     and_from _ _ (le-leb _ _ (omega (arith, h, leb-true _ _ both.0))) both.1
 
 -- a slot of one of the columns
-pub value_there : (columns : List IntegerColumn) (p : Part) (b : Batch) (slot k : ℕ) (d : IntegerColumn) → batch_has_integers columns p b ≡ true → slot < b.rows → k < length columns
+pub value_there : (columns : List IntegerColumn) (p : TablePart) (b : Batch) (slot k : ℕ) (d : IntegerColumn) → batch_has_integers columns p b ≡ true → slot < b.rows → k < length columns
     → has_integers (get_or columns k d).integer (slot + 1) (array_of (get_or columns k d).place p b) ≡ true
 value_there columns p b slot k d there within at =
     let c = get_or columns k d in
@@ -151,7 +151,7 @@ value_there columns p b slot k d there within at =
     fewer_slots c.integer b.rows slot (array_of c.place p b) within (all_here (λ e. has_integers e.integer b.rows (array_of e.place p b)) columns k c there at same)
 
 -- its value, added
-pub one_value : (columns : List IntegerColumn) (p : Part) (b : Batch) (slot k : ℕ) (d : IntegerColumn) (before more : List Value) (cells : List Cell) (v : Value) → k < length columns
+pub one_value : (columns : List IntegerColumn) (p : TablePart) (b : Batch) (slot k : ℕ) (d : IntegerColumn) (before more : List Value) (cells : List Cell) (v : Value) → k < length columns
     → map cell before ≡ cells ++ integer_row (take k columns) p b slot → more ≡ before ++ v ∷ [] → cell v ≡ integer_in (get_or columns k d) p b slot
     → map cell more ≡ cells ++ integer_row (take (k + 1) columns) p b slot
 one_value columns p b slot k d before more cells v at h added own =
@@ -180,7 +180,7 @@ number_there t slot a h =
     omega (arith, less, enough)
 
 -- the rows of a table at the places of the columns
-pub integers_of_table : (t : PlainTable) (cs : List Column) (ps : List ℕ) (columns others : List IntegerColumn) (parts : List Part) → cs ≡ t.schema.columns → t ≡ parts_table t.schema parts
+pub integers_of_table : (t : PlainTable) (cs : List Column) (ps : List ℕ) (columns others : List IntegerColumn) (parts : List TablePart) → cs ≡ t.schema.columns → t ≡ parts_table t.schema parts
     → others ≡ columns → AreIntegers cs ps columns → parts_integers others parts ≡ map (pick ps) t.rows
 integers_of_table t cs ps columns others parts same whole own h =
     let rows : parts_rows (columns_of cs) parts ≡ t.rows = ap (λ (ds : List Column). parts_rows (columns_of ds) parts) same ∙ sym (ap (λ (u : PlainTable). u.rows) whole) in

@@ -15,7 +15,7 @@ use Rattle.columns.specs.Sound.{is_sound}
 use Rattle.columns.specs.laws.SoundParts.{sound_validity, sound_buffer}
 use Rattle.query.specs.declared.integer_slots.IntegerComparison.{IntegerComparison}
 use Rattle.query.specs.declared.slot_test.SlotTest.TheVariants.{Integers}
-use Rattle.query.specs.Bound.{Bound, Demand, compares, accepts, meets}
+use Rattle.query.specs.Bound.{Bound, Predicate, compares, accepts, meets}
 use Rattle.query.specs.inner.Slots.{width_of, integer_cell, IsIntegerKind, IsIntegerColumn, IsIntegerComparison, integer_holds_at}
 use Rattle.query.specs.inner.SlotTests.{IsSlotTest}
 
@@ -34,7 +34,7 @@ pub some_integers : (f : Field) (o : Option IntegerType) → f.dictionary ≡ No
 some_integers f None e h = tt
 some_integers f (Some t) e h = field_integers f t e h
 
-slot_holds : (d : Demand) (c : IntegerComparison) (a : Array) (i : ℕ) → d ≡ compares c.operator (number c.literal)
+slot_holds : (d : Predicate) (c : IntegerComparison) (a : Array) (i : ℕ) → d ≡ compares c.operator (number c.literal)
     → meets d (unless_null (integer_cell c.integer) a i) ≡ integer_holds_at c a i
 slot_holds d c a i e = rw e (by (is_valid a i))
   where
@@ -48,6 +48,6 @@ integers_test cs b c is = record {
   column = is.column;
   found = is.found;
   place = is.place;
-  answers = λ a i. ap (meets b.demand) (is.integers.cells a i) ∙ slot_holds b.demand c a i is.demand;
+  answers = λ a i. ap (meets b.predicate) (is.integers.cells a i) ∙ slot_holds b.predicate c a i is.predicate;
   there = λ a rows within sound. and_from _ _ within (and_from _ _ (ap not (is.integers.validity a sound)) (ap not (is.integers.values a sound)));
 }

@@ -17,7 +17,7 @@ use Rattle.columns.specs.Sound.{is_sound}
 use Rattle.columns.specs.laws.SoundParts.{sound_validity}
 use Rattle.query.specs.declared.null_slots.NullTest.{NullTest}
 use Rattle.query.specs.declared.slot_test.SlotTest.TheVariants.{Nulls}
-use Rattle.query.specs.Bound.{Bound, Demand, asks_null, asks_value, meets}
+use Rattle.query.specs.Bound.{Bound, Predicate, asks_null, asks_value, meets}
 use Rattle.query.specs.inner.Nulls.{HasNullsAlone, IsNullTest, null_holds_in, null_holds_at}
 use Rattle.query.specs.inner.SlotTests.{IsSlotTest}
 
@@ -59,8 +59,8 @@ field_nulls f none e = rw (field_parts f, none) (kind_is (string_bytes f.name) f
 
 -- ---- the test
 
-asked : (d : Demand) (t : NullTest) (c : Column) (a : Array) (i : ℕ) → HasNullsAlone c → d ≡ (if t.valid then asks_value else asks_null) → meets d (cell_at c a i) ≡ null_holds_at t a i
-asked d t c a i is e = ap (λ (x : Demand). meets x (cell_at c a i)) e ∙ by t.valid
+asked : (d : Predicate) (t : NullTest) (c : Column) (a : Array) (i : ℕ) → HasNullsAlone c → d ≡ (if t.valid then asks_value else asks_null) → meets d (cell_at c a i) ≡ null_holds_at t a i
+asked d t c a i is e = ap (λ (x : Predicate). meets x (cell_at c a i)) e ∙ by t.valid
   where
     when : (v b : Bool) → (if v then not (not b) else not b) ≡ (if b then v else not v)
     when true true = refl
@@ -77,7 +77,7 @@ null_test cs b t is = record {
   column = is.column;
   found = is.found;
   place = is.place;
-  answers = λ a i. asked b.demand t is.column a i is.nulls is.demand;
+  answers = λ a i. asked b.predicate t is.column a i is.nulls is.predicate;
   there = λ a rows within sound. and_from _ _ within (ap not (is.nulls.validity a sound));
 }
 

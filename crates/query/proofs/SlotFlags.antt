@@ -15,8 +15,8 @@ use Rattle.columns.specs.View.{array_in, arrays_in, placed_arrays}
 use Rattle.columns.specs.declared.array.Dictionary.{Dictionary}
 use Rattle.columns.specs.declared.array.PlacedArray.{PlacedArray}
 use Rattle.values.specs.Parts.{arrays_with, batch_rows, part_rows, parts_rows, is_batch_sound, are_parts_sound, parts_table}
-use Rattle.values.specs.declared.part.Batch.{Batch}
-use Rattle.values.specs.declared.part.Part.{Part}
+use Rattle.values.specs.declared.table_part.Batch.{Batch}
+use Rattle.values.specs.declared.table_part.TablePart.{TablePart}
 use Rattle.query.specs.declared.slot_test.SlotTest.{SlotTest}
 use Rattle.query.specs.Bound.{Bound, meets_at, holds}
 use Rattle.query.specs.inner.Masks.{IsMask}
@@ -61,15 +61,15 @@ array_sound f (d ∷ cs) (suc place) c [] rows e h =
 array_sound f (d ∷ cs) (suc place) c (a ∷ arrays) rows e h =
     array_sound f cs place c arrays rows e (and_parts (is_sound d (f a)) _ (and_parts (nat_le rows (slots_in (f a))) _ h).1).1
 
-row_holds : (cs : List Column) (b : Bound) (t : SlotTest) (p : Part) (batch : Batch) → IsSlotTest cs b t → (i : ℕ)
+row_holds : (cs : List Column) (b : Bound) (t : SlotTest) (p : TablePart) (batch : Batch) → IsSlotTest cs b t → (i : ℕ)
     → holds b (row_at (columns_of cs) (arrays_with p batch) i) ≡ holds_at t (array_of (place_in t) p batch) i
 row_holds cs b t p batch is i =
     let f = array_in p.bytes.items (arrays_in p.bytes.items p.dictionaries.items) in
-    ap (meets_at b.demand) (cell_in_row f cs b.place is.column batch.arrays.items i is.found)
+    ap (meets_at b.predicate) (cell_in_row f cs b.place is.column batch.arrays.items i is.found)
     ∙ is.answers (array_of b.place p batch) i
     ∙ ap (λ k. holds_at t (array_of k p batch) i) (sym is.place)
 
-batch_is : (cs : List Column) (b : Bound) (t : SlotTest) → IsSlotTest cs b t → (p : Part) (batch : Batch) → map (holds b) (batch_rows (columns_of cs) p batch) ≡ batch_flags t p batch
+batch_is : (cs : List Column) (b : Bound) (t : SlotTest) → IsSlotTest cs b t → (p : TablePart) (batch : Batch) → map (holds b) (batch_rows (columns_of cs) p batch) ≡ batch_flags t p batch
 batch_is cs b t is p batch =
     map_map (holds b) (row_at (columns_of cs) (arrays_with p batch)) (range_with_len 0 batch.rows)
     ∙ maps_same (λ i. holds b (row_at (columns_of cs) (arrays_with p batch) i)) (holds_at t (array_of (place_in t) p batch)) (row_holds cs b t p batch is) (range_with_len 0 batch.rows)
@@ -83,11 +83,11 @@ pub flat_is : {X Y Z : Type 0} (f : Y → Z) (g : X → List Y) (h : X → List 
 flat_is f g h each [] = refl
 flat_is f g h each (x ∷ xs) = map_both f (g x) (flat_map g xs) ∙ rw (each x, flat_is f g h each xs) refl
 
-pub flags_are : (cs : List Column) (b : Bound) (t : SlotTest) → IsSlotTest cs b t → (parts : List Part) → parts_flags t parts ≡ map (holds b) (parts_rows (columns_of cs) parts)
+pub flags_are : (cs : List Column) (b : Bound) (t : SlotTest) → IsSlotTest cs b t → (parts : List TablePart) → parts_flags t parts ≡ map (holds b) (parts_rows (columns_of cs) parts)
 flags_are cs b t is parts =
     sym (flat_is (holds b) (part_rows (columns_of cs)) (part_flags t) (λ p. flat_is (holds b) (batch_rows (columns_of cs) p) (batch_flags t p) (batch_is cs b t is p) p.batches.items) parts)
 
-batch_there : (cs : List Column) (b : Bound) (t : SlotTest) → IsSlotTest cs b t → (p : Part) (batch : Batch) → is_batch_sound (columns_of cs) p batch ≡ true → batch_has_slots t p batch ≡ true
+batch_there : (cs : List Column) (b : Bound) (t : SlotTest) → IsSlotTest cs b t → (p : TablePart) (batch : Batch) → is_batch_sound (columns_of cs) p batch ≡ true → batch_has_slots t p batch ≡ true
 batch_there cs b t is p batch h =
     let f = array_in p.bytes.items (arrays_in p.bytes.items p.dictionaries.items) in
     let both = array_sound f cs b.place is.column batch.arrays.items batch.rows is.found h in
@@ -97,7 +97,7 @@ pub all_too : {X : Type 0} (p q : X → Bool) → ((x : X) → p x ≡ true → 
 all_too p q each [] h = refl
 all_too p q each (x ∷ xs) h = let both = and_parts (p x) _ h in and_from _ _ (each x both.0) (all_too p q each xs both.1)
 
-pub parts_there : (cs : List Column) (b : Bound) (t : SlotTest) → IsSlotTest cs b t → (parts : List Part) → are_parts_sound (columns_of cs) parts ≡ true → list_all (part_has_slots t) parts ≡ true
+pub parts_there : (cs : List Column) (b : Bound) (t : SlotTest) → IsSlotTest cs b t → (parts : List TablePart) → are_parts_sound (columns_of cs) parts ≡ true → list_all (part_has_slots t) parts ≡ true
 parts_there cs b t is parts h =
     all_too (λ p. list_all (is_batch_sound (columns_of cs) p) p.batches.items) (part_has_slots t)
     (λ p e. all_too (is_batch_sound (columns_of cs) p) (batch_has_slots t p) (batch_there cs b t is p) p.batches.items e) parts h
@@ -105,7 +105,7 @@ parts_there cs b t is parts h =
 -- ---- the code
 
 -- the array that a view shows
-pub view_is : (place : ℕ) (p : Part) (batch : Batch) (bytes : List ℕ) (all : List Dictionary) (a : PlacedArray) (arrays : List PlacedArray) → bytes ≡ p.bytes.items → all ≡ p.dictionaries.items
+pub view_is : (place : ℕ) (p : TablePart) (batch : Batch) (bytes : List ℕ) (all : List Dictionary) (a : PlacedArray) (arrays : List PlacedArray) → bytes ≡ p.bytes.items → all ≡ p.dictionaries.items
     → arrays ≡ batch.arrays.items → ((x : List ℕ) (d : List Dictionary) → array_in x (arrays_in x d) a ≡ first_array (placed_arrays x d (drop place arrays)))
     → array_in bytes (arrays_in bytes all) a ≡ array_of place p batch
 view_is place p batch bytes all a arrays same_bytes same_all same_arrays is =
@@ -121,7 +121,7 @@ flags_more g xs k x start flags within is h =
     ap (λ (ys : List Bool). ys ++ g x) h ∙ append_assoc start (flat_map g (take k xs)) (g x) ∙ ap (λ (ys : List Bool). start ++ ys) (sym (flat_map-item g xs k x within is))
 
 -- the mask of the flags of all parts is that of the rows
-pub parts_mask : (table : PlainTable) (cs : List Column) (b : Bound) (t : SlotTest) (parts : List Part) (mask : List ℕ) → IsSlotTest cs b t → cs ≡ table.schema.columns
+pub parts_mask : (table : PlainTable) (cs : List Column) (b : Bound) (t : SlotTest) (parts : List TablePart) (mask : List ℕ) → IsSlotTest cs b t → cs ≡ table.schema.columns
     → table ≡ parts_table table.schema parts → IsMask mask (parts_flags t parts) → IsMask mask (map (holds b) table.rows)
 parts_mask table cs b t parts mask is columns whole h =
     let rows : parts_rows (columns_of cs) parts ≡ table.rows = ap (λ (ds : List Column). parts_rows (columns_of ds) parts) columns ∙ sym (ap (λ (u : PlainTable). u.rows) whole) in

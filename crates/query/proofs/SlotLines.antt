@@ -25,8 +25,8 @@ use Rattle.columns.specs.laws.FitTexts.{row_texts}
 use Rattle.columns.specs.laws.Rows.{other_placed}
 use Rattle.values.specs.Parts.{arrays_with, batch_rows, part_rows, parts_rows, is_batch_sound, are_parts_sound, parts_table}
 use Rattle.values.specs.Table.{IsTable}
-use Rattle.values.specs.declared.part.Batch.{Batch}
-use Rattle.values.specs.declared.part.Part.{Part}
+use Rattle.values.specs.declared.table_part.Batch.{Batch}
+use Rattle.values.specs.declared.table_part.TablePart.{TablePart}
 use Rattle.query.specs.Line.{json_of, json_of_all, json_of_others}
 use Rattle.query.specs.ObjectLine.{members, other_members, line_in, lines_text}
 use Rattle.query.specs.declared.row_form.RowForm.{RowForm}
@@ -100,13 +100,13 @@ pushed out a b one two rest whole first second is =
     ∙ ap (λ (t : List ℕ). out ++ t) (sym is)
 
 -- the cells of the columns from a place on
-abbrev pub cells_left : List Field → Part → Batch → (k slot : ℕ) → Cells
+abbrev pub cells_left : List Field → TablePart → Batch → (k slot : ℕ) → Cells
 cells_left fields p b k slot = part_cells (fields_of (drop k fields)) (placed_arrays p.bytes.items p.dictionaries.items (drop k b.arrays.items)) slot
 
-abbrev pub are_left_sound : List Field → Part → Batch → ℕ → Bool
+abbrev pub are_left_sound : List Field → TablePart → Batch → ℕ → Bool
 are_left_sound fields p b k = are_sound (fields_of (drop k fields)) b.rows (placed_arrays p.bytes.items p.dictionaries.items (drop k b.arrays.items))
 
-cells_next : (fields : List Field) (p : Part) (b : Batch) (k slot : ℕ) (f : Field) → k < length fields → f ≡ get_or fields k f
+cells_next : (fields : List Field) (p : TablePart) (b : Batch) (k slot : ℕ) (f : Field) → k < length fields → f ≡ get_or fields k f
     → cells_left fields p b k slot ≡ and_cell (cell_at (column_of f) (array_of k p b) slot) (cells_left fields p b (k + 1) slot)
 unfolding part_cells
 cells_next fields p b k slot f within is =
@@ -116,7 +116,7 @@ cells_next fields p b k slot f within is =
     ∙ ap (λ (xs : Arrays). and_cell (cell_at (column_of f) (first_array arrays) slot) (part_cells others xs slot)) (other_placed p.bytes.items p.dictionaries.items b.arrays.items k)
 
 -- the array of a column is sound, and those after it are
-pub sound_next : (fields : List Field) (p : Part) (b : Batch) (k : ℕ) (f : Field) → k < length fields → f ≡ get_or fields k f → are_left_sound fields p b k ≡ true
+pub sound_next : (fields : List Field) (p : TablePart) (b : Batch) (k : ℕ) (f : Field) → k < length fields → f ≡ get_or fields k f → are_left_sound fields p b k ≡ true
     → (b.rows ≤ slots_in (array_of k p b)) × (is_sound (column_of f) (array_of k p b) ≡ true) × (are_left_sound fields p b (k + 1) ≡ true)
 unfolding are_sound
 sound_next fields p b k f within is h =
@@ -129,7 +129,7 @@ sound_next fields p b k f within is h =
     (leb-true _ _ long.0, both.0, subst Q (other_placed p.bytes.items p.dictionaries.items b.arrays.items k) both.1)
 
 -- its text is UTF-8, and those after it are
-pub texts_next : (fields : List Field) (p : Part) (b : Batch) (k slot : ℕ) (f : Field) → k < length fields → f ≡ get_or fields k f → have_utf8_texts (cells_left fields p b k slot) ≡ true
+pub texts_next : (fields : List Field) (p : TablePart) (b : Batch) (k slot : ℕ) (f : Field) → k < length fields → f ≡ get_or fields k f → have_utf8_texts (cells_left fields p b k slot) ≡ true
     → (has_utf8_texts (cell_at (column_of f) (array_of k p b) slot) ≡ true) × (have_utf8_texts (cells_left fields p b (k + 1) slot) ≡ true)
 unfolding have_utf8_texts
 texts_next fields p b k slot f within is h =
@@ -137,7 +137,7 @@ texts_next fields p b k slot f within is h =
     and_parts (has_utf8_texts (cell_at (column_of f) (array_of k p b) slot)) _ (subst P (cells_next fields p b k slot f within is) h)
 
 -- what is printed of it, and what is left
-pub text_next : (form : RowForm) (fields : List Field) (p : Part) (b : Batch) (k slot : ℕ) (f : Field) (out one two whole : List ℕ) → k < length fields → f ≡ get_or fields k f
+pub text_next : (form : RowForm) (fields : List Field) (p : TablePart) (b : Batch) (k slot : ℕ) (f : Field) (out one two whole : List ℕ) → k < length fields → f ≡ get_or fields k f
     → one ≡ out ++ lead form k (column_of f) → two ≡ one ++ json_of (cell_at (column_of f) (array_of k p b) slot)
     → out ++ rest_of_line form k (map column_of (drop k fields)) (cells_left fields p b k slot) ≡ whole
     → two ++ rest_of_line form (k + 1) (map column_of (drop (k + 1) fields)) (cells_left fields p b (k + 1) slot) ≡ whole
@@ -152,7 +152,7 @@ text_next form fields p b k slot f out one two whole within is first second h =
     pushed out (lead form k (column_of f)) (json_of x) one two (rest_of_line form (k + 1) others left) _ first second rest ∙ h
 
 -- where no column is left
-pub text_done : (form : RowForm) (fields : List Field) (p : Part) (b : Batch) (k slot : ℕ) (out whole : List ℕ) → drop k fields ≡ []
+pub text_done : (form : RowForm) (fields : List Field) (p : TablePart) (b : Batch) (k slot : ℕ) (out whole : List ℕ) → drop k fields ≡ []
     → out ++ rest_of_line form k (map column_of (drop k fields)) (cells_left fields p b k slot) ≡ whole → out ≡ whole
 unfolding part_cells
 text_done form fields p b k slot out whole none h =
@@ -188,7 +188,7 @@ all_both p q r each (x ∷ xs) h g =
     let other = and_parts (q x) _ g in
     and_from _ _ (each x one.0 other.0) (all_both p q r each xs one.1 other.1)
 
-parts_readable : (columns : Columns) (parts : List Part) → are_parts_sound columns parts ≡ true → list_all has_texts (parts_rows columns parts) ≡ true → list_all (is_part_readable columns) parts ≡ true
+parts_readable : (columns : Columns) (parts : List TablePart) → are_parts_sound columns parts ≡ true → list_all has_texts (parts_rows columns parts) ≡ true → list_all (is_part_readable columns) parts ≡ true
 parts_readable columns parts sound texts =
     all_both (λ p. list_all (is_batch_sound columns p) p.batches.items) (λ p. list_all has_texts (part_rows columns p)) (is_part_readable columns)
     (λ p s t. all_both (is_batch_sound columns p) (λ b. list_all has_texts (batch_rows columns p b)) (is_batch_readable columns p) (λ b one other. and_from _ _ one other) p.batches.items s
@@ -205,7 +205,7 @@ rows_have_texts s (row ∷ rows) h =
     and_from _ _ (row_has_texts s row both.0) (rows_have_texts s rows both.1)
 
 -- of a table they are
-pub table_readable : (t : PlainTable) (cs : List Column) (parts : List Part) → IsTable t → cs ≡ t.schema.columns → t ≡ parts_table t.schema parts → are_parts_sound (columns_of t.schema.columns) parts ≡ true
+pub table_readable : (t : PlainTable) (cs : List Column) (parts : List TablePart) → IsTable t → cs ≡ t.schema.columns → t ≡ parts_table t.schema parts → are_parts_sound (columns_of t.schema.columns) parts ≡ true
     → list_all (is_part_readable (columns_of cs)) parts ≡ true
 table_readable t cs parts is columns whole sound =
     let rows : t.rows ≡ parts_rows (columns_of t.schema.columns) parts = ap (λ (u : PlainTable). u.rows) whole in
@@ -214,14 +214,14 @@ table_readable t cs parts is columns whole sound =
     subst Q (sym columns)
     (parts_readable (columns_of t.schema.columns) parts sound (subst P rows (rows_have_texts t.schema t.rows (list_all-from_AllPass (is_row t.schema) t.rows is.rows))))
 
-pub lines_of_table : (form : RowForm) (t : PlainTable) (cs : List Column) (parts : List Part) → cs ≡ t.schema.columns → t ≡ parts_table t.schema parts
+pub lines_of_table : (form : RowForm) (t : PlainTable) (cs : List Column) (parts : List TablePart) → cs ≡ t.schema.columns → t ≡ parts_table t.schema parts
     → lines_text form cs (parts_rows (columns_of cs) parts) ≡ lines_text form t.schema.columns t.rows
 lines_of_table form t cs parts columns whole =
     ap (λ (ds : List Column). lines_text form ds (parts_rows (columns_of ds) parts)) columns
     ∙ ap (λ (u : PlainTable). lines_text form t.schema.columns u.rows) (sym whole)
 
 -- a slot of a batch
-pub slot_readable : (columns : Columns) (p : Part) (b : Batch) (slot : ℕ) → slot < b.rows → is_batch_readable columns p b ≡ true
+pub slot_readable : (columns : Columns) (p : TablePart) (b : Batch) (slot : ℕ) → slot < b.rows → is_batch_readable columns p b ≡ true
     → (are_sound columns b.rows (arrays_with p b) ≡ true) × (have_utf8_texts (part_cells columns (arrays_with p b) slot) ≡ true)
 slot_readable columns p b slot within h =
     let both = and_parts (is_batch_sound columns p b) _ h in

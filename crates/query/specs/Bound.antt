@@ -27,31 +27,31 @@ unfoldable pub place_of : List Column → List ℕ → Option ℕ
 place_of cs name = if count_by (has_name name) cs == 1 then position (has_name name) cs else None
 
 -- what is asked of the cell at a place of a row
-pub data Demand : Type 0 where
-  asks_null : Demand
-  asks_value : Demand
-  compares : Operator → Cell → Demand
+pub data Predicate : Type 0 where
+  asks_null : Predicate
+  asks_value : Predicate
+  compares : Operator → Cell → Predicate
 
 pub record Bound : Type 0 where
   pub place : ℕ
-  pub demand : Demand
+  pub predicate : Predicate
 
-abbrev pub against : Operator → Option Cell → Result Demand Refusal
+abbrev pub against : Operator → Option Cell → Result Predicate Refusal
 against o None = Err bad_condition
 against o (Some literal) = Ok (compares o literal)
 
-abbrev pub demand_of : Kind → PlainTest → Result Demand Refusal
-demand_of kind null_test = Ok asks_null
-demand_of kind value_test = Ok asks_value
-demand_of kind (comparison o literal) = if is_comparable kind then against o (literal_of kind literal) else Err not_comparable
+abbrev pub predicate_of : Kind → PlainTest → Result Predicate Refusal
+predicate_of kind null_test = Ok asks_null
+predicate_of kind value_test = Ok asks_value
+predicate_of kind (comparison o literal) = if is_comparable kind then against o (literal_of kind literal) else Err not_comparable
 
-abbrev pub bound_at : ℕ → Result Demand Refusal → Result Bound Refusal
-bound_at place (Ok d) = Ok (record { place = place; demand = d })
+abbrev pub bound_at : ℕ → Result Predicate Refusal → Result Bound Refusal
+bound_at place (Ok d) = Ok (record { place = place; predicate = d })
 bound_at place (Err e) = Err e
 
 abbrev pub bound_in : ℕ → Option Column → PlainTest → Result Bound Refusal
 bound_in place None test = Err unknown_column
-bound_in place (Some c) test = bound_at place (demand_of (kind_of_column c) test)
+bound_in place (Some c) test = bound_at place (predicate_of (kind_of_column c) test)
 
 abbrev pub bound_to : List Column → Option ℕ → PlainTest → Result Bound Refusal
 bound_to cs None test = Err unknown_column
@@ -77,16 +77,16 @@ accepts operators.AtMost = is_le
 accepts operators.Greater = is_gt
 accepts operators.AtLeast = is_ge
 
--- whether a cell meets a demand: a comparison with a null is false, whatever the operator
-abbrev pub meets : Demand → Cell → Bool
+-- whether a cell meets a predicate: a comparison with a null is false, whatever the operator
+abbrev pub meets : Predicate → Cell → Bool
 meets asks_null c = is_null c
 meets asks_value c = is_there c
 meets (compares o literal) c = is_some_and (accepts o) (order c literal)
 
-abbrev pub meets_at : Demand → Option Cell → Bool
+abbrev pub meets_at : Predicate → Option Cell → Bool
 meets_at d None = false
 meets_at d (Some c) = meets d c
 
 -- whether a condition holds of a row
 abbrev pub holds : Bound → List Cell → Bool
-holds b row = meets_at b.demand (slice_get row b.place)
+holds b row = meets_at b.predicate (slice_get row b.place)

@@ -4,9 +4,9 @@ ghost use Rattle.std.specs.Option.{option_copied};
 ghost use Rattle.arrow_schema.specs.View.{kind_of, column_of};
 ghost use Rattle.cells.specs.View.{cell};
 ghost use Rattle.values.specs.Borrowed.{borrowed_cell, borrowed_cells};
-ghost use Rattle.query.specs.Bound.{has_name, place_of, demand_of, bound, order, meets, holds};
+ghost use Rattle.query.specs.Bound.{has_name, place_of, predicate_of, bound, order, meets, holds};
 ghost use Rattle.query.specs.View.{test_in, condition_in, Reports};
-ghost use Rattle.query.specs.inner.BoundView.{demand_in, bound_in};
+ghost use Rattle.query.specs.inner.BoundView.{predicate_in, bound_in};
 
 use crate::condition::{Condition, Test};
 use crate::errors::QueryError;
@@ -20,7 +20,7 @@ use values::{ValueRef, Values};
 
 /// What is asked of a value.
 #[derive(Drop)]
-pub(crate) enum Demand {
+pub(crate) enum Predicate {
     IsNull,
     IsValue,
     Compares(Operator, Value),
@@ -30,7 +30,7 @@ pub(crate) enum Demand {
 #[derive(Drop)]
 pub(crate) struct Bound {
     pub(crate) place: usize,
-    pub(crate) demand: Demand,
+    pub(crate) predicate: Predicate,
 }
 
 fn has_name(field: &Field, name: &str) -> bool
@@ -76,20 +76,20 @@ pub(crate) fn field_at(fields: &[Field], place: usize) -> Option<&Field>
     get_field(fields, place)
 }
 
-fn demand_of(alloc: Global, data_type: &DataType, test: &Test) -> Result<Demand, QueryError>
-    ensures ok { IfOk result (λ d. demand_of (kind_of data_type.now) (test_in test.now) ≡ Ok (demand_in d)) }
-    ensures refused { IfErr result (λ e. Reports e (demand_of (kind_of data_type.now) (test_in test.now))) }
+fn predicate_of(alloc: Global, data_type: &DataType, test: &Test) -> Result<Predicate, QueryError>
+    ensures ok { IfOk result (λ d. predicate_of (kind_of data_type.now) (test_in test.now) ≡ Ok (predicate_in d)) }
+    ensures refused { IfErr result (λ e. Reports e (predicate_of (kind_of data_type.now) (test_in test.now))) }
 {
     match test {
-        Test::IsNull => Ok(Demand::IsNull),
-        Test::IsNotNull => Ok(Demand::IsValue),
+        Test::IsNull => Ok(Predicate::IsNull),
+        Test::IsNotNull => Ok(Predicate::IsValue),
         Test::Compared(operator, literal) => {
             if !is_comparable(data_type) {
                 return Err(QueryError::NotComparable);
             }
             match literal_of(alloc, data_type, literal.as_str())? {
                 None => Err(QueryError::BadCondition),
-                Some(literal) => Ok(Demand::Compares(*operator, literal)),
+                Some(literal) => Ok(Predicate::Compares(*operator, literal)),
             }
         }
     }
@@ -111,8 +111,8 @@ pub(crate) fn bind(
     let Some(field) = field_at(fields, place) else {
         return Err(QueryError::UnknownColumn);
     };
-    let demand = demand_of(alloc, &field.data_type, &condition.test)?;
-    Ok(Bound { place, demand })
+    let predicate = predicate_of(alloc, &field.data_type, &condition.test)?;
+    Ok(Bound { place, predicate })
 }
 
 // How a value compares with a literal, where both are of one form.
@@ -128,14 +128,14 @@ fn order(value: ValueRef<'_>, literal: &Value) -> Option<Ordering>
     }
 }
 
-// Whether a value meets a demand.
-fn meets(demand: &Demand, value: ValueRef<'_>) -> bool
-    ensures { result ≡ meets (demand_in demand.now) (borrowed_cell value.entry) }
+// Whether a value meets a predicate.
+fn meets(predicate: &Predicate, value: ValueRef<'_>) -> bool
+    ensures { result ≡ meets (predicate_in predicate.now) (borrowed_cell value.entry) }
 {
-    match demand {
-        Demand::IsNull => matches!(value, ValueRef::Null),
-        Demand::IsValue => !matches!(value, ValueRef::Null),
-        Demand::Compares(operator, literal) => match order(value, literal) {
+    match predicate {
+        Predicate::IsNull => matches!(value, ValueRef::Null),
+        Predicate::IsValue => !matches!(value, ValueRef::Null),
+        Predicate::Compares(operator, literal) => match order(value, literal) {
             None => false,
             Some(order) => accepts(*operator, order),
         },
@@ -148,6 +148,6 @@ pub(crate) fn holds(bound: &Bound, row: Values<'_>) -> bool
 {
     match row.get(bound.place) {
         None => false,
-        Some(value) => meets(&bound.demand, value),
+        Some(value) => meets(&bound.predicate, value),
     }
 }

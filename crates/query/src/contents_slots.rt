@@ -11,7 +11,7 @@ ghost use Rattle.query.specs.Bound.{accepts};
 ghost use Rattle.query.specs.inner.BoundView.{bound_in};
 ghost use Rattle.query.specs.inner.Contents.{IsContentsKind, IsContentsColumn, IsContentsComparison, contents_hold_in, contents_hold_at, has_contents};
 
-use crate::bound::{Bound, Demand, field_at};
+use crate::bound::{Bound, Predicate, field_at};
 use crate::integer_slots::unsigned_at;
 use crate::operator::{Operator, accepts};
 use arrow_schema::{BitWidth, DataType, Field};
@@ -79,8 +79,8 @@ pub(crate) fn contents_comparison_of<'a>(
     ensures { IfSome result (λ c. IsContentsComparison (map column_of fields.now) (bound_in bound.now) c) }
 {
     let field = field_at(fields, bound.place)?;
-    match &bound.demand {
-        Demand::Compares(operator, literal) => {
+    match &bound.predicate {
+        Predicate::Compares(operator, literal) => {
             let literal = field_literal(field, literal)?;
             Some(ContentsComparison {
                 place: bound.place,

@@ -12,12 +12,12 @@ ghost use Rattle.query.specs.inner.Slots.{array_of, has_integers, integer_cell};
 
 use crate::bound::field_at;
 use crate::integer_slots::{field_integer, number_at};
-use crate::kept::{Kept, next_set};
+use crate::selected_rows::{SelectedRows, next_set};
 use arrow_schema::{Field, IntegerType};
 use cells::Value;
 use columns::{ArrayView, array_or, no_array};
 use std::alloc::{AllocError, Global};
-use values::{Batch, Part};
+use values::{Batch, TablePart};
 
 /// A column of integers without a dictionary, by its place.
 #[derive(Clone, Copy)]
@@ -75,7 +75,7 @@ fn number_value(number: Option<i128>) -> Value
 
 impl IntegerColumn {
     // The value at a slot of a batch.
-    fn value(self, part: &Part, batch: &Batch, slot: usize) -> Value
+    fn value(self, part: &TablePart, batch: &Batch, slot: usize) -> Value
         requires { has_integers self.integer (slot + 1) (array_of self.place part.now batch.now) ≡ true }
         ensures { cell result ≡ integer_in self part.now batch.now slot }
     {
@@ -93,7 +93,7 @@ impl IntegerColumn {
 fn push_integers(
     cells: &mut Vec<Value>,
     columns: &[IntegerColumn],
-    part: &Part,
+    part: &TablePart,
     batch: &Batch,
     slot: usize,
 ) -> Result<(), AllocError>
@@ -109,9 +109,9 @@ fn push_integers(
 
 // Keeps the rows of a batch whose bits are set, from a bit on.
 fn keep_batch(
-    kept: &mut Kept,
+    kept: &mut SelectedRows,
     columns: &[IntegerColumn],
-    part: &Part,
+    part: &TablePart,
     batch: &Batch,
     mask: &[u8],
     start: usize,
@@ -134,9 +134,9 @@ fn keep_batch(
 
 // The same of the batches of a part, and says where its bits end.
 fn keep_part(
-    kept: &mut Kept,
+    kept: &mut SelectedRows,
     columns: &[IntegerColumn],
-    part: &Part,
+    part: &TablePart,
     mask: &[u8],
     start: usize,
     most: u64,
@@ -159,11 +159,11 @@ fn keep_part(
 pub(crate) fn keep_integers(
     alloc: Global,
     columns: &[IntegerColumn],
-    parts: &[Part],
+    parts: &[TablePart],
     rows: usize,
     mask: &[u8],
     most: u64,
-) -> Result<Kept, AllocError>
+) -> Result<SelectedRows, AllocError>
     requires there { list_all (part_has_integers columns.now) parts.now ≡ true }
     requires count { rows ≡ length (parts_integers columns.now parts.now) }
     requires within { rows ≤ 8 * length mask.now }
@@ -171,7 +171,7 @@ pub(crate) fn keep_integers(
 {
     let room = (bitmap::count_set(mask, 0, rows) as u64).min(most) as usize;
     let cells = Vec::with_capacity(alloc, room.saturating_mul(columns.len()))?;
-    let mut kept = Kept { cells, rows: 0 };
+    let mut kept = SelectedRows { cells, rows: 0 };
     let mut start = 0;
     for part in parts {
         start = keep_part(&mut kept, columns, part, mask, start, most)?;

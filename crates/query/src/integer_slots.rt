@@ -9,7 +9,7 @@ ghost use Rattle.query.specs.inner.BoundView.{bound_in};
 ghost use Rattle.query.specs.inner.Slots.{width_of, IsIntegerKind, IsIntegerColumn, IsIntegerComparison, integer_holds_in, integer_holds_at, has_integers};
 
 use crate::blocks::{answers_of_block, slots_in_block, valid_slots};
-use crate::bound::{Bound, Demand, field_at};
+use crate::bound::{Bound, Predicate, field_at};
 use crate::cut::Cut;
 use crate::operator::{Operator, accepts};
 use arrow_schema::{BitWidth, DataType, DateUnit, Field, IntegerType};
@@ -68,8 +68,8 @@ pub(crate) fn integer_comparison_of(fields: &[Field], bound: &Bound) -> Option<I
 {
     let field = field_at(fields, bound.place)?;
     let integer = field_integer(field)?;
-    match &bound.demand {
-        Demand::Compares(operator, Value::Int(literal)) => Some(IntegerComparison {
+    match &bound.predicate {
+        Predicate::Compares(operator, Value::Int(literal)) => Some(IntegerComparison {
             place: bound.place,
             integer,
             operator: *operator,

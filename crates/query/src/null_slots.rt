@@ -7,7 +7,7 @@ ghost use Rattle.columns.specs.View.{view_array};
 ghost use Rattle.query.specs.inner.BoundView.{bound_in};
 ghost use Rattle.query.specs.inner.Nulls.{HasNullsAlone, IsNullTest, null_holds_at, has_validity};
 
-use crate::bound::{Bound, Demand, field_at};
+use crate::bound::{Bound, Predicate, field_at};
 use arrow_schema::{DataType, Field};
 use bitmap::MaskBuilder;
 use columns::ArrayView;
@@ -44,16 +44,16 @@ pub(crate) fn null_test_of(fields: &[Field], bound: &Bound) -> Option<NullTest>
     if !has_nulls_alone(field) {
         return None;
     }
-    match &bound.demand {
-        Demand::IsNull => Some(NullTest {
+    match &bound.predicate {
+        Predicate::IsNull => Some(NullTest {
             place: bound.place,
             valid: false,
         }),
-        Demand::IsValue => Some(NullTest {
+        Predicate::IsValue => Some(NullTest {
             place: bound.place,
             valid: true,
         }),
-        Demand::Compares(_, _) => None,
+        Predicate::Compares(_, _) => None,
     }
 }
 

@@ -24,8 +24,8 @@ use crate::condition::Condition;
 use crate::copying::copy_value;
 use crate::errors::QueryError;
 use crate::integer_rows::{integer_columns, keep_integers};
-use crate::kept::{Kept, next_set};
 use crate::query::Query;
+use crate::selected_rows::{SelectedRows, next_set};
 use crate::slot_test::slot_test_of;
 use arrow_schema::{Field, Schema};
 use cells::Value;
@@ -171,7 +171,7 @@ fn keep_each(
     places: &[usize],
     mask: &[u8],
     most: u64,
-) -> Result<Kept, AllocError>
+) -> Result<SelectedRows, AllocError>
     requires { length (table_of table.now).rows ≤ 8 * length mask.now }
     ensures { IfOk result (λ k. HasKept (take most (rows_set mask.now 0 (map (pick places.now) (table_of table.now).rows))) k) }
 {
@@ -184,7 +184,7 @@ fn keep_each(
         rows += 1;
         next = next_set(mask, next + 1, end);
     }
-    Ok(Kept { cells, rows })
+    Ok(SelectedRows { cells, rows })
 }
 
 // The same, from the bytes of arrays where these have integers alone.
@@ -194,7 +194,7 @@ fn keep_set(
     places: &[usize],
     mask: &[u8],
     most: u64,
-) -> Result<Kept, AllocError>
+) -> Result<SelectedRows, AllocError>
     requires { length (table_of table.now).rows ≤ 8 * length mask.now }
     ensures { IfOk result (λ k. HasKept (take most (rows_set mask.now 0 (map (pick places.now) (table_of table.now).rows))) k) }
 {
@@ -232,7 +232,7 @@ pub fn pick_schema(alloc: Global, schema: &Schema, places: &[usize]) -> Result<S
 }
 
 // The table of cells that are those of a table's rows.
-fn table_of_kept(alloc: Global, schema: Schema, kept: Kept) -> Result<Table, QueryError>
+fn table_of_kept(alloc: Global, schema: Schema, kept: SelectedRows) -> Result<Table, QueryError>
     requires filled { length kept.cells.items ≡ length schema.fields.items * kept.rows }
     requires table { IsTable (table_in schema kept.rows kept.cells.items) }
     ensures ok { IfOk result (λ t. table_of t ≡ table_in schema kept.rows kept.cells.items) }

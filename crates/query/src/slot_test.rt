@@ -15,7 +15,7 @@ use arrow_schema::Field;
 use bitmap::MaskBuilder;
 use columns::{ArrayView, array_or, no_array};
 use std::alloc::{AllocError, Global};
-use values::{Batch, Part};
+use values::{Batch, TablePart};
 
 /// What is asked of the slots of a column without a dictionary.
 #[derive(Clone, Copy)]
@@ -97,7 +97,7 @@ impl SlotTest<'_> {
     fn push_batch(
         self,
         flags: &mut MaskBuilder,
-        part: &Part,
+        part: &TablePart,
         batch: &Batch,
     ) -> Result<(), AllocError>
         requires { batch_has_slots self part.now batch.now ≡ true }
@@ -112,7 +112,7 @@ impl SlotTest<'_> {
         self.push_slots(flags, view, batch.rows)
     }
 
-    fn push_part(self, flags: &mut MaskBuilder, part: &Part) -> Result<(), AllocError>
+    fn push_part(self, flags: &mut MaskBuilder, part: &TablePart) -> Result<(), AllocError>
         requires { part_has_slots self part.now ≡ true }
         ensures { OnOk result (flags.new ≡ flags.old ++ part_flags self.entry part.now) }
     {
@@ -126,7 +126,7 @@ impl SlotTest<'_> {
     pub(crate) fn mask_of(
         self,
         alloc: Global,
-        parts: &[Part],
+        parts: &[TablePart],
         rows: usize,
     ) -> Result<Vec<u8>, AllocError>
         requires { list_all (part_has_slots self) parts.now ≡ true }

@@ -21,7 +21,7 @@ use crate::slot_value::push_slot;
 use arrow_schema::Field;
 use columns::{ArrayView, array_or, no_array};
 use std::alloc::{AllocError, Global};
-use values::{Batch, Part, Table, Values};
+use values::{Batch, Table, TablePart, Values};
 
 fn push_opening(out: &mut Vec<u8>, form: RowForm) -> Result<(), AllocError>
     ensures { OnOk result (out.new.items ≡ out.old.items ++ opening form) }
@@ -80,7 +80,7 @@ fn push_slots(
     out: &mut Vec<u8>,
     form: RowForm,
     fields: &[Field],
-    part: &Part,
+    part: &TablePart,
     batch: &Batch,
     slot: usize,
 ) -> Result<(), AllocError>
@@ -110,7 +110,7 @@ fn push_slot_line(
     out: &mut Vec<u8>,
     form: RowForm,
     fields: &[Field],
-    part: &Part,
+    part: &TablePart,
     batch: &Batch,
     slot: usize,
 ) -> Result<(), AllocError>
@@ -130,7 +130,7 @@ fn push_batch(
     out: &mut Vec<u8>,
     form: RowForm,
     fields: &[Field],
-    part: &Part,
+    part: &TablePart,
     batch: &Batch,
 ) -> Result<(), AllocError>
     requires { is_batch_readable (fields_of fields.now) part.now batch.now ≡ true }
@@ -148,7 +148,7 @@ fn push_part(
     out: &mut Vec<u8>,
     form: RowForm,
     fields: &[Field],
-    part: &Part,
+    part: &TablePart,
 ) -> Result<(), AllocError>
     requires { is_part_readable (fields_of fields.now) part.now ≡ true }
     ensures { OnOk result (out.new.items ≡ out.old.items ++ lines_text form (map column_of fields.now) (part_rows (fields_of fields.now) part.now)) }
@@ -164,7 +164,7 @@ fn push_parts(
     out: &mut Vec<u8>,
     form: RowForm,
     fields: &[Field],
-    parts: &[Part],
+    parts: &[TablePart],
 ) -> Result<(), AllocError>
     requires { list_all (is_part_readable (fields_of fields.now)) parts.now ≡ true }
     ensures { OnOk result (out.new.items ≡ out.old.items ++ lines_text form (map column_of fields.now) (parts_rows (fields_of fields.now) parts.now)) }

@@ -3,8 +3,8 @@ use Rattle.std.specs.Prelude.{◌≡◌, ◌%◌, ◌==◌, ℕ, Bool, if◌then
 use Rattle.std.specs.List.{filter, range_with_len}
 use Rattle.std.specs.Int.{bit_at}
 use Rattle.sector_dev.specs.Disk.{Disk, Sector, Image}
-use Rattle.sector_dev.specs.declared.choice.Choice.{Choice}
-use Rattle.sector_dev.specs.declared.choice.Choice.TheVariants.{Old, New, Bits, Lost}
+use Rattle.sector_dev.specs.declared.crash_choice.CrashChoice.{CrashChoice}
+use Rattle.sector_dev.specs.declared.crash_choice.CrashChoice.TheVariants.{Old, New, Bits, Lost}
 
 -- the newest content of those that were written since the last sync
 abbrev pub newest_of : List (List ℕ) → Option (List ℕ)
@@ -24,13 +24,13 @@ abbrev pub has_bit : ℕ → ℕ → Bool
 has_bit bits i = bit_at bits (i % 64) == 1
 
 -- what the choice leaves in the i-th sector that is not yet synced
-abbrev pub chosen : Choice → ℕ → Sector → Option (List ℕ)
+abbrev pub chosen : CrashChoice → ℕ → Sector → Option (List ℕ)
 chosen Old i s = s.synced
 chosen New i s = newest_of s.pending
 chosen (Bits bits) i s = if has_bit bits i then newest_of s.pending else s.synced
 chosen (Lost bits) i s = if has_bit bits i then None else s.synced
 
 -- the image is the one that the choice names
-pub record IsChosen (choice : Choice) (d : Disk) (size : ℕ) (image : Image) : Type 0 where
+pub record IsChosen (choice : CrashChoice) (d : Disk) (size : ℕ) (image : Image) : Type 0 where
   pub pending : (i n : ℕ) → slice_get (not_yet_synced d size) i ≡ Some n → image n ≡ chosen choice i (d.at n)
   pub synced : (n : ℕ) → (d.at n).pending ≡ [] → image n ≡ (d.at n).synced

@@ -12,7 +12,7 @@
 #![tactic(auto)]
 
 mod buffer;
-mod choice;
+mod crash_choice;
 mod device;
 mod faults;
 mod file;
@@ -20,7 +20,7 @@ mod log;
 mod model;
 mod stored;
 
-pub use choice::Choice;
+pub use crash_choice::CrashChoice;
 pub use device::{DevError, SECTOR_BYTES, SectorDevice};
 pub use file::{FileDevice, FileError, LEAST_SECTORS, LockFile, MOST_SECTORS};
 pub use model::ModelDevice;

@@ -4,7 +4,7 @@ use Rattle.std.proofs.lemmas.Bool.{cond_both, ltb-true}
 use Rattle.std.proofs.lemmas.List.{drop_more}
 use Rattle.segments.specs.declared.run.Run.{Run}
 use Rattle.segments.specs.declared.entries.UsageEntry.{UsageEntry}
-use Rattle.segments.specs.declared.searched.Searched.{Searched}
+use Rattle.segments.specs.declared.search_cursor.SearchCursor.{SearchCursor}
 use Rattle.segments.specs.Runs.{IsFree, IsLowest}
 use Rattle.segments.specs.Usages.{Space, TAKEN, is_used, Ordered, EndBy, IsUsedIn, IsSearched, Changes}
 use Rattle.segments.specs.laws.Usages.{still_used}
@@ -82,7 +82,7 @@ behind_all from size (e ∷ es) (suc k) run o free =
     record { above = omega (arith, o.0, later.above); within = later.within; apart = (inr later.above, later.apart) }
 
 -- a search goes on from where it has come
-pub passed_first : (size : ℕ) (es : List UsageEntry) (searched : Searched) (start place : ℕ) → Ordered 2 es → EndBy size es → IsSearched (record { size = size; entries = es }) searched → place ≡ place_of searched.start es → start ≡ end_before 2 es place → Passed size es start searched.widest place
+pub passed_first : (size : ℕ) (es : List UsageEntry) (searched : SearchCursor) (start place : ℕ) → Ordered 2 es → EndBy size es → IsSearched (record { size = size; entries = es }) searched → place ≡ place_of searched.start es → start ≡ end_before 2 es place → Passed size es start searched.widest place
 passed_first size es searched start place o ends law at is =
     let here : start ≡ end_before 2 es (place_of searched.start es) = is ∙ ap (λ k. end_before 2 es k) at in
     record {
@@ -121,7 +121,7 @@ passed_more size es start widest index d wider passed lt more gap =
     }
 
 -- what was passed was searched
-pub passed_searched : (size : ℕ) (es : List UsageEntry) (searched : Searched) (index : ℕ) → Ordered 2 es → Passed size es searched.start searched.widest index → IsSearched (record { size = size; entries = es }) searched
+pub passed_searched : (size : ℕ) (es : List UsageEntry) (searched : SearchCursor) (index : ℕ) → Ordered 2 es → Passed size es searched.start searched.widest index → IsSearched (record { size = size; entries = es }) searched
 passed_searched size es searched index o passed = λ run wide free. passed.least run wide (free_from size es run o free)
 
 -- the first room is the lowest
@@ -160,7 +160,7 @@ none_lowest size es start widest index count o passed wide short = λ run same f
     omega (arith, low, free.within, same, short)
 
 -- after a lowest run that was taken nothing is searched yet
-pub searched_on : (old new : Space) (run : Run) (searched : Searched) (end : ℕ) → IsSearched old searched → searched.start ≡ run.start → 1 ≤ run.count → end ≡ run.start + run.count → Changes old new run TAKEN → IsSearched new (record { start = end; widest = searched.widest })
+pub searched_on : (old new : Space) (run : Run) (searched : SearchCursor) (end : ℕ) → IsSearched old searched → searched.start ≡ run.start → 1 ≤ run.count → end ≡ run.start + run.count → Changes old new run TAKEN → IsSearched new (record { start = end; widest = searched.widest })
 searched_on old new run searched end law at some is changes = λ other wide free.
     let still = law other wide (record { above = free.above; within = omega (arith, free.within, changes.size); apart = λ third used. free.apart third (still_used old new run third changes used) }) in
     ⊎_elim

@@ -5,7 +5,7 @@ use Rattle.std.proofs.lemmas.List.{get_or-map, length-map, take_more, take-appen
 use Rattle.sector_dev.specs.Disk.{Sector, Story, now, shown_image}
 use Rattle.sector_dev.specs.Rows.{SectorWrite, GrowsBy}
 use Rattle.segments.specs.declared.piece.Piece.{Piece}
-use Rattle.segments.specs.declared.piece.Part.{Part}
+use Rattle.segments.specs.declared.piece.PiecePart.{PiecePart}
 use Rattle.segments.specs.Pieces.{PlainPiece, part_bytes, bytes_of_parts, plain_piece, plain_pieces}
 use Rattle.segments.specs.Runs.{AreApart}
 use Rattle.segments.specs.Sectors.{sector_count}
@@ -34,12 +34,12 @@ fit_of size pieces i p fit lt is =
     omega (arith, fits.0, fits.1)
 
 -- the parts of a piece, as a loop comes to them
-pub next_part : (ps : List Part) (i : ℕ) (p : Part) (bytes : List ℕ) → i < length ps → p ≡ get_or ps i p → bytes ≡ part_bytes p → bytes_of_parts (take (i + 1) ps) ≡ bytes_of_parts (take i ps) ++ bytes
+pub next_part : (ps : List PiecePart) (i : ℕ) (p : PiecePart) (bytes : List ℕ) → i < length ps → p ≡ get_or ps i p → bytes ≡ part_bytes p → bytes_of_parts (take (i + 1) ps) ≡ bytes_of_parts (take i ps) ++ bytes
 next_part ps i p bytes lt is same =
     ap bytes_of_parts (take_more ps i p lt) ∙ flat_map-append part_bytes (take i ps) (get_or ps i p ∷ [])
     ∙ ap (λ l. bytes_of_parts (take i ps) ++ l) (append-nil (part_bytes (get_or ps i p)) ∙ ap part_bytes (sym is) ∙ sym same)
 
-pub all_parts : (ps : List Part) (i : ℕ) (front : List ℕ) → bytes_of_parts (take i ps) ≡ front → bytes_of_parts ps ≡ front ++ bytes_of_parts (drop i ps)
+pub all_parts : (ps : List PiecePart) (i : ℕ) (front : List ℕ) → bytes_of_parts (take i ps) ≡ front → bytes_of_parts ps ≡ front ++ bytes_of_parts (drop i ps)
 all_parts ps i front is =
     ap bytes_of_parts (sym (take-append-drop i ps)) ∙ flat_map-append part_bytes (take i ps) (drop i ps) ∙ ap (λ l. l ++ bytes_of_parts (drop i ps)) is
 

@@ -2,8 +2,8 @@
 use Rattle.std.specs.Prelude.{ℕ, List, map}
 use Rattle.std.specs.List.{flat_map}
 use Rattle.segments.specs.declared.run.Run.{Run}
-use Rattle.segments.specs.declared.piece.Part.{Part}
-use Rattle.segments.specs.declared.piece.Part.TheVariants.{Made, Borrowed}
+use Rattle.segments.specs.declared.piece.PiecePart.{PiecePart}
+use Rattle.segments.specs.declared.piece.PiecePart.TheVariants.{Made, Borrowed}
 use Rattle.segments.specs.declared.piece.Piece.{Piece}
 
 -- a run, and bytes
@@ -12,12 +12,12 @@ pub record PlainPiece : Type 0 where
   pub bytes : List ℕ
 
 -- the bytes of a part, wherever they stand
-abbrev pub part_bytes : Part → List ℕ
+abbrev pub part_bytes : PiecePart → List ℕ
 part_bytes (Made v) = v.items
 part_bytes (Borrowed b) = b.now
 
 -- those of parts, one after another
-abbrev pub bytes_of_parts : List Part → List ℕ
+abbrev pub bytes_of_parts : List PiecePart → List ℕ
 bytes_of_parts parts = flat_map part_bytes parts
 
 -- a piece as its run and its bytes

@@ -3,7 +3,7 @@ use Rattle.std.specs.Prelude.{◌≡◌, ◌≢◌, ◌≤◌, ◌<◌, ◌+◌,
 use Rattle.segments.specs.declared.run.Run.{Run}
 use Rattle.segments.specs.declared.entries.Usage.{Usage}
 use Rattle.segments.specs.declared.entries.UsageEntry.{UsageEntry}
-use Rattle.segments.specs.declared.searched.Searched.{Searched}
+use Rattle.segments.specs.declared.search_cursor.SearchCursor.{SearchCursor}
 use Rattle.segments.specs.Runs.{IsFree}
 
 -- the size of a device in sectors, and its runs in use in order
@@ -50,7 +50,7 @@ abbrev pub IsUnused : Space → Run → Type 0
 IsUnused space run = (usage_of space.entries run ≡ UNUSED) × IsFree space.size (IsUsedIn space.entries) run
 
 -- how far free runs were searched: each that starts before this sector has at most n sectors
-abbrev pub IsSearched : Space → Searched → Type 0
+abbrev pub IsSearched : Space → SearchCursor → Type 0
 IsSearched space searched = (run : Run) → searched.widest < run.count → IsFree space.size (IsUsedIn space.entries) run → searched.start ≤ run.start
 
 -- an entry before these, where the run is used

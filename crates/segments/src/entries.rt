@@ -5,7 +5,7 @@ ghost use Rattle.segments.specs.Usages.{is_used, usage_of, with_usage, UNUSED, O
 ghost use Rattle.segments.specs.inner.Places.{place_of, end_before, without, without_each, ApartEach, Ascending, HasEntryAt, LetGoAmong};
 
 use crate::gap_buffer::GapBuffer;
-use crate::{Run, Searched};
+use crate::{Run, SearchCursor};
 
 /// What a run is used for: the catalogue that rules (`taken`), and how many snapshots (`pins`).
 #[derive(Clone, Copy, PartialEq, Eq)]
@@ -118,7 +118,7 @@ pub(crate) fn lowest(
     size: u64,
     entries: &GapBuffer,
     count: u64,
-    searched: &mut Searched,
+    searched: &mut SearchCursor,
 ) -> Option<Run>
     requires ordered { Ordered 2 entries.now }
     requires within { EndBy size entries.now }
@@ -129,7 +129,7 @@ pub(crate) fn lowest(
     ensures start { IfSome result (λ run. searched.new.start ≡ run.start) }
 {
     if count <= searched.widest {
-        *searched = Searched::nothing();
+        *searched = SearchCursor::nothing();
     }
     let place = place_of_start(entries, searched.start);
     searched.start = end_before(size, entries, place);

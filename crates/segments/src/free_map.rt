@@ -7,7 +7,7 @@ ghost use Rattle.segments.specs.declared.run.Run.{Run};
 
 use crate::entries::{Holder, change, is_apart, let_go_each, lowest, place_of_run, place_of_start};
 use crate::gap_buffer::GapBuffer;
-use crate::{EnterError, Run, Searched, TakeError, Usage, UsageEntry};
+use crate::{EnterError, Run, SearchCursor, TakeError, Usage, UsageEntry};
 use std::alloc::{AllocError, Global};
 use std::marker::Model;
 
@@ -59,7 +59,8 @@ impl FreeMap {
         requires { 1 ≤ count }
         ensures { IsLowest self.now.size (IsUsedIn self.now.entries) count result }
     {
-        lowest(self.size, &self.entries, count, &mut Searched::nothing())
+        let mut searched = SearchCursor::nothing();
+        lowest(self.size, &self.entries, count, &mut searched)
     }
 
     /// Takes the lowest free run of `count` sectors.
@@ -75,7 +76,7 @@ impl FreeMap {
         ensures err { OnErr result (self.new ≡ self.old) }
         ensures errors { IfErr result (λ e. (e ≡ TakeError.NoRoom count) ⊎ (e ≡ TakeError.OutOfMemory)) }
     {
-        self.take_onward(count, &mut Searched::nothing())
+        self.take_onward(count, &mut SearchCursor::nothing())
     }
 
     /// Takes the lowest free run of `count` sectors, as `take` does, and searches only where no earlier search has found too
@@ -84,7 +85,7 @@ impl FreeMap {
     ///
     /// # Errors
     /// Those of [`FreeMap::take`].
-    pub fn take_onward(&mut self, count: u64, searched: &mut Searched) -> Result<Run, TakeError>
+    pub fn take_onward(&mut self, count: u64, searched: &mut SearchCursor) -> Result<Run, TakeError>
         requires some { 1 ≤ count }
         requires searched { IsSearched self.old searched.old }
         ensures lowest { IfOk result (λ run. IsLowest self.old.size (IsUsedIn self.old.entries) count (Some run)) }

@@ -6,18 +6,18 @@ use crate::Run;
 
 /// Some of a piece's bytes, made for it or borrowed.
 #[derive(Drop)]
-pub enum Part<'a> {
+pub enum PiecePart<'a> {
     Made(Vec<u8>),
     Borrowed(&'a [u8]),
 }
 
-impl Part<'_> {
+impl PiecePart<'_> {
     pub fn bytes(&self) -> &[u8]
         ensures { result.now ≡ part_bytes self.now }
     {
         match self {
-            Part::Made(bytes) => bytes,
-            Part::Borrowed(bytes) => bytes,
+            PiecePart::Made(bytes) => bytes,
+            PiecePart::Borrowed(bytes) => bytes,
         }
     }
 }
@@ -26,11 +26,11 @@ impl Part<'_> {
 #[derive(Drop)]
 pub struct Piece<'a> {
     pub run: Run,
-    pub parts: Vec<Part<'a>>,
+    pub parts: Vec<PiecePart<'a>>,
 }
 
 /// How many bytes these parts have together; none where a `u64` can't count them.
-pub fn byte_count(parts: &[Part<'_>]) -> Option<u64>
+pub fn byte_count(parts: &[PiecePart<'_>]) -> Option<u64>
     ensures some { IfSome result (λ count. count ≡ length (bytes_of_parts parts.now)) }
     ensures none { length (bytes_of_parts parts.now) < 2 ^ 64 → is_some result ≡ true }
 {

@@ -9,7 +9,7 @@ ghost use Rattle.segments.specs.Writing.{run_for, runs_of, OnlyWrites, LeavesOth
 ghost use Rattle.segments.specs.inner.Tails.{tail_bytes, whole_bytes, rest_bytes};
 
 use crate::tail::Tail;
-use crate::{Part, Piece};
+use crate::{Piece, PiecePart};
 use sector_dev::{DevError, SECTOR_BYTES, SectorDevice};
 
 // The sector that begins with these bytes, and is zero after them.
@@ -75,7 +75,7 @@ fn write_tail<D: SectorDevice>(device: &mut D, tail: &Tail) -> Result<(), DevErr
 fn write_parts<D: SectorDevice>(
     device: &mut D,
     start: u64,
-    parts: &[Part<'_>],
+    parts: &[PiecePart<'_>],
 ) -> Result<(), DevError>
     requires within { start + sector_count (length (bytes_of_parts parts.now)) ≤ D.size device.old }
     requires countable { 512 * D.size device.old < 2 ^ 64 }
@@ -109,7 +109,7 @@ pub fn write_run<D: SectorDevice>(device: &mut D, start: u64, bytes: &[u8]) -> R
     ensures order { OnOk result (D.tells ≡ true → GrowsBy (run_writes start bytes.now) (D.story device.old) (D.story device.new)) }
     ensures cut_short { OnErr result (D.tells ≡ true → FailsAmong (run_writes start bytes.now) (D.story device.old) (D.story device.new)) }
 {
-    write_parts(device, start, &[Part::Borrowed(bytes)])
+    write_parts(device, start, &[PiecePart::Borrowed(bytes)])
 }
 
 /// Writes each piece into its run, one after another.

@@ -18,12 +18,12 @@ use Rattle.selection.specs.declared.picked.PickedBatch.{PickedBatch}
 use Rattle.selection.specs.inner.Picked.{first_arrays, picked_columns, picked_arrays, picked_rows, is_picked_sound}
 use Rattle.selection.proofs.Arrays.{picked_row, picked_sound}
 use Rattle.values.specs.Parts.{arrays_with, batch_rows, is_batch_sound}
-use Rattle.values.specs.declared.part.Batch.{Batch}
-use Rattle.values.specs.declared.part.Part.{Part}
+use Rattle.values.specs.declared.table_part.Batch.{Batch}
+use Rattle.values.specs.declared.table_part.TablePart.{TablePart}
 
 -- ---- what a batch has
 
-module _ (fields : List Field) (places : List ℕ) (p : Part) (b : Batch) (own : PickedBatch) (bytes : own.bytes.now ≡ p.bytes.items) (dictionaries : own.dictionaries.now ≡ p.dictionaries.items)
+module _ (fields : List Field) (places : List ℕ) (p : TablePart) (b : Batch) (own : PickedBatch) (bytes : own.bytes.now ≡ p.bytes.items) (dictionaries : own.dictionaries.now ≡ p.dictionaries.items)
     (arrays : (x : List ℕ) (all : List Dictionary) → map (array_in x (arrays_in x all)) own.arrays.items ≡ pick places (first_arrays (length fields) (placed_arrays x all b.arrays.items)))
     (rows : own.rows ≡ b.rows) where
   abbrev columns : List Column

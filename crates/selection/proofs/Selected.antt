@@ -19,10 +19,10 @@ use Rattle.selection.specs.inner.Picked.{picked_columns, picked_rows, is_picked_
 use Rattle.selection.proofs.Batches.{rows_counted}
 use Rattle.selection.proofs.Runs.{kept_same}
 use Rattle.values.specs.Parts.{parts_rows, parts_table, are_parts_sound}
-use Rattle.values.specs.declared.part.Part.{Part}
+use Rattle.values.specs.declared.table_part.TablePart.{TablePart}
 
 -- the batches have as many rows as the table
-pub batches_counted : (s : PlainSchema) (parts : List Part) (fields : List Field) (places : List ℕ) (batches given : List PickedBatch) → map column_of fields ≡ s.columns → given ≡ batches
+pub batches_counted : (s : PlainSchema) (parts : List TablePart) (fields : List Field) (places : List ℕ) (batches given : List PickedBatch) → map column_of fields ≡ s.columns → given ≡ batches
     → flat_map (picked_rows (picked_columns fields places)) batches ≡ map (pick places) (parts_rows (fields_of fields) parts)
     → sum_by (λ b. b.rows) given ≡ length (parts_rows (columns_of s.columns) parts)
 batches_counted s parts fields places batches given columns same rows =
@@ -32,7 +32,7 @@ batches_counted s parts fields places batches given columns same rows =
     ∙ length-map (parts_rows (fields_of fields) parts) (pick places)
     ∙ ap (λ (cs : List Column). length (parts_rows (columns_of cs) parts)) columns
 
-pub runs_are : (s p : PlainSchema) (parts : List Part) (choice : Choice) (fields : List Field) (places mask : List ℕ) (batches given : List PickedBatch) (k : KeptRuns)
+pub runs_are : (s p : PlainSchema) (parts : List TablePart) (choice : Choice) (fields : List Field) (places mask : List ℕ) (batches given : List PickedBatch) (k : KeptRuns)
     → map column_of fields ≡ s.columns → places ≡ choice.columns.items → mask ≡ choice.mask.items → given ≡ batches → p ≡ (chosen_table choice (parts_table s parts)).schema
     → flat_map (picked_rows (picked_columns fields places)) batches ≡ map (pick places) (parts_rows (fields_of fields) parts)
     → (are_parts_sound (fields_of fields) parts ≡ true → list_all (is_picked_sound (picked_columns fields places)) batches ≡ true)
@@ -50,6 +50,6 @@ runs_are s p parts choice fields places mask batches given k columns same_places
     let P : Columns → Type 0 = λ c. AreKept c (chosen_table choice (parts_table s parts)).rows k in
     subst P own (kept_same cs _ (chosen_table choice (parts_table s parts)).rows k chosen (kept cs all))
 
-pub runs_table_is : (s p : PlainSchema) (parts : List Part) (choice : Choice) (k : KeptRuns) → p ≡ (chosen_table choice (parts_table s parts)).schema
+pub runs_table_is : (s p : PlainSchema) (parts : List TablePart) (choice : Choice) (k : KeptRuns) → p ≡ (chosen_table choice (parts_table s parts)).schema
     → AreKept (columns_of p.columns) (chosen_table choice (parts_table s parts)).rows k → runs_table p k.runs.items ≡ chosen_table choice (parts_table s parts)
 runs_table_is s p parts choice k picked kept = (λ i. record { schema = picked i; rows = kept.rows_are i })

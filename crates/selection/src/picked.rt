@@ -15,7 +15,7 @@ use arrow_schema::Field;
 use columns::{Dictionary, PlacedArray, array_or, no_array};
 use std::alloc::{AllocError, Global};
 use table_cut::RowRun;
-use values::{Batch, Part};
+use values::{Batch, TablePart};
 
 /// The arrays that a record batch has of the columns asked for, in the bytes of its part, and how many rows it has.
 #[derive(Drop)]
@@ -57,7 +57,7 @@ fn pick_arrays(
 fn pick_batch<'a>(
     alloc: Global,
     fields: &[Field],
-    part: &'a Part,
+    part: &'a TablePart,
     batch: &Batch,
     places: &[usize],
 ) -> Result<PickedBatch<'a>, AllocError>
@@ -79,7 +79,7 @@ fn pick_part<'a>(
     alloc: Global,
     picked: &mut Vec<PickedBatch<'a>>,
     fields: &[Field],
-    part: &'a Part,
+    part: &'a TablePart,
     places: &[usize],
 ) -> Result<(), AllocError>
     ensures rows { OnOk result (flat_map (picked_rows (picked_columns fields.now places.now)) picked.new.items
@@ -99,7 +99,7 @@ fn pick_part<'a>(
 pub(crate) fn pick_batches<'a>(
     alloc: Global,
     fields: &[Field],
-    parts: &'a [Part],
+    parts: &'a [TablePart],
     places: &[usize],
 ) -> Result<Vec<PickedBatch<'a>>, AllocError>
     ensures rows { IfOk result (λ v. flat_map (picked_rows (picked_columns fields.now places.now)) v.items

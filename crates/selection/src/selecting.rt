@@ -19,7 +19,7 @@ use ipc_encode::encode_runs;
 use ipc_stream::decode;
 use query::{Choice, Query, QueryError, choose, chosen_cells, pick_schema, selection_is_a_table};
 use std::alloc::Global;
-use values::{Part, Table};
+use values::{Table, TablePart};
 
 // The table of rows that are runs of slots: they are written as one stream, which is read again.
 fn table_of_runs(alloc: Global, schema: &Schema, kept: KeptRuns<'_>) -> Result<Table, QueryError>
@@ -44,7 +44,7 @@ fn select_runs(
     alloc: Global,
     schema: &Schema,
     picked: &Schema,
-    parts: &[Part],
+    parts: &[TablePart],
     choice: &Choice,
 ) -> Result<Table, QueryError>
     requires picked { schema_of picked.now ≡ (chosen_table choice.now (parts_table (schema_of schema.now) parts.now)).schema }

@@ -12,8 +12,8 @@ use Rattle.tables.specs.View.{command_of}
 use Rattle.store.specs.declared.call.Call.{Call}
 use Rattle.store.specs.declared.call.Call.TheVariants as calls_in
 use Rattle.store.specs.declared.call.Reply.{Reply}
-use Rattle.store.specs.declared.call.Place.{Place}
-use Rattle.store.specs.declared.call.Place.TheVariants as places
+use Rattle.store.specs.declared.call.StoreOrDevice.{StoreOrDevice}
+use Rattle.store.specs.declared.call.StoreOrDevice.TheVariants as places
 use Rattle.store.specs.declared.store.Store.{Store}
 use Rattle.commit.specs.declared.opening_refusal.OpeningRefusal.{OpeningRefusal}
 use Rattle.store.specs.Calls.{PlainCall, needs_store, apply_call, format_call, open_call, close_call, tables_call, schema_call, read_call, export_call, stream_call, open_export_call, export_next_call, close_export_call, compact_call, upgrade_call, PlainReply, done, refused, shut_by}
@@ -118,7 +118,7 @@ stays_open size story failed base m call reply old new goes = record { next = go
 
 -- ---- calls one after another
 
-pub runs_more : {D : Type 0} {g : Ghosts D} (size : D → ℕ) (story : D → Story) (failed : D → ℕ) (base : Tables) (m : Machine) (calls : List PlainCall) (replies : List PlainReply) (call : PlainCall) (reply : PlainReply) (first : D) (old new : Place D g)
+pub runs_more : {D : Type 0} {g : Ghosts D} (size : D → ℕ) (story : D → Story) (failed : D → ℕ) (base : Tables) (m : Machine) (calls : List PlainCall) (replies : List PlainReply) (call : PlainCall) (reply : PlainReply) (first : D) (old new : StoreOrDevice D g)
     → (runs : PlaceRuns size story failed base m calls replies first old) → PlaceGoes size story failed base runs.next call reply (device_in old) new
     → PlaceRuns size story failed base m (calls ++ call ∷ []) (replies ++ reply ∷ []) first new
 runs_more size story failed base m calls replies call reply first old new runs goes =
@@ -137,17 +137,17 @@ pub replies_more : (replies : List Reply) (reply : Reply) → replies_of (replie
 replies_more [] reply = refl
 replies_more (r ∷ replies) reply = ap (λ (rs : List PlainReply). reply_in r ∷ rs) (replies_more replies reply)
 
-pub runs_none : {D : Type 0} {g : Ghosts D} (size : D → ℕ) (story : D → Story) (failed : D → ℕ) (base : Tables) (m : Machine) (place : Place D g) → PlaceFits size story base m place → PlaceRuns size story failed base m [] [] (device_in place) place
+pub runs_none : {D : Type 0} {g : Ghosts D} (size : D → ℕ) (story : D → Story) (failed : D → ℕ) (base : Tables) (m : Machine) (place : StoreOrDevice D g) → PlaceFits size story base m place → PlaceRuns size story failed base m [] [] (device_in place) place
 runs_none size story failed base m place fits = record { next = m; same = refl; run = no_run (setting_of (size (device_in place)) base) m (story (device_in place)) (failed (device_in place)); fits = fits }
 
 -- what a stop may leave of a place is what the machine allows
-place_allows : {D : Type 0} {g : Ghosts D} (size : D → ℕ) (story : D → Story) (base : Tables) (m : Machine) (place : Place D g) → PlaceFits size story base m place
+place_allows : {D : Type 0} {g : Ghosts D} (size : D → ℕ) (story : D → Story) (base : Tables) (m : Machine) (place : StoreOrDevice D g) → PlaceFits size story base m place
     → LeavesOnly (Allows (setting_of (size (device_in place)) base) m) (now (story (device_in place)))
 place_allows size story base m (places.Open store) fits = fits.device.allows
 place_allows size story base m (places.Shut device) fits = fits.fits.allows
 
 -- what follows of calls one after another
-pub lives : {D : Type 0} {g : Ghosts D} (size : D → ℕ) (story : D → Story) (failed : D → ℕ) (base : Tables) (m : Machine) (calls : List PlainCall) (replies : List PlainReply) (old new : Place D g)
+pub lives : {D : Type 0} {g : Ghosts D} (size : D → ℕ) (story : D → Story) (failed : D → ℕ) (base : Tables) (m : Machine) (calls : List PlainCall) (replies : List PlainReply) (old new : StoreOrDevice D g)
     → PlaceFits size story base m old → PlaceRuns size story failed base m calls replies (device_in old) new → PlaceLives size story failed base m calls replies (device_in old) new
 lives size story failed base m calls replies old new fits runs =
     let s = setting_of (size (device_in old)) base in

@@ -10,9 +10,9 @@ use Rattle.cells.specs.Cell.{Cell, PlainTable}
 use Rattle.cells.specs.Weight.{row_weight, table_weight}
 use Rattle.values.specs.Parts.{part_rows, parts_rows, parts_table, is_batch_sound, are_parts_sound}
 use Rattle.values.specs.Table.{IsTable}
-use Rattle.values.specs.declared.part.Part.{Part}
+use Rattle.values.specs.declared.table_part.TablePart.{TablePart}
 
-module _ (s : PlainSchema) (a b all : List Part) (t : PlainTable) (same : t.schema ≡ s) (is : t ≡ parts_table t.schema b) (joined : all ≡ a ++ b) where
+module _ (s : PlainSchema) (a b all : List TablePart) (t : PlainTable) (same : t.schema ≡ s) (is : t ≡ parts_table t.schema b) (joined : all ≡ a ++ b) where
   pub more_rows : (parts_table s all).rows ≡ (parts_table s a).rows ++ t.rows
   more_rows =
       ap (parts_rows (columns_of s.columns)) joined
@@ -25,7 +25,7 @@ module _ (s : PlainSchema) (a b all : List Part) (t : PlainTable) (same : t.sche
   pub more_sound : are_parts_sound (columns_of s.columns) a ≡ true → are_parts_sound (columns_of t.schema.columns) b ≡ true → are_parts_sound (columns_of s.columns) all ≡ true
   more_sound own other =
       ap (are_parts_sound (columns_of s.columns)) joined
-      ∙ list_all-append (λ (p : Part). list_all (is_batch_sound (columns_of s.columns) p) p.batches.items) a b
+      ∙ list_all-append (λ (p : TablePart). list_all (is_batch_sound (columns_of s.columns) p) p.batches.items) a b
       ∙ and_from _ _ own (subst (λ (x : PlainSchema). are_parts_sound (columns_of x.columns) b ≡ true) same other)
 
   pub more_table : IsTable t → IsTable (record { schema = s; rows = t.rows })

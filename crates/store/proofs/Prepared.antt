@@ -14,7 +14,7 @@ use Rattle.segments.specs.declared.errors.TakeError.{TakeError}
 use Rattle.segments.specs.declared.errors.TakeError.TheVariants as takings
 use Rattle.segments.specs.declared.run.Run.{Run}
 use Rattle.segments.specs.declared.piece.Piece.{Piece}
-use Rattle.segments.specs.declared.piece.Part.{Part}
+use Rattle.segments.specs.declared.piece.PiecePart.{PiecePart}
 use Rattle.segments.specs.Pieces.{PlainPiece, plain_piece, plain_pieces, bytes_of_parts}
 use Rattle.segments.specs.Runs.{OutOf}
 use Rattle.segments.specs.Sectors.{sector_count}
@@ -76,9 +76,9 @@ unplaced_count v pieces change n count same each =
     omega (arith, unplaced_number v change.streams change.counts each, streams, ap (λ (xs : List (List ℕ)). length xs) same, count, whole)
 
 -- as many numbers of rows as streams
-pub as_many_rows : (streams : List (Vec Part)) (rows : List ℕ) (change : PlainChange) → plain_contents streams ≡ change.streams → rows ≡ change.counts → length change.streams ≡ length change.counts → length streams ≡ length rows
+pub as_many_rows : (streams : List (Vec PiecePart)) (rows : List ℕ) (change : PlainChange) → plain_contents streams ≡ change.streams → rows ≡ change.counts → length change.streams ≡ length change.counts → length streams ≡ length rows
 as_many_rows streams rows change contents counts each =
-    sym (length-map streams (λ (parts : Vec Part). bytes_of_parts parts.items)) ∙ ap (λ (xs : List (List ℕ)). length xs) contents ∙ each ∙ ap (λ (ns : List ℕ). length ns) (sym counts)
+    sym (length-map streams (λ (parts : Vec PiecePart). bytes_of_parts parts.items)) ∙ ap (λ (xs : List (List ℕ)). length xs) contents ∙ each ∙ ap (λ (ns : List ℕ). length ns) (sym counts)
 
 -- as many segments without places as pieces with these contents
 pub as_many_pieces : (v : FormatVersion) (pieces : List Piece) (segments : List Segment) (change : PlainChange) → contents_of (plain_pieces pieces) ≡ change.streams → segments ≡ unplaced v change.streams change.counts
@@ -381,13 +381,13 @@ module _ (v : FormatVersion) (c : PlainCatalogue) (change : PlainChange) (pieces
   given_is = ap (edited c change.edit) given_segments
 
 -- as many texts as pages, and the one of the catalogue
-pub texts_count : PageLaws → (made outline_is : PlainCatalogue) (texts : List (Vec Part)) (pages : List ℕ) (text : List ℕ) → shapes made ≡ shapes outline_is → plain_contents texts ≡ page_texts made ++ text ∷ [] → pages ≡ page_sizes outline_is
+pub texts_count : PageLaws → (made outline_is : PlainCatalogue) (texts : List (Vec PiecePart)) (pages : List ℕ) (text : List ℕ) → shapes made ≡ shapes outline_is → plain_contents texts ≡ page_texts made ++ text ∷ [] → pages ≡ page_sizes outline_is
     → length texts ≡ length pages + 1
 texts_count laws made outline_is texts pages text alike texts_are pages_are =
     let sizes : length (map (λ (t : List ℕ). length t) (page_texts made)) ≡ length (page_sizes made) = ap (λ (ns : List ℕ). length ns) (laws.pages made) in
     let same : length (page_sizes made) ≡ length pages = ap (λ (ns : List ℕ). length ns) (sizes_alike made outline_is alike ∙ sym pages_are) in
     let all : length (plain_contents texts) ≡ length (page_texts made ++ text ∷ []) = ap (λ (vs : List (List ℕ)). length vs) texts_are in
-    omega (arith, sizes, same, all, length-map texts (λ (parts : Vec Part). bytes_of_parts parts.items), length-map (page_texts made) (λ (t : List ℕ). length t), length-append (page_texts made) (text ∷ []))
+    omega (arith, sizes, same, all, length-map texts (λ (parts : Vec PiecePart). bytes_of_parts parts.items), length-map (page_texts made) (λ (t : List ℕ). length t), length-append (page_texts made) (text ∷ []))
 
 module _ (laws : PageLaws) (k : Commit) (old new : Space) (limits : is_size old.size ≡ true) (c : PlainCatalogue) (stands : IsCatalogue c) (change : PlainChange) (sound : IsChange c change) (few : segment_count (outline k.version c change) ≤ MAX_SEGMENTS)
     (pieces : List PlainPiece) (pages : List Run) (run : Run) (took : TookAll old new (asked_sizes k.version c change) ((runs_of pieces ++ pages) ++ run ∷ [])) (streams : contents_of pieces ≡ change.streams) where

@@ -10,7 +10,7 @@ use Rattle.cells.specs.Row.{row_of}
 use Rattle.cells.specs.declared.limits.TheConstants.{MAX_TABLE_WEIGHT}
 use Rattle.values.specs.Table.{first_unfit}
 use Rattle.values.specs.TableView.{table_of}
-use Rattle.values.specs.declared.weighed.Weighed.{Weighed}
+use Rattle.values.specs.declared.weighed_table.WeighedTable.{WeighedTable}
 use Rattle.catalogue.specs.Entries.{PlainEntry, PlainCatalogue, is_name}
 use Rattle.catalogue.specs.declared.limits.TheConstants.{MAX_TABLES}
 use Rattle.ipc_message.specs.declared.fault.Fault.{Fault}
@@ -83,7 +83,7 @@ pub weight_quiet : (weight : ℕ) (r : Refusal) → when (not (nat_le weight MAX
 weight_quiet weight r tested =
     subst (λ (o : Option Refusal). IfSome o IsQuiet) tested (by_when (not (nat_le weight MAX_TABLE_WEIGHT)) (refusals.TooMany limits.Weight) (record { device = refl; halted = λ is. cc is }))
 
-pub unread_told : (tells : Bool) (image : Image) (name : List ℕ) (e : PlainEntry) (tested : Result Addition Refusal) (passed : Option Weighed) (r : Refusal) → ArePassed e tested passed → Unreads tells image e r
+pub unread_told : (tells : Bool) (image : Image) (name : List ℕ) (e : PlainEntry) (tested : Result Addition Refusal) (passed : Option WeighedTable) (r : Refusal) → ArePassed e tested passed → Unreads tells image e r
     → IsAppended tells image name tested (Err r)
 unread_told tells image name e tested (Some w) r passed unread = inr (inl (record { entry = e; tested = ap entry_added passed.0; refusal = r; told = refl; unread = unread }))
 unread_told tells image name e tested None r passed unread = inr (inl (record { entry = e; tested = ap entry_added passed.1; refusal = r; told = refl; unread = unread }))

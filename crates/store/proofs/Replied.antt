@@ -9,8 +9,8 @@ use Rattle.tables.specs.declared.refusal.Refusal.{Refusal}
 use Rattle.tables.specs.declared.refusal.Refusal.TheVariants as refusals
 use Rattle.store.specs.declared.store.Store.{Store}
 use Rattle.store.specs.declared.call.Call.{Call}
-use Rattle.store.specs.declared.call.Place.{Place}
-use Rattle.store.specs.declared.call.Place.TheVariants as places
+use Rattle.store.specs.declared.call.StoreOrDevice.{StoreOrDevice}
+use Rattle.store.specs.declared.call.StoreOrDevice.TheVariants as places
 use Rattle.store.specs.Calls.{PlainCall, needs_store, apply_call, format_call, open_call, close_call, tables_call, schema_call, read_call, export_call, stream_call, open_export_call, export_next_call, close_export_call, compact_call, upgrade_call, PlainReply, done, refused, is_device_reply, counted}
 use Rattle.store.specs.Listing.{RefusesTables, RefusesSchema}
 use Rattle.store.specs.Reading.{OnlyReadsStore, ended}
@@ -59,17 +59,17 @@ module _ {D : Type 0} {g : Ghosts D} (size : D → ℕ) (story : D → Story) (f
   refuses_shut device upgrade_call needs = record { answers = (refl, refl); same = refl; count = refl }
 
   -- one call more
-  pub answers_more : (calls : List PlainCall) (replies : List PlainReply) (call : PlainCall) (reply : PlainReply) (first old new : Place D g)
+  pub answers_more : (calls : List PlainCall) (replies : List PlainReply) (call : PlainCall) (reply : PlainReply) (first old new : StoreOrDevice D g)
       → AnswersEach size story failed tells first calls replies old → Answers size story failed tells old call reply new
       → AnswersEach size story failed tells first (calls ++ call ∷ []) (replies ++ reply ∷ []) new
   unfolding AnswersEach
-  answers_more [] [] call reply first old new each one = record { next = new; one = subst (λ (p : Place D g). Answers size story failed tells p call reply new) each one; others = refl }
+  answers_more [] [] call reply first old new each one = record { next = new; one = subst (λ (p : StoreOrDevice D g). Answers size story failed tells p call reply new) each one; others = refl }
   answers_more (c ∷ calls) (r ∷ replies) call reply first old new each one =
       record { next = each.next; one = each.one; others = answers_more calls replies call reply each.next old new each.others one }
   answers_more [] (r ∷ replies) call reply first old new each one = absurd each
   answers_more (c ∷ calls) [] call reply first old new each one = absurd each
 
-  pub answers_none : (first : Place D g) → AnswersEach size story failed tells first [] [] first
+  pub answers_none : (first : StoreOrDevice D g) → AnswersEach size story failed tells first [] [] first
   unfolding AnswersEach
   answers_none first = refl
 
@@ -92,10 +92,10 @@ module _ {D : Type 0} {g : Ghosts D} (size : D → ℕ) (story : D → Story) (f
     answers = record { answers = takes.takes; same = same; count = count };
   }
 
-  pub calls_none : {R : Type 0} (remaining : R → Option (List ℕ)) (place : Place D g) → AnswersCalls size story failed tells remaining place [] [] place
+  pub calls_none : {R : Type 0} (remaining : R → Option (List ℕ)) (place : StoreOrDevice D g) → AnswersCalls size story failed tells remaining place [] [] place
   calls_none remaining place = record { plains = []; are = refl; answers = answers_none place; runs = λ told base m fits. runs_none size story failed base m place fits }
 
-  pub calls_more : {R : Type 0} (remaining : R → Option (List ℕ)) (calls : List (Call R)) (replies : List PlainReply) (call : Call R) (reply : PlainReply) (first old new : Place D g)
+  pub calls_more : {R : Type 0} (remaining : R → Option (List ℕ)) (calls : List (Call R)) (replies : List PlainReply) (call : Call R) (reply : PlainReply) (first old new : StoreOrDevice D g)
       → AnswersCalls size story failed tells remaining first calls replies old → AnswersCall size story failed tells remaining old call reply new
       → AnswersCalls size story failed tells remaining first (calls ++ call ∷ []) (replies ++ reply ∷ []) new
   calls_more remaining calls replies call reply first old new all one = record {

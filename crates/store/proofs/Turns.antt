@@ -9,8 +9,8 @@ use Rattle.facts.specs.laws.Lists.{drop-item, flat_map-push}
 use Rattle.array_build.specs.Batch.{buffer_bytes}
 use Rattle.array_build.specs.declared.batch.Buffer.{Buffer}
 use Rattle.ipc_encode.specs.View.{joined_parts, streams_behind}
-use Rattle.segments.specs.declared.piece.Part.{Part}
-use Rattle.segments.specs.declared.piece.Part.TheVariants.{Borrowed}
+use Rattle.segments.specs.declared.piece.PiecePart.{PiecePart}
+use Rattle.segments.specs.declared.piece.PiecePart.TheVariants.{Borrowed}
 use Rattle.segments.specs.declared.piece.Piece.{Piece}
 use Rattle.segments.specs.declared.run.Run.{Run}
 use Rattle.segments.specs.Pieces.{part_bytes, bytes_of_parts, plain_pieces}
@@ -24,7 +24,7 @@ use Rattle.store.specs.Carrying.{unplaced}
 use Rattle.store.specs.inner.Prepared.{in_runs}
 
 -- one part more is borrowed
-pub part_more : (old new : List Part) (borrowed : Bor (List ℕ)) (parts : List Buffer) (i : ℕ) (part : Buffer) (all : List ℕ) → i < length parts → part ≡ get_or parts i part → borrowed.now ≡ buffer_bytes part
+pub part_more : (old new : List PiecePart) (borrowed : Bor (List ℕ)) (parts : List Buffer) (i : ℕ) (part : Buffer) (all : List ℕ) → i < length parts → part ≡ get_or parts i part → borrowed.now ≡ buffer_bytes part
     → new ≡ old ++ Borrowed borrowed ∷ [] → bytes_of_parts old ++ joined_parts (drop i parts) ≡ all → bytes_of_parts new ++ joined_parts (drop (i + 1) parts) ≡ all
 part_more old new borrowed parts i part all within is same pushed was =
     let rest : List ℕ = joined_parts (drop (i + 1) parts) in
@@ -34,12 +34,12 @@ part_more old new borrowed parts i part all within is same pushed was =
     ∙ (rw (drop-item parts i part within is) at was)
 
 -- one stream more is borrowed
-pub stream_more : (front : List ℕ) (old new : List (Vec Part)) (borrowed : Vec Part) (streams : List (Vec Buffer)) (i : ℕ) (stream : Vec Buffer) (all : List (List ℕ)) → i < length streams → stream ≡ get_or streams i stream
+pub stream_more : (front : List ℕ) (old new : List (Vec PiecePart)) (borrowed : Vec PiecePart) (streams : List (Vec Buffer)) (i : ℕ) (stream : Vec Buffer) (all : List (List ℕ)) → i < length streams → stream ≡ get_or streams i stream
     → bytes_of_parts borrowed.items ≡ front ++ joined_parts stream.items → new ≡ old ++ borrowed ∷ [] → plain_contents old ++ streams_behind front (drop i streams) ≡ all
     → plain_contents new ++ streams_behind front (drop (i + 1) streams) ≡ all
 stream_more front old new borrowed streams i stream all within is same pushed was =
     let rest : List (List ℕ) = streams_behind front (drop (i + 1) streams) in
-    ap (λ (xs : List (List ℕ)). xs ++ rest) (ap plain_contents pushed ∙ map-append (λ (parts : Vec Part). bytes_of_parts parts.items) old (borrowed ∷ []))
+    ap (λ (xs : List (List ℕ)). xs ++ rest) (ap plain_contents pushed ∙ map-append (λ (parts : Vec PiecePart). bytes_of_parts parts.items) old (borrowed ∷ []))
     ∙ append_assoc (plain_contents old) (bytes_of_parts borrowed.items ∷ []) rest
     ∙ ap (λ (x : List ℕ). plain_contents old ++ x ∷ rest) same
     ∙ (rw (drop-item streams i stream within is) at was)
@@ -65,7 +65,7 @@ placed_more old new pieces segments i piece s all within is also here pushed was
     ∙ (rw (drop-item pieces i piece within is, drop-item segments i s also here) at was)
 
 -- one segment more has none yet
-pub unplaced_more : (v : FormatVersion) (old new : List Segment) (streams : List (Vec Part)) (counts : List ℕ) (i : ℕ) (stream : Vec Part) (bytes sectors : ℕ) (digest : Option (List ℕ)) (all : List Segment) → i < length streams → stream ≡ get_or streams i stream → i < length counts
+pub unplaced_more : (v : FormatVersion) (old new : List Segment) (streams : List (Vec PiecePart)) (counts : List ℕ) (i : ℕ) (stream : Vec PiecePart) (bytes sectors : ℕ) (digest : Option (List ℕ)) (all : List Segment) → i < length streams → stream ≡ get_or streams i stream → i < length counts
     → bytes ≡ length (bytes_of_parts stream.items) → sectors ≡ div_ceil bytes 512 → digest ≡ digest_for v (bytes_of_parts stream.items) → new ≡ old ++ at_run (record { start = 0; count = sectors }) bytes (get_or counts i 0) digest ∷ []
     → old ++ unplaced v (plain_contents (drop i streams)) (drop i counts) ≡ all → new ++ unplaced v (plain_contents (drop (i + 1) streams)) (drop (i + 1) counts) ≡ all
 unplaced_more v old new streams counts i stream bytes sectors digest all within is also same rounded own pushed was =

@@ -20,8 +20,8 @@ use Rattle.tables.specs.Tables.{Tables}
 use Rattle.tables.specs.Commands.{PlainCommand}
 use Rattle.store.specs.declared.store.Store.{Store}
 use Rattle.store.specs.declared.call.Call.{Call}
-use Rattle.store.specs.declared.call.Place.{Place}
-use Rattle.store.specs.declared.call.Place.TheVariants as places
+use Rattle.store.specs.declared.call.StoreOrDevice.{StoreOrDevice}
+use Rattle.store.specs.declared.call.StoreOrDevice.TheVariants as places
 use Rattle.commit.specs.declared.opening_refusal.OpeningRefusal.{OpeningRefusal}
 use Rattle.commit.specs.declared.opening_refusal.OpeningRefusal.TheVariants as openings
 use Rattle.store.specs.Calls.{PlainCall, apply_call, format_call, open_call, close_call, tables_call, schema_call, read_call, export_call, stream_call, open_export_call, export_next_call, close_export_call, compact_call, upgrade_call}
@@ -47,11 +47,11 @@ use Rattle.store.specs.Places.{IsCallOf, AreCallsOf, device_in, PlaceFits, Place
 
 -- ---- where a call leaves the place
 
-abbrev pub IsOpenWith : {D : Type 0} {g : Ghosts D} → (Store D g → Type 0) → Place D g → Type 0
+abbrev pub IsOpenWith : {D : Type 0} {g : Ghosts D} → (Store D g → Type 0) → StoreOrDevice D g → Type 0
 IsOpenWith P (places.Open store) = P store
 IsOpenWith P (places.Shut device) = ⊥
 
-abbrev pub IsShutWith : {D : Type 0} {g : Ghosts D} → (D → Type 0) → Place D g → Type 0
+abbrev pub IsShutWith : {D : Type 0} {g : Ghosts D} → (D → Type 0) → StoreOrDevice D g → Type 0
 IsShutWith P (places.Open store) = ⊥
 IsShutWith P (places.Shut device) = P device
 
@@ -78,14 +78,14 @@ pub record LeavesUnformatted {D : Type 0} (size : D → ℕ) (story : D → Stor
   pub moments : tells ≡ true → Grows (IsFormatting (size device) version (now (story device))) (story device) (story back)
   pub limits : RefusesSize size story device refusal back
 
-abbrev pub AnswersOpening : {D : Type 0} {g : Ghosts D} → (size : D → ℕ) → (story : D → Story) → (tells : Bool) → D → PlainReply → Place D g → Type 0
+abbrev pub AnswersOpening : {D : Type 0} {g : Ghosts D} → (size : D → ℕ) → (story : D → Story) → (tells : Bool) → D → PlainReply → StoreOrDevice D g → Type 0
 AnswersOpening size story tells device done new =
     (is_size (size device) ≡ true) × IsOpenWith (λ store. (is_halted store ≡ false) × (tells ≡ true → FindsStore size story device store)) new
 AnswersOpening size story tells device (shut_by refusal) new = IsShutWith (λ back. LeavesUnopened size story tells device refusal back) new
 AnswersOpening size story tells device _ new = ⊥
 
 -- a formatting makes a store of version 2
-abbrev pub AnswersFormatting : {D : Type 0} {g : Ghosts D} → (size : D → ℕ) → (story : D → Story) → (tells : Bool) → D → PlainReply → Place D g → Type 0
+abbrev pub AnswersFormatting : {D : Type 0} {g : Ghosts D} → (size : D → ℕ) → (story : D → Story) → (tells : Bool) → D → PlainReply → StoreOrDevice D g → Type 0
 AnswersFormatting size story tells device done new =
     (is_size (size device) ≡ true) × IsOpenWith (λ store. IsNewStore (size device) Two store × (tells ≡ true → FormatsStore size story Two device store)) new
 AnswersFormatting size story tells device (shut_by refusal) new = IsShutWith (λ back. LeavesUnformatted size story tells Two device refusal back) new
@@ -207,7 +207,7 @@ pub record Upgrades {D : Type 0} {g : Ghosts D} (size : D → ℕ) (story : D �
 abbrev pub AnswersUpgrade : {D : Type 0} {g : Ghosts D} → (size : D → ℕ) → (story : D → Story) → (tells : Bool) → Store D g → PlainReply → Store D g → Type 0
 AnswersUpgrade size story tells old reply new = (result : Result Upgraded Refusal) × (reply ≡ upgrade_ended result) × Upgrades size story tells old result new
 
-abbrev pub AnswersOpen : {D : Type 0} {g : Ghosts D} → (size : D → ℕ) → (story : D → Story) → (failed : D → ℕ) → (tells : Bool) → Store D g → PlainCall → PlainReply → Place D g → Type 0
+abbrev pub AnswersOpen : {D : Type 0} {g : Ghosts D} → (size : D → ℕ) → (story : D → Story) → (failed : D → ℕ) → (tells : Bool) → Store D g → PlainCall → PlainReply → StoreOrDevice D g → Type 0
 AnswersOpen size story failed tells old (apply_call c) reply new = IsOpenWith (λ store. AnswersCommand size story tells old c reply store) new
 AnswersOpen size story failed tells old format_call reply new = AnswersFormatting size story tells (device_of old) reply new
 AnswersOpen size story failed tells old open_call reply new = AnswersOpening size story tells (device_of old) reply new
@@ -230,29 +230,29 @@ AnswersOpen size story failed tells old upgrade_call reply new = IsOpenWith (λ 
 -- ---- calls of a place
 
 -- where no store is open, what needs one is refused, and nothing happens
-abbrev pub AnswersShut : {D : Type 0} {g : Ghosts D} → (size : D → ℕ) → (story : D → Story) → (tells : Bool) → D → PlainCall → PlainReply → Place D g → Type 0
+abbrev pub AnswersShut : {D : Type 0} {g : Ghosts D} → (size : D → ℕ) → (story : D → Story) → (tells : Bool) → D → PlainCall → PlainReply → StoreOrDevice D g → Type 0
 AnswersShut size story tells device format_call reply new = AnswersFormatting size story tells device reply new
 AnswersShut size story tells device open_call reply new = AnswersOpening size story tells device reply new
 AnswersShut size story tells device _ reply new = (reply ≡ refused refusals.Halted) × (new ≡ places.Shut device)
 
-abbrev pub AnswersPlace : {D : Type 0} {g : Ghosts D} → (size : D → ℕ) → (story : D → Story) → (failed : D → ℕ) → (tells : Bool) → Place D g → PlainCall → PlainReply → Place D g → Type 0
+abbrev pub AnswersPlace : {D : Type 0} {g : Ghosts D} → (size : D → ℕ) → (story : D → Story) → (failed : D → ℕ) → (tells : Bool) → StoreOrDevice D g → PlainCall → PlainReply → StoreOrDevice D g → Type 0
 AnswersPlace size story failed tells (places.Open store) call reply new = AnswersOpen size story failed tells store call reply new
 AnswersPlace size story failed tells (places.Shut device) call reply new = AnswersShut size story tells device call reply new
 
 -- one call: its device has the size that it had, and counts a failure where the reply reports one
-pub record Answers {D : Type 0} {g : Ghosts D} (size : D → ℕ) (story : D → Story) (failed : D → ℕ) (tells : Bool) (old : Place D g) (call : PlainCall) (reply : PlainReply) (new : Place D g) : Type 0 where
+pub record Answers {D : Type 0} {g : Ghosts D} (size : D → ℕ) (story : D → Story) (failed : D → ℕ) (tells : Bool) (old : StoreOrDevice D g) (call : PlainCall) (reply : PlainReply) (new : StoreOrDevice D g) : Type 0 where
   pub answers : AnswersPlace size story failed tells old call reply new
   pub same : size (device_in new) ≡ size (device_in old)
   pub count : failed (device_in new) ≡ counted reply (failed (device_in old))
 
 -- a call, and then what P says of the place after it
-pub record AnswersThen {D : Type 0} {g : Ghosts D} (size : D → ℕ) (story : D → Story) (failed : D → ℕ) (tells : Bool) (old : Place D g) (call : PlainCall) (reply : PlainReply) (P : Place D g → Type 0) : Type 0 where
-  pub next : Place D g
+pub record AnswersThen {D : Type 0} {g : Ghosts D} (size : D → ℕ) (story : D → Story) (failed : D → ℕ) (tells : Bool) (old : StoreOrDevice D g) (call : PlainCall) (reply : PlainReply) (P : StoreOrDevice D g → Type 0) : Type 0 where
+  pub next : StoreOrDevice D g
   pub one : Answers size story failed tells old call reply next
   pub others : P next
 
 -- and calls one after another
-unfoldable pub AnswersEach : {D : Type 0} {g : Ghosts D} → (size : D → ℕ) → (story : D → Story) → (failed : D → ℕ) → (tells : Bool) → Place D g → List PlainCall → List PlainReply → Place D g → Type 0
+unfoldable pub AnswersEach : {D : Type 0} {g : Ghosts D} → (size : D → ℕ) → (story : D → Story) → (failed : D → ℕ) → (tells : Bool) → StoreOrDevice D g → List PlainCall → List PlainReply → StoreOrDevice D g → Type 0
 AnswersEach size story failed tells old [] [] new = new ≡ old
 AnswersEach size story failed tells old (call ∷ calls) (reply ∷ replies) new =
     AnswersThen size story failed tells old call reply (λ next. AnswersEach size story failed tells next calls replies new)
@@ -262,19 +262,19 @@ AnswersEach size story failed tells old (call ∷ calls) [] new = ⊥
 -- ---- calls of the code
 
 -- one call, of which this holds as plain data: what it does to a place that stands for a machine, and to any place
-pub record AnswersAs {D : Type 0} {g : Ghosts D} (size : D → ℕ) (story : D → Story) (failed : D → ℕ) (tells : Bool) (Is : PlainCall → Type 0) (old : Place D g) (reply : PlainReply) (new : Place D g) : Type 0 where
+pub record AnswersAs {D : Type 0} {g : Ghosts D} (size : D → ℕ) (story : D → Story) (failed : D → ℕ) (tells : Bool) (Is : PlainCall → Type 0) (old : StoreOrDevice D g) (reply : PlainReply) (new : StoreOrDevice D g) : Type 0 where
   pub plain : PlainCall
   pub is : Is plain
   pub goes : tells ≡ true → (base : Tables) (m : Machine) → PlaceFits size story base m old → PlaceGoes size story failed base m plain reply (device_in old) new
   pub answers : Answers size story failed tells old plain reply new
 
-abbrev pub AnswersCall : {D : Type 0} {g : Ghosts D} {R : Type 0} → (size : D → ℕ) → (story : D → Story) → (failed : D → ℕ) → (tells : Bool) → (remaining : R → Option (List ℕ)) → Place D g → Call R → PlainReply → Place D g
+abbrev pub AnswersCall : {D : Type 0} {g : Ghosts D} {R : Type 0} → (size : D → ℕ) → (story : D → Story) → (failed : D → ℕ) → (tells : Bool) → (remaining : R → Option (List ℕ)) → StoreOrDevice D g → Call R → PlainReply → StoreOrDevice D g
     → Type 0
 AnswersCall size story failed tells remaining old call reply new = AnswersAs size story failed tells (IsCallOf remaining call) old reply new
 
 -- and calls one after another
-pub record AnswersCalls {D : Type 0} {g : Ghosts D} {R : Type 0} (size : D → ℕ) (story : D → Story) (failed : D → ℕ) (tells : Bool) (remaining : R → Option (List ℕ)) (old : Place D g) (calls : List (Call R)) (replies : List PlainReply)
-    (new : Place D g) : Type 0 where
+pub record AnswersCalls {D : Type 0} {g : Ghosts D} {R : Type 0} (size : D → ℕ) (story : D → Story) (failed : D → ℕ) (tells : Bool) (remaining : R → Option (List ℕ)) (old : StoreOrDevice D g) (calls : List (Call R)) (replies : List PlainReply)
+    (new : StoreOrDevice D g) : Type 0 where
   pub plains : List PlainCall
   pub are : AreCallsOf remaining calls plains
   pub answers : AnswersEach size story failed tells old plains replies new

@@ -12,8 +12,8 @@ use Rattle.store.specs.declared.call.Call.{Call}
 use Rattle.store.specs.declared.call.Call.TheVariants as calls
 use Rattle.store.specs.declared.call.Reply.{Reply}
 use Rattle.store.specs.declared.call.Reply.TheVariants as replies
-use Rattle.store.specs.declared.call.Place.{Place}
-use Rattle.store.specs.declared.call.Place.TheVariants as places
+use Rattle.store.specs.declared.call.StoreOrDevice.{StoreOrDevice}
+use Rattle.store.specs.declared.call.StoreOrDevice.TheVariants as places
 use Rattle.store.specs.Calls.{PlainCall, apply_call, format_call, open_call, close_call, tables_call, schema_call, read_call, export_call, stream_call, open_export_call, export_next_call, close_export_call, compact_call, upgrade_call, PlainReply, done, counts, schema_is, table_is, bytes_are, export_is, piece_is, merged, moved, nothing, already, refused, shut_by, is_device_reply}
 use Rattle.store.specs.Machine.{Machine, shut, halted}
 use Rattle.store.specs.Runs.{Goes, Run}
@@ -74,7 +74,7 @@ reply_in (replies.Refused refusal) = refused refusal
 reply_in (replies.NotOpened refusal) = shut_by refusal
 
 -- the device of a place
-abbrev pub device_in : {D : Type 0} {g : Ghosts D} → Place D g → D
+abbrev pub device_in : {D : Type 0} {g : Ghosts D} → StoreOrDevice D g → D
 device_in (places.Open store) = store.device
 device_in (places.Shut device) = device
 
@@ -83,19 +83,19 @@ pub record ShutFits {D : Type 0} (size : D → ℕ) (story : D → Story) (base 
   pub phase : m.phase ≡ shut
   pub fits : DeviceFits size story base m device
 
-abbrev pub PlaceFits : {D : Type 0} {g : Ghosts D} → (size : D → ℕ) → (story : D → Story) → Tables → Machine → Place D g → Type 0
+abbrev pub PlaceFits : {D : Type 0} {g : Ghosts D} → (size : D → ℕ) → (story : D → Story) → Tables → Machine → StoreOrDevice D g → Type 0
 PlaceFits size story base m (places.Open store) = StoreFits size story base m store
 PlaceFits size story base m (places.Shut device) = ShutFits size story base m device
 
 -- one call of a place that has this device: some machine goes on, and the place after it stands for that
-pub record PlaceGoes {D : Type 0} {g : Ghosts D} (size : D → ℕ) (story : D → Story) (failed : D → ℕ) (base : Tables) (m : Machine) (call : PlainCall) (reply : PlainReply) (old : D) (new : Place D g) : Type 0 where
+pub record PlaceGoes {D : Type 0} {g : Ghosts D} (size : D → ℕ) (story : D → Story) (failed : D → ℕ) (base : Tables) (m : Machine) (call : PlainCall) (reply : PlainReply) (old : D) (new : StoreOrDevice D g) : Type 0 where
   pub next : Machine
   pub same : size (device_in new) ≡ size old
   pub goes : Goes (setting_of (size old) base) m call reply (story old) (story (device_in new)) (failed old) (failed (device_in new)) next
   pub fits : PlaceFits size story base next new
 
 -- and calls one after another
-pub record PlaceRuns {D : Type 0} {g : Ghosts D} (size : D → ℕ) (story : D → Story) (failed : D → ℕ) (base : Tables) (m : Machine) (calls : List PlainCall) (replies : List PlainReply) (old : D) (new : Place D g) : Type 0 where
+pub record PlaceRuns {D : Type 0} {g : Ghosts D} (size : D → ℕ) (story : D → Story) (failed : D → ℕ) (base : Tables) (m : Machine) (calls : List PlainCall) (replies : List PlainReply) (old : D) (new : StoreOrDevice D g) : Type 0 where
   pub next : Machine
   pub same : size (device_in new) ≡ size old
   pub run : Run (setting_of (size old) base) calls replies m (story old) (failed old) next (story (device_in new)) (failed (device_in new))
@@ -105,7 +105,7 @@ abbrev pub replies_of : List Reply → List PlainReply
 replies_of replies = map reply_in replies
 
 -- what follows of calls one after another: what each stop leaves, what each reply follows from, and what is so where no device call failed
-pub record PlaceLives {D : Type 0} {g : Ghosts D} (size : D → ℕ) (story : D → Story) (failed : D → ℕ) (base : Tables) (m : Machine) (calls : List PlainCall) (replies : List PlainReply) (old : D) (new : Place D g) : Type 0 where
+pub record PlaceLives {D : Type 0} {g : Ghosts D} (size : D → ℕ) (story : D → Story) (failed : D → ℕ) (base : Tables) (m : Machine) (calls : List PlainCall) (replies : List PlainReply) (old : D) (new : StoreOrDevice D g) : Type 0 where
   pub runs : PlaceRuns size story failed base m calls replies old new
   -- an image that a stop may have left since the call of this number began is what the machine of that moment allows, and has the tables of what was acknowledged before the call
   pub stops : (i : ℕ) (image : Image)

@@ -2,7 +2,7 @@ pub mod Tests
 pub mod Appending
 pub mod Saving
 pub mod Prepared
-pub mod Gathered
+pub mod TableBuilder
 pub mod Reading
 pub mod LawsBelow
 pub mod Compacting

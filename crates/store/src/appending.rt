@@ -27,7 +27,7 @@ use ipc_encode::pieces_are_tables;
 use sector_dev::SectorDevice;
 use std::alloc::Global;
 use tables::{Limit, Refusal};
-use values::{Table, Weighed};
+use values::{Table, WeighedTable};
 
 // S7 Weight: the table and its new rows would be too heavy.
 fn test_weight(weight: u64) -> Result<(), Refusal>
@@ -101,7 +101,7 @@ fn append_to_entry<D: SectorDevice>(
         }
     };
     match passed {
-        Some(Weighed { table, weight }) => {
+        Some(WeighedTable { table, weight }) => {
             decide_behind(alloc, entry, name, table, standing.weight + weight)
         }
         None => Err(Refusal::TooMany(Limit::Weight)),

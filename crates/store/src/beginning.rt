@@ -14,7 +14,7 @@ ghost use Rattle.store.specs.Fits.{DeviceFits, fresh, resumed, doubting, HoldsNo
 ghost use Rattle.store.specs.Beginning.{IsLeftOf, BeginsAnew};
 ghost use Rattle.store.specs.Places.{ShutFits};
 
-use sector_dev::{Choice, ModelDevice, SectorDevice};
+use sector_dev::{CrashChoice, ModelDevice, SectorDevice};
 use std::alloc::{AllocError, Global};
 
 /// A run may begin with a device on which no stop leaves a commit: there are no tables. Such is one of zeros. And it may
@@ -63,7 +63,7 @@ pub fn new_devices_fit(alloc: Global, sectors: u64) -> Result<ModelDevice, Alloc
 /// `AllocError` where memory was refused.
 pub fn crashed_devices_are_left(
     device: &ModelDevice,
-    choice: Choice,
+    choice: CrashChoice,
 ) -> Result<ModelDevice, AllocError>
     ensures { IfOk result (λ left. IsLeftOf size_of history_of device.now left) }
 {

@@ -71,7 +71,7 @@ pub enum Reply {
 
 /// A device, with a store open on it or without.
 #[derive(Drop)]
-pub enum Place<D: SectorDevice> {
+pub enum StoreOrDevice<D: SectorDevice> {
     Open(Store<D>),
     Shut(D),
 }

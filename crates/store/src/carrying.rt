@@ -26,7 +26,7 @@ use pages::{
     Layout, StoredCatalogue, kept_catalogues_are_read, layout_of, pages_hold_what_was_read,
 };
 use sector_dev::SectorDevice;
-use segments::{FreeMap, Part, Piece, Run, TakeError};
+use segments::{FreeMap, Piece, PiecePart, Run, TakeError};
 use std::alloc::{AllocError, Global};
 use tables::{Limit, Refusal};
 
@@ -57,13 +57,13 @@ fn borrowed_parts<'a>(
     alloc: Global,
     first: &'a [u8],
     parts: &'a [Buffer<'_>],
-) -> Result<Vec<Part<'a>>, AllocError>
+) -> Result<Vec<PiecePart<'a>>, AllocError>
     ensures { IfOk result (λ borrowed. bytes_of_parts borrowed.items ≡ first.now ++ joined_parts parts.now) }
 {
     let mut borrowed = Vec::with_capacity(alloc, parts.len() + 1)?;
-    borrowed.push_reserved(Part::Borrowed(first));
+    borrowed.push_reserved(PiecePart::Borrowed(first));
     for part in parts {
-        borrowed.push_reserved(Part::Borrowed(part.bytes()));
+        borrowed.push_reserved(PiecePart::Borrowed(part.bytes()));
     }
     Ok(borrowed)
 }
@@ -72,7 +72,7 @@ fn borrowed_parts<'a>(
 fn borrowed_streams<'a>(
     alloc: Global,
     pieces: &'a EncodedPieces<'_>,
-) -> Result<Vec<Vec<Part<'a>>>, AllocError>
+) -> Result<Vec<Vec<PiecePart<'a>>>, AllocError>
     ensures { IfOk result (λ borrowed. plain_contents borrowed.items ≡ streams_in pieces.now) }
 {
     let mut borrowed = Vec::with_capacity(alloc, pieces.parts.len())?;
@@ -122,7 +122,7 @@ fn next_catalogue<'a>(
     pieces: &[Piece<'_>],
     kind: CatalogueKind,
     pages: &[Run],
-) -> Result<(StoredCatalogue, Vec<Vec<Part<'a>>>), AllocError>
+) -> Result<(StoredCatalogue, Vec<Vec<PiecePart<'a>>>), AllocError>
     requires count { length segments.now ≡ length pieces.now }
     requires sound { list_all is_segment (in_runs (runs_of (plain_pieces pieces.now)) segments.now) ≡ true }
     requires edit { (streams : List (List ℕ)) × IsEdit (catalogue_of stored.now.list) (edit_of edit.now) streams }

@@ -26,7 +26,7 @@ use cells::MAX_PIECE_ROWS;
 use commit::FormatVersion;
 use ipc_write::write_schema;
 use sector_dev::SECTOR_BYTES;
-use segments::{Extent, Part, Piece, Run, byte_count};
+use segments::{Extent, Piece, PiecePart, Run, byte_count};
 use sha2::{Digest, Sha256};
 use std::alloc::{AllocError, Global};
 
@@ -303,7 +303,7 @@ pub(crate) fn version_after(edit: &Edit, version: FormatVersion) -> FormatVersio
 }
 
 // The SHA-256 of parts one after another.
-fn digest_of_parts(parts: &[Part<'_>]) -> [u8; 32]
+fn digest_of_parts(parts: &[PiecePart<'_>]) -> [u8; 32]
     ensures { result ≡ sha256 (bytes_of_parts parts.now) }
 {
     let mut hasher = Sha256::new();
@@ -314,7 +314,7 @@ fn digest_of_parts(parts: &[Part<'_>]) -> [u8; 32]
 }
 
 // The digest of a segment of these parts, where the version has one.
-fn digest_for(version: FormatVersion, parts: &[Part<'_>]) -> Option<[u8; 32]>
+fn digest_for(version: FormatVersion, parts: &[PiecePart<'_>]) -> Option<[u8; 32]>
     ensures { result ≡ digest_for version (bytes_of_parts parts.now) }
 {
     match version {
@@ -327,7 +327,7 @@ fn digest_for(version: FormatVersion, parts: &[Part<'_>]) -> Option<[u8; 32]>
 pub(crate) fn unplaced(
     alloc: Global,
     version: FormatVersion,
-    streams: &[Vec<Part<'_>>],
+    streams: &[Vec<PiecePart<'_>>],
     rows: &[u64],
 ) -> Result<Vec<Segment>, AllocError>
     requires { length streams.now ≡ length rows.now }

@@ -3,7 +3,7 @@ ghost use Rattle.std.specs.Prelude.{◌≡◌};
 ghost use Rattle.store.specs.Fits.{device_of};
 ghost use Rattle.store.specs.Places.{device_in};
 
-use crate::{Place, Store};
+use crate::{Store, StoreOrDevice};
 use sector_dev::SectorDevice;
 
 impl<D: SectorDevice> Store<D> {
@@ -15,14 +15,14 @@ impl<D: SectorDevice> Store<D> {
     }
 }
 
-impl<D: SectorDevice> Place<D> {
+impl<D: SectorDevice> StoreOrDevice<D> {
     /// Its device.
     pub fn device(&self) -> &D
         ensures { result.now ≡ device_in self.now }
     {
         match self {
-            Place::Open(store) => store.device(),
-            Place::Shut(device) => device,
+            StoreOrDevice::Open(store) => store.device(),
+            StoreOrDevice::Shut(device) => device,
         }
     }
 }

@@ -22,14 +22,14 @@ use query::copy_row;
 use std::alloc::{AllocError, Global};
 use table_cut::first_unfit_row;
 use tables::Refusal;
-use values::{Table, TableError, Weighed, accepted_rows_are_a_table};
+use values::{Table, TableError, WeighedTable, accepted_rows_are_a_table};
 
 /// The rows that a stream means, rows that are given, or those of a table.
 #[derive(Drop)]
 pub(crate) enum NewRows {
     Stream(Vec<u8>),
     Given(Vec<Row>),
-    OfTable(Weighed),
+    OfTable(WeighedTable),
 }
 
 // S6: a new row that the table does not take.
@@ -46,7 +46,7 @@ fn test_rows(alloc: Global, own: &Schema, new: &Table) -> Result<(), Refusal>
 }
 
 // The rows that a stream means, where they can go after those of an entry's table but for their weight, and what they weigh there.
-fn pass_stream(alloc: Global, entry: &TableEntry, stream: Vec<u8>) -> Result<Weighed, Refusal>
+fn pass_stream(alloc: Global, entry: &TableEntry, stream: Vec<u8>) -> Result<WeighedTable, Refusal>
     requires { IsWithinLimits (plain_entry entry.now).schema }
     ensures tested { IfOk result (λ new. streamed_rows stream.items (plain_entry entry.now)
         ≡ Ok (record { entry = plain_entry entry.now; rows = (table_of new.table).rows })) }
@@ -65,14 +65,18 @@ fn pass_stream(alloc: Global, entry: &TableEntry, stream: Vec<u8>) -> Result<Wei
 }
 
 // The same of rows that are given, where they are not too heavy for any table.
-fn pass_rows(alloc: Global, entry: &TableEntry, rows: Vec<Row>) -> Result<Option<Weighed>, Refusal>
+fn pass_rows(
+    alloc: Global,
+    entry: &TableEntry,
+    rows: Vec<Row>,
+) -> Result<Option<WeighedTable>, Refusal>
     requires { IsWithinLimits (plain_entry entry.now).schema }
     ensures passed { IfOk result (ArePassed (plain_entry entry.now) (given_rows (map row_of rows.items) (plain_entry entry.now))) }
     ensures refused { IfErr result (λ e. (e ≡ Refusal.OutOfMemory) ⊎ (given_rows (map row_of rows.items) (plain_entry entry.now) ≡ Err e)) }
 {
     accepted_rows_are_a_table();
     match Table::weighed(alloc, entry.schema().copy(alloc)?, rows) {
-        Ok((table, weight)) => Ok(Some(Weighed { table, weight })),
+        Ok((table, weight)) => Ok(Some(WeighedTable { table, weight })),
         Err(TableError::Unfit(row)) => Err(Refusal::RowUnfit(row)),
         Err(TableError::Weight) => Ok(None),
         Err(TableError::OutOfMemory) => Err(Refusal::OutOfMemory),
@@ -91,7 +95,11 @@ fn own_rows(alloc: Global, table: &Table) -> Result<Vec<Row>, AllocError>
 }
 
 // The same of the rows of a table: where its schema is the entry's own they are a table there as they stand, and else they are given rows.
-fn pass_table(alloc: Global, entry: &TableEntry, new: Weighed) -> Result<Option<Weighed>, Refusal>
+fn pass_table(
+    alloc: Global,
+    entry: &TableEntry,
+    new: WeighedTable,
+) -> Result<Option<WeighedTable>, Refusal>
     requires { IsWithinLimits (plain_entry entry.now).schema }
     ensures passed { IfOk result (ArePassed (plain_entry entry.now) (given_rows (table_of new.table).rows (plain_entry entry.now))) }
     ensures refused { IfErr result (λ e. (e ≡ Refusal.OutOfMemory) ⊎ (given_rows (table_of new.table).rows (plain_entry entry.now) ≡ Err e)) }
@@ -113,7 +121,7 @@ pub(crate) fn pass_new(
     alloc: Global,
     entry: &TableEntry,
     new: NewRows,
-) -> Result<Option<Weighed>, Refusal>
+) -> Result<Option<WeighedTable>, Refusal>
     requires { IsWithinLimits (plain_entry entry.now).schema }
     ensures passed { IfOk result (ArePassed (plain_entry entry.now) (added_to new (plain_entry entry.now))) }
     ensures refused { IfErr result (λ e. (e ≡ Refusal.OutOfMemory) ⊎ (added_to new (plain_entry entry.now) ≡ Err e)) }

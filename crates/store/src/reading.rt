@@ -16,12 +16,12 @@ ghost use Rattle.store.specs.Held.{is_undamaged, rows_in_bytes, segment_rows, jo
 ghost use Rattle.store.specs.Reading.{IsCopy, LacksBytes, HasRead, LacksRows, HaveRead, IsRead, Unreads, OnlyReadsDevice, ended};
 ghost use Rattle.values.specs.Table.{IsTable};
 ghost use Rattle.store.specs.Calls.{is_failure};
-ghost use Rattle.store.specs.inner.Gathered.{gathered_table};
+ghost use Rattle.store.specs.inner.TableBuilder.{table_so_far};
 ghost use Rattle.store.specs.inner.Reading.{UnreadsSegment, runs_in};
 
 use crate::Store;
-use crate::gathered::Gathered;
 use crate::laws::table_laws;
+use crate::table_builder::TableBuilder;
 use arrow_schema::Schema;
 use catalogue::{Segment, TableEntry};
 use cells::MAX_TABLE_WEIGHT;
@@ -33,7 +33,7 @@ use segments::{ReadError, read_run};
 use sha2::{Digest, Sha256};
 use std::alloc::{AllocError, Global};
 use tables::Refusal;
-use values::{Table, TableError, Weighed};
+use values::{Table, TableError, WeighedTable};
 
 // Whether bytes of a segment have the digest of its entry, if it has one.
 fn is_undamaged(segment: Segment, bytes: &[u8]) -> bool
@@ -84,7 +84,7 @@ fn table_in_bytes(
     front: &[u8],
     rows: u64,
     bytes: Vec<u8>,
-) -> Result<Option<Weighed>, Refusal>
+) -> Result<Option<WeighedTable>, Refusal>
     ensures rows { IfOk result (λ found. (s : PlainSchema) → front.now ≡ schema_message s
         → option_map (λ w. (table_of w.table).rows) found ≡ rows_in_bytes s rows (Some bytes.items)) }
     ensures schema { IfOk result (λ found. IfSome found (λ w. (s : PlainSchema) → IsWithinLimits s → front.now ≡ schema_message s
@@ -118,7 +118,7 @@ pub(crate) fn read_segment<D: SectorDevice>(
     front: &[u8],
     segment: Segment,
     place: usize,
-) -> Result<Weighed, Refusal>
+) -> Result<WeighedTable, Refusal>
     requires size { is_size (D.size device.old) ≡ true }
     requires placed { is_on_device (D.size device.old) segment.place.run ≡ true }
     requires sound { is_segment segment ≡ true }
@@ -160,25 +160,25 @@ fn append_segment<D: SectorDevice>(
     alloc: Global,
     device: &mut D,
     front: &[u8],
-    gathered: Gathered,
+    gathered: TableBuilder,
     segment: Segment,
     place: usize,
-) -> Result<Gathered, Refusal>
+) -> Result<TableBuilder, Refusal>
     requires size { is_size (D.size device.old) ≡ true }
     requires placed { is_on_device (D.size device.old) segment.place.run ≡ true }
     requires sound { is_segment segment ≡ true }
-    requires limits { IsWithinLimits (gathered_table gathered).schema }
-    requires message { front.now ≡ schema_message (gathered_table gathered).schema }
+    requires limits { IsWithinLimits (table_so_far gathered).schema }
+    requires message { front.now ≡ schema_message (table_so_far gathered).schema }
     ensures reads { OnlyReadsDevice D.size D.story D.failed D.tells (ended result) device.old device.new }
-    ensures schema { IfOk result (λ g. (gathered_table g).schema ≡ (gathered_table gathered).schema) }
-    ensures light { IfOk result (λ g. table_weight (gathered_table g).schema (gathered_table g).rows ≤ MAX_TABLE_WEIGHT) }
-    ensures rows { IfOk result (λ g. D.tells ≡ true → Some (gathered_table g).rows ≡ joined_rows (Some (gathered_table gathered).rows)
-        (segment_rows (gathered_table gathered).schema segment (shown_image (now (D.story device.old))))) }
+    ensures schema { IfOk result (λ g. (table_so_far g).schema ≡ (table_so_far gathered).schema) }
+    ensures light { IfOk result (λ g. table_weight (table_so_far g).schema (table_so_far g).rows ≤ MAX_TABLE_WEIGHT) }
+    ensures rows { IfOk result (λ g. D.tells ≡ true → Some (table_so_far g).rows ≡ joined_rows (Some (table_so_far gathered).rows)
+        (segment_rows (table_so_far gathered).schema segment (shown_image (now (D.story device.old))))) }
     ensures read { IfOk result (λ g. (own : List (List Cell)) × HasRead D.tells (shown_image (now (D.story device.old)))
-        (gathered_table gathered).schema segment own × ((gathered_table g).rows ≡ (gathered_table gathered).rows ++ own)) }
-    ensures count { IfOk result (λ g. length (gathered_table g).rows ≡ length (gathered_table gathered).rows + segment.rows) }
+        (table_so_far gathered).schema segment own × ((table_so_far g).rows ≡ (table_so_far gathered).rows ++ own)) }
+    ensures count { IfOk result (λ g. length (table_so_far g).rows ≡ length (table_so_far gathered).rows + segment.rows) }
     ensures unread { IfErr result (UnreadsSegment D.tells (shown_image (now (D.story device.old)))
-        (gathered_table gathered).schema (gathered_table gathered).rows segment place) }
+        (table_so_far gathered).schema (table_so_far gathered).rows segment place) }
 {
     match read_segment(alloc, device, front, segment, place) {
         Ok(weighed) => match gathered.append(weighed) {
@@ -194,24 +194,24 @@ fn read_segments<D: SectorDevice>(
     alloc: Global,
     device: &mut D,
     front: &[u8],
-    empty: Gathered,
+    empty: TableBuilder,
     segments: &[Segment],
-) -> Result<Gathered, Refusal>
+) -> Result<TableBuilder, Refusal>
     requires size { is_size (D.size device.old) ≡ true }
     requires placed { all_on_device (D.size device.old) (runs_in segments.now) ≡ true }
     requires sound { list_all is_segment segments.now ≡ true }
-    requires limits { IsWithinLimits (gathered_table empty).schema }
-    requires message { front.now ≡ schema_message (gathered_table empty).schema }
-    requires none { (gathered_table empty).rows ≡ [] }
+    requires limits { IsWithinLimits (table_so_far empty).schema }
+    requires message { front.now ≡ schema_message (table_so_far empty).schema }
+    requires none { (table_so_far empty).rows ≡ [] }
     ensures reads { OnlyReadsDevice D.size D.story D.failed D.tells (ended result) device.old device.new }
-    ensures schema { IfOk result (λ g. (gathered_table g).schema ≡ (gathered_table empty).schema) }
-    ensures count { IfOk result (λ g. length (gathered_table g).rows ≡ sum_by (λ s. s.rows) segments.now) }
+    ensures schema { IfOk result (λ g. (table_so_far g).schema ≡ (table_so_far empty).schema) }
+    ensures count { IfOk result (λ g. length (table_so_far g).rows ≡ sum_by (λ s. s.rows) segments.now) }
     ensures rows { IfOk result (λ g. D.tells ≡ true
-        → rows_held (gathered_table empty).schema segments.now (shown_image (now (D.story device.old))) ≡ Some (gathered_table g).rows) }
-    ensures read { IfOk result (λ g. HaveRead D.tells (shown_image (now (D.story device.old))) (gathered_table empty).schema segments.now
-        (gathered_table g).rows) }
+        → rows_held (table_so_far empty).schema segments.now (shown_image (now (D.story device.old))) ≡ Some (table_so_far g).rows) }
+    ensures read { IfOk result (λ g. HaveRead D.tells (shown_image (now (D.story device.old))) (table_so_far empty).schema segments.now
+        (table_so_far g).rows) }
     ensures unread { IfErr result (λ e. (name : List ℕ) (page : Option Extent) → Unreads D.tells (shown_image (now (D.story device.old)))
-        (record { name = name; schema = (gathered_table empty).schema; segments = segments.now; page = page }) e) }
+        (record { name = name; schema = (table_so_far empty).schema; segments = segments.now; page = page }) e) }
 {
     let mut gathered = empty;
     for (place, segment) in segments.iter().enumerate() {
@@ -224,20 +224,20 @@ fn read_segments<D: SectorDevice>(
 }
 
 // The message of a schema, and no rows of it.
-fn start_table(alloc: Global, schema: &Schema) -> Result<(Vec<u8>, Gathered), AllocError>
+fn start_table(alloc: Global, schema: &Schema) -> Result<(Vec<u8>, TableBuilder), AllocError>
     requires limits { IsWithinLimits (schema_of schema.now) }
     ensures message { IfOk result (λ r. r.0.items ≡ schema_message (schema_of schema.now)) }
-    ensures empty { IfOk result (λ r. gathered_table r.1 ≡ record { schema = schema_of schema.now; rows = [] }) }
+    ensures empty { IfOk result (λ r. table_so_far r.1 ≡ record { schema = schema_of schema.now; rows = [] }) }
 {
     let mut front = Vec::new(alloc);
     write_schema(alloc, &mut front, schema)?;
-    let empty = Gathered::empty(alloc, schema.copy(alloc)?);
+    let empty = TableBuilder::empty(alloc, schema.copy(alloc)?);
     Ok((front, empty))
 }
 
 // The table of gathered rows.
-fn finish_table(alloc: Global, gathered: Gathered) -> Result<Table, Refusal>
-    ensures table { IfOk result (λ t. table_of t ≡ gathered_table gathered) }
+fn finish_table(alloc: Global, gathered: TableBuilder) -> Result<Table, Refusal>
+    ensures table { IfOk result (λ t. table_of t ≡ table_so_far gathered) }
     ensures memory { IfErr result (λ e. e ≡ Refusal.OutOfMemory) }
 {
     match gathered.finish(alloc) {
@@ -251,12 +251,12 @@ pub(crate) fn gather_entry<D: SectorDevice>(
     alloc: Global,
     device: &mut D,
     entry: &TableEntry,
-) -> Result<Gathered, Refusal>
+) -> Result<TableBuilder, Refusal>
     requires size { is_size (D.size device.old) ≡ true }
     requires placed { all_on_device (D.size device.old) (runs_in (plain_entry entry.now).segments) ≡ true }
     requires sound { is_entry (plain_entry entry.now) ≡ true }
     ensures reads { OnlyReadsDevice D.size D.story D.failed D.tells (ended result) device.old device.new }
-    ensures table { IfOk result (λ g. IsRead D.tells (shown_image (now (D.story device.old))) (plain_entry entry.now) (gathered_table g)) }
+    ensures table { IfOk result (λ g. IsRead D.tells (shown_image (now (D.story device.old))) (plain_entry entry.now) (table_so_far g)) }
     ensures unread { IfErr result (Unreads D.tells (shown_image (now (D.story device.old))) (plain_entry entry.now)) }
 {
     table_laws();

@@ -11,14 +11,14 @@ ghost use Rattle.store.specs.Answering.{AnswersOpening, AnswersFormatting, Answe
 ghost use Rattle.store.specs.Fits.{DeviceFits, StoreFits, device_of};
 ghost use Rattle.store.specs.Places.{IsStreamOf, AreCallsOf, asks_store, reply_in, replies_of, device_in, PlaceFits, PlaceGoes, PlaceLives};
 
-use crate::{Call, Compaction, Place, Reply, Store, Upgraded};
+use crate::{Call, Compaction, Reply, Store, StoreOrDevice, Upgraded};
 use sector_dev::SectorDevice;
 use std::alloc::Global;
 use std::io::Read;
 use tables::{Command, Refusal};
 
 // Opens the store of a device.
-fn open_place<D: SectorDevice>(alloc: Global, device: D) -> (Place<D>, Reply)
+fn open_place<D: SectorDevice>(alloc: Global, device: D) -> (StoreOrDevice<D>, Reply)
     ensures goes { D.tells ≡ true → (base : Tables) (m : Machine) → DeviceFits D.size D.story base m device
         → PlaceGoes D.size D.story D.failed base m open_call (reply_in result.1) device result.0 }
     ensures answers { AnswersOpening D.size D.story D.tells device (reply_in result.1) result.0 }
@@ -26,13 +26,13 @@ fn open_place<D: SectorDevice>(alloc: Global, device: D) -> (Place<D>, Reply)
     ensures count { D.failed (device_in result.0) ≡ counted (reply_in result.1) (D.failed device) }
 {
     match Store::open(alloc, device) {
-        Ok(store) => (Place::Open(store), Reply::Done),
-        Err((refusal, device)) => (Place::Shut(device), Reply::NotOpened(refusal)),
+        Ok(store) => (StoreOrDevice::Open(store), Reply::Done),
+        Err((refusal, device)) => (StoreOrDevice::Shut(device), Reply::NotOpened(refusal)),
     }
 }
 
 // Makes an empty store of a device.
-fn format_place<D: SectorDevice>(alloc: Global, device: D) -> (Place<D>, Reply)
+fn format_place<D: SectorDevice>(alloc: Global, device: D) -> (StoreOrDevice<D>, Reply)
     ensures goes { D.tells ≡ true → (base : Tables) (m : Machine) → DeviceFits D.size D.story base m device
         → PlaceGoes D.size D.story D.failed base m format_call (reply_in result.1) device result.0 }
     ensures answers { AnswersFormatting D.size D.story D.tells device (reply_in result.1) result.0 }
@@ -40,19 +40,19 @@ fn format_place<D: SectorDevice>(alloc: Global, device: D) -> (Place<D>, Reply)
     ensures count { D.failed (device_in result.0) ≡ counted (reply_in result.1) (D.failed device) }
 {
     match Store::format(alloc, device) {
-        Ok(store) => (Place::Open(store), Reply::Done),
-        Err((refusal, device)) => (Place::Shut(device), Reply::NotOpened(refusal)),
+        Ok(store) => (StoreOrDevice::Open(store), Reply::Done),
+        Err((refusal, device)) => (StoreOrDevice::Shut(device), Reply::NotOpened(refusal)),
     }
 }
 
 // A call that needs an open store, where none is open.
-fn refuse<D: SectorDevice, R: Read + Drop>(device: D, call: Call<R>) -> (Place<D>, Reply)
+fn refuse<D: SectorDevice, R: Read + Drop>(device: D, call: Call<R>) -> (StoreOrDevice<D>, Reply)
     requires { asks_store call ≡ true }
-    ensures { AnswersCall D.size D.story D.failed D.tells R.remaining (Place.Shut device) call (reply_in result.1) result.0 }
+    ensures { AnswersCall D.size D.story D.failed D.tells R.remaining (StoreOrDevice.Shut device) call (reply_in result.1) result.0 }
 {
     // By a call: the drop of each kind of command, written out, would be most of the function.
     drop(call);
-    (Place::Shut(device), Reply::Refused(Refusal::Halted))
+    (StoreOrDevice::Shut(device), Reply::Refused(Refusal::Halted))
 }
 
 // A call of a device on which no store is open.
@@ -60,8 +60,8 @@ fn answer_shut<D: SectorDevice, R: Read + Drop>(
     alloc: Global,
     device: D,
     call: Call<R>,
-) -> (Place<D>, Reply)
-    ensures { AnswersCall D.size D.story D.failed D.tells R.remaining (Place.Shut device) call (reply_in result.1) result.0 }
+) -> (StoreOrDevice<D>, Reply)
+    ensures { AnswersCall D.size D.story D.failed D.tells R.remaining (StoreOrDevice.Shut device) call (reply_in result.1) result.0 }
 {
     match call {
         Call::Format => format_place(alloc, device),
@@ -71,15 +71,19 @@ fn answer_shut<D: SectorDevice, R: Read + Drop>(
 }
 
 // A command.
-fn apply_in<D: SectorDevice>(alloc: Global, store: Store<D>, command: Command) -> (Place<D>, Reply)
+fn apply_in<D: SectorDevice>(
+    alloc: Global,
+    store: Store<D>,
+    command: Command,
+) -> (StoreOrDevice<D>, Reply)
     ensures goes { D.tells ≡ true → (base : Tables) (m : Machine) → StoreFits D.size D.story base m store
         → PlaceGoes D.size D.story D.failed base m (apply_call (command_of command)) (reply_in result.1) (device_of store) result.0 }
-    ensures answers { Answers D.size D.story D.failed D.tells (Place.Open store) (apply_call (command_of command)) (reply_in result.1) result.0 }
+    ensures answers { Answers D.size D.story D.failed D.tells (StoreOrDevice.Open store) (apply_call (command_of command)) (reply_in result.1) result.0 }
 {
     let mut store = store;
     match store.apply(alloc, command) {
-        Ok(()) => (Place::Open(store), Reply::Done),
-        Err(refusal) => (Place::Open(store), Reply::Refused(refusal)),
+        Ok(()) => (StoreOrDevice::Open(store), Reply::Done),
+        Err(refusal) => (StoreOrDevice::Open(store), Reply::Refused(refusal)),
     }
 }
 
@@ -89,15 +93,15 @@ fn import_in<D: SectorDevice, R: Read + Drop>(
     store: Store<D>,
     name: &str,
     reader: R,
-) -> (Place<D>, Reply)
-    ensures { AnswersAs D.size D.story D.failed D.tells (IsStreamOf (R.remaining reader) (import_stream name.now)) (Place.Open store)
+) -> (StoreOrDevice<D>, Reply)
+    ensures { AnswersAs D.size D.story D.failed D.tells (IsStreamOf (R.remaining reader) (import_stream name.now)) (StoreOrDevice.Open store)
         (reply_in result.1) result.0 }
 {
     let mut store = store;
     let mut reader = reader;
     match store.import_from(alloc, name, &mut reader) {
-        Ok(()) => (Place::Open(store), Reply::Done),
-        Err(refusal) => (Place::Open(store), Reply::Refused(refusal)),
+        Ok(()) => (StoreOrDevice::Open(store), Reply::Done),
+        Err(refusal) => (StoreOrDevice::Open(store), Reply::Refused(refusal)),
     }
 }
 
@@ -107,105 +111,121 @@ fn append_in<D: SectorDevice, R: Read + Drop>(
     store: Store<D>,
     name: &str,
     reader: R,
-) -> (Place<D>, Reply)
-    ensures { AnswersAs D.size D.story D.failed D.tells (IsStreamOf (R.remaining reader) (append_stream name.now)) (Place.Open store)
+) -> (StoreOrDevice<D>, Reply)
+    ensures { AnswersAs D.size D.story D.failed D.tells (IsStreamOf (R.remaining reader) (append_stream name.now)) (StoreOrDevice.Open store)
         (reply_in result.1) result.0 }
 {
     let mut store = store;
     let mut reader = reader;
     match store.append_from(alloc, name, &mut reader) {
-        Ok(()) => (Place::Open(store), Reply::Done),
-        Err(refusal) => (Place::Open(store), Reply::Refused(refusal)),
+        Ok(()) => (StoreOrDevice::Open(store), Reply::Done),
+        Err(refusal) => (StoreOrDevice::Open(store), Reply::Refused(refusal)),
     }
 }
 
 // The schema of a table.
-fn schema_in<D: SectorDevice>(alloc: Global, store: Store<D>, name: &str) -> (Place<D>, Reply)
+fn schema_in<D: SectorDevice>(
+    alloc: Global,
+    store: Store<D>,
+    name: &str,
+) -> (StoreOrDevice<D>, Reply)
     ensures goes { D.tells ≡ true → (base : Tables) (m : Machine) → StoreFits D.size D.story base m store
         → PlaceGoes D.size D.story D.failed base m (schema_call name.now) (reply_in result.1) (device_of store) result.0 }
-    ensures answers { Answers D.size D.story D.failed D.tells (Place.Open store) (schema_call name.now) (reply_in result.1) result.0 }
+    ensures answers { Answers D.size D.story D.failed D.tells (StoreOrDevice.Open store) (schema_call name.now) (reply_in result.1) result.0 }
 {
     let mut store = store;
     match store.schema(alloc, name) {
-        Ok(schema) => (Place::Open(store), Reply::Schema(schema)),
-        Err(refusal) => (Place::Open(store), Reply::Refused(refusal)),
+        Ok(schema) => (StoreOrDevice::Open(store), Reply::Schema(schema)),
+        Err(refusal) => (StoreOrDevice::Open(store), Reply::Refused(refusal)),
     }
 }
 
 // The names of the tables.
-fn list_in<D: SectorDevice>(alloc: Global, store: Store<D>) -> (Place<D>, Reply)
+fn list_in<D: SectorDevice>(alloc: Global, store: Store<D>) -> (StoreOrDevice<D>, Reply)
     ensures goes { D.tells ≡ true → (base : Tables) (m : Machine) → StoreFits D.size D.story base m store
         → PlaceGoes D.size D.story D.failed base m tables_call (reply_in result.1) (device_of store) result.0 }
-    ensures answers { Answers D.size D.story D.failed D.tells (Place.Open store) tables_call (reply_in result.1) result.0 }
+    ensures answers { Answers D.size D.story D.failed D.tells (StoreOrDevice.Open store) tables_call (reply_in result.1) result.0 }
 {
     match store.tables(alloc) {
-        Ok(tables) => (Place::Open(store), Reply::Tables(tables)),
-        Err(refusal) => (Place::Open(store), Reply::Refused(refusal)),
+        Ok(tables) => (StoreOrDevice::Open(store), Reply::Tables(tables)),
+        Err(refusal) => (StoreOrDevice::Open(store), Reply::Refused(refusal)),
     }
 }
 
 // A table.
-fn read_in<D: SectorDevice>(alloc: Global, store: Store<D>, name: &str) -> (Place<D>, Reply)
+fn read_in<D: SectorDevice>(alloc: Global, store: Store<D>, name: &str) -> (StoreOrDevice<D>, Reply)
     ensures goes { D.tells ≡ true → (base : Tables) (m : Machine) → StoreFits D.size D.story base m store
         → PlaceGoes D.size D.story D.failed base m (read_call name.now) (reply_in result.1) (device_of store) result.0 }
-    ensures answers { Answers D.size D.story D.failed D.tells (Place.Open store) (read_call name.now) (reply_in result.1) result.0 }
+    ensures answers { Answers D.size D.story D.failed D.tells (StoreOrDevice.Open store) (read_call name.now) (reply_in result.1) result.0 }
 {
     let mut store = store;
     match store.read(alloc, name) {
-        Ok(table) => (Place::Open(store), Reply::Table(table)),
-        Err(refusal) => (Place::Open(store), Reply::Refused(refusal)),
+        Ok(table) => (StoreOrDevice::Open(store), Reply::Table(table)),
+        Err(refusal) => (StoreOrDevice::Open(store), Reply::Refused(refusal)),
     }
 }
 
 // The stream of a table.
-fn export_in<D: SectorDevice>(alloc: Global, store: Store<D>, name: &str) -> (Place<D>, Reply)
+fn export_in<D: SectorDevice>(
+    alloc: Global,
+    store: Store<D>,
+    name: &str,
+) -> (StoreOrDevice<D>, Reply)
     ensures goes { D.tells ≡ true → (base : Tables) (m : Machine) → StoreFits D.size D.story base m store
         → PlaceGoes D.size D.story D.failed base m (export_call name.now) (reply_in result.1) (device_of store) result.0 }
-    ensures answers { Answers D.size D.story D.failed D.tells (Place.Open store) (export_call name.now) (reply_in result.1) result.0 }
+    ensures answers { Answers D.size D.story D.failed D.tells (StoreOrDevice.Open store) (export_call name.now) (reply_in result.1) result.0 }
 {
     let mut store = store;
     match store.export_bytes(alloc, name) {
-        Ok(bytes) => (Place::Open(store), Reply::Bytes(bytes)),
-        Err(refusal) => (Place::Open(store), Reply::Refused(refusal)),
+        Ok(bytes) => (StoreOrDevice::Open(store), Reply::Bytes(bytes)),
+        Err(refusal) => (StoreOrDevice::Open(store), Reply::Refused(refusal)),
     }
 }
 
 // An export is opened.
-fn open_export_in<D: SectorDevice>(alloc: Global, store: Store<D>, name: &str) -> (Place<D>, Reply)
+fn open_export_in<D: SectorDevice>(
+    alloc: Global,
+    store: Store<D>,
+    name: &str,
+) -> (StoreOrDevice<D>, Reply)
     ensures goes { D.tells ≡ true → (base : Tables) (m : Machine) → StoreFits D.size D.story base m store
         → PlaceGoes D.size D.story D.failed base m (open_export_call name.now) (reply_in result.1) (device_of store) result.0 }
-    ensures answers { Answers D.size D.story D.failed D.tells (Place.Open store) (open_export_call name.now) (reply_in result.1) result.0 }
+    ensures answers { Answers D.size D.story D.failed D.tells (StoreOrDevice.Open store) (open_export_call name.now) (reply_in result.1) result.0 }
 {
     let mut store = store;
     match store.open_export(alloc, name) {
-        Ok(id) => (Place::Open(store), Reply::Export(id)),
-        Err(refusal) => (Place::Open(store), Reply::Refused(refusal)),
+        Ok(id) => (StoreOrDevice::Open(store), Reply::Export(id)),
+        Err(refusal) => (StoreOrDevice::Open(store), Reply::Refused(refusal)),
     }
 }
 
 // Its next piece.
-fn export_next_in<D: SectorDevice>(alloc: Global, store: Store<D>, id: u64) -> (Place<D>, Reply)
+fn export_next_in<D: SectorDevice>(
+    alloc: Global,
+    store: Store<D>,
+    id: u64,
+) -> (StoreOrDevice<D>, Reply)
     ensures goes { D.tells ≡ true → (base : Tables) (m : Machine) → StoreFits D.size D.story base m store
         → PlaceGoes D.size D.story D.failed base m (export_next_call id) (reply_in result.1) (device_of store) result.0 }
-    ensures answers { Answers D.size D.story D.failed D.tells (Place.Open store) (export_next_call id) (reply_in result.1) result.0 }
+    ensures answers { Answers D.size D.story D.failed D.tells (StoreOrDevice.Open store) (export_next_call id) (reply_in result.1) result.0 }
 {
     let mut store = store;
     match store.export_next(alloc, id) {
-        Ok(piece) => (Place::Open(store), Reply::Piece(piece)),
-        Err(refusal) => (Place::Open(store), Reply::Refused(refusal)),
+        Ok(piece) => (StoreOrDevice::Open(store), Reply::Piece(piece)),
+        Err(refusal) => (StoreOrDevice::Open(store), Reply::Refused(refusal)),
     }
 }
 
 // An export is closed.
-fn close_export_in<D: SectorDevice>(store: Store<D>, id: u64) -> (Place<D>, Reply)
+fn close_export_in<D: SectorDevice>(store: Store<D>, id: u64) -> (StoreOrDevice<D>, Reply)
     ensures goes { D.tells ≡ true → (base : Tables) (m : Machine) → StoreFits D.size D.story base m store
         → PlaceGoes D.size D.story D.failed base m (close_export_call id) (reply_in result.1) (device_of store) result.0 }
-    ensures answers { Answers D.size D.story D.failed D.tells (Place.Open store) (close_export_call id) (reply_in result.1) result.0 }
+    ensures answers { Answers D.size D.story D.failed D.tells (StoreOrDevice.Open store) (close_export_call id) (reply_in result.1) result.0 }
 {
     let mut store = store;
     match store.close_export(id) {
-        Ok(()) => (Place::Open(store), Reply::Done),
-        Err(refusal) => (Place::Open(store), Reply::Refused(refusal)),
+        Ok(()) => (StoreOrDevice::Open(store), Reply::Done),
+        Err(refusal) => (StoreOrDevice::Open(store), Reply::Refused(refusal)),
     }
 }
 
@@ -220,15 +240,15 @@ fn step_reply(done: Compaction) -> Reply
 }
 
 // A step of a compaction.
-fn compact_in<D: SectorDevice>(alloc: Global, store: Store<D>) -> (Place<D>, Reply)
+fn compact_in<D: SectorDevice>(alloc: Global, store: Store<D>) -> (StoreOrDevice<D>, Reply)
     ensures goes { D.tells ≡ true → (base : Tables) (m : Machine) → StoreFits D.size D.story base m store
         → PlaceGoes D.size D.story D.failed base m compact_call (reply_in result.1) (device_of store) result.0 }
-    ensures answers { Answers D.size D.story D.failed D.tells (Place.Open store) compact_call (reply_in result.1) result.0 }
+    ensures answers { Answers D.size D.story D.failed D.tells (StoreOrDevice.Open store) compact_call (reply_in result.1) result.0 }
 {
     let mut store = store;
     match store.compact_step(alloc) {
-        Ok(done) => (Place::Open(store), step_reply(done)),
-        Err(refusal) => (Place::Open(store), Reply::Refused(refusal)),
+        Ok(done) => (StoreOrDevice::Open(store), step_reply(done)),
+        Err(refusal) => (StoreOrDevice::Open(store), Reply::Refused(refusal)),
     }
 }
 
@@ -242,15 +262,15 @@ fn upgrade_reply(upgraded: Upgraded) -> Reply
 }
 
 // An upgrade.
-fn upgrade_in<D: SectorDevice>(alloc: Global, store: Store<D>) -> (Place<D>, Reply)
+fn upgrade_in<D: SectorDevice>(alloc: Global, store: Store<D>) -> (StoreOrDevice<D>, Reply)
     ensures goes { D.tells ≡ true → (base : Tables) (m : Machine) → StoreFits D.size D.story base m store
         → PlaceGoes D.size D.story D.failed base m upgrade_call (reply_in result.1) (device_of store) result.0 }
-    ensures answers { Answers D.size D.story D.failed D.tells (Place.Open store) upgrade_call (reply_in result.1) result.0 }
+    ensures answers { Answers D.size D.story D.failed D.tells (StoreOrDevice.Open store) upgrade_call (reply_in result.1) result.0 }
 {
     let mut store = store;
     match store.upgrade(alloc) {
-        Ok(upgraded) => (Place::Open(store), upgrade_reply(upgraded)),
-        Err(refusal) => (Place::Open(store), Reply::Refused(refusal)),
+        Ok(upgraded) => (StoreOrDevice::Open(store), upgrade_reply(upgraded)),
+        Err(refusal) => (StoreOrDevice::Open(store), Reply::Refused(refusal)),
     }
 }
 
@@ -259,8 +279,8 @@ fn answer_open<D: SectorDevice, R: Read + Drop>(
     alloc: Global,
     store: Store<D>,
     call: Call<R>,
-) -> (Place<D>, Reply)
-    ensures { AnswersCall D.size D.story D.failed D.tells R.remaining (Place.Open store) call (reply_in result.1) result.0 }
+) -> (StoreOrDevice<D>, Reply)
+    ensures { AnswersCall D.size D.story D.failed D.tells R.remaining (StoreOrDevice.Open store) call (reply_in result.1) result.0 }
 {
     match call {
         Call::Apply(command) => apply_in(alloc, store, command),
@@ -268,7 +288,7 @@ fn answer_open<D: SectorDevice, R: Read + Drop>(
         Call::AppendFrom { name, reader } => append_in(alloc, store, &name, reader),
         Call::Format => format_place(alloc, store.close()),
         Call::Open => open_place(alloc, store.close()),
-        Call::Close => (Place::Shut(store.close()), Reply::Done),
+        Call::Close => (StoreOrDevice::Shut(store.close()), Reply::Done),
         Call::Tables => list_in(alloc, store),
         Call::Schema(name) => schema_in(alloc, store, &name),
         Call::Read(name) => read_in(alloc, store, &name),
@@ -284,23 +304,23 @@ fn answer_open<D: SectorDevice, R: Read + Drop>(
 /// Answers one call, as [`run`] answers each of its own.
 pub fn answer<D: SectorDevice, R: Read + Drop>(
     alloc: Global,
-    place: Place<D>,
+    place: StoreOrDevice<D>,
     call: Call<R>,
-) -> (Place<D>, Reply)
+) -> (StoreOrDevice<D>, Reply)
     ensures { AnswersCall D.size D.story D.failed D.tells R.remaining place call (reply_in result.1) result.0 }
 {
     match place {
-        Place::Open(store) => answer_open(alloc, store, call),
-        Place::Shut(device) => answer_shut(alloc, device, call),
+        StoreOrDevice::Open(store) => answer_open(alloc, store, call),
+        StoreOrDevice::Shut(device) => answer_shut(alloc, device, call),
     }
 }
 
 // All of them in order.
 fn answer_all<D: SectorDevice, R: Read + Drop>(
     alloc: Global,
-    place: Place<D>,
+    place: StoreOrDevice<D>,
     calls: Vec<Call<R>>,
-) -> Result<(Place<D>, Vec<Reply>), (Place<D>, Vec<Call<R>>)>
+) -> Result<(StoreOrDevice<D>, Vec<Reply>), (StoreOrDevice<D>, Vec<Call<R>>)>
     ensures ok { IfOk result (λ r. AnswersCalls D.size D.story D.failed D.tells R.remaining place calls.items (replies_of r.1.items) r.0) }
     ensures each { IfOk result (λ r. length r.1.items ≡ length calls.items) }
     ensures err { IfErr result (λ e. (e.0 ≡ place) × (e.1 ≡ calls)) }
@@ -336,9 +356,9 @@ fn answer_all<D: SectorDevice, R: Read + Drop>(
 /// it is answered, its reply says so, and the calls after it are made.
 pub fn run<D: SectorDevice, R: Read + Drop>(
     alloc: Global,
-    place: Place<D>,
+    place: StoreOrDevice<D>,
     calls: Vec<Call<R>>,
-) -> Result<(Place<D>, Vec<Reply>), (Place<D>, Vec<Call<R>>)>
+) -> Result<(StoreOrDevice<D>, Vec<Reply>), (StoreOrDevice<D>, Vec<Call<R>>)>
     ensures lives { IfOk result (λ r. (plain : List PlainCall) × AreCallsOf R.remaining calls.items plain
         × AnswersEach D.size D.story D.failed D.tells place plain (replies_of r.1.items) r.0
         × (D.tells ≡ true → (base : Tables) (m : Machine) → PlaceFits D.size D.story base m place

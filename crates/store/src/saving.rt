@@ -24,8 +24,8 @@ ghost use Rattle.store.specs.inner.Tests.{decision_of};
 use crate::Store;
 use crate::change::Change;
 use crate::deciding::{put_table, test_create};
-use crate::gathered::Gathered;
 use crate::reading::{is_failure, read_entry};
+use crate::table_builder::TableBuilder;
 use arrow_schema::Schema;
 use catalogue::{Catalogue, TableEntry, counts_after_changes};
 use ipc_encode::pieces_are_tables;
@@ -41,7 +41,7 @@ fn without_rows(alloc: Global, schema: &Schema) -> Result<Table, AllocError>
     requires { IsWithinLimits (schema_of schema.now) }
     ensures { IfOk result (λ t. table_of t ≡ empty_table (schema_of schema.now)) }
 {
-    Gathered::empty(alloc, schema.copy(alloc)?).finish(alloc)
+    TableBuilder::empty(alloc, schema.copy(alloc)?).finish(alloc)
 }
 
 // S12: the query makes nothing of tables of this schema.

@@ -22,7 +22,7 @@ use arrow_schema::Schema;
 use cells::{MAX_PIECE_ROWS, has_limits};
 use columns::PlacedArray;
 use std::alloc::{AllocError, Global};
-use values::Part;
+use values::TablePart;
 
 /// The rows of a table that is kept in record batches, of which the first are in pieces already.
 #[derive(Drop)]
@@ -51,7 +51,7 @@ fn push_run<'a>(runs: &mut Vec<RowRun<'a>>, run: RowRun<'a>) -> Result<(), Alloc
 }
 
 // All rows of a batch of a part, which has n.
-fn whole_batch<'a>(part: &'a Part, arrays: &'a [PlacedArray], rows: usize) -> RowRun<'a>
+fn whole_batch<'a>(part: &'a TablePart, arrays: &'a [PlacedArray], rows: usize) -> RowRun<'a>
     ensures rows { (columns : Columns)
         → run_rows columns result ≡ rows_in columns (placed_arrays part.now.bytes.items part.now.dictionaries.items arrays.now) rows }
     ensures sound { (columns : Columns) → are_sound columns rows (placed_arrays part.now.bytes.items part.now.dictionaries.items arrays.now) ≡ true
@@ -66,7 +66,7 @@ fn whole_batch<'a>(part: &'a Part, arrays: &'a [PlacedArray], rows: usize) -> Ro
     }
 }
 
-fn add_part<'a>(runs: &mut Vec<RowRun<'a>>, part: &'a Part) -> Result<(), AllocError>
+fn add_part<'a>(runs: &mut Vec<RowRun<'a>>, part: &'a TablePart) -> Result<(), AllocError>
     ensures rows { OnOk result ((columns : Columns) → runs_rows columns runs.new.items ≡ runs_rows columns runs.old.items ++ part_rows columns part.now) }
     ensures sound { OnOk result ((columns : Columns) → are_runs_sound columns runs.old.items ≡ true
         → list_all (is_batch_sound columns part.now) part.now.batches.items ≡ true → are_runs_sound columns runs.new.items ≡ true) }
@@ -84,7 +84,7 @@ impl<'a> RowsLeft<'a> {
     ///
     /// # Errors
     /// `AllocError` where memory was refused.
-    pub fn new(alloc: Global, parts: &'a [Part]) -> Result<RowsLeft<'a>, AllocError>
+    pub fn new(alloc: Global, parts: &'a [TablePart]) -> Result<RowsLeft<'a>, AllocError>
         ensures rows { IfOk result (λ left. (columns : Columns) → rows_left columns left ≡ parts_rows columns parts.now) }
         ensures sound { IfOk result (λ left. (columns : Columns) → are_parts_sound columns parts.now ≡ true
             → are_runs_sound columns (runs_left left) ≡ true) }

@@ -5,7 +5,7 @@ ghost use Rattle.arrow_schema.specs.Limits.{IsWithinLimits};
 use arrow_schema::Schema;
 use cells::Row;
 use query::Query;
-use values::Weighed;
+use values::WeighedTable;
 
 /// A table to be made: its name, and its schema, which is within the limits.
 #[derive(Drop)]
@@ -38,7 +38,7 @@ pub enum Command {
     /// The same of the rows of a table of any schema. Where that is the schema of the table that stands, they are not tested one by one.
     AppendTable {
         name: String,
-        new: Weighed,
+        new: WeighedTable,
     },
     /// The selection of a table, as a table of its own. S1, S12, S3, S2, S7 Tables; then the table is read.
     SaveAs {

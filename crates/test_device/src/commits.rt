@@ -9,8 +9,8 @@ ghost use Rattle.test_device.specs.Few.{IsOn};
 use crate::calls::are_same;
 use crate::few::Few;
 use commit::{FormatVersion, OpenError, Opened, Plan, format, place, plan_next, publish, recover};
-use sector_dev::{Choice, ModelDevice, SectorDevice};
-use segments::{Part, Run, read_run};
+use sector_dev::{CrashChoice, ModelDevice, SectorDevice};
+use segments::{PiecePart, Run, read_run};
 use std::alloc::{AllocError, Global};
 
 // The store of a device that is formatted now.
@@ -29,18 +29,18 @@ pub(crate) fn formatted(alloc: Global, device: &mut ModelDevice) -> Option<Opene
 }
 
 // Bytes as the only content.
-fn content_of<'a>(alloc: Global, bytes: Vec<u8>) -> Result<Vec<Vec<Part<'a>>>, AllocError>
+fn content_of<'a>(alloc: Global, bytes: Vec<u8>) -> Result<Vec<Vec<PiecePart<'a>>>, AllocError>
     ensures { IfOk result (λ contents. plain_contents contents.items ≡ bytes.items ∷ []) }
 {
     let mut parts = Vec::new(alloc);
-    parts.push(Part::Made(bytes))?;
+    parts.push(PiecePart::Made(bytes))?;
     let mut contents = Vec::new(alloc);
     contents.push(parts)?;
     Ok(contents)
 }
 
 // A segment that this byte fills.
-fn segment_of<'a>(alloc: Global, byte: u8) -> Result<Vec<Vec<Part<'a>>>, AllocError>
+fn segment_of<'a>(alloc: Global, byte: u8) -> Result<Vec<Vec<PiecePart<'a>>>, AllocError>
     ensures { IfOk result (λ contents. AreSome (plain_contents contents.items)) }
 {
     let bytes = Vec::from_slice(alloc, &[byte; 600])?;
@@ -48,7 +48,7 @@ fn segment_of<'a>(alloc: Global, byte: u8) -> Result<Vec<Vec<Part<'a>>>, AllocEr
 }
 
 // The text of a catalogue that names this run.
-fn text_of<'a>(alloc: Global, run: Run) -> Result<Vec<Vec<Part<'a>>>, AllocError>
+fn text_of<'a>(alloc: Global, run: Run) -> Result<Vec<Vec<PiecePart<'a>>>, AllocError>
     ensures { IfOk result (λ texts. (text : List ℕ) × (plain_contents texts.items ≡ text ∷ []) × (length text ≡ 6)) }
 {
     let start = u8::try_from(run.start).unwrap_or(0);
@@ -238,7 +238,7 @@ fn goes_on_from(alloc: Global, left: &mut ModelDevice, acknowledged: u64) -> boo
 }
 
 // Goes on from what a choice leaves. It does not where memory is refused.
-fn goes_on(alloc: Global, device: &ModelDevice, choice: Choice, acknowledged: u64) -> bool {
+fn goes_on(alloc: Global, device: &ModelDevice, choice: CrashChoice, acknowledged: u64) -> bool {
     match device.crash(choice) {
         Ok(mut left) => goes_on_from(alloc, &mut left, acknowledged),
         Err(_) => false,
@@ -247,12 +247,12 @@ fn goes_on(alloc: Global, device: &ModelDevice, choice: Choice, acknowledged: u6
 
 // Each choice, and each pattern of the three sectors that are not yet synced at the most.
 fn all_go_on(alloc: Global, device: &ModelDevice, acknowledged: u64) -> bool {
-    let mut well = goes_on(alloc, device, Choice::Old, acknowledged)
-        && goes_on(alloc, device, Choice::New, acknowledged);
+    let mut well = goes_on(alloc, device, CrashChoice::Old, acknowledged)
+        && goes_on(alloc, device, CrashChoice::New, acknowledged);
     for bits in 0..8 {
         well = well
-            && goes_on(alloc, device, Choice::Bits(bits), acknowledged)
-            && goes_on(alloc, device, Choice::Lost(bits), acknowledged);
+            && goes_on(alloc, device, CrashChoice::Bits(bits), acknowledged)
+            && goes_on(alloc, device, CrashChoice::Lost(bits), acknowledged);
     }
     well
 }
@@ -285,7 +285,7 @@ fn acknowledged_with(fault: Fault) -> u64 {
 
 // Whether a crash that leaves the old content leaves a store of this epoch.
 fn is_safe(alloc: Global, device: &ModelDevice, epoch: u64) -> bool {
-    match device.crash(Choice::Old) {
+    match device.crash(CrashChoice::Old) {
         Ok(mut left) => epoch_left(alloc, &mut left, epoch) == Some(epoch),
         Err(_) => false,
     }

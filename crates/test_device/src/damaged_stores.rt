@@ -3,7 +3,7 @@ use crate::calls::{read_sector, write_sector};
 use crate::commits::run_script;
 use crate::few::Few;
 use commit::{Cause, OpenError, recover};
-use sector_dev::{Choice, DevError, ModelDevice};
+use sector_dev::{CrashChoice, DevError, ModelDevice};
 use std::alloc::Global;
 
 // Changes a byte of a sector.
@@ -16,7 +16,7 @@ fn change(device: &mut ModelDevice, n: u64) -> Result<(), DevError> {
 
 // Whether the store that a stop left is opened, or has this error. A store whose text was being written then is damaged only where its commit names that text.
 fn is_told_after_stop(alloc: Global, device: &ModelDevice, want: Option<OpenError>) -> bool {
-    match device.crash(Choice::Lost(1)) {
+    match device.crash(CrashChoice::Lost(1)) {
         Ok(mut left) => recover::<Few, ModelDevice>(alloc, &mut left).err() == want,
         Err(_) => false,
     }

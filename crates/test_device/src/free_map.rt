@@ -1,5 +1,5 @@
 // Worked rows of the free map, and one with many runs.
-use segments::{EnterError, FreeMap, Run, Searched, TakeError, Usage};
+use segments::{EnterError, FreeMap, Run, SearchCursor, TakeError, Usage};
 use std::alloc::Global;
 
 // A call of a free map, and its answer. A run is its start and its count.
@@ -236,7 +236,7 @@ fn worked_rows_are_answered_also_without_memory(rt: HostRuntime) {
 
 // A free run is looked for after the last one, unless it may fit into a gap that was passed. Free are the sectors 3 to 4, 6 to 8 and 11 to 15.
 fn takes_onward(map: &mut FreeMap) -> bool {
-    let mut searched = Searched::nothing();
+    let mut searched = SearchCursor::nothing();
     let behind_two = map.take_onward(3, &mut searched) == Ok(Run { start: 6, count: 3 });
     let behind_three = map.take_onward(3, &mut searched)
         == Ok(Run {
@@ -286,7 +286,7 @@ fn finds_among_65536(map: &mut FreeMap) -> bool {
 
 // Nor is each other run moved whenever one is taken. Whether a run is taken before each of those but the first.
 fn takes_among_65536(map: &mut FreeMap) -> bool {
-    let mut searched = Searched::nothing();
+    let mut searched = SearchCursor::nothing();
     let mut well = true;
     for i in 0..65_536 {
         let start = 3 + 2 * i;

@@ -1,8 +1,8 @@
 // A device in memory: what is done to it, and what its sectors read as then. Which images a crash may leave, and which calls fail, is proved.
 use crate::calls::{fill_sector, filling, write_row};
-use Choice::{Lost, New, Old};
+use CrashChoice::{Lost, New, Old};
 use Step::{Crash, Fail, FailRead, FailRow, Fill, Flush, Leaves, Shows, Stop};
-use sector_dev::{Choice, DevError, ModelDevice, SectorDevice};
+use sector_dev::{CrashChoice, DevError, ModelDevice, SectorDevice};
 use std::alloc::Global;
 
 // What each sector reads as; `None`: it is unreadable.
@@ -12,7 +12,7 @@ type Sectors = [Option<u8>; 8];
 enum Step {
     Fill(u64, u8),
     Flush,
-    Crash(Choice),
+    Crash(CrashChoice),
     // the next read is of this sector, and fails
     FailRead(u64),
     // the next write is of this sector, and fails
@@ -23,7 +23,7 @@ enum Step {
     Stop,
     Shows(&'static Sectors),
     // a crash would leave this
-    Leaves(Choice, &'static Sectors),
+    Leaves(CrashChoice, &'static Sectors),
 }
 
 const LOST: Sectors = [
@@ -90,7 +90,7 @@ fn is_stopped(device: &mut ModelDevice) -> bool {
 }
 
 // Makes a device that which a crash leaves, where there is memory for it.
-fn is_crashed(device: &mut ModelDevice, choice: Choice) -> bool {
+fn is_crashed(device: &mut ModelDevice, choice: CrashChoice) -> bool {
     match device.crash(choice) {
         Ok(left) => {
             *device = left;
@@ -101,7 +101,7 @@ fn is_crashed(device: &mut ModelDevice, choice: Choice) -> bool {
 }
 
 // Whether a crash would leave this.
-fn leaves(device: &ModelDevice, choice: Choice, want: &Sectors) -> bool {
+fn leaves(device: &ModelDevice, choice: CrashChoice, want: &Sectors) -> bool {
     match device.crash(choice) {
         Ok(mut left) => shows(&mut left, want),
         Err(_) => false,

@@ -1,7 +1,7 @@
 // Runs of a device in memory.
 use crate::calls::are_same;
 use sector_dev::{ModelDevice, SectorDevice};
-use segments::{Part, Piece, Run, byte_count, read_run, write_run, write_runs};
+use segments::{Piece, PiecePart, Run, byte_count, read_run, write_run, write_runs};
 use std::alloc::{AllocError, Global};
 
 const BYTES: [u8; 1100] = [7; 1100];
@@ -18,17 +18,17 @@ fn are_read(alloc: Global, device: &mut ModelDevice, start: u64) -> bool {
 }
 
 // The bytes in parts, of which none ends where a sector does.
-fn parts_of<'a>(alloc: Global, bytes: &'a [u8]) -> Result<Vec<Part<'a>>, AllocError> {
+fn parts_of<'a>(alloc: Global, bytes: &'a [u8]) -> Result<Vec<PiecePart<'a>>, AllocError> {
     let (front, back) = bytes.split_at_checked(700).unwrap_or((bytes, &[]));
     let mut parts = Vec::new(alloc);
-    parts.push(Part::Borrowed(front))?;
-    parts.push(Part::Borrowed(&[]))?;
-    parts.push(Part::Made(Vec::from_slice(alloc, back)?))?;
+    parts.push(PiecePart::Borrowed(front))?;
+    parts.push(PiecePart::Borrowed(&[]))?;
+    parts.push(PiecePart::Made(Vec::from_slice(alloc, back)?))?;
     Ok(parts)
 }
 
 // Writes the bytes, and writes them as a piece.
-fn are_written(device: &mut ModelDevice, parts: Vec<Part<'_>>) -> bool {
+fn are_written(device: &mut ModelDevice, parts: Vec<PiecePart<'_>>) -> bool {
     let Some(count) = byte_count(&parts) else {
         return false;
     };

@@ -7,7 +7,7 @@ use crate::steps::{Step, Steps};
 use Input::{First, Ints};
 use Step::{Append, Create, Format, Import};
 use std::alloc::Global;
-use store::{Compaction, Place};
+use store::{Compaction, StoreOrDevice};
 
 const TWO: Input = Ints(&[7, -1]);
 
@@ -65,7 +65,7 @@ const NOTHING: &[Row] = &[
 
 fn step_of(alloc: Global, slot: &mut Slot) -> Option<Compaction> {
     match slot {
-        Some(Place::Open(store)) => store.compact_step(alloc).ok(),
+        Some(StoreOrDevice::Open(store)) => store.compact_step(alloc).ok(),
         _ => None,
     }
 }

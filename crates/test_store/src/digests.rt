@@ -12,9 +12,9 @@ use Step::{
     Append, CloseExport, Compact, Export, ExportNext, Give, Import, Open, OpenExport, Read, Save,
     Tables,
 };
-use sector_dev::Choice;
+use sector_dev::CrashChoice;
 use std::alloc::Global;
-use store::{FormatVersion, Place};
+use store::{FormatVersion, StoreOrDevice};
 
 // The table t has two segments, in sectors 3 and 2, and u one. The first value of a segment stands at byte 304.
 const STORED: Steps = &[
@@ -31,7 +31,7 @@ const MERGED: Steps = &[
 ];
 
 // The version of a store, what was done to it, a byte that is changed, what a stop leaves of its sector, and what is answered then.
-type Row = (FormatVersion, Steps, Change, Choice, Steps);
+type Row = (FormatVersion, Steps, Change, CrashChoice, Steps);
 
 const OF_VERSION_1: &[Row] = &[
     // Another value is read, and the bytes are moved as they are.
@@ -39,14 +39,14 @@ const OF_VERSION_1: &[Row] = &[
         One,
         STORED,
         (3, 304, 5),
-        Choice::New,
+        CrashChoice::New,
         &[(Open, "ok"), (Read("t"), "\"a\":int32?: 2 -1 5")],
     ),
     (
         One,
         MERGED,
         (4, 304, 5),
-        Choice::New,
+        CrashChoice::New,
         &[
             (Open, "ok"),
             (Compact, "moved"),
@@ -83,23 +83,23 @@ const CHANGED_SECOND: Steps = &[
 ];
 
 const OF_VERSION_2: &[Row] = &[
-    (Two, STORED, (3, 304, 5), Choice::New, CHANGED_FIRST),
+    (Two, STORED, (3, 304, 5), CrashChoice::New, CHANGED_FIRST),
     // It is reported before anything is said of what its bytes mean.
-    (Two, STORED, (3, 0, 1), Choice::New, CHANGED_FIRST),
-    (Two, STORED, (2, 304, 5), Choice::New, CHANGED_SECOND),
+    (Two, STORED, (3, 0, 1), CrashChoice::New, CHANGED_FIRST),
+    (Two, STORED, (2, 304, 5), CrashChoice::New, CHANGED_SECOND),
     // What stands after the bytes of a segment is not looked at.
     (
         Two,
         STORED,
         (3, 511, 1),
-        Choice::New,
+        CrashChoice::New,
         &[(Open, "ok"), (Read("t"), "\"a\":int32?: 7 -1 5")],
     ),
     (
         Two,
         MERGED,
         (4, 304, 5),
-        Choice::New,
+        CrashChoice::New,
         &[(Open, "ok"), (Compact, "S15 SegmentDamaged 0")],
     ),
     // Of a sector that can't be read there are no bytes.
@@ -107,7 +107,7 @@ const OF_VERSION_2: &[Row] = &[
         Two,
         STORED,
         (3, 304, 5),
-        Choice::Lost(u64::MAX),
+        CrashChoice::Lost(u64::MAX),
         &[(Open, "ok"), (Read("t"), "S13 SegmentUnread 0")],
     ),
 ];
@@ -119,7 +119,7 @@ fn is_right(alloc: Global, row: &Row) -> Result<bool, NotMade> {
         return Err(NotMade);
     }
     let left = changed(&shut(&mut slot)?, &[*change])?.crash(*choice)?;
-    is_played(alloc, &mut Some(Place::Shut(left)), steps)
+    is_played(alloc, &mut Some(StoreOrDevice::Shut(left)), steps)
 }
 
 fn wrong_row(alloc: Global, rows: &[Row]) -> Result<Option<usize>, NotMade> {

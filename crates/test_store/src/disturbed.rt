@@ -13,9 +13,9 @@ use Step::{
     Append, CloseExport, Compact, Create, Export, ExportNext, Format, Import, Open, OpenExport,
     Remove,
 };
-use sector_dev::{Choice, ModelDevice, SectorDevice};
+use sector_dev::{CrashChoice, ModelDevice, SectorDevice};
 use std::alloc::Global;
-use store::{Place, Reply};
+use store::{Reply, StoreOrDevice};
 
 /// What is asked of a device of 16 sectors that holds an empty store.
 #[derive(Clone, Copy)]
@@ -129,7 +129,7 @@ fn disturbed(alloc: Global, made: Way, kind: Kind, k: u64) -> Result<Slot, NotMa
         Stop => device.stop_at(k),
         FailedRead => device.fail_read_at(k),
     }
-    Ok(Some(Place::Shut(device)))
+    Ok(Some(StoreOrDevice::Shut(device)))
 }
 
 // Whether the store is opened again after the step that failed.
@@ -220,7 +220,7 @@ const AFTER: Steps = &[
 ];
 
 fn goes_on(alloc: Global, device: ModelDevice) -> Result<bool, NotMade> {
-    is_played(alloc, &mut Some(Place::Shut(device)), AFTER)
+    is_played(alloc, &mut Some(StoreOrDevice::Shut(device)), AFTER)
 }
 
 fn is_whole(
@@ -339,12 +339,12 @@ const SECOND_CALLS: &[u64] = &[1, 6, 11];
 const SECOND_STATES: &[&str] = &["", "", "t: 1", "t: 1 2"];
 
 // What the first and the second stop leave.
-const FEW: &[Choice] = &[
-    Choice::Old,
-    Choice::New,
-    Choice::Bits(5),
-    Choice::Lost(1),
-    Choice::Lost(u64::MAX),
+const FEW: &[CrashChoice] = &[
+    CrashChoice::Old,
+    CrashChoice::New,
+    CrashChoice::Bits(5),
+    CrashChoice::Lost(1),
+    CrashChoice::Lost(u64::MAX),
 ];
 
 fn is_second_state(first: &str, done: usize, found: &str) -> bool {
@@ -393,9 +393,9 @@ fn survives_second(
     first: &str,
     k: u64,
 ) -> Result<bool, NotMade> {
-    let mut device = left.crash(Choice::Old)?;
+    let mut device = left.crash(CrashChoice::Old)?;
     device.stop_at(k);
-    let mut slot = Some(Place::Shut(device));
+    let mut slot = Some(StoreOrDevice::Shut(device));
     let done = wrong_reply(
         alloc,
         &replies_of(alloc, &mut slot, SECOND, Way::OneRun)?,
@@ -420,7 +420,7 @@ fn stopped(alloc: Global, k: u64) -> Result<ModelDevice, NotMade> {
 }
 
 fn survives_each_second(alloc: Global, left: &ModelDevice) -> Result<bool, NotMade> {
-    let first = contents(alloc, &mut left.crash(Choice::Old)?)?;
+    let first = contents(alloc, &mut left.crash(CrashChoice::Old)?)?;
     let mut well = true;
     for k in 1..=12u64 {
         well = well && survives_second(alloc, left, &first, k)?;
@@ -458,9 +458,9 @@ const LEFT: &[(u64, &str, &str)] = &[
 ];
 
 fn is_left(alloc: Global, device: &ModelDevice, old: &str, new: &str) -> Result<bool, NotMade> {
-    let lost = contents(alloc, &mut device.crash(Choice::Lost(u64::MAX))?)?.as_str() == old;
-    let old = contents(alloc, &mut device.crash(Choice::Old)?)?.as_str() == old;
-    Ok(lost && old && contents(alloc, &mut device.crash(Choice::New)?)?.as_str() == new)
+    let lost = contents(alloc, &mut device.crash(CrashChoice::Lost(u64::MAX))?)?.as_str() == old;
+    let old = contents(alloc, &mut device.crash(CrashChoice::Old)?)?.as_str() == old;
+    Ok(lost && old && contents(alloc, &mut device.crash(CrashChoice::New)?)?.as_str() == new)
 }
 
 fn wrong_left(alloc: Global) -> Result<Option<usize>, NotMade> {

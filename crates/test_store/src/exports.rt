@@ -12,7 +12,7 @@ use Step::{
 use ipc_stream::decode;
 use sector_dev::ModelDevice;
 use std::alloc::Global;
-use store::{Place, Reply, Store};
+use store::{Reply, Store, StoreOrDevice};
 
 const PIECES: Steps = &[
     (Format, "ok"),
@@ -192,7 +192,7 @@ fn are_opened(alloc: Global, store: &mut Store<ModelDevice>, count: u64) -> bool
 }
 
 fn is_full(alloc: Global, slot: &mut Slot) -> Result<bool, NotMade> {
-    let Some(Place::Open(store)) = slot else {
+    let Some(StoreOrDevice::Open(store)) = slot else {
         return Err(NotMade);
     };
     Ok(are_opened(alloc, store, 64) && is_played(alloc, slot, FULL)?)

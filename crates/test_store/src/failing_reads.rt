@@ -14,7 +14,7 @@ use Step::{
 use sector_dev::ModelDevice;
 use std::alloc::Global;
 use std::io::{self, Write};
-use store::{Place, Reply, Store};
+use store::{Reply, Store, StoreOrDevice};
 use tables::Refusal;
 
 const READING: Steps = &[
@@ -65,13 +65,13 @@ fn survives_on(alloc: Global, slot: &mut Slot, done: usize, way: Way) -> Result<
     if !is_halted(alloc, slot, done, way)? {
         return Ok(false);
     }
-    is_read_again(alloc, &mut Some(Place::Shut(shut(slot)?)), done)
+    is_read_again(alloc, &mut Some(StoreOrDevice::Shut(shut(slot)?)), done)
 }
 
 fn survives(alloc: Global, made: Way, k: u64, way: Way) -> Result<bool, NotMade> {
     let done = count_below(READS, k);
     let device = failing(alloc, made, k)?;
-    survives_on(alloc, &mut Some(Place::Shut(device)), done, way)
+    survives_on(alloc, &mut Some(StoreOrDevice::Shut(device)), done, way)
 }
 
 // The first read after whose failure something is wrong. In the last run none fails.
@@ -159,7 +159,7 @@ fn wrong_step(alloc: Global, made: Way, way: Way) -> Result<Option<usize>, NotMa
             return Ok(None);
         };
         let device = failing(alloc, made, k)?;
-        if let Some(place) = play(alloc, &mut Some(Place::Shut(device)), steps, way)? {
+        if let Some(place) = play(alloc, &mut Some(StoreOrDevice::Shut(device)), steps, way)? {
             return Ok(Some(number.wrapping_mul(100).wrapping_add(place)));
         }
     }
@@ -182,7 +182,7 @@ const EXPORTING: Steps = &[
 fn wrong_export(alloc: Global) -> Result<Option<usize>, NotMade> {
     for k in 7..=8u64 {
         let device = failing(alloc, Way::EachCall, k)?;
-        if !is_played(alloc, &mut Some(Place::Shut(device)), EXPORTING)? {
+        if !is_played(alloc, &mut Some(StoreOrDevice::Shut(device)), EXPORTING)? {
             return Ok(Some(k as usize));
         }
     }
@@ -223,7 +223,7 @@ fn goes_out(alloc: Global, slot: &mut Slot) -> bool {
         flushed: 0,
     };
     match slot {
-        Some(Place::Open(store)) => {
+        Some(StoreOrDevice::Open(store)) => {
             store.export(alloc, "t", &mut writer) == Ok(()) && writer.flushed == 328
         }
         _ => false,
@@ -249,7 +249,7 @@ fn is_written(
     room: usize,
     want: Result<(), Refusal>,
 ) -> Result<bool, NotMade> {
-    let Some(Place::Open(store)) = slot else {
+    let Some(StoreOrDevice::Open(store)) = slot else {
         return Err(NotMade);
     };
     Ok(is_exported(alloc, store, room, want)? && is_played(alloc, slot, STILL_THERE)?)
@@ -272,7 +272,7 @@ fn is_opened_and_written(
 fn wrong_writer(alloc: Global) -> Result<Option<usize>, NotMade> {
     for (place, (room, want)) in ROOMS.iter().enumerate() {
         let device = device_after(alloc, stored(), Way::EachCall)?;
-        if !is_opened_and_written(alloc, &mut Some(Place::Shut(device)), *room, *want)? {
+        if !is_opened_and_written(alloc, &mut Some(StoreOrDevice::Shut(device)), *room, *want)? {
             return Ok(Some(place));
         }
     }
@@ -280,7 +280,7 @@ fn wrong_writer(alloc: Global) -> Result<Option<usize>, NotMade> {
 }
 
 fn wrong_flush(alloc: Global) -> Result<Option<usize>, NotMade> {
-    let mut slot = Some(Place::Shut(device_after(alloc, stored(), Way::EachCall)?));
+    let mut slot = Some(StoreOrDevice::Shut(device_after(alloc, stored(), Way::EachCall)?));
     let well = is_played(alloc, &mut slot, OPENING)? && goes_out(alloc, &mut slot);
     Ok(if well { None } else { Some(0) })
 }

@@ -10,9 +10,9 @@ use Step::{
     Append, Close, CloseExport, Compact, Create, Export, ExportNext, Format, GiveTable, Import,
     Open, OpenExport, Read, Remove, Rename, Save, Schema, Tables,
 };
-use sector_dev::{Choice, SectorDevice};
+use sector_dev::{CrashChoice, SectorDevice};
 use std::alloc::Global;
-use store::{OpeningRefusal, Place, Reply};
+use store::{OpeningRefusal, Reply, StoreOrDevice};
 use tables::Refusal;
 
 const NARROW: &[&str] = &["a:int32?"];
@@ -136,12 +136,12 @@ impl Chance {
     }
 
     // What a crash leaves.
-    fn choice(&mut self) -> Choice {
+    fn choice(&mut self) -> CrashChoice {
         match self.below(4) {
-            0 => Choice::Old,
-            1 => Choice::New,
-            2 => Choice::Bits(self.state),
-            _ => Choice::Lost(self.state),
+            0 => CrashChoice::Old,
+            1 => CrashChoice::New,
+            2 => CrashChoice::Bits(self.state),
+            _ => CrashChoice::Lost(self.state),
         }
     }
 }
@@ -379,7 +379,7 @@ fn is_crashed(
     let mut left = shut(slot)?.crash(chance.choice())?;
     let well = pair.is_left(alloc, &contents(alloc, &mut left)?)?;
     left.stop_at(chance.below(150));
-    *slot = Some(Place::Shut(left));
+    *slot = Some(StoreOrDevice::Shut(left));
     Ok(well)
 }
 

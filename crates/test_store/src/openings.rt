@@ -7,9 +7,9 @@ use crate::steps::{Step, Steps};
 use Cell::Text;
 use Input::{Changed, Column, First, Ints};
 use Step::{Append, Create, Export, Format, Give, Import, Open, Read, Remove, Save, Tables};
-use sector_dev::{Choice, ModelDevice, SectorDevice};
+use sector_dev::{CrashChoice, ModelDevice, SectorDevice};
 use std::alloc::Global;
-use store::Place;
+use store::StoreOrDevice;
 
 // How many sectors a device has.
 const SIZES: &[u64] = &[0, 15, 16, 4_194_304, 4_194_305];
@@ -99,7 +99,7 @@ fn change_all(device: &mut ModelDevice, changes: &[Change]) -> Result<(), NotMad
 
 /// A device as it is, with these changes.
 pub fn changed(device: &ModelDevice, changes: &[Change]) -> Result<ModelDevice, NotMade> {
-    let mut left = device.crash(Choice::New)?;
+    let mut left = device.crash(CrashChoice::New)?;
     change_all(&mut left, changes)?;
     Ok(left)
 }
@@ -351,14 +351,14 @@ fn lost(part: usize, made: Way) -> Option<&'static [Row]> {
 }
 
 fn is_told(alloc: Global, device: ModelDevice, steps: Steps) -> Result<bool, NotMade> {
-    is_played(alloc, &mut Some(Place::Shut(device)), steps)
+    is_played(alloc, &mut Some(StoreOrDevice::Shut(device)), steps)
 }
 
 // What a stop leaves of a device that is changed.
 fn stopped(
     device: &ModelDevice,
     changes: &[Change],
-    choice: Choice,
+    choice: CrashChoice,
 ) -> Result<ModelDevice, NotMade> {
     Ok(changed(device, changes)?.crash(choice)?)
 }
@@ -388,17 +388,17 @@ fn steps_before(cause: Cause) -> Steps {
 }
 
 // What a stop leaves of the sectors that were changed and not yet synced.
-fn choice_of(cause: Cause) -> Choice {
+fn choice_of(cause: Cause) -> CrashChoice {
     match cause {
-        Cause::Changed => Choice::New,
-        Cause::Lost => Choice::Lost(u64::MAX),
+        Cause::Changed => CrashChoice::New,
+        Cause::Lost => CrashChoice::Lost(u64::MAX),
     }
 }
 
 fn wrong_row(
     alloc: Global,
     device: &ModelDevice,
-    choice: Choice,
+    choice: CrashChoice,
     rows: &[Row],
 ) -> Result<Option<usize>, NotMade> {
     for (place, (changes, steps)) in rows.iter().enumerate() {

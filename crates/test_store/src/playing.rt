@@ -4,11 +4,13 @@ use crate::pieces::PieceReader;
 use crate::steps::{Call, Step, Steps, call_of, says};
 use sector_dev::ModelDevice;
 use std::alloc::Global;
-use store::{Compaction, FormatVersion, OpeningRefusal, Place, Reply, Store, Upgraded, run};
+use store::{
+    Compaction, FormatVersion, OpeningRefusal, Reply, Store, StoreOrDevice, Upgraded, run,
+};
 use tables::{Command, Refusal};
 
 /// Where steps are taken; empty only between two of them.
-pub type Slot = Option<Place<ModelDevice>>;
+pub type Slot = Option<StoreOrDevice<ModelDevice>>;
 
 /// How steps are taken.
 #[derive(Clone, Copy)]
@@ -28,10 +30,10 @@ pub const VERSIONS: &[Way] = &[Way::EachCall, Way::VersionOne];
 
 type Opening = Result<Store<ModelDevice>, (OpeningRefusal, ModelDevice)>;
 
-fn opened(opening: Opening) -> (Place<ModelDevice>, Reply) {
+fn opened(opening: Opening) -> (StoreOrDevice<ModelDevice>, Reply) {
     match opening {
-        Ok(store) => (Place::Open(store), Reply::Done),
-        Err((refusal, device)) => (Place::Shut(device), Reply::NotOpened(refusal)),
+        Ok(store) => (StoreOrDevice::Open(store), Reply::Done),
+        Err((refusal, device)) => (StoreOrDevice::Shut(device), Reply::NotOpened(refusal)),
     }
 }
 
@@ -39,7 +41,7 @@ fn formatted(
     alloc: Global,
     device: ModelDevice,
     version: FormatVersion,
-) -> (Place<ModelDevice>, Reply) {
+) -> (StoreOrDevice<ModelDevice>, Reply) {
     opened(match version {
         FormatVersion::One => Store::format_version(alloc, device, version),
         FormatVersion::Two => Store::format(alloc, device),
@@ -51,12 +53,12 @@ fn on_device(
     device: ModelDevice,
     call: Call,
     version: FormatVersion,
-) -> (Place<ModelDevice>, Reply) {
+) -> (StoreOrDevice<ModelDevice>, Reply) {
     match call {
         Call::Format => formatted(alloc, device, version),
         Call::Open => opened(Store::open(alloc, device)),
         // nothing else can be asked of a device
-        _ => (Place::Shut(device), Reply::Refused(Refusal::Halted)),
+        _ => (StoreOrDevice::Shut(device), Reply::Refused(Refusal::Halted)),
     }
 }
 
@@ -182,10 +184,14 @@ fn reply_of(alloc: Global, store: &mut Store<ModelDevice>, call: Call) -> Reply 
     }
 }
 
-fn on_open(alloc: Global, store: Store<ModelDevice>, call: Call) -> (Place<ModelDevice>, Reply) {
+fn on_open(
+    alloc: Global,
+    store: Store<ModelDevice>,
+    call: Call,
+) -> (StoreOrDevice<ModelDevice>, Reply) {
     let mut store = store;
     let reply = reply_of(alloc, &mut store, call);
-    (Place::Open(store), reply)
+    (StoreOrDevice::Open(store), reply)
 }
 
 fn on_store(
@@ -193,11 +199,11 @@ fn on_store(
     store: Store<ModelDevice>,
     call: Call,
     version: FormatVersion,
-) -> (Place<ModelDevice>, Reply) {
+) -> (StoreOrDevice<ModelDevice>, Reply) {
     match call {
         Call::Format => formatted(alloc, store.close(), version),
         Call::Open => opened(Store::open(alloc, store.close())),
-        Call::Close => (Place::Shut(store.close()), Reply::Done),
+        Call::Close => (StoreOrDevice::Shut(store.close()), Reply::Done),
         call => on_open(alloc, store, call),
     }
 }
@@ -205,8 +211,8 @@ fn on_store(
 // Takes one call of a store; one that is made is of this version.
 fn answer_in(alloc: Global, slot: &mut Slot, call: Call, version: FormatVersion) -> Option<Reply> {
     let (place, reply) = match slot.take()? {
-        Place::Open(store) => on_store(alloc, store, call, version),
-        Place::Shut(device) => on_device(alloc, device, call, version),
+        StoreOrDevice::Open(store) => on_store(alloc, store, call, version),
+        StoreOrDevice::Shut(device) => on_device(alloc, device, call, version),
     };
     *slot = Some(place);
     Some(reply)
@@ -247,9 +253,9 @@ fn calls_of(alloc: Global, steps: Steps) -> Result<Vec<Call>, NotMade> {
 // What was refused for want of memory is asked again.
 fn run_twice(
     alloc: Global,
-    place: Place<ModelDevice>,
+    place: StoreOrDevice<ModelDevice>,
     calls: Vec<Call>,
-) -> Result<(Place<ModelDevice>, Vec<Reply>), NotMade> {
+) -> Result<(StoreOrDevice<ModelDevice>, Vec<Reply>), NotMade> {
     match run(alloc, place, calls) {
         Ok(answered) => Ok(answered),
         Err((place, calls)) => run(alloc, place, calls).map_err(|_| NotMade),
@@ -314,7 +320,7 @@ pub fn play(
 
 /// A device of n sectors.
 pub fn new_slot(alloc: Global, sectors: u64) -> Result<Slot, NotMade> {
-    Ok(Some(Place::Shut(ModelDevice::new(alloc, sectors)?)))
+    Ok(Some(StoreOrDevice::Shut(ModelDevice::new(alloc, sectors)?)))
 }
 
 /// Whether each step, taken by itself, is answered as it is to.
@@ -325,8 +331,8 @@ pub fn is_played(alloc: Global, slot: &mut Slot, steps: Steps) -> Result<bool, N
 /// The device, on which no store is open any more.
 pub fn shut(slot: &mut Slot) -> Result<ModelDevice, NotMade> {
     match slot.take() {
-        Some(Place::Open(store)) => Ok(store.close()),
-        Some(Place::Shut(device)) => Ok(device),
+        Some(StoreOrDevice::Open(store)) => Ok(store.close()),
+        Some(StoreOrDevice::Shut(device)) => Ok(device),
         None => Err(NotMade),
     }
 }

@@ -9,9 +9,9 @@ use Input::Ints;
 use Step::{
     Append, Close, Create, Export, Format, Give, Import, Open, Read, Remove, Rename, Save, Tables,
 };
-use sector_dev::{Choice, ModelDevice};
+use sector_dev::{CrashChoice, ModelDevice};
 use std::alloc::Global;
-use store::{Place, Reply};
+use store::{Reply, StoreOrDevice};
 
 // A function that names a constant proves what stands in it: so this one stands in one function alone, as others do.
 const SCRIPT: Steps = &[
@@ -62,26 +62,26 @@ fn calls_after(way: Way) -> &'static [u64] {
 }
 
 /// What a stop leaves of the sectors that are not yet synced.
-pub const CHOICES: &[Choice] = &[
-    Choice::Old,
-    Choice::New,
-    Choice::Bits(0),
-    Choice::Bits(1),
-    Choice::Bits(2),
-    Choice::Bits(3),
-    Choice::Bits(4),
-    Choice::Bits(5),
-    Choice::Bits(6),
-    Choice::Bits(7),
-    Choice::Lost(0),
-    Choice::Lost(1),
-    Choice::Lost(2),
-    Choice::Lost(3),
-    Choice::Lost(4),
-    Choice::Lost(5),
-    Choice::Lost(6),
-    Choice::Lost(7),
-    Choice::Lost(u64::MAX),
+pub const CHOICES: &[CrashChoice] = &[
+    CrashChoice::Old,
+    CrashChoice::New,
+    CrashChoice::Bits(0),
+    CrashChoice::Bits(1),
+    CrashChoice::Bits(2),
+    CrashChoice::Bits(3),
+    CrashChoice::Bits(4),
+    CrashChoice::Bits(5),
+    CrashChoice::Bits(6),
+    CrashChoice::Bits(7),
+    CrashChoice::Lost(0),
+    CrashChoice::Lost(1),
+    CrashChoice::Lost(2),
+    CrashChoice::Lost(3),
+    CrashChoice::Lost(4),
+    CrashChoice::Lost(5),
+    CrashChoice::Lost(6),
+    CrashChoice::Lost(7),
+    CrashChoice::Lost(u64::MAX),
 ];
 
 // Which write or sync fails, from 1 on: this one alone, or each from it on.
@@ -111,7 +111,7 @@ fn faulty(alloc: Global, faults: &[Fault]) -> Result<Slot, NotMade> {
             Fault::Stop(k) => device.stop_at(*k),
         }
     }
-    Ok(Some(Place::Shut(device)))
+    Ok(Some(StoreOrDevice::Shut(device)))
 }
 
 /// Whether the first reply is of a device that failed, and each other one of a store that is not open any more.
@@ -184,7 +184,7 @@ fn steps_left(
 pub fn is_whole(alloc: Global, device: ModelDevice, done: usize) -> Result<bool, NotMade> {
     let mut device = device;
     match steps_left(alloc, &mut device, done)? {
-        Some(from) => goes_on(alloc, &mut Some(Place::Shut(device)), from),
+        Some(from) => goes_on(alloc, &mut Some(StoreOrDevice::Shut(device)), from),
         None => Ok(false),
     }
 }
@@ -272,7 +272,11 @@ fn each_call_of_the_device_fails_or_stops_in_a_run(rt: HostRuntime) {
 }
 
 // Faults of a device, what is asked of it, and what a stop at the end leaves. A table of them stands in parts (see `commands`).
-type Row = (&'static [Fault], Steps, &'static [(Choice, &'static str)]);
+type Row = (
+    &'static [Fault],
+    Steps,
+    &'static [(CrashChoice, &'static str)],
+);
 
 const DOUBTFUL: Steps = &[
     (Format, "ok"),
@@ -288,11 +292,11 @@ const DOUBTFUL: Steps = &[
     (Create("v", INT), "S9 Device"),
 ];
 
-const WITH_IT: &[(Choice, &str)] = &[
-    (Choice::Bits(2), "t:, u:"),
-    (Choice::Old, "t:, u:"),
-    (Choice::New, "t:, u:"),
-    (Choice::Lost(u64::MAX), "t:, u:"),
+const WITH_IT: &[(CrashChoice, &str)] = &[
+    (CrashChoice::Bits(2), "t:, u:"),
+    (CrashChoice::Old, "t:, u:"),
+    (CrashChoice::New, "t:, u:"),
+    (CrashChoice::Lost(u64::MAX), "t:, u:"),
 ];
 
 // Formatting makes the first six calls, and a table without rows four each.
@@ -308,9 +312,9 @@ const IN_COMMIT: &[Row] = &[
         &[Fault::Stop(9)],
         &[(Format, "ok"), (Create("t", INT), "S9 Device")],
         &[
-            (Choice::Old, ""),
-            (Choice::New, "t:"),
-            (Choice::Lost(u64::MAX), ""),
+            (CrashChoice::Old, ""),
+            (CrashChoice::New, "t:"),
+            (CrashChoice::Lost(u64::MAX), ""),
         ],
     ),
     // It is not yet written.
@@ -318,9 +322,9 @@ const IN_COMMIT: &[Row] = &[
         &[Fault::Stop(8)],
         &[(Format, "ok"), (Create("t", INT), "S9 Device")],
         &[
-            (Choice::Old, ""),
-            (Choice::New, ""),
-            (Choice::Lost(u64::MAX), ""),
+            (CrashChoice::Old, ""),
+            (CrashChoice::New, ""),
+            (CrashChoice::Lost(u64::MAX), ""),
         ],
     ),
 ];
@@ -335,9 +339,9 @@ const IN_IMPORT: &[Row] = &[
             (Import("t", Ints(&[7, -1])), "S9 Device"),
         ],
         &[
-            (Choice::Old, "t:"),
-            (Choice::New, "t: 7 -1"),
-            (Choice::Lost(u64::MAX), "t:"),
+            (CrashChoice::Old, "t:"),
+            (CrashChoice::New, "t: 7 -1"),
+            (CrashChoice::Lost(u64::MAX), "t:"),
         ],
     ),
     (
@@ -348,9 +352,9 @@ const IN_IMPORT: &[Row] = &[
             (Import("t", Ints(&[7, -1])), "S9 Device"),
         ],
         &[
-            (Choice::Old, "t:"),
-            (Choice::New, "t: 7 -1"),
-            (Choice::Lost(u64::MAX), "t:"),
+            (CrashChoice::Old, "t:"),
+            (CrashChoice::New, "t: 7 -1"),
+            (CrashChoice::Lost(u64::MAX), "t:"),
         ],
     ),
 ];
@@ -366,7 +370,7 @@ const IN_OPENING: &[Row] = &[
             (Open, "C4 Device"),
             (Create("u", INT), "S10 Halted"),
         ],
-        &[(Choice::Old, ""), (Choice::New, "t:")],
+        &[(CrashChoice::Old, ""), (CrashChoice::New, "t:")],
     ),
     // One that is done makes it safe.
     (
@@ -379,9 +383,9 @@ const IN_OPENING: &[Row] = &[
             (Tables, "t 0"),
         ],
         &[
-            (Choice::Old, "t:"),
-            (Choice::New, "t:"),
-            (Choice::Lost(u64::MAX), "t:"),
+            (CrashChoice::Old, "t:"),
+            (CrashChoice::New, "t:"),
+            (CrashChoice::Lost(u64::MAX), "t:"),
         ],
     ),
 ];
@@ -397,7 +401,7 @@ const IN_FORMATTING: &[Row] = &[
             (Open, "ok"),
             (Tables, ""),
         ],
-        &[(Choice::Old, ""), (Choice::New, "")],
+        &[(CrashChoice::Old, ""), (CrashChoice::New, "")],
     ),
     (
         &[Fault::Fail(4)],
@@ -407,7 +411,7 @@ const IN_FORMATTING: &[Row] = &[
             (Format, "ok"),
             (Create("t", INT), "ok"),
         ],
-        &[(Choice::Old, "t:"), (Choice::New, "t:")],
+        &[(CrashChoice::Old, "t:"), (CrashChoice::New, "t:")],
     ),
 ];
 
@@ -422,7 +426,11 @@ fn stopped(part: usize) -> Option<&'static [Row]> {
     })
 }
 
-fn leaves(alloc: Global, device: &ModelDevice, wants: &[(Choice, &str)]) -> Result<bool, NotMade> {
+fn leaves(
+    alloc: Global,
+    device: &ModelDevice,
+    wants: &[(CrashChoice, &str)],
+) -> Result<bool, NotMade> {
     let mut well = true;
     for (choice, want) in wants {
         well = well && has(alloc, &mut device.crash(*choice)?, want)?;

@@ -9,7 +9,7 @@ use crate::steps::Steps;
 use Input::Ints;
 use std::alloc::Global;
 use std::fmt::Write as _;
-use store::{Place, Summary};
+use store::{StoreOrDevice, Summary};
 
 const TWO: Input = Ints(&[7, -1]);
 
@@ -145,7 +145,7 @@ fn text_of(alloc: Global, summary: &Summary) -> Result<String, NotMade> {
 }
 
 fn has_numbers(alloc: Global, slot: &Slot, want: &str) -> Result<bool, NotMade> {
-    let Some(Place::Open(store)) = slot else {
+    let Some(StoreOrDevice::Open(store)) = slot else {
         return Err(NotMade);
     };
     let summary = store.summary(alloc).map_err(|_| NotMade)?;

@@ -8,7 +8,7 @@ use Input::{First, Ints};
 use Step::{Append, Compact, Create, Import, Open, Read, Upgrade};
 use sector_dev::ModelDevice;
 use std::alloc::Global;
-use store::{FormatVersion, Place, Store};
+use store::{FormatVersion, Store, StoreOrDevice};
 
 const TWO: Input = Ints(&[7, -1]);
 
@@ -123,7 +123,7 @@ const ROWS: &[Row] = &[
 /// A store of this version on 16 sectors.
 pub fn formatted(alloc: Global, version: FormatVersion) -> Result<Slot, NotMade> {
     match Store::format_version(alloc, ModelDevice::new(alloc, 16)?, version) {
-        Ok(store) => Ok(Some(Place::Open(store))),
+        Ok(store) => Ok(Some(StoreOrDevice::Open(store))),
         Err(_) => Err(NotMade),
     }
 }

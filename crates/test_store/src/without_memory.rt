@@ -17,7 +17,7 @@ use Step::{
 };
 use sector_dev::{ModelDevice, SectorDevice};
 use std::alloc::Global;
-use store::{OpeningRefusal, Place, Reply};
+use store::{OpeningRefusal, Reply, StoreOrDevice};
 use tables::Refusal;
 
 // Where the store keeps what after the script.
@@ -253,7 +253,7 @@ fn is_script_done_on(alloc: Global, slot: &mut Slot, script: &Script) -> Result<
 fn is_script_done(alloc: Global, number: usize) -> Result<bool, NotMade> {
     let script = script_of(number).ok_or(NotMade)?;
     let device = formatted(alloc, Way::EachCall)?;
-    is_script_done_on(alloc, &mut Some(Place::Shut(device)), &script)
+    is_script_done_on(alloc, &mut Some(StoreOrDevice::Shut(device)), &script)
 }
 
 #[test]

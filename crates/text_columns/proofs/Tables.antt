@@ -24,8 +24,8 @@ use Rattle.columns.specs.laws.Sounds.{AreClean, all_sound, is_typed_sound}
 use Rattle.columns.specs.laws.Rows.{none_shorter}
 use Rattle.values.specs.Parts.{are_parts_sound, parts_table}
 use Rattle.values.specs.Table.{IsTable}
-use Rattle.values.specs.declared.part.Batch.{Batch}
-use Rattle.values.specs.declared.part.Part.{Part}
+use Rattle.values.specs.declared.table_part.Batch.{Batch}
+use Rattle.values.specs.declared.table_part.TablePart.{TablePart}
 use Rattle.text_columns.specs.declared.builder.ColumnBuilder.{ColumnBuilder}
 use Rattle.text_columns.specs.declared.records.RowsRead.{RowsRead}
 use Rattle.text_columns.specs.inner.Kept.{HasRows, KeepAll}
@@ -86,7 +86,7 @@ entries_sound law lists [] alone flat = refl
 entries_sound law lists (t ∷ ts) alone flat = and_from _ _ (entry_sound law lists t alone.0 flat.0) (entries_sound law lists ts alone.1 flat.1)
 
 -- its rows are those that the columns hold, and its slots can be looked up
-pub part_made : (s : PlainSchema) (rows : List (List Cell)) (bs : List ColumnBuilder) (n : ℕ) (part : Part) (batch : Batch) → KeepAll s.columns rows bs → length rows ≡ n
+pub part_made : (s : PlainSchema) (rows : List (List Cell)) (bs : List ColumnBuilder) (n : ℕ) (part : TablePart) (batch : Batch) → KeepAll s.columns rows bs → length rows ≡ n
     → BuiltLaw → KnownLaw → can_build_rows (columns_of s.columns) rows ≡ true → AreDictionaries (columns_of s.columns) rows → part.batches.items ≡ batch ∷ [] → batch.rows ≡ n
     → ArePlaced bs part.bytes.items part.dictionaries.items batch.arrays.items
     → (parts_table s (part ∷ []) ≡ record { schema = s; rows = rows }) × (are_parts_sound (columns_of s.columns) (part ∷ []) ≡ true)

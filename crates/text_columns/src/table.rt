@@ -23,10 +23,14 @@ use columns::{
 };
 use std::alloc::{AllocError, Global};
 use text_import::{TextError, rows_of_texts_are_rows};
-use values::{Batch, Part, Table, Weighed};
+use values::{Batch, Table, TablePart, WeighedTable};
 
 // The one record batch that the buffers of columns are, with `rows` rows.
-fn build_part(alloc: Global, columns: Vec<ColumnBuilder>, rows: usize) -> Result<Part, AllocError>
+fn build_part(
+    alloc: Global,
+    columns: Vec<ColumnBuilder>,
+    rows: usize,
+) -> Result<TablePart, AllocError>
     ensures { IfOk result (λ part. IsPartOf columns.items rows part) }
 {
     built_reads_back();
@@ -43,7 +47,7 @@ fn build_part(alloc: Global, columns: Vec<ColumnBuilder>, rows: usize) -> Result
     } = placed;
     let mut batches = Vec::with_capacity(alloc, 1)?;
     batches.push_reserved(Batch { arrays, rows });
-    Ok(Part {
+    Ok(TablePart {
         bytes,
         dictionaries,
         batches,
@@ -79,7 +83,7 @@ pub fn csv_table(
     schema: &Schema,
     text: &[u8],
     null_text: &str,
-) -> Result<Option<Weighed>, TextError>
+) -> Result<Option<WeighedTable>, TextError>
     requires { IsWithinLimits (schema_of schema.now) }
     ensures read { IfOk result (λ found. IfSome found (λ w. csv_rows_of (schema_of schema.now) null_text.now text.now ≡ Ok (table_of w.table).rows)) }
     ensures schema { IfOk result (λ found. IfSome found (λ w. (table_of w.table).schema ≡ schema_of schema.now)) }
@@ -93,7 +97,7 @@ pub fn csv_table(
     };
     let Columns { builders, read } = columns;
     let table = build_table(alloc, schema, builders, read.rows)?;
-    Ok(Some(Weighed {
+    Ok(Some(WeighedTable {
         table,
         weight: read.weight,
     }))
@@ -109,7 +113,7 @@ pub fn jsonl_table(
     alloc: Global,
     schema: &Schema,
     text: &[u8],
-) -> Result<Option<Weighed>, AllocError>
+) -> Result<Option<WeighedTable>, AllocError>
     requires { IsWithinLimits (schema_of schema.now) }
     ensures read { IfOk result (λ found. IfSome found (λ w. jsonl_rows_of (schema_of schema.now) text.now ≡ Ok (table_of w.table).rows)) }
     ensures schema { IfOk result (λ found. IfSome found (λ w. (table_of w.table).schema ≡ schema_of schema.now)) }
@@ -122,7 +126,7 @@ pub fn jsonl_table(
     };
     let Columns { builders, read } = columns;
     let table = build_table(alloc, schema, builders, read.rows)?;
-    Ok(Some(Weighed {
+    Ok(Some(WeighedTable {
         table,
         weight: read.weight,
     }))

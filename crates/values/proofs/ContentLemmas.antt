@@ -13,7 +13,7 @@ use Rattle.arrow_schema.specs.View.{schema_of}
 use Rattle.values.specs.declared.content.Content.{Content}
 use Rattle.values.specs.declared.content.Content.TheVariants.{Rows as Given, Cells, Batches as InBatches}
 use Rattle.values.specs.declared.batches.Batches.{Batches}
-use Rattle.values.specs.declared.part.Part.{Part}
+use Rattle.values.specs.declared.table_part.TablePart.{TablePart}
 use Rattle.cells.specs.declared.limits.TheConstants.{MAX_TABLE_WEIGHT}
 use Rattle.cells.specs.declared.row.Row.{Row}
 use Rattle.cells.specs.declared.value.Value.{Value}
@@ -92,5 +92,5 @@ texts_in_table t i row is there =
     texts_in_row t.schema row (rw (get_or_from_slice_get t.rows i row row there) at all)
 
 -- a table has less rows than a number of the code can tell
-pub parts_few : (s : PlainSchema) (parts : List Part) → IsTable (parts_table s parts) → sum (part_lengths parts) ≤ MAX_TABLE_WEIGHT
+pub parts_few : (s : PlainSchema) (parts : List TablePart) → IsTable (parts_table s parts) → sum (part_lengths parts) ≤ MAX_TABLE_WEIGHT
 parts_few s parts is = omega (arith, is.weight, few_rows s (parts_table s parts).rows, length_parts (columns_of s.columns) parts)

@@ -10,8 +10,8 @@ use Rattle.std.proofs.lemmas.List.Sums.{sum_by-cons, sum_by_more_le, sum-map}
 use Rattle.std.proofs.lemmas.Option.{slice_get-get_or}
 use Rattle.arrow_schema.specs.Column.{Columns}
 use Rattle.columns.specs.CellAt.{row_at}
-use Rattle.values.specs.declared.part.Batch.{Batch}
-use Rattle.values.specs.declared.part.Part.{Part}
+use Rattle.values.specs.declared.table_part.Batch.{Batch}
+use Rattle.values.specs.declared.table_part.TablePart.{TablePart}
 use Rattle.values.specs.Parts.{arrays_with, batch_rows, part_rows, parts_rows}
 use Rattle.values.specs.inner.Starts.{starts_from, IsInRun, IsInBatch, batch_lengths, batch_lengths_at, part_lengths}
 
@@ -65,37 +65,37 @@ run_item {A = A} f g same (y ∷ ys) (suc run) place x h is =
 
 -- ---- the rows of a batch, and of a part
 
-pub length_batch : (columns : Columns) (p : Part) (b : Batch) → length (batch_rows columns p b) ≡ b.rows
+pub length_batch : (columns : Columns) (p : TablePart) (b : Batch) → length (batch_rows columns p b) ≡ b.rows
 length_batch columns p b = length-map-range_with_len (row_at columns (arrays_with p b)) 0 b.rows
 
-pub length_part : (columns : Columns) (p : Part) → length (part_rows columns p) ≡ sum (batch_lengths p)
+pub length_part : (columns : Columns) (p : TablePart) → length (part_rows columns p) ≡ sum (batch_lengths p)
 length_part columns p = length_runs (batch_rows columns p) (λ (b : Batch). b.rows) (length_batch columns p) p.batches.items
 
-pub length_parts : (columns : Columns) (parts : List Part) → length (parts_rows columns parts) ≡ sum (part_lengths parts)
-length_parts columns parts = length_runs (part_rows columns) (λ (p : Part). sum (batch_lengths p)) (length_part columns) parts
+pub length_parts : (columns : Columns) (parts : List TablePart) → length (parts_rows columns parts) ≡ sum (part_lengths parts)
+length_parts columns parts = length_runs (part_rows columns) (λ (p : TablePart). sum (batch_lengths p)) (length_part columns) parts
 
-batch_row : (columns : Columns) (p : Part) (b : Batch) (i : ℕ) → i < b.rows → slice_get (batch_rows columns p b) i ≡ Some (row_at columns (arrays_with p b) i)
+batch_row : (columns : Columns) (p : TablePart) (b : Batch) (i : ℕ) → i < b.rows → slice_get (batch_rows columns p b) i ≡ Some (row_at columns (arrays_with p b) i)
 batch_row columns p b i lt =
     let long = length_batch columns p b in
     let e : 0 + i ≡ i = omega arith in
     slice_get-get_or (batch_rows columns p b) i [] (omega (arith, long)) ∙ ap Some (get_or-map-range_with_len (row_at columns (arrays_with p b)) 0 b.rows i i [] lt e)
 
 -- the lengths of the batches of the part at a place
-pub lengths_at : (parts : List Part) (k : ℕ) (p : Part) → k < length parts → p ≡ get_or parts k p → batch_lengths_at parts k ≡ batch_lengths p
+pub lengths_at : (parts : List TablePart) (k : ℕ) (p : TablePart) → k < length parts → p ≡ get_or parts k p → batch_lengths_at parts k ≡ batch_lengths p
 lengths_at parts k p lt is = get_or-map batch_lengths parts k p [] lt ∙ ap batch_lengths (sym is)
 
 -- where a batch starts
-abbrev pub batch_start : List Part → ℕ → ℕ → ℕ
+abbrev pub batch_start : List TablePart → ℕ → ℕ → ℕ
 batch_start parts k j = sum (take k (part_lengths parts)) + sum (take j (batch_lengths_at parts k))
 
 -- the row at a place
-pub row_in_parts : (columns : Columns) (parts : List Part) (k j row : ℕ) (p : Part) (b : Batch) → IsInBatch parts k j row → p ≡ get_or parts k p → b ≡ get_or p.batches.items j b
+pub row_in_parts : (columns : Columns) (parts : List TablePart) (k j row : ℕ) (p : TablePart) (b : Batch) → IsInBatch parts k j row → p ≡ get_or parts k p → b ≡ get_or p.batches.items j b
     → (slice_get (parts_rows columns parts) row ≡ Some (row_at columns (arrays_with p b) (row - batch_start parts k j))) × (batch_start parts k j ≤ row) × (row - batch_start parts k j < b.rows)
 row_in_parts columns parts k j row p b h pis bis =
-    let lt : k < length parts = omega (arith, h.in_part.there, length-map parts (λ (q : Part). sum (batch_lengths q))) in
+    let lt : k < length parts = omega (arith, h.in_part.there, length-map parts (λ (q : TablePart). sum (batch_lengths q))) in
     let lengths = lengths_at parts k p lt pis in
     let in_batch = rw lengths at h.in_batch in
-    let part = run_item (part_rows columns) (λ (q : Part). sum (batch_lengths q)) (length_part columns) parts k row p h.in_part pis in
+    let part = run_item (part_rows columns) (λ (q : TablePart). sum (batch_lengths q)) (length_part columns) parts k row p h.in_part pis in
     let batch = run_item (batch_rows columns p) (λ (c : Batch). c.rows) (length_batch columns p) p.batches.items j (row - sum (take k (part_lengths parts))) b in_batch bis in
     let within : row - sum (take k (part_lengths parts)) - sum (take j (batch_lengths p)) < b.rows = omega (arith, batch.1, in_batch.low) in
     let e : row - sum (take k (part_lengths parts)) - sum (take j (batch_lengths p)) ≡ row - (sum (take k (part_lengths parts)) + sum (take j (batch_lengths p))) = omega arith in
@@ -107,30 +107,30 @@ row_in_parts columns parts k j row p b h pis bis =
 
 -- ---- the starts that are kept
 
-pub many_parts : (parts : List Part) → length (part_lengths parts) ≡ length parts
-many_parts parts = length-map parts (λ (p : Part). sum (batch_lengths p))
+pub many_parts : (parts : List TablePart) → length (part_lengths parts) ≡ length parts
+many_parts parts = length-map parts (λ (p : TablePart). sum (batch_lengths p))
 
 -- how many rows the part at a place has
-pub part_length_at : (parts : List Part) (k : ℕ) → get_or (part_lengths parts) k 0 ≡ sum (batch_lengths_at parts k)
+pub part_length_at : (parts : List TablePart) (k : ℕ) → get_or (part_lengths parts) k 0 ≡ sum (batch_lengths_at parts k)
 part_length_at [] k = refl
 part_length_at (p ∷ parts) zero = refl
 part_length_at (p ∷ parts) (suc k) = part_length_at parts k
 
-pub rest_in_part : (parts : List Part) (k row : ℕ) → IsInRun (part_lengths parts) k row → row - sum (take k (part_lengths parts)) < sum (batch_lengths_at parts k)
+pub rest_in_part : (parts : List TablePart) (k row : ℕ) → IsInRun (part_lengths parts) k row → row - sum (take k (part_lengths parts)) < sum (batch_lengths_at parts k)
 rest_in_part parts k row h = omega (arith, h.low, h.high, part_length_at parts k)
 
-starts_of_part : (parts : List Part) (k : ℕ) → get_or (map (λ p. starts_from 0 (batch_lengths p)) parts) k [] ≡ starts_from 0 (batch_lengths_at parts k)
+starts_of_part : (parts : List TablePart) (k : ℕ) → get_or (map (λ p. starts_from 0 (batch_lengths p)) parts) k [] ≡ starts_from 0 (batch_lengths_at parts k)
 starts_of_part [] k = refl
 starts_of_part (p ∷ parts) zero = refl
 starts_of_part (p ∷ parts) (suc k) = starts_of_part parts k
 
-pub many_starts : (parts : List Part) (vs : List (Vec ℕ Global)) → map (λ v. v.items) vs ≡ map (λ p. starts_from 0 (batch_lengths p)) parts → length vs ≡ length parts
+pub many_starts : (parts : List TablePart) (vs : List (Vec ℕ Global)) → map (λ v. v.items) vs ≡ map (λ p. starts_from 0 (batch_lengths p)) parts → length vs ≡ length parts
 many_starts parts vs are =
     let left = length-map vs (λ (v : Vec ℕ Global). v.items) in
-    let right = length-map parts (λ (p : Part). starts_from 0 (batch_lengths p)) in
+    let right = length-map parts (λ (p : TablePart). starts_from 0 (batch_lengths p)) in
     omega (arith, left, right, ap length are)
 
-pub kept_starts : (parts : List Part) (vs : List (Vec ℕ Global)) (k : ℕ) (v : Vec ℕ Global) → map (λ v. v.items) vs ≡ map (λ p. starts_from 0 (batch_lengths p)) parts → k < length parts → v ≡ get_or vs k v
+pub kept_starts : (parts : List TablePart) (vs : List (Vec ℕ Global)) (k : ℕ) (v : Vec ℕ Global) → map (λ v. v.items) vs ≡ map (λ p. starts_from 0 (batch_lengths p)) parts → k < length parts → v ≡ get_or vs k v
     → v.items ≡ starts_from 0 (batch_lengths_at parts k)
 kept_starts parts vs k v are lt is =
     let many = many_starts parts vs are in
@@ -138,9 +138,9 @@ kept_starts parts vs k v are lt is =
     ap (λ (x : Vec ℕ Global). x.items) is ∙ (sym left ∙ (ap (λ (xs : List (List ℕ)). get_or xs k []) are ∙ starts_of_part parts k))
 
 -- a part has no more rows than all
-pub part_le : (parts : List Part) (i : ℕ) (p : Part) → i < length parts → p ≡ get_or parts i p → sum (batch_lengths p) ≤ sum (part_lengths parts)
+pub part_le : (parts : List TablePart) (i : ℕ) (p : TablePart) → i < length parts → p ≡ get_or parts i p → sum (batch_lengths p) ≤ sum (part_lengths parts)
 part_le parts i p lt is =
-    let f : Part → ℕ = λ q. sum (batch_lengths q) in
+    let f : TablePart → ℕ = λ q. sum (batch_lengths q) in
     let whole = sum_by_more_le f parts i p lt in
     let same : sum (batch_lengths p) ≡ sum (batch_lengths (get_or parts i p)) = ap f is in
     omega (arith, whole, same, sum-map f parts)

@@ -7,15 +7,15 @@ ghost use Rattle.columns.specs.View.{fields_of};
 ghost use Rattle.values.specs.inner.Starts.{starts_from, batch_lengths, batch_lengths_at, part_lengths, IsInBatch};
 ghost use Rattle.values.specs.Parts.{parts_rows, are_parts_sound};
 
-use crate::part::Part;
 use crate::starts::{run_near, starts_of};
+use crate::table_part::TablePart;
 use arrow_schema::Field;
 use std::alloc::{AllocError, Global};
 
 /// Record batches, and where the rows of each start: those of a part in the table, and those of a batch in its part.
 #[derive(Drop)]
 pub(crate) struct Batches {
-    pub(crate) parts: Vec<Part>,
+    pub(crate) parts: Vec<TablePart>,
     pub(crate) part_starts: Vec<usize>,
     pub(crate) batch_starts: Vec<Vec<usize>>,
     ghost parts_start: { part_starts.items ≡ starts_from 0 (part_lengths parts.items) },
@@ -29,13 +29,13 @@ pub(crate) struct BatchPlace {
     pub(crate) batch: usize,
 }
 
-fn batch_lengths(alloc: Global, part: &Part) -> Result<Vec<usize>, AllocError>
+fn batch_lengths(alloc: Global, part: &TablePart) -> Result<Vec<usize>, AllocError>
     ensures { IfOk result (λ v. v.items ≡ batch_lengths part.now) }
 {
     part.batches.iter().map(|batch| batch.rows).collect(alloc)
 }
 
-fn rows_in(part: &Part) -> usize
+fn rows_in(part: &TablePart) -> usize
     requires { sum (batch_lengths part.now) < 2 ^ 64 }
     ensures { result ≡ sum (batch_lengths part.now) }
 {
@@ -43,7 +43,7 @@ fn rows_in(part: &Part) -> usize
 }
 
 // How many rows each part has.
-pub(crate) fn part_lengths(alloc: Global, parts: &[Part]) -> Result<Vec<usize>, AllocError>
+pub(crate) fn part_lengths(alloc: Global, parts: &[TablePart]) -> Result<Vec<usize>, AllocError>
     requires { sum (part_lengths parts.now) < 2 ^ 64 }
     ensures { IfOk result (λ v. v.items ≡ part_lengths parts.now) }
 {
@@ -54,7 +54,7 @@ pub(crate) fn part_lengths(alloc: Global, parts: &[Part]) -> Result<Vec<usize>, 
     Ok(lengths)
 }
 
-fn starts_in_part(alloc: Global, part: &Part) -> Result<Vec<usize>, AllocError>
+fn starts_in_part(alloc: Global, part: &TablePart) -> Result<Vec<usize>, AllocError>
     requires { sum (batch_lengths part.now) < 2 ^ 64 }
     ensures { IfOk result (λ v. v.items ≡ starts_from 0 (batch_lengths part.now)) }
 {
@@ -62,7 +62,7 @@ fn starts_in_part(alloc: Global, part: &Part) -> Result<Vec<usize>, AllocError>
     starts_of(alloc, &lengths)
 }
 
-fn batch_starts(alloc: Global, parts: &[Part]) -> Result<Vec<Vec<usize>>, AllocError>
+fn batch_starts(alloc: Global, parts: &[TablePart]) -> Result<Vec<Vec<usize>>, AllocError>
     requires { sum (part_lengths parts.now) < 2 ^ 64 }
     ensures { IfOk result (λ v. map (λ s. s.items) v.items ≡ map (λ p. starts_from 0 (batch_lengths p)) parts.now) }
 {
@@ -77,9 +77,9 @@ impl Batches {
     // The parts are given back where memory is refused.
     pub(crate) fn new(
         alloc: Global,
-        parts: Vec<Part>,
+        parts: Vec<TablePart>,
         lengths: &[usize],
-    ) -> Result<Batches, Vec<Part>>
+    ) -> Result<Batches, Vec<TablePart>>
         requires lengths { lengths.now ≡ part_lengths parts.items }
         requires few { sum lengths.now < 2 ^ 64 }
         ensures parts { IfOk result (λ b. b.parts.items ≡ parts.items) }

@@ -20,11 +20,11 @@ mod content;
 mod errors;
 mod laws;
 mod list_items;
-mod part;
 mod rows;
 mod starts;
 mod table;
-mod weighed;
+mod table_part;
+mod weighed_table;
 
 pub use borrowed::{ValueRef, Values, ValuesIter, borrow_value};
 pub use cells::{
@@ -34,7 +34,7 @@ pub use cells::{
 pub use errors::TableError;
 pub use laws::{accepted_rows_are_a_table, tables_are_joined_and_cut};
 pub use list_items::{items, push_all};
-pub use part::{Batch, Part};
 pub use rows::Rows;
 pub use table::Table;
-pub use weighed::Weighed;
+pub use table_part::{Batch, TablePart};
+pub use weighed_table::WeighedTable;

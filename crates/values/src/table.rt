@@ -8,9 +8,9 @@ use crate::batches::{BatchPlace, Batches, part_lengths};
 use crate::borrowed::{Form, Values};
 use crate::content::Content;
 use crate::errors::TableError;
-use crate::part::Part;
 use crate::rows::{Rows, given_row, row_at};
 use crate::starts::total;
+use crate::table_part::TablePart;
 use arrow_schema::Schema;
 use cells::{MAX_TABLE_WEIGHT, Row, Value};
 use std::alloc::{AllocError, Global};
@@ -118,7 +118,11 @@ impl Table {
     ///
     /// # Errors
     /// `AllocError` where memory was refused.
-    pub fn from_parts(alloc: Global, schema: Schema, parts: Vec<Part>) -> Result<Table, AllocError>
+    pub fn from_parts(
+        alloc: Global,
+        schema: Schema,
+        parts: Vec<TablePart>,
+    ) -> Result<Table, AllocError>
         requires sound { are_parts_sound (columns_of (schema_of schema).columns) parts.items ≡ true }
         requires table { IsTable (parts_table (schema_of schema) parts.items) }
         ensures made { IfOk result (λ t. table_of t ≡ parts_table (schema_of schema) parts.items) }
@@ -137,8 +141,8 @@ impl Table {
     pub fn from_parts_or_back(
         alloc: Global,
         schema: Schema,
-        parts: Vec<Part>,
-    ) -> Result<Table, Vec<Part>>
+        parts: Vec<TablePart>,
+    ) -> Result<Table, Vec<TablePart>>
         requires sound { are_parts_sound (columns_of (schema_of schema).columns) parts.items ≡ true }
         requires table { IsTable (parts_table (schema_of schema) parts.items) }
         ensures made { IfOk result (λ t. table_of t ≡ parts_table (schema_of schema) parts.items) }
@@ -158,7 +162,7 @@ impl Table {
     }
 
     /// The record batches, where the table is kept so.
-    pub fn parts(&self) -> Option<&[Part]>
+    pub fn parts(&self) -> Option<&[TablePart]>
         ensures sound { IfSome result (λ parts. are_parts_sound (columns_of (table_of self.now).schema.columns) parts.now ≡ true) }
         ensures rows { IfSome result (λ parts. table_of self.now ≡ parts_table (table_of self.now).schema parts.now) }
     {
@@ -169,7 +173,7 @@ impl Table {
     }
 
     /// The record batches of a table that is kept so.
-    pub fn into_parts(self) -> Vec<Part>
+    pub fn into_parts(self) -> Vec<TablePart>
         requires in_parts { is_in_parts self ≡ true }
         ensures sound { are_parts_sound (columns_of (table_of self).schema.columns) result.items ≡ true }
         ensures rows { table_of self ≡ parts_table (table_of self).schema result.items }

@@ -5,7 +5,7 @@ use Rattle.std.proofs.Common.{inl, inr, sym, ap, ◌∙◌, subst, arith, append
 use Rattle.std.proofs.lemmas.Bool.{and_parts, and_from, and_right, or_right, leb-true, le-leb, eq-eqb}
 use Rattle.std.proofs.lemmas.List.{length-map, map-append}
 use Rattle.segments.specs.declared.run.Run.{Run}
-use Rattle.segments.specs.declared.piece.Part.{Part}
+use Rattle.segments.specs.declared.piece.PiecePart.{PiecePart}
 use Rattle.segments.specs.Pieces.{PlainPiece, bytes_of_parts, plain_pieces}
 use Rattle.segments.specs.declared.entries.Usage.{Usage}
 use Rattle.segments.specs.declared.entries.UsageEntry.{UsageEntry}
@@ -98,10 +98,10 @@ placed_alone places room =
     room.last ∙ (λ i. take (same i) places.runs.items ++ places.text ∷ []) ∙ ap (λ (rs : List Run). rs ++ places.text ∷ []) (sym room.front)
 
 -- one text is written
-pub one_text : (texts : Vec (Vec Part)) (text : List ℕ) → plain_contents texts.items ≡ text ∷ [] → vec_len texts ≡ 0 + 1
+pub one_text : (texts : Vec (Vec PiecePart)) (text : List ℕ) → plain_contents texts.items ≡ text ∷ [] → vec_len texts ≡ 0 + 1
 one_text texts text is =
     let whole = texts.ok in
-    let own = length-map texts.items (λ (parts : Vec Part). bytes_of_parts parts.items) in
+    let own = length-map texts.items (λ (parts : Vec PiecePart). bytes_of_parts parts.items) in
     omega (arith, own, ap (λ (vs : List (List ℕ)). length vs) is, whole)
 
 -- pieces are known by their runs and their bytes

@@ -34,7 +34,7 @@ pub record IsContentsComparison (columns : List Column) (b : Bound) (comparison 
   pub literal : Cell
   pub contents : IsContentsColumn column comparison.width literal comparison.literal.now
   pub place : comparison.place ≡ b.place
-  pub demand : b.demand ≡ compares comparison.operator literal
+  pub predicate : b.predicate ≡ compares comparison.operator literal
 
 -- the bytes of a slot, by these offsets
 abbrev pub span_in : (width : ℕ) → (offsets contents : List ℕ) → ℕ → List ℕ

@@ -21,7 +21,7 @@ pub record IsNullTest (columns : List Column) (b : Bound) (t : NullTest) : Type 
   pub found : slice_get columns b.place ≡ Some column
   pub nulls : HasNullsAlone column
   pub place : t.place ≡ b.place
-  pub demand : b.demand ≡ (if t.valid then asks_value else asks_null)
+  pub predicate : b.predicate ≡ (if t.valid then asks_value else asks_null)
 
 abbrev pub null_holds_in : NullTest → (validity : List ℕ) → ℕ → Bool
 null_holds_in t validity i = if is_valid_in validity i then t.valid else not t.valid

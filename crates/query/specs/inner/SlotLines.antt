@@ -10,8 +10,8 @@ use Rattle.columns.specs.CellAt.{cell_at, kind_cell, contents_at, unless_null}
 use Rattle.columns.specs.Sound.{is_sound}
 use Rattle.columns.specs.Tests.{has_short_validity, has_short_buffer, are_few_offsets}
 use Rattle.columns.specs.Texts.{have_utf8_texts}
-use Rattle.values.specs.declared.part.Batch.{Batch}
-use Rattle.values.specs.declared.part.Part.{Part}
+use Rattle.values.specs.declared.table_part.Batch.{Batch}
+use Rattle.values.specs.declared.table_part.TablePart.{TablePart}
 use Rattle.values.specs.Parts.{batch_rows, is_batch_sound}
 use Rattle.query.specs.Line.{json_of_all, json_of_others}
 use Rattle.query.specs.ObjectLine.{members, other_members}
@@ -56,8 +56,8 @@ abbrev pub has_texts : List Cell → Bool
 has_texts row = have_utf8_texts (cells_of row)
 
 -- the slots of a batch can be looked up, and its texts are UTF-8
-abbrev pub is_batch_readable : Columns → Part → Batch → Bool
+abbrev pub is_batch_readable : Columns → TablePart → Batch → Bool
 is_batch_readable columns p b = is_batch_sound columns p b && list_all has_texts (batch_rows columns p b)
 
-abbrev pub is_part_readable : Columns → Part → Bool
+abbrev pub is_part_readable : Columns → TablePart → Bool
 is_part_readable columns p = list_all (is_batch_readable columns p) p.batches.items

@@ -6,8 +6,8 @@ use Rattle.arrow_schema.specs.View.{bits_of}
 use Rattle.columns.specs.Array.{Array, slots_in}
 use Rattle.columns.specs.CellAt.{cell_at}
 use Rattle.columns.specs.Sound.{is_sound}
-use Rattle.values.specs.declared.part.Batch.{Batch}
-use Rattle.values.specs.declared.part.Part.{Part}
+use Rattle.values.specs.declared.table_part.Batch.{Batch}
+use Rattle.values.specs.declared.table_part.TablePart.{TablePart}
 use Rattle.query.specs.declared.slot_test.SlotTest.{SlotTest}
 use Rattle.query.specs.declared.slot_test.SlotTest.TheVariants.{Integers, Contents, Nulls}
 use Rattle.query.specs.Bound.{Bound, meets}
@@ -37,20 +37,20 @@ pub record IsSlotTest (columns : List Column) (b : Bound) (t : SlotTest) : Type 
   pub column : Column
   pub found : slice_get columns b.place ≡ Some column
   pub place : place_in t ≡ b.place
-  pub answers : (a : Array) (i : ℕ) → meets b.demand (cell_at column a i) ≡ holds_at t a i
+  pub answers : (a : Array) (i : ℕ) → meets b.predicate (cell_at column a i) ≡ holds_at t a i
   pub there : (a : Array) (rows : ℕ) → nat_le rows (slots_in a) ≡ true → is_sound column a ≡ true → has_slots t rows a ≡ true
 
-abbrev pub batch_flags : SlotTest → Part → Batch → List Bool
+abbrev pub batch_flags : SlotTest → TablePart → Batch → List Bool
 batch_flags t p b = map (holds_at t (array_of (place_in t) p b)) (range_with_len 0 b.rows)
 
-abbrev pub part_flags : SlotTest → Part → List Bool
+abbrev pub part_flags : SlotTest → TablePart → List Bool
 part_flags t p = flat_map (batch_flags t p) p.batches.items
 
-abbrev pub parts_flags : SlotTest → List Part → List Bool
+abbrev pub parts_flags : SlotTest → List TablePart → List Bool
 parts_flags t parts = flat_map (part_flags t) parts
 
-abbrev pub batch_has_slots : SlotTest → Part → Batch → Bool
+abbrev pub batch_has_slots : SlotTest → TablePart → Batch → Bool
 batch_has_slots t p b = has_slots t b.rows (array_of (place_in t) p b)
 
-abbrev pub part_has_slots : SlotTest → Part → Bool
+abbrev pub part_has_slots : SlotTest → TablePart → Bool
 part_has_slots t p = list_all (batch_has_slots t p) p.batches.items

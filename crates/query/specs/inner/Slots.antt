@@ -11,8 +11,8 @@ use Rattle.columns.specs.CellAt.{cell_at, kind_cell, integer_at, unless_null}
 use Rattle.columns.specs.Sound.{is_sound}
 use Rattle.columns.specs.Tests.{has_short_validity, has_short_buffer, are_few}
 use Rattle.columns.specs.View.{placed_arrays}
-use Rattle.values.specs.declared.part.Batch.{Batch}
-use Rattle.values.specs.declared.part.Part.{Part}
+use Rattle.values.specs.declared.table_part.Batch.{Batch}
+use Rattle.values.specs.declared.table_part.TablePart.{TablePart}
 use Rattle.query.specs.declared.integer_slots.IntegerComparison.{IntegerComparison}
 use Rattle.query.specs.Bound.{Bound, accepts, compares}
 
@@ -39,7 +39,7 @@ pub record IsIntegerComparison (columns : List Column) (b : Bound) (comparison :
   pub found : slice_get columns b.place ≡ Some column
   pub integers : IsIntegerColumn column comparison.integer
   pub place : comparison.place ≡ b.place
-  pub demand : b.demand ≡ compares comparison.operator (number comparison.literal)
+  pub predicate : b.predicate ≡ compares comparison.operator (number comparison.literal)
 
 -- whether a slot is valid by a validity bitmap
 abbrev pub is_valid_in : List ℕ → ℕ → Bool
@@ -55,7 +55,7 @@ abbrev pub integer_holds_at : IntegerComparison → Array → ℕ → Bool
 integer_holds_at comparison a i = integer_holds_in comparison (validity_in a) (values_in a) i
 
 -- the array of a column in a batch
-abbrev pub array_of : ℕ → Part → Batch → Array
+abbrev pub array_of : ℕ → TablePart → Batch → Array
 array_of place p b = first_array (placed_arrays p.bytes.items p.dictionaries.items (drop place b.arrays.items))
 
 -- the array has the bytes of n slots

@@ -3,7 +3,7 @@ use Rattle.std.specs.Prelude.{ℕ, zero, suc, ◌+◌, if◌then◌else◌, List
 use Rattle.sector_dev.specs.Disk.{Sector}
 use Rattle.sector_dev.specs.Chosen.{newest_of, chosen}
 use Rattle.sector_dev.specs.History.{zeros}
-use Rattle.sector_dev.specs.declared.choice.Choice.{Choice}
+use Rattle.sector_dev.specs.declared.crash_choice.CrashChoice.{CrashChoice}
 use Rattle.sector_dev.specs.declared.stored.StoredSector.{StoredSector}
 
 -- a sector that was never written
@@ -37,5 +37,5 @@ unsynced_below stored zero = 0
 unsynced_below stored (suc n) = unsynced_below stored n + (if is_some (stored_at stored n).newest then 1 else 0)
 
 -- what the choice leaves in a sector, where n below it are not yet synced
-abbrev pub left_in : Choice → ℕ → StoredSector → Option (List ℕ)
+abbrev pub left_in : CrashChoice → ℕ → StoredSector → Option (List ℕ)
 left_in choice below c = elim c.newest [ None ↦ c.synced | Some w ↦ chosen choice below (record { synced = c.synced; pending = w ∷ []; shown = Some w }) ]

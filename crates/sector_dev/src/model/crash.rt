@@ -8,7 +8,7 @@ ghost use Rattle.sector_dev.specs.inner.Stored.{stored_at, unsynced_below, left_
 ghost use Rattle.sector_dev.specs.View.{size_of, failed_of, recorded_of, faults_of, history_of};
 
 use super::ModelDevice;
-use crate::Choice;
+use crate::CrashChoice;
 use crate::faults::Faults;
 use crate::stored::StoredSector;
 use std::alloc::{AllocError, Global};
@@ -21,21 +21,21 @@ fn has_bit(bits: u64, i: usize) -> bool
 }
 
 // What the choice leaves in a sector, where `below` sectors before it are not yet synced.
-fn left(choice: Choice, below: usize, sector: &StoredSector) -> Option<[u8; 512]>
+fn left(choice: CrashChoice, below: usize, sector: &StoredSector) -> Option<[u8; 512]>
     ensures { result ≡ left_in choice below sector.now }
 {
     let Some(newest) = sector.newest else {
         return sector.synced;
     };
     match choice {
-        Choice::Old => sector.synced,
-        Choice::New => Some(newest),
-        Choice::Bits(bits) => if has_bit(bits, below) {
+        CrashChoice::Old => sector.synced,
+        CrashChoice::New => Some(newest),
+        CrashChoice::Bits(bits) => if has_bit(bits, below) {
             Some(newest)
         } else {
             sector.synced
         },
-        Choice::Lost(bits) => if has_bit(bits, below) {
+        CrashChoice::Lost(bits) => if has_bit(bits, below) {
             None
         } else {
             sector.synced
@@ -46,7 +46,7 @@ fn left(choice: Choice, below: usize, sector: &StoredSector) -> Option<[u8; 512]
 // What the choice leaves in each sector.
 fn left_in_all(
     alloc: Global,
-    choice: Choice,
+    choice: CrashChoice,
     stored: &[StoredSector],
 ) -> Result<Vec<Option<[u8; 512]>>, AllocError>
     ensures { IfOk result (λ contents. (n : ℕ) → content_at contents.items n ≡ left_in choice (unsynced_below stored.now n) (stored_at stored.now n)) }
@@ -83,7 +83,7 @@ impl ModelDevice {
     ///
     /// # Errors
     /// `AllocError` where memory was refused.
-    pub fn crash(&self, choice: Choice) -> Result<ModelDevice, AllocError>
+    pub fn crash(&self, choice: CrashChoice) -> Result<ModelDevice, AllocError>
         ensures size { IfOk result (λ d. size_of d ≡ size_of self.now) }
         ensures synced { IfOk result (λ d. history_of d ≡ all_synced (shown_image (now (history_of d))) ∷ []) }
         ensures allowed { IfOk result (λ d. MayLeave (now (history_of self.now)) (shown_image (now (history_of d)))) }

@@ -7,7 +7,7 @@ use Rattle.cells.specs.Weight.{table_weight}
 use Rattle.cells.specs.declared.limits.TheConstants.{MAX_TABLE_WEIGHT}
 use Rattle.values.specs.Table.{IsTable}
 use Rattle.values.specs.TableView.{table_of}
-use Rattle.values.specs.declared.weighed.Weighed.{Weighed}
+use Rattle.values.specs.declared.weighed_table.WeighedTable.{WeighedTable}
 use Rattle.catalogue.specs.Entries.{PlainEntry}
 use Rattle.tables.specs.declared.refusal.Refusal.{Refusal}
 use Rattle.tables.specs.declared.refusal.Refusal.TheVariants.{OutOfMemory}
@@ -30,7 +30,7 @@ added_to (Given rows) = given_rows (map row_of rows.items)
 added_to (OfTable new) = given_rows (table_of new.table).rows
 
 -- rows that passed them: as a table of a schema of one shape and what they weigh, or rows that are too heavy for any table
-abbrev pub ArePassed : PlainEntry → Result Addition Refusal → Option Weighed → Type 0
+abbrev pub ArePassed : PlainEntry → Result Addition Refusal → Option WeighedTable → Type 0
 ArePassed e tested (Some w) =
     (tested ≡ Ok (record { entry = e; rows = (table_of w.table).rows }))
     × (w.weight ≡ table_weight e.schema (table_of w.table).rows)

@@ -4,12 +4,12 @@ use Rattle.arrow_schema.specs.Column.{PlainSchema, columns_of}
 use Rattle.cells.specs.Cell.{Cell, PlainTable}
 use Rattle.values.specs.Parts.{are_parts_sound, parts_table}
 use Rattle.values.specs.Table.{IsTable}
-use Rattle.values.specs.declared.part.Part.{Part}
+use Rattle.values.specs.declared.table_part.TablePart.{TablePart}
 use Rattle.text_columns.specs.declared.builder.ColumnBuilder.{ColumnBuilder}
 use Rattle.text_columns.specs.inner.Kept.{KeepAll}
 
 -- a part that has the rows which the columns hold, n of them
-abbrev pub IsPartOf : List ColumnBuilder → ℕ → Part → Type 0
+abbrev pub IsPartOf : List ColumnBuilder → ℕ → TablePart → Type 0
 IsPartOf columns n part =
     (s : PlainSchema) (rows : List (List Cell)) → KeepAll s.columns rows columns → length rows ≡ n → IsTable (record { schema = s; rows = rows })
     → (parts_table s (part ∷ []) ≡ record { schema = s; rows = rows }) × (are_parts_sound (columns_of s.columns) (part ∷ []) ≡ true)

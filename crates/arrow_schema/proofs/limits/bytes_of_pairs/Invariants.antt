@@ -1,7 +1,7 @@
 use Rattle.std.proofs.Common.{◌≡◌, ◌+◌, ◌-◌, ◌^◌, ◌≤◌, map, drop}
 use Rattle.arrow_schema.specs.View.{pair_of}
 use Rattle.arrow_schema.specs.Limits.{bytes_of_pairs}
-use Rattle.arrow_schema.specs.inner.Tally.{saturated}
+use Rattle.arrow_schema.specs.inner.SchemaTotals.{saturated}
 use Rattle.arrow_schema.proofs.limits.bytes_of_pairs.Given as goal
 
 abbrev pub invariant-loop-key : goal.invariant-loop-key

@@ -9,32 +9,32 @@ returns-then-not-are_within_depth c =
     let d = rw c.deref.ensures.value at c.are_within_depth.ensures in
     first_depth _ (sym d ∙ c.if-not-are_within_depth.true)
 
-pub returns-then-tally-gt-MAX_FIELDS : goal.returns-then-tally-gt-MAX_FIELDS
-returns-then-tally-gt-MAX_FIELDS c =
+pub returns-then-totals-gt-MAX_FIELDS : goal.returns-then-totals-gt-MAX_FIELDS
+returns-then-totals-gt-MAX_FIELDS c =
     let d = rw c.deref.ensures.value at c.are_within_depth.ensures in
     first_fields _ (sym d ∙ c.if-not-are_within_depth.false) (omega arith)
 
-pub returns-then-tally-gt-MAX_PAIRS : goal.returns-then-tally-gt-MAX_PAIRS
-returns-then-tally-gt-MAX_PAIRS c =
+pub returns-then-totals-gt-MAX_PAIRS : goal.returns-then-totals-gt-MAX_PAIRS
+returns-then-totals-gt-MAX_PAIRS c =
     let d = rw c.deref.ensures.value at c.are_within_depth.ensures in
     first_pairs _ (sym d ∙ c.if-not-are_within_depth.false) (omega arith) (omega arith)
 
-pub returns-then-tally-gt-MAX_TEXT_BYTES : goal.returns-then-tally-gt-MAX_TEXT_BYTES
-returns-then-tally-gt-MAX_TEXT_BYTES c =
+pub returns-then-totals-gt-MAX_TEXT_BYTES : goal.returns-then-totals-gt-MAX_TEXT_BYTES
+returns-then-totals-gt-MAX_TEXT_BYTES c =
     let d = rw c.deref.ensures.value at c.are_within_depth.ensures in
     first_bytes _ (sym d ∙ c.if-not-are_within_depth.false) (omega arith) (omega arith) (omega arith)
 
-pub returns-then-not-tally : goal.returns-then-not-tally
-returns-then-not-tally c =
+pub returns-then-not-totals : goal.returns-then-not-totals
+returns-then-not-totals c =
     let d = rw c.deref.ensures.value at c.are_within_depth.ensures in
-    first_after (schema_of c.args.schema.now) false _ (sym d ∙ c.if-not-are_within_depth.false) (omega arith) (omega arith) (omega arith) (sym c.tally_of-tally.ensures.numbers ∙ not-true _ c.if-not-tally.true) refl
+    first_after (schema_of c.args.schema.now) false _ (sym d ∙ c.if-not-are_within_depth.false) (omega arith) (omega arith) (omega arith) (sym c.totals_of-totals.ensures.numbers ∙ not-true _ c.if-not-totals.true) refl
 
-pub returns-then-not-tally-2 : goal.returns-then-not-tally-2
-returns-then-not-tally-2 c =
+pub returns-then-not-totals-2 : goal.returns-then-not-totals-2
+returns-then-not-totals-2 c =
     let d = rw c.deref.ensures.value at c.are_within_depth.ensures in
-    first_after (schema_of c.args.schema.now) true false (sym d ∙ c.if-not-are_within_depth.false) (omega arith) (omega arith) (omega arith) (sym c.tally_of-tally.ensures.numbers ∙ not-false _ c.if-not-tally.false) (sym c.tally_of-tally.ensures.dictionaries ∙ not-true _ c.if-not-tally-2.true)
+    first_after (schema_of c.args.schema.now) true false (sym d ∙ c.if-not-are_within_depth.false) (omega arith) (omega arith) (omega arith) (sym c.totals_of-totals.ensures.numbers ∙ not-false _ c.if-not-totals.false) (sym c.totals_of-totals.ensures.dictionaries ∙ not-true _ c.if-not-totals-2.true)
 
-pub returns-else-not-tally-2 : goal.returns-else-not-tally-2
-returns-else-not-tally-2 c =
+pub returns-else-not-totals-2 : goal.returns-else-not-totals-2
+returns-else-not-totals-2 c =
     let d = rw c.deref.ensures.value at c.are_within_depth.ensures in
-    first_after (schema_of c.args.schema.now) true true (sym d ∙ c.if-not-are_within_depth.false) (omega arith) (omega arith) (omega arith) (sym c.tally_of-tally.ensures.numbers ∙ not-false _ c.if-not-tally.false) (sym c.tally_of-tally.ensures.dictionaries ∙ not-false _ c.if-not-tally-2.false)
+    first_after (schema_of c.args.schema.now) true true (sym d ∙ c.if-not-are_within_depth.false) (omega arith) (omega arith) (omega arith) (sym c.totals_of-totals.ensures.numbers ∙ not-false _ c.if-not-totals.false) (sym c.totals_of-totals.ensures.dictionaries ∙ not-false _ c.if-not-totals-2.false)

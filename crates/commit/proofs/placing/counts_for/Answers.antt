@@ -2,7 +2,7 @@ use Rattle.std.specs.Prelude.{IfSome}
 use Rattle.std.proofs.Common.{◌≡◌, ◌≤◌, ◌<◌, ◌^◌, ◌+◌, ◌++◌, get_or, append-nil, append_assoc, ◌∷◌, ◌∙◌, [], ℕ, List, Option, length, map, take, take_all, sym, ap, subst, arith, rules}
 use Rattle.std.specs.Global.{Vec}
 use Rattle.std.proofs.lemmas.List.{map_push, map_more}
-use Rattle.segments.specs.declared.piece.Part.{Part}
+use Rattle.segments.specs.declared.piece.PiecePart.{PiecePart}
 use Rattle.segments.specs.Pieces.{bytes_of_parts}
 use Rattle.segments.specs.Sectors.{sector_count}
 use Rattle.commit.specs.Placing.{AreShort, plain_contents, sectors_of}
@@ -17,7 +17,7 @@ loop-parts-preserved c =
     let more : plain_contents (take (i + 1) contents) ≡ plain_contents (take i contents) ++ bytes ∷ [] = contents_more contents i c.parts-item.result c.loop-parts-test.true c.parts-item.is in
     let counted : c.in_ok-bytes.bytes ≡ length (bytes_of_parts c.deref.result.now) =
     subst (λ (o : Option ℕ). IfSome o (λ n. n ≡ length (bytes_of_parts c.deref.result.now))) c.in_ok-bytes.ensures.ok_part c.byte_count.ensures.some in
-    let same : c.in_ok-bytes.bytes ≡ length bytes = counted ∙ ap (λ (ps : List Part). length (bytes_of_parts ps)) c.deref.ensures.value in
+    let same : c.in_ok-bytes.bytes ≡ length bytes = counted ∙ ap (λ (ps : List PiecePart). length (bytes_of_parts ps)) c.deref.ensures.value in
     let sectors : c.div_ceil.result ≡ sectors_of bytes = omega (arith, same, c.div_ceil.ensures) in
     let fits : c.in_ok-bytes.bytes < 2 ^ 64 = search rules in
     let pushed : c.push.new.self.items ≡ map sectors_of (plain_contents (take i contents)) ++ sectors_of bytes ∷ [] = c.in_ok-push.ensures.items ∙ (λ j. c.loop-parts.invariant.counts j ++ sectors j ∷ []) in
@@ -31,8 +31,8 @@ loop-parts-preserved c =
 pub loop-parts-init : goal.loop-parts-init
 loop-parts-init c = record { counts = c.new-counts.ensures.items; short = tt }
 
-parts_counted : (contents : List (Vec Part)) (i : ℕ) (counts : List ℕ) → length contents ≤ i → counts ≡ map sectors_of (plain_contents (take i contents)) → counts ≡ map sectors_of (plain_contents contents)
-parts_counted contents i counts past is = is ∙ ap (λ (vs : List (Vec Part)). map sectors_of (plain_contents vs)) (take_all i contents past)
+parts_counted : (contents : List (Vec PiecePart)) (i : ℕ) (counts : List ℕ) → length contents ≤ i → counts ≡ map sectors_of (plain_contents (take i contents)) → counts ≡ map sectors_of (plain_contents contents)
+parts_counted contents i counts past is = is ∙ ap (λ (vs : List (Vec PiecePart)). map sectors_of (plain_contents vs)) (take_all i contents past)
 
 pub loop-bytes-init : goal.loop-bytes-init
 loop-bytes-init c =
@@ -40,7 +40,7 @@ loop-bytes-init c =
     let all : take c.loop-parts.parts-index contents ≡ contents = take_all c.loop-parts.parts-index contents (omega (arith, c.loop-parts-test.false)) in
     record {
       counts = parts_counted contents c.loop-parts.parts-index c.loop-parts.counts.items (omega (arith, c.loop-parts-test.false)) c.loop-parts.invariant.counts ∙ sym (append-nil (map sectors_of (plain_contents contents)));
-      short = subst (λ (vs : List (Vec Part)). AreShort (plain_contents vs)) all c.loop-parts.invariant.short;
+      short = subst (λ (vs : List (Vec PiecePart)). AreShort (plain_contents vs)) all c.loop-parts.invariant.short;
     }
 
 pub loop-bytes-preserved : goal.loop-bytes-preserved

@@ -1,7 +1,7 @@
 use Rattle.std.proofs.Common.{◌≡◌, ◌≤◌, ◌<◌, ◌+◌, ◌∙◌, get_or, length, false, sym, ap, subst, arith}
 use Rattle.std.proofs.lemmas.List.{drop_all}
 use Rattle.segments.specs.declared.entries.UsageEntry.{UsageEntry}
-use Rattle.segments.specs.declared.searched.Searched.{Searched}
+use Rattle.segments.specs.declared.search_cursor.SearchCursor.{SearchCursor}
 use Rattle.segments.specs.Usages.{IsSearched}
 use Rattle.segments.proofs.Lowest.{Passed, passed_first, passed_more, passed_searched, next_within, lowest_before, lowest_behind, none_lowest}
 use Rattle.segments.proofs.Placed.{ascending}
@@ -24,8 +24,8 @@ loop-index-init c =
       | else-count-searched w ↦ subst (IsSearched (record { size = size; entries = es })) (sym w.searched-is) c.requires.searched
     ] in
     let narrow : searched.widest < c.args.count = elim c.if-count-searched.branch [
-      | then-count-searched w ↦ subst (λ (s : Searched). s.widest < c.args.count) (sym (w.searched-is ∙ w.nothing.ensures.value)) c.requires.some
-      | else-count-searched w ↦ subst (λ (s : Searched). s.widest < c.args.count) (sym w.searched-is) w.if-count-searched.false
+      | then-count-searched w ↦ subst (λ (s : SearchCursor). s.widest < c.args.count) (sym (w.searched-is ∙ w.nothing.ensures.value)) c.requires.some
+      | else-count-searched w ↦ subst (λ (s : SearchCursor). s.widest < c.args.count) (sym w.searched-is) w.if-count-searched.false
     ] in
     record {
       passed = passed_first size es searched c.end_before-searched.result c.place_of_start-place.result c.requires.ordered c.requires.within law c.place_of_start-place.ensures.place c.end_before-searched.ensures;

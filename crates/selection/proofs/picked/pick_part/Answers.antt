@@ -9,7 +9,7 @@ use Rattle.query.specs.Selection.{pick}
 use Rattle.selection.specs.declared.picked.PickedBatch.{PickedBatch}
 use Rattle.selection.specs.inner.Picked.{picked_columns, picked_rows, is_picked_sound}
 use Rattle.values.specs.Parts.{batch_rows, is_batch_sound}
-use Rattle.values.specs.declared.part.Batch.{Batch}
+use Rattle.values.specs.declared.table_part.Batch.{Batch}
 use Rattle.selection.proofs.picked.pick_part.Goals as goal
 
 pub loop-batch-preserved : goal.loop-batch-preserved

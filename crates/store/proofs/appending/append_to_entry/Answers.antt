@@ -4,7 +4,7 @@ use Rattle.catalogue.specs.Entries.{plain_entry}
 use Rattle.catalogue.specs.laws.Kept.{entry_is}
 use Rattle.values.specs.TableView.{table_of}
 use Rattle.store.specs.inner.Appending.{added_to}
-use Rattle.store.specs.inner.Gathered.{gathered_table}
+use Rattle.store.specs.inner.TableBuilder.{table_so_far}
 use Rattle.store.specs.inner.Tests.{decision_of}
 use Rattle.store.proofs.Appended.{weighed_both, heavy_alone, appended_behind}
 use Rattle.store.specs.Calls.{refused}
@@ -30,10 +30,10 @@ returns-in-Some-clause-answers g c =
     let read = c.in-Ok-gather_entry.ensures.table in
     let rows = (table_of c.in-Some.field-0.table).rows in
     let passed = rw c.in-Some.is at c.in-Ok.ensures.passed in
-    appended_behind D.tells (shown_image (now (D.story c.args.device.now))) (string_bytes c.args.name) e (added_to c.args.new e) rows (gathered_table standing) passed.0 read
+    appended_behind D.tells (shown_image (now (D.story c.args.device.now))) (string_bytes c.args.name) e (added_to c.args.new e) rows (table_so_far standing) passed.0 read
     (decision_of c.decide_behind.result)
     (standing.weight + c.in-Some.field-0.weight)
-    (weighed_both e (gathered_table standing) rows standing.weight c.in-Some.field-0.weight read.schema standing.weighs passed.1)
+    (weighed_both e (table_so_far standing) rows standing.weight c.in-Some.field-0.weight read.schema standing.weighs passed.1)
     c.decide_behind.ensures.answers
 
 pub returns-in-None-clause-answers : goal.returns-in-None-clause-answers
@@ -41,7 +41,7 @@ returns-in-None-clause-answers g c =
     let D = g.D.SectorDevice in
     let e = plain_entry c.args.entry.now in
     let passed = rw c.in-None.is at c.in-Ok.ensures.passed in
-    inr (inr (heavy_alone D.tells (shown_image (now (D.story c.args.device.now))) (string_bytes c.args.name) e (added_to c.args.new e) passed.0 (gathered_table c.in-Ok-gather_entry.standing) passed.1
+    inr (inr (heavy_alone D.tells (shown_image (now (D.story c.args.device.now))) (string_bytes c.args.name) e (added_to c.args.new e) passed.0 (table_so_far c.in-Ok-gather_entry.standing) passed.1
     c.in-Ok-gather_entry.ensures.table passed.2))
 
 pub returns-in-Err-clause-reads : goal.returns-in-Err-clause-reads

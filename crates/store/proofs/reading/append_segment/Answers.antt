@@ -13,8 +13,8 @@ use Rattle.tables.specs.declared.refusal.Refusal.{Refusal}
 use Rattle.tables.specs.declared.refusal.Refusal.TheVariants as refusals
 use Rattle.store.specs.Held.{joined_rows}
 use Rattle.store.specs.Reading.{HasRead, ArePast, LacksRows}
-use Rattle.store.specs.declared.gathered.Gathered.{Gathered}
-use Rattle.store.specs.inner.Gathered.{gathered_table}
+use Rattle.store.specs.declared.table_builder.TableBuilder.{TableBuilder}
+use Rattle.store.specs.inner.TableBuilder.{table_so_far}
 use Rattle.store.specs.inner.Reading.{UnreadsSegment}
 use Rattle.store.specs.laws.Digests.{read_rows, copy_undamaged}
 use Rattle.store.proofs.ReadTables.{reads_ended}
@@ -46,7 +46,7 @@ joins_unread tells image schema rows more segment place errors.Weight r memory u
     )
 
 pub append-requires-clause-schema : goal.append-requires-clause-schema
-append-requires-clause-schema g c = c.in-Ok.ensures.schema (gathered_table c.args.gathered).schema c.requires.limits c.requires.message
+append-requires-clause-schema g c = c.in-Ok.ensures.schema (table_so_far c.args.gathered).schema c.requires.limits c.requires.message
 
 -- ---- the rows go after those before them
 
@@ -56,19 +56,19 @@ returns-in-Ok-append-clause-schema g c = ap (λ (t : PlainTable). t.schema) c.in
 pub returns-in-Ok-append-clause-rows : goal.returns-in-Ok-append-clause-rows
 returns-in-Ok-append-clause-rows g c = λ told.
     let D = g.D.SectorDevice in
-    let so_far = gathered_table c.args.gathered in
+    let so_far = table_so_far c.args.gathered in
     let rows = (table_of c.in-Ok.weighed.table).rows in
     ap (λ (t : PlainTable). Some t.rows) c.in-Ok-append.ensures.joined
     ∙ ap (joined_rows (Some so_far.rows)) (sym (read_rows D.tells (shown_image (now (D.story c.args.device.now))) so_far.schema c.args.segment rows (c.in-Ok.ensures.rows so_far.schema c.requires.message) told))
 
 pub returns-in-Ok-append-clause-read : goal.returns-in-Ok-append-clause-read
 returns-in-Ok-append-clause-read g c =
-    let so_far = gathered_table c.args.gathered in
+    let so_far = table_so_far c.args.gathered in
     ((table_of c.in-Ok.weighed.table).rows, c.in-Ok.ensures.rows so_far.schema c.requires.message, ap (λ (t : PlainTable). t.rows) c.in-Ok-append.ensures.joined)
 
 pub returns-in-Ok-append-clause-count : goal.returns-in-Ok-append-clause-count
 returns-in-Ok-append-clause-count g c =
-    let so_far = gathered_table c.args.gathered in
+    let so_far = table_so_far c.args.gathered in
     ap (λ (t : PlainTable). length t.rows) c.in-Ok-append.ensures.joined ∙ length-append so_far.rows (table_of c.in-Ok.weighed.table).rows ∙ ap (λ (n : ℕ). length so_far.rows + n) c.in-Ok.ensures.count
 
 -- ---- it is not one that holds its rows
@@ -76,18 +76,18 @@ returns-in-Ok-append-clause-count g c =
 pub returns-in-Err-append-clause-reads : goal.returns-in-Err-append-clause-reads
 returns-in-Err-append-clause-reads g c =
     let D = g.D.SectorDevice in
-    let refused : Result Gathered Refusal = Err c.joining_refusal.result in
+    let refused : Result TableBuilder Refusal = Err c.joining_refusal.result in
     reads_ended D.size D.story D.failed D.tells refused c.args.device.now c.read_segment.new.device c.joining_refusal.ensures.no_device c.in-Ok.ensures.reads
 
 pub returns-in-Err-append-clause-unread : goal.returns-in-Err-append-clause-unread
 returns-in-Err-append-clause-unread g c =
     let D = g.D.SectorDevice in
-    let so_far = gathered_table c.args.gathered in
+    let so_far = table_so_far c.args.gathered in
     joins_unread D.tells (shown_image (now (D.story c.args.device.now))) so_far.schema so_far.rows (table_of c.in-Ok.weighed.table).rows c.args.segment c.args.place c.in-Err-append.error c.joining_refusal.result
     c.joining_refusal.ensures.memory c.joining_refusal.ensures.segment c.in-Err-append.ensures.fit c.in-Err-append.ensures.heavy (c.in-Ok.ensures.rows so_far.schema c.requires.message)
 
 pub returns-in-Err-clause-unread : goal.returns-in-Err-clause-unread
 returns-in-Err-clause-unread g c =
     let D = g.D.SectorDevice in
-    let so_far = gathered_table c.args.gathered in
+    let so_far = table_so_far c.args.gathered in
     lacks_unread D.tells (shown_image (now (D.story c.args.device.now))) so_far.schema so_far.rows c.args.segment c.args.place c.in-Err.refusal (c.in-Err.ensures.told so_far.schema c.requires.message)

@@ -11,7 +11,7 @@ use Rattle.commit.specs.Standing.{all_on_device}
 use Rattle.ipc_write.specs.Written.{schema_message}
 use Rattle.tables.specs.declared.refusal.Refusal.TheVariants.{OutOfMemory}
 use Rattle.store.specs.Calls.{refused}
-use Rattle.store.specs.inner.Gathered.{gathered_table}
+use Rattle.store.specs.inner.TableBuilder.{table_so_far}
 use Rattle.store.specs.inner.Reading.{runs_in}
 use Rattle.store.specs.Held.{rows_held}
 use Rattle.store.specs.Reading.{HaveRead, Unreads}
@@ -26,18 +26,18 @@ returns-in-Ok-read_segments-clause-table g c =
     let D = g.D.SectorDevice in
     let image = shown_image (now (D.story c.args.device.now)) in
     let e = plain_entry c.args.entry.now in
-    let start : (gathered_table c.in-Ok.empty).schema ≡ e.schema = ap (λ (t : PlainTable). t.schema) c.in-Ok.ensures.empty ∙ c.schema.ensures in
+    let start : (table_so_far c.in-Ok.empty).schema ≡ e.schema = ap (λ (t : PlainTable). t.schema) c.in-Ok.ensures.empty ∙ c.schema.ensures in
     let segments : c.segments.result.now ≡ e.segments = c.segments.ensures in
     let gathered = c.in-Ok-read_segments.gathered in
-    let schema : (gathered_table gathered).schema ≡ e.schema = c.in-Ok-read_segments.ensures.schema ∙ start in
+    let schema : (table_so_far gathered).schema ≡ e.schema = c.in-Ok-read_segments.ensures.schema ∙ start in
     record {
       kept = gathered.kept;
       schema = schema;
       count = c.in-Ok-read_segments.ensures.count ∙ ap (sum_by rows_of) segments;
       read =
-          subst (λ (gs : List Segment). HaveRead D.tells image e.schema gs (gathered_table gathered).rows) segments
-          (subst (λ (s : PlainSchema). HaveRead D.tells image s c.segments.result.now (gathered_table gathered).rows) start c.in-Ok-read_segments.ensures.read);
-      held = λ told. read_is_held c.table_laws.ensures image e (gathered_table gathered) gathered.kept schema ((λ i. rows_held (sym start i) (sym segments i) image) ∙ c.in-Ok-read_segments.ensures.rows told);
+          subst (λ (gs : List Segment). HaveRead D.tells image e.schema gs (table_so_far gathered).rows) segments
+          (subst (λ (s : PlainSchema). HaveRead D.tells image s c.segments.result.now (table_so_far gathered).rows) start c.in-Ok-read_segments.ensures.read);
+      held = λ told. read_is_held c.table_laws.ensures image e (table_so_far gathered) gathered.kept schema ((λ i. rows_held (sym start i) (sym segments i) image) ∙ c.in-Ok-read_segments.ensures.rows told);
     }
 
 pub returns-in-Ok-clause-unread : goal.returns-in-Ok-clause-unread
@@ -45,9 +45,9 @@ returns-in-Ok-clause-unread g c =
     let D = g.D.SectorDevice in
     let image = shown_image (now (D.story c.args.device.now)) in
     let e = plain_entry c.args.entry.now in
-    let start : (gathered_table c.in-Ok.empty).schema ≡ e.schema = ap (λ (t : PlainTable). t.schema) c.in-Ok.ensures.empty ∙ c.schema.ensures in
+    let start : (table_so_far c.in-Ok.empty).schema ≡ e.schema = ap (λ (t : PlainTable). t.schema) c.in-Ok.ensures.empty ∙ c.schema.ensures in
     let segments : c.segments.result.now ≡ e.segments = c.segments.ensures in
-    let same : record { name = e.name; schema = (gathered_table c.in-Ok.empty).schema; segments = c.segments.result.now; page = e.page } ≡ e = λ i. record { name = e.name; schema = start i; segments = segments i; page = e.page } in
+    let same : record { name = e.name; schema = (table_so_far c.in-Ok.empty).schema; segments = c.segments.result.now; page = e.page } ≡ e = λ i. record { name = e.name; schema = start i; segments = segments i; page = e.page } in
     subst (λ (x : PlainEntry). Unreads D.tells image x c.in-Err-read_segments.refusal) same (c.in-Err-read_segments.ensures.unread e.name e.page)
 
 -- ---- what is asked of the reading of its segments

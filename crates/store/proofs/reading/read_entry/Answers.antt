@@ -6,7 +6,7 @@ use Rattle.catalogue.specs.Entries.{plain_entry}
 use Rattle.tables.specs.declared.refusal.Refusal.TheVariants.{OutOfMemory}
 use Rattle.store.specs.Calls.{is_failure}
 use Rattle.store.specs.Reading.{IsRead, Unreads}
-use Rattle.store.specs.inner.Gathered.{gathered_table}
+use Rattle.store.specs.inner.TableBuilder.{table_so_far}
 use Rattle.store.proofs.ReadTables.{reads_ended}
 use Rattle.store.proofs.reading.read_entry.Goals as goal
 
@@ -21,7 +21,7 @@ returns-in-Ok-clause-table g c =
     let D = g.D.SectorDevice in
     let image = shown_image (now (D.story c.args.device.now)) in
     let e = plain_entry c.args.entry.now in
-    IfOk-weaker c.finish_table.result (λ t. table_of t ≡ gathered_table c.in-Ok.gathered) (λ t. IsRead D.tells image e (table_of t)) (λ t is. subst (IsRead D.tells image e) (sym is) c.in-Ok.ensures.table) c.finish_table.ensures.table
+    IfOk-weaker c.finish_table.result (λ t. table_of t ≡ table_so_far c.in-Ok.gathered) (λ t. IsRead D.tells image e (table_of t)) (λ t is. subst (IsRead D.tells image e) (sym is) c.in-Ok.ensures.table) c.finish_table.ensures.table
 
 pub returns-in-Ok-clause-unread : goal.returns-in-Ok-clause-unread
 returns-in-Ok-clause-unread g c =

@@ -12,7 +12,7 @@ use Rattle.ipc_write.specs.Written.{schema_message}
 use Rattle.commit.specs.Standing.{is_size, is_on_device}
 use Rattle.store.specs.Held.{rows_held}
 use Rattle.store.specs.Reading.{HaveRead}
-use Rattle.store.specs.inner.Gathered.{gathered_table}
+use Rattle.store.specs.inner.TableBuilder.{table_so_far}
 use Rattle.store.specs.Calls.{done, refused}
 use Rattle.store.proofs.ReadTables.{run_at, rows_step, rows_of, have_step, count_step, rows_of_none, unreads_step, reads_more, reads_none, image_then, light_none}
 use Rattle.store.proofs.reading.read_segments.Goals as goal
@@ -23,9 +23,9 @@ loop-place-init g c =
     record {
       reads = reads_none D.size D.story D.failed D.tells c.args.device.now;
       schema = refl;
-      light = light_none (gathered_table c.args.empty).schema (gathered_table c.args.empty).rows c.requires.none;
+      light = light_none (table_so_far c.args.empty).schema (table_so_far c.args.empty).rows c.requires.none;
       count = ap length c.requires.none;
-      rows = λ told. rows_of_none (gathered_table c.args.empty).schema (shown_image (now (D.story c.args.device.now))) ∙ ap Some (sym c.requires.none);
+      rows = λ told. rows_of_none (table_so_far c.args.empty).schema (shown_image (now (D.story c.args.device.now))) ∙ ap Some (sym c.requires.none);
       read = c.requires.none;
     }
 
@@ -56,10 +56,10 @@ returns-in-Err-clause-unread g c = λ name page.
     let segments = c.args.segments.now in
     let place = c.loop-place.place in
     let segment = get_or segments place no_segment in
-    let so_far = gathered_table c.loop-place.gathered in
+    let so_far = table_so_far c.loop-place.gathered in
     let before = D.story c.args.device.now in
     let mid = D.story c.loop-place.device in
-    unreads_step D.tells (shown_image (now before)) (shown_image (now mid)) (record { name = name; schema = (gathered_table c.args.empty).schema; segments = segments; page = page }) so_far.schema so_far.rows segment place c.in-Err.refusal
+    unreads_step D.tells (shown_image (now before)) (shown_image (now mid)) (record { name = name; schema = (table_so_far c.args.empty).schema; segments = segments; page = page }) so_far.schema so_far.rows segment place c.in-Err.refusal
     c.loop-place.invariant.schema (λ told. image_then before mid (c.loop-place.invariant.reads.moments told)) c.loop-place-test.true (at_place segments place segment refl c.loop-place-test.true) c.loop-place.invariant.light c.loop-place.invariant.rows c.in-Err.ensures.unread
 
 pub loop-place-preserved : goal.loop-place-preserved
@@ -68,7 +68,7 @@ loop-place-preserved g c =
     let segments = c.args.segments.now in
     let place = c.loop-place.place in
     let segment = get_or segments place no_segment in
-    let so_far = gathered_table c.loop-place.gathered in
+    let so_far = table_so_far c.loop-place.gathered in
     let before = D.story c.args.device.now in
     let mid = D.story c.loop-place.device in
     let own = c.in-Ok.ensures.read in
@@ -76,12 +76,12 @@ loop-place-preserved g c =
       reads = reads_more D.size D.story D.failed D.tells done c.args.device.now c.loop-place.device c.append_segment.new.device c.loop-place.invariant.reads c.in-Ok.ensures.reads;
       schema = c.in-Ok.ensures.schema ∙ c.loop-place.invariant.schema;
       light = c.in-Ok.ensures.light;
-      count = count_step segments place segment (length so_far.rows) (length (gathered_table c.in-Ok.more).rows) c.loop-place-test.true (at_place segments place segment refl c.loop-place-test.true) c.loop-place.invariant.count c.in-Ok.ensures.count;
+      count = count_step segments place segment (length so_far.rows) (length (table_so_far c.in-Ok.more).rows) c.loop-place-test.true (at_place segments place segment refl c.loop-place-test.true) c.loop-place.invariant.count c.in-Ok.ensures.count;
       rows = λ told.
-          rows_step (gathered_table c.args.empty).schema so_far.schema segments place segment (shown_image (now before)) (shown_image (now mid)) so_far.rows (Some (gathered_table c.in-Ok.more).rows) c.loop-place.invariant.schema
+          rows_step (table_so_far c.args.empty).schema so_far.schema segments place segment (shown_image (now before)) (shown_image (now mid)) so_far.rows (Some (table_so_far c.in-Ok.more).rows) c.loop-place.invariant.schema
           (image_then before mid (c.loop-place.invariant.reads.moments told)) c.loop-place-test.true (at_place segments place segment refl c.loop-place-test.true) (c.loop-place.invariant.rows told) (c.in-Ok.ensures.rows told);
       read =
-          have_step D.tells (gathered_table c.args.empty).schema so_far.schema segments place segment (shown_image (now before)) (shown_image (now mid)) so_far.rows own.0 (gathered_table c.in-Ok.more).rows c.loop-place.invariant.schema
+          have_step D.tells (table_so_far c.args.empty).schema so_far.schema segments place segment (shown_image (now before)) (shown_image (now mid)) so_far.rows own.0 (table_so_far c.in-Ok.more).rows c.loop-place.invariant.schema
           (λ told. image_then before mid (c.loop-place.invariant.reads.moments told)) c.loop-place-test.true (at_place segments place segment refl c.loop-place-test.true) c.loop-place.invariant.read own.1 own.2;
     }
 
@@ -117,11 +117,11 @@ returns-clause-reads g c = c.loop-place.invariant.reads
 pub returns-clause-rows : goal.returns-clause-rows
 returns-clause-rows g c = λ told.
     let D = g.D.SectorDevice in
-    ap (λ (gs : List Segment). rows_held (gathered_table c.args.empty).schema gs (shown_image (now (D.story c.args.device.now)))) (sym (take_all c.loop-place.place c.args.segments.now (omega (arith, c.loop-place-test.false))))
+    ap (λ (gs : List Segment). rows_held (table_so_far c.args.empty).schema gs (shown_image (now (D.story c.args.device.now)))) (sym (take_all c.loop-place.place c.args.segments.now (omega (arith, c.loop-place-test.false))))
     ∙ c.loop-place.invariant.rows told
 
 pub returns-clause-read : goal.returns-clause-read
 returns-clause-read g c =
     let D = g.D.SectorDevice in
-    subst (λ (gs : List Segment). HaveRead D.tells (shown_image (now (D.story c.args.device.now))) (gathered_table c.args.empty).schema gs (gathered_table c.loop-place.gathered).rows)
+    subst (λ (gs : List Segment). HaveRead D.tells (shown_image (now (D.story c.args.device.now))) (table_so_far c.args.empty).schema gs (table_so_far c.loop-place.gathered).rows)
     (take_all c.loop-place.place c.args.segments.now (omega (arith, c.loop-place-test.false))) c.loop-place.invariant.read

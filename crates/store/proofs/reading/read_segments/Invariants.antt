@@ -3,7 +3,7 @@ use Rattle.std.proofs.Common.{◌≡◌, ◌≤◌, true, Some, length, take}
 use Rattle.sector_dev.specs.Disk.{now, shown_image}
 use Rattle.cells.specs.Weight.{table_weight}
 use Rattle.cells.specs.declared.limits.TheConstants.{MAX_TABLE_WEIGHT}
-use Rattle.store.specs.inner.Gathered.{gathered_table}
+use Rattle.store.specs.inner.TableBuilder.{table_so_far}
 use Rattle.store.specs.Calls.{done}
 use Rattle.store.specs.Held.{rows_held}
 use Rattle.store.specs.Reading.{HaveRead, OnlyReadsDevice}
@@ -14,9 +14,9 @@ use Rattle.store.proofs.reading.read_segments.Given as goal
 abbrev pub invariant-loop-place : goal.invariant-loop-place
 invariant-loop-place g l = let D = g.D.SectorDevice in record {
   reads : OnlyReadsDevice D.size D.story D.failed D.tells done l.fn.device l.device;
-  schema : (gathered_table l.gathered).schema ≡ (gathered_table l.fn.empty).schema;
-  light : table_weight (gathered_table l.gathered).schema (gathered_table l.gathered).rows ≤ MAX_TABLE_WEIGHT;
-  count : length (gathered_table l.gathered).rows ≡ sum_by rows_of (take l.place l.segments);
-  rows : D.tells ≡ true → rows_held (gathered_table l.fn.empty).schema (take l.place l.segments) (shown_image (now (D.story l.fn.device))) ≡ Some (gathered_table l.gathered).rows;
-  read : HaveRead D.tells (shown_image (now (D.story l.fn.device))) (gathered_table l.fn.empty).schema (take l.place l.segments) (gathered_table l.gathered).rows;
+  schema : (table_so_far l.gathered).schema ≡ (table_so_far l.fn.empty).schema;
+  light : table_weight (table_so_far l.gathered).schema (table_so_far l.gathered).rows ≤ MAX_TABLE_WEIGHT;
+  count : length (table_so_far l.gathered).rows ≡ sum_by rows_of (take l.place l.segments);
+  rows : D.tells ≡ true → rows_held (table_so_far l.fn.empty).schema (take l.place l.segments) (shown_image (now (D.story l.fn.device))) ≡ Some (table_so_far l.gathered).rows;
+  read : HaveRead D.tells (shown_image (now (D.story l.fn.device))) (table_so_far l.fn.empty).schema (take l.place l.segments) (table_so_far l.gathered).rows;
 }

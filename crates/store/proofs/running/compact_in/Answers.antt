@@ -1,5 +1,5 @@
 use Rattle.std.proofs.Common.{Ok, Err, refl, sym, ap, ◌∙◌, subst}
-use Rattle.store.specs.declared.call.Place.TheVariants as places
+use Rattle.store.specs.declared.call.StoreOrDevice.TheVariants as places
 use Rattle.store.specs.Calls.{compact_call, refused, counted}
 use Rattle.store.specs.Compacting.{reply_of}
 use Rattle.store.specs.Places.{PlaceGoes}

@@ -9,7 +9,7 @@ use Rattle.store.specs.Calls.{done, refused}
 use Rattle.store.specs.Upgrading.{AreDigests}
 use Rattle.store.specs.inner.Reading.{runs_in}
 use Rattle.store.specs.inner.Upgrading.{LacksCopy}
-use Rattle.store.specs.inner.Gathered.{gathered_table}
+use Rattle.store.specs.inner.TableBuilder.{table_so_far}
 use Rattle.store.proofs.ReadTables.{reads_more, image_then}
 use Rattle.store.proofs.Digesting.{digests_then, lacks_then, lacks_none}
 use Rattle.store.proofs.upgrading.entry_digests.Goals as goal
@@ -33,7 +33,7 @@ returns-in-Ok-segment_digests-clause-reads g c =
     reads_more D.size D.story D.failed D.tells done c.args.device.now c.gather_entry.new.device c.segment_digests.new.device c.in-Ok.ensures.reads c.in-Ok-segment_digests.ensures.reads
 
 pub returns-in-Ok-segment_digests-clause-read : goal.returns-in-Ok-segment_digests-clause-read
-returns-in-Ok-segment_digests-clause-read g c = (gathered_table c.in-Ok.gathered, c.in-Ok.ensures.table)
+returns-in-Ok-segment_digests-clause-read g c = (table_so_far c.in-Ok.gathered, c.in-Ok.ensures.table)
 
 pub returns-in-Ok-segment_digests-clause-found : goal.returns-in-Ok-segment_digests-clause-found
 returns-in-Ok-segment_digests-clause-found g c =
@@ -56,6 +56,6 @@ returns-in-Err-segment_digests-clause-unread g c =
     let mid = D.story c.gather_entry.new.device in
     let e = plain_entry c.args.entry.now in
     let r = c.in-Err-segment_digests.refusal in
-    lacks_none D.tells (shown_image (now before)) e (gathered_table c.in-Ok.gathered) c.in-Ok.ensures.table r
+    lacks_none D.tells (shown_image (now before)) e (table_so_far c.in-Ok.gathered) c.in-Ok.ensures.table r
     (subst (λ (gs : List Segment). LacksCopy D.tells (shown_image (now before)) gs r) c.segments.ensures
     (lacks_then D.tells (shown_image (now before)) (shown_image (now mid)) (λ told. image_then before mid (c.in-Ok.ensures.reads.moments told)) c.segments.result.now r c.in-Err-segment_digests.ensures.told))

@@ -10,7 +10,7 @@ use Rattle.table_cut.specs.Rows.{runs_rows}
 use Rattle.table_cut.proofs.PartLemmas.{next_joined}
 use Rattle.table_cut.proofs.RunSteps.{all_items}
 use Rattle.values.specs.Parts.{batch_rows, is_batch_sound}
-use Rattle.values.specs.declared.part.Batch.{Batch}
+use Rattle.values.specs.declared.table_part.Batch.{Batch}
 use Rattle.table_cut.proofs.left.add_part.Goals as goal
 
 pub loop-batch-init : goal.loop-batch-init

@@ -3,7 +3,7 @@ use Rattle.std.specs.Global.{Global}
 use Rattle.std.proofs.Common.{◌≡◌, ◌∙◌, ◌+◌, ◌++◌, ◌∷◌, [], ℕ, List, map, take, take_all, ap, sym, arith}
 use Rattle.std.proofs.lemmas.List.{map-append}
 use Rattle.facts.specs.laws.Lists.{take-item}
-use Rattle.values.specs.declared.part.Part.{Part}
+use Rattle.values.specs.declared.table_part.TablePart.{TablePart}
 use Rattle.values.specs.inner.Starts.{starts_from, batch_lengths}
 use Rattle.values.proofs.PartLemmas.{part_le}
 use Rattle.values.proofs.batches.batch_starts.Goals as goal
@@ -16,7 +16,7 @@ loop-part-preserved c =
     let parts = c.args.parts.now in
     let i = c.loop-part.part-index in
     let part = c.part-item.result in
-    let f : Part → List ℕ = λ p. starts_from 0 (batch_lengths p) in
+    let f : TablePart → List ℕ = λ p. starts_from 0 (batch_lengths p) in
     let more : map f (take (i + 1) parts) ≡ map f (take i parts) ++ f part ∷ [] =
     ap (map f) (take-item parts i part c.loop-part-test.true c.part-item.is) ∙ map-append f (take i parts) (part ∷ []) in
     ap (map (λ (v : Vec ℕ Global). v.items)) c.in_ok-push.ensures.items
@@ -25,4 +25,4 @@ loop-part-preserved c =
 
 pub returns : goal.returns
 returns c =
-    c.loop-part.invariant ∙ ap (map (λ (p : Part). starts_from 0 (batch_lengths p))) (take_all c.loop-part.part-index c.args.parts.now c.loop-part-test.false)
+    c.loop-part.invariant ∙ ap (map (λ (p : TablePart). starts_from 0 (batch_lengths p))) (take_all c.loop-part.part-index c.args.parts.now c.loop-part-test.false)

@@ -5,7 +5,7 @@ use Rattle.table_cut.specs.Rows.{runs_rows, are_runs_sound}
 use Rattle.table_cut.proofs.PartLemmas.{next_joined}
 use Rattle.table_cut.proofs.RunSteps.{all_items}
 use Rattle.values.specs.Parts.{part_rows, parts_rows, are_parts_sound, is_batch_sound}
-use Rattle.values.specs.declared.part.Part.{Part}
+use Rattle.values.specs.declared.table_part.TablePart.{TablePart}
 use Rattle.table_cut.proofs.left.RowsLeft.new.Goals as goal
 
 pub loop-part-init : goal.loop-part-init
@@ -22,7 +22,7 @@ loop-part-preserved c =
       rows = λ cs. next_joined (part_rows cs) c.args.parts.now i c.part-item.result (runs_rows cs c.add_part.new.runs.items) (runs_rows cs c.loop-part.runs.items) []
           c.loop-part-test.true c.part-item.is (c.in_ok-add_part.ensures.rows cs) (is.rows cs);
       sound = λ cs passes.
-          let both = all_with_item (λ (p : Part). list_all (is_batch_sound cs p) p.batches.items) c.args.parts.now i c.part-item.result c.loop-part-test.true c.part-item.is passes in
+          let both = all_with_item (λ (p : TablePart). list_all (is_batch_sound cs p) p.batches.items) c.args.parts.now i c.part-item.result c.loop-part-test.true c.part-item.is passes in
           c.in_ok-add_part.ensures.sound cs (is.sound cs both.0) both.1;
     }
 

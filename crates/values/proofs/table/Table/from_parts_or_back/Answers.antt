@@ -5,7 +5,7 @@ use Rattle.arrow_schema.specs.Column.{columns_of}
 use Rattle.arrow_schema.specs.View.{schema_of}
 use Rattle.values.specs.Parts.{are_parts_sound, parts_table}
 use Rattle.values.specs.Table.{IsTable}
-use Rattle.values.specs.declared.part.Part.{Part}
+use Rattle.values.specs.declared.table_part.TablePart.{TablePart}
 use Rattle.values.specs.inner.Starts.{part_lengths}
 use Rattle.values.proofs.ContentLemmas.{parts_few}
 use Rattle.values.proofs.table.Table.from_parts_or_back.Goals as goal
@@ -24,7 +24,7 @@ invariant_of-result c =
     let parts : c.in_ok-batches.batches.parts.items ≡ c.args.parts.items = c.in_ok-batches.ensures.parts in
     let lengths = rw c.deref.ensures.value at (c.deref-2.ensures.value ∙ c.in-Ok.ensures) in
     record {
-      filled = and_from _ _ (eq-eqb _ _ (c.total-rows.ensures ∙ ap sum lengths ∙ ap (λ (ps : List Part). sum (part_lengths ps)) (sym parts)))
-          (ap (λ (ps : List Part). are_parts_sound (columns_of s.columns) ps) parts ∙ c.requires.sound);
-      kept = subst (λ (ps : List Part). IsTable (parts_table s ps)) (sym parts) c.requires.table;
+      filled = and_from _ _ (eq-eqb _ _ (c.total-rows.ensures ∙ ap sum lengths ∙ ap (λ (ps : List TablePart). sum (part_lengths ps)) (sym parts)))
+          (ap (λ (ps : List TablePart). are_parts_sound (columns_of s.columns) ps) parts ∙ c.requires.sound);
+      kept = subst (λ (ps : List TablePart). IsTable (parts_table s ps)) (sym parts) c.requires.table;
     }

@@ -3,7 +3,7 @@
 /// What a crash leaves in the sectors that are not yet synced. They are counted from 0, ascending; the i-th has bit
 /// `i mod 64` of the number.
 #[derive(Clone, Copy)]
-pub enum Choice {
+pub enum CrashChoice {
     /// Each keeps its synced content.
     Old,
     /// Each has the newest content that was written to it.

@@ -4,18 +4,18 @@ ghost use Rattle.segments.specs.Usages.{Space, IsSearched};
 
 /// How far a device was searched for free runs: each that starts before the sector `start` has at most `widest` sectors.
 #[derive(Clone, Copy)]
-pub struct Searched {
+pub struct SearchCursor {
     pub start: u64,
     pub widest: u64,
 }
 
-impl Searched {
+impl SearchCursor {
     /// Nothing was searched yet.
     pub fn nothing() -> Self
         ensures value { result ≡ record { start = 2; widest = 0 } }
         ensures searched { (space : Space) → IsSearched space result }
     {
-        Searched {
+        SearchCursor {
             start: 2,
             widest: 0,
         }

@@ -9,31 +9,31 @@ ghost use Rattle.values.specs.Table.{IsTable};
 use arrow_schema::Schema;
 use cells::MAX_TABLE_WEIGHT;
 use std::alloc::{AllocError, Global};
-use values::{Part, Table, TableError, Weighed, tables_are_joined_and_cut};
+use values::{Table, TableError, TablePart, WeighedTable, tables_are_joined_and_cut};
 
 /// A table while its segments are read: their record batches, which keep the bytes that were read.
 #[derive(Drop)]
-pub(crate) struct Gathered {
+pub(crate) struct TableBuilder {
     pub(crate) schema: Schema,
-    pub(crate) parts: Vec<Part>,
+    pub(crate) parts: Vec<TablePart>,
     pub(crate) weight: u64,
     ghost sound: { are_parts_sound (columns_of (schema_of schema).columns) parts.items ≡ true },
     ghost kept: { IsTable (parts_table (schema_of schema) parts.items) },
     ghost weighs: { weight ≡ table_weight (schema_of schema) (parts_table (schema_of schema) parts.items).rows },
 }
 
-impl Gathered {
+impl TableBuilder {
     ghost use Rattle.std.specs.Prelude.{◌≢◌, ◌<◌, ◌≤◌, ◌++◌, ℕ, [], IfOk, IfErr};
     ghost use Rattle.arrow_schema.specs.Limits.{IsWithinLimits};
     ghost use Rattle.values.specs.TableView.{table_of, is_in_parts};
-    ghost use Rattle.store.specs.inner.Gathered.{gathered_table};
+    ghost use Rattle.store.specs.inner.TableBuilder.{table_so_far};
 
     /// No rows yet.
-    pub(crate) fn empty(alloc: Global, schema: Schema) -> Gathered
+    pub(crate) fn empty(alloc: Global, schema: Schema) -> TableBuilder
         requires { IsWithinLimits (schema_of schema) }
-        ensures { gathered_table result ≡ record { schema = schema_of schema; rows = [] } }
+        ensures { table_so_far result ≡ record { schema = schema_of schema; rows = [] } }
     {
-        Gathered {
+        TableBuilder {
             schema,
             parts: Vec::new(alloc),
             weight: 0,
@@ -44,21 +44,21 @@ impl Gathered {
     ///
     /// # Errors
     /// `Weight` where the rows are too heavy together; `OutOfMemory`.
-    pub(crate) fn append(self, more: Weighed) -> Result<Gathered, TableError>
-        requires schema { (table_of more.table).schema ≡ (gathered_table self).schema }
+    pub(crate) fn append(self, more: WeighedTable) -> Result<TableBuilder, TableError>
+        requires schema { (table_of more.table).schema ≡ (table_so_far self).schema }
         requires weight { more.weight ≡ table_weight (table_of more.table).schema (table_of more.table).rows }
         requires in_parts { is_in_parts more.table ≡ true }
-        ensures joined { IfOk result (λ g. gathered_table g
-            ≡ record { schema = (gathered_table self).schema; rows = (gathered_table self).rows ++ (table_of more.table).rows }) }
-        ensures light { IfOk result (λ g. table_weight (gathered_table g).schema (gathered_table g).rows ≤ MAX_TABLE_WEIGHT) }
+        ensures joined { IfOk result (λ g. table_so_far g
+            ≡ record { schema = (table_so_far self).schema; rows = (table_so_far self).rows ++ (table_of more.table).rows }) }
+        ensures light { IfOk result (λ g. table_weight (table_so_far g).schema (table_so_far g).rows ≤ MAX_TABLE_WEIGHT) }
         ensures heavy { IfErr result (λ e. e ≡ TableError.Weight
-            → MAX_TABLE_WEIGHT < table_weight (gathered_table self).schema ((gathered_table self).rows ++ (table_of more.table).rows)) }
+            → MAX_TABLE_WEIGHT < table_weight (table_so_far self).schema ((table_so_far self).rows ++ (table_of more.table).rows)) }
         ensures fit { IfErr result (λ e. (i : ℕ) → e ≢ TableError.Unfit i) }
     {
         tables_are_joined_and_cut();
-        let Weighed { table, weight } = more;
+        let WeighedTable { table, weight } = more;
         table.schema();
-        let Gathered {
+        let TableBuilder {
             schema,
             mut parts,
             weight: so_far,
@@ -68,7 +68,7 @@ impl Gathered {
         }
         let mut new = table.into_parts();
         parts.append(&mut new)?;
-        Ok(Gathered {
+        Ok(TableBuilder {
             schema,
             parts,
             weight: so_far + weight,
@@ -77,9 +77,9 @@ impl Gathered {
 
     /// The table of the rows.
     pub(crate) fn finish(self, alloc: Global) -> Result<Table, AllocError>
-        ensures { IfOk result (λ table. table_of table ≡ gathered_table self) }
+        ensures { IfOk result (λ table. table_of table ≡ table_so_far self) }
     {
-        let Gathered { schema, parts, .. } = self;
+        let TableBuilder { schema, parts, .. } = self;
         Table::from_parts(alloc, schema, parts)
     }
 }

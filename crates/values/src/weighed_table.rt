@@ -7,7 +7,7 @@ use crate::Table;
 
 /// A table, and what its rows weigh.
 #[derive(Drop)]
-pub struct Weighed {
+pub struct WeighedTable {
     pub table: Table,
     pub weight: u64,
     ghost weighs: { weight ≡ table_weight (table_of table).schema (table_of table).rows },

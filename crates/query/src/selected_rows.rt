@@ -6,7 +6,7 @@ use cells::Value;
 
 /// The cells of some rows, one after another.
 #[derive(Drop)]
-pub(crate) struct Kept {
+pub(crate) struct SelectedRows {
     pub(crate) cells: Vec<Value>,
     pub(crate) rows: usize,
 }

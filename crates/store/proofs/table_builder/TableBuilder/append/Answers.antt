@@ -10,7 +10,7 @@ use Rattle.values.specs.Parts.{parts_table}
 use Rattle.values.specs.Table.{IsTable}
 use Rattle.values.specs.TableView.{table_of}
 use Rattle.store.proofs.MoreRows.{more_rows, more_weight, more_sound, more_table}
-use Rattle.store.proofs.gathered.Gathered.append.Goals as goal
+use Rattle.store.proofs.table_builder.TableBuilder.append.Goals as goal
 
 pub invariant_of-result : goal.invariant_of-result
 invariant_of-result c =

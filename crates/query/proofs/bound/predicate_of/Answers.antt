@@ -4,12 +4,12 @@ use Rattle.arrow_schema.specs.Column.{Kind}
 use Rattle.arrow_schema.specs.View.{kind_of}
 use Rattle.cells.specs.View.{cell}
 use Rattle.query.specs.declared.operator.Operator.{Operator}
-use Rattle.query.specs.Bound.{against, demand_of, not_comparable}
+use Rattle.query.specs.Bound.{against, predicate_of, not_comparable}
 use Rattle.query.specs.Literal.{is_comparable, literal_of}
 use Rattle.query.specs.Query.{comparison}
-use Rattle.query.proofs.bound.demand_of.Goals as goal
+use Rattle.query.proofs.bound.predicate_of.Goals as goal
 
-compared : (kind : Kind) (o : Operator) (text : List ℕ) (b : Bool) → is_comparable kind ≡ b → demand_of kind (comparison o text) ≡ (if b then against o (literal_of kind text) else Err not_comparable)
+compared : (kind : Kind) (o : Operator) (text : List ℕ) (b : Bool) → is_comparable kind ≡ b → predicate_of kind (comparison o text) ≡ (if b then against o (literal_of kind text) else Err not_comparable)
 compared kind o text b e = ap (λ (x : Bool). if x then against o (literal_of kind text) else Err not_comparable) e
 
 pub returns-then-not-is_comparable-clause-refused : goal.returns-then-not-is_comparable-clause-refused

@@ -1,6 +1,6 @@
 -- What the test of a schema counts as it goes over the columns. Numbers stay at the greatest of 64 bits.
 use Rattle.std.specs.Prelude.{ℕ, ◌+◌, ◌-◌, ◌^◌, min, ◌&&◌, List, [], ◌∷◌}
-use Rattle.arrow_schema.specs.declared.limits.Tally.{Tally}
+use Rattle.arrow_schema.specs.declared.limits.SchemaTotals.{SchemaTotals}
 use Rattle.arrow_schema.specs.Column.{Column}
 use Rattle.arrow_schema.specs.Limits.{pairs_in, bytes_in, has_number_in_range, has_flat_dictionary}
 
@@ -8,7 +8,7 @@ abbrev pub saturated : ℕ → ℕ
 saturated n = min n (2 ^ 64 - 1)
 
 -- after one column more
-unfoldable pub tallied_one : Tally → Column → Tally
+unfoldable pub tallied_one : SchemaTotals → Column → SchemaTotals
 tallied_one t c = record {
   fields = saturated (t.fields + 1);
   pairs = saturated (t.pairs + pairs_in c);
@@ -17,6 +17,6 @@ tallied_one t c = record {
   dictionaries_fit = t.dictionaries_fit && has_flat_dictionary c;
 }
 
-unfoldable pub tallied : Tally → List Column → Tally
+unfoldable pub tallied : SchemaTotals → List Column → SchemaTotals
 tallied t [] = t
 tallied t (c ∷ cs) = tallied (tallied_one t c) cs

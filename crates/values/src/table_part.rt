@@ -10,7 +10,7 @@ pub struct Batch {
 
 /// Record batches whose arrays are places in the same bytes.
 #[derive(Drop)]
-pub struct Part {
+pub struct TablePart {
     pub bytes: Vec<u8>,
     pub dictionaries: Vec<Dictionary>,
     pub batches: Vec<Batch>,
