@@ -26,6 +26,7 @@ mod RunArrays
 mod RunBits
 mod RunColumns
 mod RunContents
+mod SlotOffsets
 mod RunFixedItems
 mod RunFlags
 mod RunItems

@@ -15,7 +15,7 @@ use Rattle.array_build.specs.Batch.{PlainBatch, built_at, plain_column, with_arr
 use Rattle.array_build.specs.inner.Masked.{joined, masked, masked_cells, masked_slots, slots_mask}
 use Rattle.array_build.specs.inner.MaskedContents.{with_contents}
 use Rattle.array_build.specs.inner.Nodes.{with_node, with_buffer, with_slots}
-use Rattle.array_build.specs.inner.Runs.{bitmap_of, cell_sizes, contents_width, fixed_value, fixed_width, kind_cells, run_bits, run_values, runs_bits, runs_values, with_run_slots}
+use Rattle.array_build.specs.inner.Runs.{bitmap_of, contents_width, fixed_value, fixed_width, kind_cells, run_bits, run_values, runs_bits, runs_values, with_run_slots}
 use Rattle.columns.specs.Runs.{run_cells}
 use Rattle.columns.specs.declared.slot_runs.SlotRun.{SlotRun}
 use Rattle.columns.specs.declared.slot_runs.SlotRun.TheVariants.{Slots, Nulls}
@@ -23,7 +23,7 @@ use Rattle.bitmap.specs.Bits.{bit, packed}
 use Rattle.cells.specs.Cell.{Cell, null}
 use Rattle.cells.specs.Nulls.{is_there}
 use Rattle.columns.specs.Array.{Array, bits_in}
-use Rattle.columns.specs.Built.{is_set, contents_of, offsets_of, validity_of}
+use Rattle.columns.specs.Built.{is_set, validity_of}
 use Rattle.columns.specs.CellAt.{cell_at, kind_cell, cells_from, is_valid}
 use Rattle.columns.specs.Tests.{unset_bits}
 use Rattle.columns.specs.View.{view_array}

@@ -225,14 +225,6 @@ offset_room width a i few lt =
     let most : (i + 1 + 1) * width ≤ (slots_in a + 1) * width = mul-le-mul_right width (omega arith) in
     omega (arith, long, most)
 
-pub next_end : (width : ℕ) (a : Array) → are_unordered width (length (contents_in a)) a ≡ false → (from len i next start : ℕ) → from + len ≤ slots_in a → i < from + len
-    → next + length (span_contents width a i (from + len - i)) ≡ start + length (span_contents width a from len)
-    → next + span_size width a i + length (span_contents width a (i + 1) (from + len - (i + 1))) ≡ start + length (span_contents width a from len)
-next_end width a up from len i next start within lt h =
-    let left : from + len - i ≡ suc (from + len - (i + 1)) = omega arith in
-    let whole = ap (λ (n : ℕ). length (span_contents width a i n)) left ∙ span_length width a up i (from + len - (i + 1)) (omega arith) in
-    omega (arith, whole, h)
-
 -- offsets up to the largest hold all texts or binaries that can be built
 pub contents_room : (kind : Kind) (width : ℕ) (cells : List Cell) → contents_width kind ≡ Some width → can_build (plain_column kind None) cells ≡ true → length (flat_map contents_of cells) ≤ large_offset
 contents_room texts width cells is h = leb-true _ _ (texts_fit Four cells h)

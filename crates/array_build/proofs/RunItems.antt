@@ -1,25 +1,21 @@
 -- The items of lists, and their offsets, of slots one after another.
 use Rattle.std.specs.Prelude.{Some, nat_le, replicate}
 use Rattle.std.specs.List.{flat_map, list_all, range_with_len}
-use Rattle.std.proofs.Common.{◌≡◌, ℕ, zero, suc, ◌+◌, ◌-◌, ◌≤◌, ◌<◌, ◌++◌, Bool, true, false, List, [], ◌∷◌, length, get_or, drop, refl, ap, ap₂, sym, ◌∙◌, arith, append_assoc, append-nil, length-append}
+use Rattle.std.proofs.Common.{◌≡◌, ℕ, zero, suc, ◌+◌, ◌-◌, ◌≤◌, ◌<◌, ◌++◌, Bool, true, false, List, [], ◌∷◌, length, drop, refl, ap, ap₂, sym, ◌∙◌, arith, append_assoc, append-nil, length-append}
 use Rattle.std.proofs.lemmas.Bool.{and_parts, and_from, leb-true, le-leb}
-use Rattle.std.proofs.lemmas.List.{drop_more}
 use Rattle.std.proofs.lemmas.List.Concat.{flat_map-append}
 use Rattle.std.proofs.lemmas.List.Folds.{list_all-append}
 use Rattle.std.proofs.lemmas.List.FromFn.{length-map-range_with_len}
-use Rattle.byteorder.specs.Endian.{little_bytes}
 use Rattle.arrow_schema.specs.Column.{Column, lists, large_lists}
 use Rattle.array_build.proofs.Arrays.{lists_are}
 use Rattle.array_build.proofs.AsWritten.{no_byte_below, null_slot}
 use Rattle.array_build.proofs.Premises.{lists_fit}
 use Rattle.array_build.proofs.Repeated.{none_each}
-use Rattle.array_build.proofs.RunArrays.{kind_slots, count_run}
-use Rattle.array_build.proofs.RunContents.{offsets_with, one_offset}
-use Rattle.array_build.proofs.RunSlots.{slots_counted}
+use Rattle.array_build.proofs.RunArrays.{kind_slots}
 use Rattle.array_build.specs.Batch.{PlainBatch, built_at, with_arrays}
 use Rattle.array_build.specs.inner.Nodes.{list_kind, with_buffer, with_slots}
 use Rattle.array_build.specs.inner.RunItems.{AreItems, HasSlots, list_column, list_sizes, run_lists}
-use Rattle.array_build.specs.inner.Runs.{is_as_written, is_run_as_written, kind_cells, offsets_width, run_bits, runs_bits, with_run_slots}
+use Rattle.array_build.specs.inner.Runs.{is_as_written, is_run_as_written, kind_cells, offsets_width, runs_bits, slot_sizes, span_of, with_run_slots}
 use Rattle.columns.specs.Runs.{run_cells, runs_cells, is_run_sound, are_runs_sound}
 use Rattle.columns.specs.declared.slot_runs.SlotRun.{SlotRun}
 use Rattle.columns.specs.declared.slot_runs.SlotRun.TheVariants.{Slots, Nulls}
@@ -40,26 +36,6 @@ use Rattle.columns.specs.declared.view.ArrayView.{ArrayView}
 use Rattle.columns.specs.laws.Offsets.{offsets_ascend, spans_fit}
 use Rattle.columns.specs.laws.SoundParts.{sound_buffer, sound_offsets, sound_children}
 use Rattle.columns.specs.laws.Rows.{cells_from-append}
-
--- ---- cells one after another
-
-cell_get : (g : ℕ → Cell) (s n i : ℕ) → i < n → get_or (cells_from g s n) i null ≡ g (s + i)
-cell_get g s zero i lt = absurd (omega arith)
-cell_get g s (suc n) zero lt = let e : s ≡ s + 0 = omega arith in ap g e
-cell_get g s (suc n) (suc i) lt = let e : s + 1 + i ≡ s + suc i = omega arith in cell_get g (s + 1) n i (omega arith) ∙ ap g e
-
-null_get : (n i : ℕ) → get_or (replicate n null) i null ≡ null
-null_get zero zero = refl
-null_get zero (suc i) = refl
-null_get (suc n) zero = refl
-null_get (suc n) (suc i) = null_get n i
-
-valid_at : (p : ℕ → Bool) (s n i : ℕ) → list_all p (range_with_len s n) ≡ true → i < n → p (s + i) ≡ true
-valid_at p s zero i h lt = absurd (omega arith)
-valid_at p s (suc n) zero h lt = let e : s + 0 ≡ s = omega arith in ap p e ∙ (and_parts (p s) (list_all p (range_with_len (s + 1) n)) h).0
-valid_at p s (suc n) (suc i) h lt =
-    let e : s + suc i ≡ s + 1 + i = omega arith in
-    ap p e ∙ valid_at p (s + 1) n i (and_parts (p s) (list_all p (range_with_len (s + 1) n)) h).1 (omega arith)
 
 -- ---- lists that stand as they are written
 
@@ -183,46 +159,37 @@ items_of_nulls width item n run is = record {
   sound = refl;
 }
 
--- ---- how many items a list has
+-- ---- how many items each list has
 
-pub slot_count : (v : ArrayView) (from n i : ℕ) (run : SlotRun) → run ≡ Slots v from n → i < length (run_bits run) → i < n
-slot_count v from n i run is lt =
-    let count = slots_counted v from n run is in
-    omega (arith, count, lt)
+slot_list_sizes : (width : OffsetWidth) (item : Column) (a : Array) (from n : ℕ) → list_all (is_as_written (list_kind width item) a) (range_with_len from n) ≡ true
+    → list_sizes (cells_from (cell_at (list_column width item) a) from n) ≡ slot_sizes (width_of width) a from n
+slot_list_sizes width item a from zero written = refl
+slot_list_sizes width item a from (suc n) written =
+    let both = and_parts (is_as_written (list_kind width item) a from) (list_all (is_as_written (list_kind width item) a) (range_with_len (from + 1) n)) written in
+    let size : length (item_list (cell_at (list_column width item) a from)) ≡ span_size (width_of width) a from =
+    ap length (slot_items width item a from both.0) ∙ length-map-range_with_len (cell_at item (items_in a)) (span_start (width_of width) a from) (span_size (width_of width) a from) in
+    ap₂ (λ (k : ℕ) (ks : List ℕ). k ∷ ks) size (slot_list_sizes width item a (from + 1) n both.1)
 
-pub slot_list : (width : OffsetWidth) (item : Column) (v : ArrayView) (from n i : ℕ) (run : SlotRun) → run ≡ Slots v from n → AreLists width item v from n → i < n
-    → length (item_list (get_or (run_lists width item run) i null)) ≡ span_size (width_of width) (view_array v) (from + i)
-slot_list width item v from n i run is are lt =
-    let a : Array = view_array v in
-    ap (λ (r : SlotRun). length (item_list (get_or (run_lists width item r) i null))) is
-    ∙ ap (λ (c : Cell). length (item_list c)) (cell_get (cell_at (list_column width item) a) from n i lt)
-    ∙ ap length (slot_items width item a (from + i) (valid_at (is_as_written (list_kind width item) a) from n i are.written lt))
-    ∙ length-map-range_with_len (cell_at item (items_in a)) (span_start (width_of width) a (from + i)) (span_size (width_of width) a (from + i))
+pub run_list_sizes : (width : OffsetWidth) (item : Column) (v : ArrayView) (from n : ℕ) (run : SlotRun) → run ≡ Slots v from n → AreLists width item v from n
+    → list_sizes (run_lists width item run) ≡ slot_sizes (width_of width) (view_array v) from n
+run_list_sizes width item v from n run is are = ap (λ (r : SlotRun). list_sizes (run_lists width item r)) is ∙ slot_list_sizes width item (view_array v) from n are.written
 
-pub null_list : (width : OffsetWidth) (item : Column) (n i : ℕ) (run : SlotRun) → run ≡ Nulls n → 0 ≡ length (item_list (get_or (run_lists width item run) i null))
-null_list width item n i run is =
-    sym (ap (λ (r : SlotRun). length (item_list (get_or (run_lists width item r) i null))) is ∙ ap (λ (c : Cell). length (item_list c)) (null_get n i))
+pub run_list_items : (width : OffsetWidth) (item : Column) (v : ArrayView) (from n : ℕ) (run : SlotRun) → run ≡ Slots v from n → AreLists width item v from n
+    → length (flat_map item_list (run_lists width item run)) ≡ span_of (width_of width) (view_array v) from n
+run_list_items width item v from n run is are =
+    ap (λ (r : SlotRun). length (flat_map item_list (run_lists width item r))) is
+    ∙ ap length (slots_items width item (view_array v) from n are.up are.within are.written)
+    ∙ length-map-range_with_len (cell_at item (items_in (view_array v))) (span_start (width_of width) (view_array v) from) (span_of (width_of width) (view_array v) from n)
 
--- ---- offsets, one by one
+null_sizes : (n : ℕ) → list_sizes (replicate n null) ≡ replicate n 0
+null_sizes zero = refl
+null_sizes (suc n) = ap (λ (ks : List ℕ). 0 ∷ ks) (null_sizes n)
 
-pub count_lists : (width : OffsetWidth) (item : Column) (run : SlotRun) (count : ℕ) → count ≡ length (run_bits run) → count ≡ length (run_lists width item run)
-count_lists width item run count is = is ∙ count_run (list_kind width item) run
+pub null_list_sizes : (width : OffsetWidth) (item : Column) (n : ℕ) (run : SlotRun) → run ≡ Nulls n → list_sizes (run_lists width item run) ≡ replicate n 0
+null_list_sizes width item n run is = ap (λ (r : SlotRun). list_sizes (run_lists width item r)) is ∙ null_sizes n
 
-sizes_more : (cells : List Cell) (i size : ℕ) → i < length cells → size ≡ length (item_list (get_or cells i null)) → list_sizes (drop i cells) ≡ size ∷ list_sizes (drop (i + 1) cells)
-sizes_more cells i size lt is = ap list_sizes (drop_more cells i null lt) ∙ ap (λ (k : ℕ). k ∷ list_sizes (drop (i + 1) cells)) (sym is)
-
-pub list_offset : (width : ℕ) (written : List ℕ) (next : ℕ) (cells : List Cell) (i size : ℕ) (rest : List ℕ) → i < length cells → size ≡ length (item_list (get_or cells i null))
-    → offsets_with width (written ++ little_bytes width next) (next + size) (list_sizes (drop (i + 1) cells)) rest ≡ offsets_with width written next (list_sizes (drop i cells)) rest
-list_offset width written next cells i size rest lt is =
-    one_offset width written next size (list_sizes (drop (i + 1) cells)) rest
-    ∙ ap (λ (ns : List ℕ). offsets_with width written next ns rest) (sym (sizes_more cells i size lt is))
-
-pub list_end : (cells : List Cell) (i size : ℕ) → i < length cells → size ≡ length (item_list (get_or cells i null))
-    → length (flat_map item_list (drop i cells)) ≡ size + length (flat_map item_list (drop (i + 1) cells))
-list_end cells i size lt is =
-    ap (λ (cs : List Cell). length (flat_map item_list cs)) (drop_more cells i null lt)
-    ∙ length-append (item_list (get_or cells i null)) (flat_map item_list (drop (i + 1) cells))
-    ∙ ap (λ (k : ℕ). k + length (flat_map item_list (drop (i + 1) cells))) (sym is)
+pub null_list_items : (width : OffsetWidth) (item : Column) (n : ℕ) (run : SlotRun) → run ≡ Nulls n → length (flat_map item_list (run_lists width item run)) ≡ 0
+null_list_items width item n run is = ap (λ (r : SlotRun). length (flat_map item_list (run_lists width item r))) is ∙ ap length (none_each item_list null n refl)
 
 -- offsets up to the largest hold the items of the run that a loop is at
 pub list_room : (width : OffsetWidth) (item : Column) (runs : List SlotRun) (i : ℕ) (run : SlotRun) (next : ℕ) → can_build (list_column width item) (kind_cells (list_kind width item) runs) ≡ true

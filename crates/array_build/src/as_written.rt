@@ -12,7 +12,7 @@ ghost use Rattle.columns.specs.Offsets.{width_of};
 ghost use Rattle.columns.specs.Tests.{are_few_offsets, has_short_validity};
 ghost use Rattle.columns.specs.View.{view_array};
 
-use crate::run_contents::offset_at;
+use crate::number_bytes::offset_at;
 use crate::run_slots::are_all_valid;
 use crate::widths::{offsets_width, value_width};
 use arrow_schema::DataType;

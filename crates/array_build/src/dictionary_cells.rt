@@ -9,6 +9,7 @@ ghost use Rattle.cells.specs.Entry.{entry_cell};
 ghost use Rattle.columns.specs.Built.{entry_index, index_bytes, place_or_zero};
 ghost use Rattle.values.specs.Borrowed.{borrowed_cell};
 
+use crate::number_bytes::put_number;
 use arrow_schema::{BitWidth, IntegerType};
 use cells::{Entry, note};
 use indexmap::IndexSet;
@@ -136,6 +137,5 @@ pub(crate) fn put_code<const SIZE: usize>(indices: &mut [u8], at: usize, code: O
     requires room { at + SIZE ≤ length indices.old }
     ensures { indices.new ≡ take at indices.old ++ (sized_code SIZE code ++ drop (at + SIZE) indices.old) }
 {
-    let index = place_or_zero(code);
-    indices[at..at + SIZE].copy_from_slice(&index.to_le_bytes()[..SIZE]);
+    put_number::<SIZE>(indices, at, place_or_zero(code));
 }

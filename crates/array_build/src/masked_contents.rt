@@ -1,5 +1,5 @@
 // Texts and binaries under a mask: a slot whose bit is not set has no bytes, whatever stands there.
-ghost use Rattle.std.specs.Prelude.{◌≡◌, ◌≤◌, ◌<◌, ◌+◌, ◌-◌, ◌*◌, ◌^◌, ◌++◌, [], false, true, OnOk, IfOk, Some, None, length, if◌then◌else◌};
+ghost use Rattle.std.specs.Prelude.{◌≡◌, ◌≤◌, ◌<◌, ◌+◌, ◌-◌, ◌*◌, ◌^◌, ◌++◌, ℕ, List, [], false, true, OnOk, IfOk, Some, None, length, if◌then◌else◌};
 ghost use Rattle.std.specs.List.{flat_map};
 ghost use Rattle.array_build.specs.Batch.{batch_in, plain_column};
 ghost use Rattle.array_build.specs.inner.Masked.{AddsMasked, IsMask, are_below, mask_bits, masked_cells};
@@ -17,9 +17,11 @@ ghost use Rattle.columns.specs.Tests.{are_few_offsets, are_unordered};
 ghost use Rattle.columns.specs.View.{view_array};
 
 use crate::batch::{BuiltBatch, push_any_buffer, push_buffer};
-use crate::run_contents::{offset_at, push_null_offsets, run_contents, run_offsets, slot_contents};
+use crate::number_bytes::{offset_at, put_offset};
+use crate::run_contents::{push_null_offsets, run_contents, run_offsets, slot_contents};
 use crate::run_slots::{count_slots, run_len};
 use crate::slot_masks::push_masked_slots;
+use crate::widths::offset_size;
 use arrow_schema::DataType;
 use bitmap::{get, run_end};
 use columns::{ArrayView, OffsetWidth, SlotRun, push_offset};
@@ -40,7 +42,40 @@ fn masked_size(offsets: &[u8], width: OffsetWidth, i: usize, mask: &[u8], at: us
     }
 }
 
-// The offsets at which the bytes of some slots begin, by the bits of a mask from one on up to another; and where the last end.
+// Writes the offsets at which the bytes of slots begin, by the bits of a mask from one on up to another, over as many; and answers where the last end.
+fn put_slot_offsets(
+    room: &mut [u8],
+    width: OffsetWidth,
+    array: ArrayView<'_>,
+    from: usize,
+    mask: &[u8],
+    at: usize,
+    to: usize,
+    start: u64,
+) -> u64
+    requires long { are_few_offsets (width_of width) (view_array array) ≡ false }
+    requires ordered { are_unordered (width_of width) (length (contents_in (view_array array))) (view_array array) ≡ false }
+    requires order { at ≤ to }
+    requires bits { to ≤ 8 * length mask.now }
+    requires within { from + (to - at) ≤ slots_in (view_array array) }
+    requires fits { start + length (masked_spans (width_of width) (view_array array) from (mask_bits mask.now at (to - at))) ≤ large_offset }
+    requires room { length room.old ≡ width_of width * (to - at) }
+    ensures offsets { (front : List ℕ) → AreOffsetsAdded (width_of width) front (front ++ room.new) start result
+        (masked_sizes (width_of width) (view_array array.entry) from (mask_bits mask.now at (to - at))) }
+    ensures next { result ≡ start + length (masked_spans (width_of width) (view_array array.entry) from (mask_bits mask.now at (to - at))) }
+{
+    // a number of the code is below 2^64, so that each place is too
+    let _slots = array.slots();
+    let source = array.offsets();
+    let mut next = start;
+    for i in at..to {
+        put_offset(room, width, i - at, next);
+        next += masked_size(source, width, from + (i - at), mask, i);
+    }
+    next
+}
+
+// The same after other offsets.
 fn push_slot_offsets(
     offsets: &mut Vec<u8>,
     width: OffsetWidth,
@@ -56,20 +91,32 @@ fn push_slot_offsets(
     requires order { at ≤ to }
     requires bits { to ≤ 8 * length mask.now }
     requires within { from + (to - at) ≤ slots_in (view_array array) }
-    requires room { start + length (masked_spans (width_of width) (view_array array) from (mask_bits mask.now at (to - at))) ≤ large_offset }
+    requires fits { start + length (masked_spans (width_of width) (view_array array) from (mask_bits mask.now at (to - at))) ≤ large_offset }
     ensures offsets { IfOk result (λ next. AreOffsetsAdded (width_of width) offsets.old.items offsets.new.items start next
         (masked_sizes (width_of width) (view_array array.entry) from (mask_bits mask.now at (to - at)))) }
     ensures next { IfOk result (λ next. next
         ≡ start + length (masked_spans (width_of width) (view_array array.entry) from (mask_bits mask.now at (to - at)))) }
 {
-    // a number of the code is below 2^64, so that each place is too
+    if at == to {
+        return Ok(start);
+    }
+    // a number of the code is below 2^64, so that the sum is too
     let _slots = array.slots();
     let source = array.offsets();
-    let mut next = start;
-    for i in at..to {
-        push_offset(offsets, width, next)?;
-        next += masked_size(source, width, from + (i - at), mask, i);
-    }
+    let size = offset_size(width);
+    let begin = offsets.len();
+    // room for as many, in which each is then written anew
+    offsets.extend_from_slice(&source[size * from..size * (from + (to - at))])?;
+    let next = put_slot_offsets(
+        &mut offsets[begin..],
+        width,
+        array,
+        from,
+        mask,
+        at,
+        to,
+        start,
+    );
     Ok(next)
 }
 
@@ -118,7 +165,7 @@ pub(crate) fn masked_offsets(
         ≡ offsets_of (width_of width) (cell_sizes (runs_under (kind_of data_type.now) mask.now 0 runs.now))) }
 {
     let slots = count_slots(runs)?;
-    let size = slots.saturating_add(1).saturating_mul(8);
+    let size = slots.saturating_add(1).saturating_mul(offset_size(width));
     let mut offsets = Vec::with_capacity(alloc, size)?;
     let mut next = 0;
     let mut at = 0;

@@ -1,23 +1,23 @@
 // The bytes of texts and binaries, and where they end, of runs that stand as they are written.
-ghost use Rattle.std.specs.Prelude.{◌≡◌, ◌≤◌, ◌+◌, ◌++◌, ◌*◌, false, true, OnOk, IfOk, Some, None, length, replicate};
+ghost use Rattle.std.specs.Prelude.{◌≡◌, ◌≤◌, ◌+◌, ◌++◌, false, true, OnOk, IfOk, Some, None, length, replicate};
 ghost use Rattle.std.specs.List.{flat_map};
 ghost use Rattle.array_build.specs.Batch.{buffer_bytes, plain_column};
-ghost use Rattle.array_build.specs.inner.Runs.{AreAsWritten, AreOffsetsAdded, cell_sizes, contents_width, is_run_as_written, kind_cells, slot_sizes, span_contents};
+ghost use Rattle.array_build.specs.inner.Runs.{AreAsWritten, AreOffsetsAdded, cell_sizes, contents_width, is_run_as_written, kind_cells, span_contents};
 ghost use Rattle.columns.specs.Runs.{is_run_sound, run_cells};
 ghost use Rattle.columns.specs.declared.slot_runs.SlotRun.TheVariants.{Slots};
 ghost use Rattle.arrow_schema.specs.View.{kind_of};
-ghost use Rattle.columns.specs.Array.{slots_in, contents_in};
+ghost use Rattle.columns.specs.Array.{slots_in};
 ghost use Rattle.columns.specs.Buildable.{large_offset};
 ghost use Rattle.columns.specs.Built.{contents_of, offsets_of};
-ghost use Rattle.columns.specs.CellAt.{number_at};
 ghost use Rattle.columns.specs.Offsets.{width_of};
-ghost use Rattle.columns.specs.Tests.{are_few_offsets, are_unordered};
+ghost use Rattle.columns.specs.Tests.{are_few_offsets};
 ghost use Rattle.columns.specs.View.{view_array};
 
 use crate::batch::Buffer;
 use crate::run_slots::{count_slots, only_run};
+use crate::slot_offsets::push_slot_offsets;
+use crate::widths::offset_size;
 use arrow_schema::DataType;
-use byteorder::{ByteOrder, LittleEndian};
 use columns::{ArrayView, OffsetWidth, SlotRun, bytes_at, push_offset};
 use std::alloc::{AllocError, Global};
 
@@ -112,42 +112,6 @@ pub(crate) fn run_contents<'a>(
     Ok(Buffer::Made(copied_contents(alloc, data_type, width, runs)?))
 }
 
-pub(crate) fn offset_at(offsets: &[u8], width: OffsetWidth, i: usize) -> u64
-    requires { (i + 1) * width_of width ≤ length offsets.now }
-    ensures { result ≡ number_at (width_of width) offsets.now i }
-{
-    match width {
-        OffsetWidth::Four => u64::from(LittleEndian::read_u32(&offsets[i * 4..])),
-        OffsetWidth::Eight => LittleEndian::read_u64(&offsets[i * 8..]),
-    }
-}
-
-// The offsets at which the bytes of some slots begin, where the first begin at `start`; and where the last end.
-fn push_slot_offsets(
-    offsets: &mut Vec<u8>,
-    width: OffsetWidth,
-    array: ArrayView<'_>,
-    from: usize,
-    len: usize,
-    start: u64,
-) -> Result<u64, AllocError>
-    requires long { are_few_offsets (width_of width) (view_array array) ≡ false }
-    requires ordered { are_unordered (width_of width) (length (contents_in (view_array array))) (view_array array) ≡ false }
-    requires within { from + len ≤ slots_in (view_array array) }
-    requires room { start + length (span_contents (width_of width) (view_array array) from len) ≤ large_offset }
-    ensures offsets { IfOk result (λ next. AreOffsetsAdded (width_of width) offsets.old.items offsets.new.items start next
-        (slot_sizes (width_of width) (view_array array.entry) from len)) }
-    ensures next { IfOk result (λ next. next ≡ start + length (span_contents (width_of width) (view_array array.entry) from len)) }
-{
-    let source = array.offsets();
-    let mut next = start;
-    for i in from..from + len {
-        push_offset(offsets, width, next)?;
-        next += offset_at(source, width, i + 1) - offset_at(source, width, i);
-    }
-    Ok(next)
-}
-
 /// The same offset for each of some nulls.
 pub(crate) fn push_null_offsets(
     offsets: &mut Vec<u8>,
@@ -201,7 +165,9 @@ pub(crate) fn run_offsets(
     requires ready { AreAsWritten (kind_of data_type.now) runs.now }
     ensures { IfOk result (λ bytes. bytes.items ≡ offsets_of (width_of width) (cell_sizes (kind_cells (kind_of data_type.now) runs.now))) }
 {
-    let size = count_slots(runs)?.saturating_add(1).saturating_mul(8);
+    let size = count_slots(runs)?
+        .saturating_add(1)
+        .saturating_mul(offset_size(width));
     let mut offsets = Vec::with_capacity(alloc, size)?;
     let mut next = 0;
     for run in runs {

@@ -1,40 +1,24 @@
 // The items of lists, and where they end, of runs that stand as they are written.
-ghost use Rattle.std.specs.Prelude.{◌≡◌, ◌≤◌, ◌<◌, ◌+◌, true, IfOk, length, get_or};
+ghost use Rattle.std.specs.Prelude.{◌≡◌, ◌≤◌, ◌+◌, true, IfOk, length};
 ghost use Rattle.std.specs.List.{flat_map};
 ghost use Rattle.array_build.specs.inner.Nodes.{list_kind};
 ghost use Rattle.array_build.specs.inner.RunItems.{AreItems, list_column, list_sizes, run_lists};
-ghost use Rattle.array_build.specs.inner.Runs.{AreAsWritten, AreOffsetsAdded, is_run_as_written, kind_cells, run_bits};
+ghost use Rattle.array_build.specs.inner.Runs.{AreAsWritten, AreOffsetsAdded, is_run_as_written, kind_cells};
 ghost use Rattle.columns.specs.Runs.{are_runs_sound, is_run_sound, runs_cells};
 ghost use Rattle.arrow_schema.specs.View.{column_of};
-ghost use Rattle.cells.specs.Cell.{null};
 ghost use Rattle.cells.specs.Dictionary.{item_list};
 ghost use Rattle.columns.specs.Buildable.{large_offset};
 ghost use Rattle.columns.specs.Built.{list_offsets};
 ghost use Rattle.columns.specs.Offsets.{width_of};
 
 use crate::item_slots::item_slots;
-use crate::run_slots::{count_slots, run_len};
+use crate::run_contents::push_null_offsets;
+use crate::run_slots::count_slots;
+use crate::slot_offsets::push_slot_offsets;
+use crate::widths::offset_size;
 use arrow_schema::Field;
 use columns::{OffsetWidth, SlotRun, push_offset};
 use std::alloc::{AllocError, Global};
-
-// How many items the list at a place of a run has.
-fn list_size(item: &Field, width: OffsetWidth, run: &SlotRun<'_>, i: usize) -> usize
-    requires sound { is_run_sound (list_column width (column_of item.now)) run.now ≡ true }
-    requires written { is_run_as_written (list_kind width (column_of item.now)) run.now ≡ true }
-    requires within { i < length (run_bits run.now) }
-    ensures { result ≡ length (item_list (get_or (run_lists width (column_of item.now) run.now) i null)) }
-{
-    match run {
-        SlotRun::Slots { array, from, .. } => {
-            // a number of the code is below 2^64, so that the sum is too
-            let _slots = array.slots();
-            let slot = *from + i;
-            array.spanned(width, slot, 1).len
-        }
-        SlotRun::Nulls(_) => 0,
-    }
-}
 
 // The offsets at which the items of a run begin, where the first begin at `start`; and where the last end.
 fn push_list_offsets(
@@ -51,13 +35,15 @@ fn push_list_offsets(
         (list_sizes (run_lists width (column_of item.now) run.now))) }
     ensures next { IfOk result (λ next. next ≡ start + length (flat_map item_list (run_lists width (column_of item.now) run.now))) }
 {
-    let count = run_len(run);
-    let mut next = start;
-    for i in 0..count {
-        push_offset(offsets, width, next)?;
-        next += list_size(item, width, run, i) as u64;
+    match run {
+        SlotRun::Slots { array, from, len } => {
+            push_slot_offsets(offsets, width, *array, *from, *len, start)
+        }
+        SlotRun::Nulls(count) => {
+            push_null_offsets(offsets, width, *count, start)?;
+            Ok(start)
+        }
     }
-    Ok(next)
 }
 
 /// The offsets of lists: 0, and then where the items of each end.
@@ -70,7 +56,9 @@ pub(crate) fn run_list_offsets(
     requires { AreAsWritten (list_kind width (column_of item.now)) runs.now }
     ensures { IfOk result (λ bytes. bytes.items ≡ list_offsets (width_of width) (kind_cells (list_kind width (column_of item.now)) runs.now)) }
 {
-    let size = count_slots(runs)?.saturating_add(1).saturating_mul(8);
+    let size = count_slots(runs)?
+        .saturating_add(1)
+        .saturating_mul(offset_size(width));
     let mut offsets = Vec::with_capacity(alloc, size)?;
     let mut next = 0;
     for run in runs {

@@ -1,7 +1,7 @@
 -- What the entries of a dictionary weigh that is one array of texts or binaries.
-use Rattle.std.proofs.Common.{◌≡◌, ℕ, ◌+◌, ◌<◌, ◌≤◌, Bool, true, false, List, [], ◌∷◌, ◌++◌, Some, length, get_or, map, refl, ap, sym, arith, ◌∙◌}
+use Rattle.std.proofs.Common.{◌≡◌, ℕ, ◌+◌, ◌<◌, ◌≤◌, Bool, true, false, List, [], ◌∷◌, ◌++◌, Some, length, get_or, ap, sym, arith, ◌∙◌}
 use Rattle.std.specs.Prelude.{if◌then◌else◌}
-use Rattle.std.specs.List.{list_all, range_with_len}
+use Rattle.std.specs.List.{list_all}
 use Rattle.std.proofs.lemmas.Bool.{and_parts}
 use Rattle.std.proofs.lemmas.List.{get_or_append_left}
 use Rattle.std.proofs.lemmas.List.FromFn.{length-map-range_with_len, get_or-map-range_with_len}
@@ -9,7 +9,7 @@ use Rattle.arrow_schema.specs.Column.{Kind}
 use Rattle.cells.specs.Cell.{Cell, null}
 use Rattle.cells.specs.Weight.{capped_weight, kind_weight}
 use Rattle.columns.specs.Array.{Array, array_list, arrays_of, slots_in}
-use Rattle.columns.specs.CellAt.{cells_from, entries_of_kind, is_valid, kind_cell, span_size, unless_null}
+use Rattle.columns.specs.CellAt.{cells_from, is_valid, kind_cell, span_size, unless_null}
 use Rattle.columns.specs.Sound.{is_kind_sound}
 use Rattle.columns.specs.Offsets.{width_of}
 use Rattle.columns.specs.View.{view_array}

@@ -1,5 +1,5 @@
 // Slots of texts or binaries, with the buffers that each slot is read from.
-ghost use Rattle.std.specs.Prelude.{◌≡◌, ◌<◌, ◌≤◌, ◌+◌, ◌*◌, ◌&&◌, ℕ, false, length, if◌then◌else◌};
+ghost use Rattle.std.specs.Prelude.{◌≡◌, ◌<◌, ◌≤◌, ◌+◌, ◌-◌, ◌*◌, ◌&&◌, ℕ, false, length, if◌then◌else◌};
 ghost use Rattle.columns.specs.Array.{offsets_in, slots_in, validity_in};
 ghost use Rattle.columns.specs.CellAt.{is_valid, number_at, span_size};
 ghost use Rattle.columns.specs.Offsets.{width_of};
@@ -49,6 +49,21 @@ impl<'a> ValidSlots<'a> {
     {
         self.validity.is_empty() || bitmap::get(self.validity, i)
     }
+
+    /// Where a run of slots ends that are all valid, or all not, or `to` where it is longer.
+    #[inline]
+    pub(crate) fn run_to(self, from: usize, to: usize) -> usize
+        requires some { from < to }
+        requires within { to ≤ slots_in (view_array self.view) }
+        ensures begins { from < result }
+        ensures ends { result ≤ to }
+        ensures alike { (i : ℕ) → from ≤ i → i < result → is_valid (view_array self.entry.view) i ≡ is_valid (view_array self.entry.view) from }
+    {
+        if self.validity.is_empty() {
+            return to;
+        }
+        bitmap::run_end(self.validity, from, to)
+    }
 }
 
 /// The same of an array of texts or binaries, whose offsets are found once too.
@@ -85,6 +100,29 @@ impl<'a> SizedSlots<'a> {
         ensures { result ≡ slots_in (view_array self.entry.view) }
     {
         self.view.slots()
+    }
+
+    /// Which of them are valid.
+    #[inline]
+    pub(crate) fn valid(self) -> ValidSlots<'a>
+        ensures { result.view ≡ self.entry.view }
+    {
+        ValidSlots {
+            view: self.view,
+            validity: self.validity,
+        }
+    }
+
+    /// How many bytes there are between the offset of a slot and that of a later one, or of the end.
+    #[inline]
+    pub(crate) fn spanned(self, from: usize, to: usize) -> u64
+        requires some { from < to }
+        requires within { to ≤ slots_in (view_array self.view) }
+        ensures { let numbers = offsets_in (view_array self.entry.view) in let width = width_of self.entry.width in
+            result ≡ number_at width numbers to - number_at width numbers from }
+    {
+        let start = offset_at(self.offsets, self.width, from);
+        offset_at(self.offsets, self.width, to).saturating_sub(start)
     }
 
     // How many bytes there are between the offsets of a slot.

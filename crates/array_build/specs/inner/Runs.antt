@@ -96,6 +96,10 @@ contents_width _ = None
 abbrev pub span_contents : (width : ℕ) → Array → (from len : ℕ) → List ℕ
 span_contents width a from len = take (number_at width (offsets_in a) (from + len) - number_at width (offsets_in a) from) (drop (number_at width (offsets_in a) from) (contents_in a))
 
+-- how much stands between the offset of a slot and that of the n-th after it
+abbrev pub span_of : (width : ℕ) → Array → (from len : ℕ) → ℕ
+span_of width a from len = number_at width (offsets_in a) (from + len) - number_at width (offsets_in a) from
+
 -- how many bytes each of some slots has, and each of some cells
 abbrev pub slot_sizes : (width : ℕ) → Array → (from len : ℕ) → List ℕ
 slot_sizes width a from len = map (λ i. number_at width (offsets_in a) (i + 1) - number_at width (offsets_in a) i) (range_with_len from len)

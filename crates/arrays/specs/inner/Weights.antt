@@ -53,7 +53,11 @@ contents_width binaries = Some 4
 contents_width large_binaries = Some 8
 contents_width _ = None
 
--- what some slots have by their offsets, of those that are valid and are so in another array too
+-- what some slots have by their offsets, of those that are valid
+abbrev pub own_sizes : (width : ℕ) → Array → (start n : ℕ) → ℕ
+own_sizes width a start n = sum_from (λ (size : ℕ). size) (λ i. if is_valid a i then span_size width a i else 0) start n
+
+-- the same of those that are so in another array too
 abbrev pub masked_sizes : (width : ℕ) → (mask a : Array) → (start n : ℕ) → ℕ
 masked_sizes width mask a start n = sum_from (λ (size : ℕ). size) (λ i. if is_valid mask i && is_valid a i then span_size width a i else 0) start n
 

@@ -28,7 +28,7 @@ push_slot_offsets-requires c =
       order = omega arith;
       bits = omega (arith, many, c.requires.long);
       within = known.within;
-      room = subst (λ (bytes : List ℕ). c.args.start + length bytes ≤ large_offset) known.contents c.requires.room;
+      fits = subst (λ (bytes : List ℕ). c.args.start + length bytes ≤ large_offset) known.contents c.requires.room;
     }
 
 pub returns-in-Slots-clause-offsets : goal.returns-in-Slots-clause-offsets

@@ -1,54 +1,47 @@
-use Rattle.std.proofs.Common.{◌≡◌, ◌<◌, ◌+◌, ◌∙◌, ℕ, List, [], drop, length, ap, sym, arith}
+use Rattle.std.specs.Prelude.{IfOk}
 use Rattle.std.specs.List.{flat_map}
-use Rattle.std.proofs.lemmas.List.{drop_all}
-use Rattle.array_build.proofs.RunContents.{offsets_with}
-use Rattle.array_build.proofs.RunItems.{count_lists, list_end, list_offset}
+use Rattle.std.proofs.Common.{◌≡◌, ◌+◌, ◌++◌, ◌∙◌, ℕ, List, arith, ap, sym, subst}
+use Rattle.byteorder.specs.Endian.{little_bytes}
+use Rattle.array_build.proofs.RunItems.{are_lists, null_list_items, null_list_sizes, run_list_items, run_list_sizes}
 use Rattle.array_build.proofs.run_items.push_list_offsets.Goals as goal
-use Rattle.array_build.specs.inner.RunItems.{list_sizes, run_lists}
+use Rattle.array_build.specs.inner.Runs.{AreOffsetsAdded}
 use Rattle.arrow_schema.specs.View.{column_of}
-use Rattle.cells.specs.Cell.{Cell}
-use Rattle.cells.specs.Dictionary.{item_list}
+use Rattle.columns.specs.Array.{items_in, slots_in}
+use Rattle.columns.specs.Built.{sums_from}
 use Rattle.columns.specs.Offsets.{width_of}
+use Rattle.columns.specs.View.{view_array}
 
-pub overflow_add-next : goal.overflow_add-next
-overflow_add-next c =
-    let cells : List Cell = run_lists c.args.width (column_of c.args.item.now) c.args.run.now in
-    let count = count_lists c.args.width (column_of c.args.item.now) c.args.run.now c.run_len-count.result c.run_len-count.ensures in
-    let lt : c.loop-i.i < length cells = omega (arith, count, c.loop-i-test.true) in
-    let end = list_end cells c.loop-i.i c.list_size.result lt c.list_size.ensures in
-    let so_far = c.loop-i.invariant.next in
-    let room = c.requires.room in
-    omega (arith, end, so_far, room)
-
-pub loop-i-preserved : goal.loop-i-preserved
-loop-i-preserved c =
-    let cells : List Cell = run_lists c.args.width (column_of c.args.item.now) c.args.run.now in
-    let w : ℕ = width_of c.args.width in
-    let i : ℕ = c.loop-i.i in
-    let size : ℕ = c.list_size.result in
-    let count = count_lists c.args.width (column_of c.args.item.now) c.args.run.now c.run_len-count.result c.run_len-count.ensures in
-    let lt : i < length cells = omega (arith, count, c.loop-i-test.true) in
-    let end = list_end cells i size lt c.list_size.ensures in
-    let so_far = c.loop-i.invariant.next in
+pub push_slot_offsets-requires : goal.push_slot_offsets-requires
+push_slot_offsets-requires c =
+    let are = are_lists c.args.width (column_of c.args.item.now) c.in-Slots.array c.in-Slots.from c.in-Slots.len c.args.run.now c.in-Slots.is c.requires.sound c.requires.written in
+    let items = run_list_items c.args.width (column_of c.args.item.now) c.in-Slots.array c.in-Slots.from c.in-Slots.len c.args.run.now c.in-Slots.is are in
     record {
-      next = omega (arith, end, so_far);
-      offsets = λ rest.
-          ap (λ (written : List ℕ). offsets_with w written (c.loop-i.next + size) (list_sizes (drop (i + 1) cells)) rest) c.in_ok-push_offset.ensures.ok
-          ∙ list_offset w c.loop-i.offsets.items c.loop-i.next cells i size rest lt c.list_size.ensures ∙ c.loop-i.invariant.offsets rest;
+      long = are.few;
+      ordered = (slots_in (items_in (view_array c.in-Slots.array)), are.up);
+      within = are.within;
+      fits = omega (arith, items, c.requires.room);
     }
 
-pub returns-clause-offsets : goal.returns-clause-offsets
-returns-clause-offsets c = λ rest.
-    let cells : List Cell = run_lists c.args.width (column_of c.args.item.now) c.args.run.now in
-    let count = count_lists c.args.width (column_of c.args.item.now) c.args.run.now c.run_len-count.result c.run_len-count.ensures in
-    let none : drop c.loop-i.i cells ≡ [] = drop_all c.loop-i.i cells (omega (arith, count, c.loop-i-test.false)) in
-    sym (ap (λ (cs : List Cell). offsets_with (width_of c.args.width) c.loop-i.offsets.items c.loop-i.next (list_sizes cs) rest) none) ∙ c.loop-i.invariant.offsets rest
+pub returns-in-Slots-clause-offsets : goal.returns-in-Slots-clause-offsets
+returns-in-Slots-clause-offsets c =
+    let are = are_lists c.args.width (column_of c.args.item.now) c.in-Slots.array c.in-Slots.from c.in-Slots.len c.args.run.now c.in-Slots.is c.requires.sound c.requires.written in
+    let sizes = run_list_sizes c.args.width (column_of c.args.item.now) c.in-Slots.array c.in-Slots.from c.in-Slots.len c.args.run.now c.in-Slots.is are in
+    subst (λ (ns : List ℕ). IfOk c.push_slot_offsets.result (λ next. AreOffsetsAdded (width_of c.args.width) c.args.offsets.now.items c.push_slot_offsets.new.offsets.items c.args.start next ns))
+    (sym sizes) c.push_slot_offsets.ensures.offsets
 
-pub returns-clause-next : goal.returns-clause-next
-returns-clause-next c =
-    let cells : List Cell = run_lists c.args.width (column_of c.args.item.now) c.args.run.now in
-    let count = count_lists c.args.width (column_of c.args.item.now) c.args.run.now c.run_len-count.result c.run_len-count.ensures in
-    let none : drop c.loop-i.i cells ≡ [] = drop_all c.loop-i.i cells (omega (arith, count, c.loop-i-test.false)) in
-    let end : length (flat_map item_list (drop c.loop-i.i cells)) ≡ 0 = ap (λ (cs : List Cell). length (flat_map item_list cs)) none in
-    let so_far = c.loop-i.invariant.next in
-    omega (arith, end, so_far)
+pub returns-in-Slots-clause-next : goal.returns-in-Slots-clause-next
+returns-in-Slots-clause-next c =
+    let are = are_lists c.args.width (column_of c.args.item.now) c.in-Slots.array c.in-Slots.from c.in-Slots.len c.args.run.now c.in-Slots.is c.requires.sound c.requires.written in
+    let items = run_list_items c.args.width (column_of c.args.item.now) c.in-Slots.array c.in-Slots.from c.in-Slots.len c.args.run.now c.in-Slots.is are in
+    subst (λ (n : ℕ). IfOk c.push_slot_offsets.result (λ next. next ≡ c.args.start + n)) (sym items) c.push_slot_offsets.ensures.next
+
+pub returns-in_ok-push_null_offsets-in-Nulls-clause-offsets : goal.returns-in_ok-push_null_offsets-in-Nulls-clause-offsets
+returns-in_ok-push_null_offsets-in-Nulls-clause-offsets c = λ rest.
+    c.in_ok-push_null_offsets-in-Nulls.ensures rest
+    ∙ ap (λ (sizes : List ℕ). c.args.offsets.now.items ++ flat_map (little_bytes (width_of c.args.width)) (sums_from c.args.start (sizes ++ rest)))
+    (sym (null_list_sizes c.args.width (column_of c.args.item.now) c.in-Nulls.count c.args.run.now c.in-Nulls.is))
+
+pub returns-in_ok-push_null_offsets-in-Nulls-clause-next : goal.returns-in_ok-push_null_offsets-in-Nulls-clause-next
+returns-in_ok-push_null_offsets-in-Nulls-clause-next c =
+    let none = null_list_items c.args.width (column_of c.args.item.now) c.in-Nulls.count c.args.run.now c.in-Nulls.is in
+    omega (arith, none)

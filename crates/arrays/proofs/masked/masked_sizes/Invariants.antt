@@ -1,4 +1,4 @@
-use Rattle.std.proofs.Common.{◌≡◌, ◌+◌, ◌-◌}
+use Rattle.std.proofs.Common.{◌≡◌, ◌≤◌, ◌+◌, ◌-◌}
 use Rattle.cells.specs.Weight.{capped_weight}
 use Rattle.columns.specs.Offsets.{width_of}
 use Rattle.columns.specs.View.{view_array}
@@ -6,9 +6,14 @@ use Rattle.arrays.specs.inner.Weights.{masked_sizes}
 use Rattle.arrays.proofs.masked.masked_sizes.Given as goal
 
 -- the sizes so far, and those that are left
-abbrev pub invariant-loop-i : goal.invariant-loop-i
-invariant-loop-i l = record {
-  sums : capped_weight (l.total + masked_sizes (width_of l.slots.width) (view_array l.mask.view) (view_array l.slots.view) l.i (l.i-end - l.i))
+abbrev pub invariant-loop-start : goal.invariant-loop-start
+invariant-loop-start l = record {
+  low : l.from ≤ l.start;
+  within : l.start ≤ l.end;
+  sums : capped_weight (l.total + masked_sizes (width_of l.slots.width) (view_array l.mask.view) (view_array l.slots.view) l.start (l.end - l.start))
       ≡ capped_weight (masked_sizes (width_of l.slots.width) (view_array l.mask.view) (view_array l.slots.view) l.from l.count);
   capped : capped_weight l.total ≡ l.total;
 }
+
+abbrev pub decreases-loop-start : goal.decreases-loop-start
+decreases-loop-start l = l.end - l.start

@@ -164,6 +164,13 @@ masked_weight-masked_contents_weight-requires-clause-few t c =
     let width : contents_width kind ≡ Some (width_of c.in-None-Some.width) = sym c.contents_width.ensures ∙ ap (option_map width_of) c.in-None-Some.is-1 in
     (contents_sound kind (width_of c.in-None-Some.width) a width (plain_sound c.args.field.now a c.in-None-Some.is-0 c.requires.sound)).0
 
+pub masked_weight-masked_contents_weight-requires-clause-ordered : goal.masked_weight-masked_contents_weight-requires-clause-ordered
+masked_weight-masked_contents_weight-requires-clause-ordered t c =
+    let kind : Kind = kind_of c.args.field.now.data_type in
+    let a : Array = view_array c.args.view in
+    let width : contents_width kind ≡ Some (width_of c.in-None-Some.width) = sym c.contents_width.ensures ∙ ap (option_map width_of) c.in-None-Some.is-1 in
+    (contents_sound kind (width_of c.in-None-Some.width) a width (plain_sound c.args.field.now a c.in-None-Some.is-0 c.requires.sound)).1
+
 pub masked_weight-returns-in-None-Some : goal.masked_weight-returns-in-None-Some
 masked_weight-returns-in-None-Some t c =
     let kind : Kind = kind_of c.args.field.now.data_type in

@@ -1,6 +1,6 @@
 use Rattle.std.specs.Int.{byte_at, bytes_low_first}
 use Rattle.std.proofs.Common.{◌≡◌, ◌≤◌, ◌+◌, ◌++◌, ◌∙◌, ℕ, zero, suc, List, ◌∷◌, arith, ap, refl, take}
-use Rattle.array_build.proofs.dictionary_cells.put_code.Goals as goal
+use Rattle.array_build.proofs.number_bytes.put_number.Goals as goal
 use borrow.Rule.Slice.PartMut.{Post-is}
 
 -- the low bytes of a number are the first of all
@@ -12,8 +12,8 @@ low_bytes i (suc n) (suc k) x le = ap (λ (xs : List ℕ). byte_at i x ∷ xs) (
 pub returns : goal.returns
 returns g c =
     let at : ℕ = c.args.at in
-    let old : List ℕ = c.args.indices.now in
+    let old : List ℕ = c.args.bytes.now in
     let after = Post-is at (at + g.row.SIZE) old (omega (arith, c.requires.room)) in
     let bytes = rw c.to_le_bytes.ensures at c.copy_from_slice.ensures.after in
-    let own = bytes ∙ low_bytes 0 g.row.SIZE 8 c.place_or_zero-index.result c.requires.size ∙ ap (bytes_low_first 0 g.row.SIZE) c.place_or_zero-index.ensures in
+    let own = bytes ∙ low_bytes 0 g.row.SIZE 8 c.args.number c.requires.size in
     (λ i. take at old ++ (own i ++ after i))

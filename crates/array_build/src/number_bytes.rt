@@ -1,0 +1,43 @@
+// Little-endian numbers, written over what stands there.
+ghost use Rattle.std.specs.Prelude.{◌≡◌, ◌≤◌, ◌+◌, ◌++◌, ◌*◌, drop, length, take};
+ghost use Rattle.byteorder.specs.Endian.{little_bytes};
+ghost use Rattle.columns.specs.CellAt.{number_at};
+ghost use Rattle.columns.specs.Offsets.{width_of};
+
+use byteorder::{ByteOrder, LittleEndian};
+use columns::OffsetWidth;
+
+/// Writes the low bytes of a number, n of them, over the bytes from a place on.
+#[inline]
+pub(crate) fn put_number<const SIZE: usize>(bytes: &mut [u8], at: usize, number: u64)
+    requires size { SIZE ≤ 8 }
+    requires room { at + SIZE ≤ length bytes.old }
+    ensures { bytes.new ≡ take at bytes.old ++ (little_bytes SIZE number ++ drop (at + SIZE) bytes.old) }
+{
+    bytes[at..at + SIZE].copy_from_slice(&number.to_le_bytes()[..SIZE]);
+}
+
+/// Writes an offset over the one at a place.
+#[inline]
+pub(crate) fn put_offset(offsets: &mut [u8], width: OffsetWidth, place: usize, offset: u64)
+    requires { width_of width * place + width_of width ≤ length offsets.old }
+    ensures { offsets.new ≡ take (width_of width * place) offsets.old
+        ++ (little_bytes (width_of width) offset ++ drop (width_of width * place + width_of width) offsets.old) }
+{
+    match width {
+        OffsetWidth::Four => put_number::<4>(offsets, 4 * place, offset),
+        OffsetWidth::Eight => put_number::<8>(offsets, 8 * place, offset),
+    }
+}
+
+/// The offset at a place.
+#[inline]
+pub(crate) fn offset_at(offsets: &[u8], width: OffsetWidth, i: usize) -> u64
+    requires { (i + 1) * width_of width ≤ length offsets.now }
+    ensures { result ≡ number_at (width_of width) offsets.now i }
+{
+    match width {
+        OffsetWidth::Four => u64::from(LittleEndian::read_u32(&offsets[i * 4..])),
+        OffsetWidth::Eight => LittleEndian::read_u64(&offsets[i * 8..]),
+    }
+}

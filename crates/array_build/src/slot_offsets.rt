@@ -1,0 +1,74 @@
+// Where the spans of slots begin that stand one after another: their offsets, from another start on.
+ghost use Rattle.std.specs.Prelude.{◌≡◌, ◌≤◌, ◌<◌, ◌+◌, ◌-◌, ◌*◌, ◌++◌, ℕ, List, false, IfOk, length};
+ghost use Rattle.array_build.specs.inner.Runs.{AreOffsetsAdded, slot_sizes, span_of};
+ghost use Rattle.columns.specs.Array.{slots_in};
+ghost use Rattle.columns.specs.Buildable.{large_offset};
+ghost use Rattle.columns.specs.Offsets.{width_of};
+ghost use Rattle.columns.specs.Tests.{are_few_offsets, are_unordered};
+ghost use Rattle.columns.specs.View.{view_array};
+
+use crate::number_bytes::{offset_at, put_offset};
+use crate::widths::offset_size;
+use columns::{ArrayView, OffsetWidth};
+use std::alloc::AllocError;
+
+// Writes the offsets at which the spans of slots begin, the first at `start`, over as many; and answers where the last ends.
+fn put_slot_offsets(
+    room: &mut [u8],
+    width: OffsetWidth,
+    array: ArrayView<'_>,
+    from: usize,
+    len: usize,
+    start: u64,
+) -> u64
+    requires long { are_few_offsets (width_of width) (view_array array) ≡ false }
+    requires ordered { (end : ℕ) × (are_unordered (width_of width) end (view_array array) ≡ false) }
+    requires some { 0 < len }
+    requires within { from + len ≤ slots_in (view_array array) }
+    requires fits { start + span_of (width_of width) (view_array array) from len ≤ large_offset }
+    requires room { length room.old ≡ width_of width * len }
+    ensures offsets { (front : List ℕ) → AreOffsetsAdded (width_of width) front (front ++ room.new) start result
+        (slot_sizes (width_of width) (view_array array.entry) from len) }
+    ensures next { result ≡ start + span_of (width_of width) (view_array array.entry) from len }
+{
+    // a number of the code is below 2^64, so that the sum is too
+    let _slots = array.slots();
+    let source = array.offsets();
+    let first = offset_at(source, width, from);
+    for i in from..from + len {
+        let offset = start + (offset_at(source, width, i) - first);
+        put_offset(room, width, i - from, offset);
+    }
+    start + (offset_at(source, width, from + len) - first)
+}
+
+/// Adds the offsets at which the spans of slots begin, the first at `start`; and answers where the last ends.
+pub(crate) fn push_slot_offsets(
+    offsets: &mut Vec<u8>,
+    width: OffsetWidth,
+    array: ArrayView<'_>,
+    from: usize,
+    len: usize,
+    start: u64,
+) -> Result<u64, AllocError>
+    requires long { are_few_offsets (width_of width) (view_array array) ≡ false }
+    requires ordered { (end : ℕ) × (are_unordered (width_of width) end (view_array array) ≡ false) }
+    requires within { from + len ≤ slots_in (view_array array) }
+    requires fits { start + span_of (width_of width) (view_array array) from len ≤ large_offset }
+    ensures offsets { IfOk result (λ next. AreOffsetsAdded (width_of width) offsets.old.items offsets.new.items start next
+        (slot_sizes (width_of width) (view_array array.entry) from len)) }
+    ensures next { IfOk result (λ next. next ≡ start + span_of (width_of width) (view_array array.entry) from len) }
+{
+    if len == 0 {
+        return Ok(start);
+    }
+    // a number of the code is below 2^64, so that the sum is too
+    let _slots = array.slots();
+    let source = array.offsets();
+    let size = offset_size(width);
+    let begin = offsets.len();
+    // room for as many, in which each is then written anew
+    offsets.extend_from_slice(&source[size * from..size * (from + len)])?;
+    let next = put_slot_offsets(&mut offsets[begin..], width, array, from, len, start);
+    Ok(next)
+}
