@@ -2,7 +2,7 @@
 use Rattle.std.specs.Prelude.{None, Some, ◌||◌, Option, is_some, option_map, not, ◌/◌, string_bytes, if◌then◌else◌}
 use Rattle.std.specs.List.{list_all, list_any}
 use Rattle.std.specs.Str.{is_utf8}
-use Rattle.std.proofs.Common.{◌≡◌, ℕ, suc, ◌+◌, ◌-◌, ◌<◌, ◌++◌, Bool, true, false, List, [], ◌∷◌, map, refl, ap, sym, ◌∙◌, arith}
+use Rattle.std.proofs.Common.{◌≡◌, ℕ, suc, ◌+◌, ◌-◌, ◌≤◌, ◌<◌, ◌++◌, Bool, true, false, List, [], ◌∷◌, map, refl, ap, sym, ◌∙◌, arith}
 use Rattle.std.proofs.lemmas.Bool.{and_parts, and_from, not-true}
 use Rattle.std.proofs.lemmas.Slice.Eq.{bytes_eq-Decides}
 use Rattle.arrow_schema.specs.Column.{Index, Pair, Kind, Column, and_column, column, no_column}
@@ -22,6 +22,7 @@ use Rattle.columns.specs.Texts.{has_utf8_texts, have_utf8_texts}
 use Rattle.array_build.specs.inner.RunCells.{is_coded}
 use Rattle.array_build.specs.Batch.{plain_column}
 use Rattle.columns.specs.laws.FitTexts.{row_texts}
+use Rattle.columns.specs.laws.Rows.{cells_from-append}
 
 pub all_front : (test : Cell → Bool) (xs ys : List Cell) → list_all test (xs ++ ys) ≡ true → (list_all test xs ≡ true) × (list_all test ys ≡ true)
 all_front test [] ys h = (refl, h)
@@ -127,6 +128,18 @@ pub coded_here : (f : ℕ → Cell) (i to : ℕ) → i < to → list_all is_code
 coded_here f i to lt h =
     let size : to - i ≡ suc (to - (i + 1)) = omega (arith, lt) in
     and_parts (is_coded (f i)) (list_all is_coded (cells_from f (i + 1) (to - (i + 1)))) (ap (λ (n : ℕ). list_all is_coded (cells_from f i n)) (sym size) ∙ h)
+
+-- the cells up to a slot, and those from it on
+pub cells_split : (f : ℕ → Cell) (i end to : ℕ) → i ≤ end → end ≤ to → cells_from f i (to - i) ≡ cells_from f i (end - i) ++ cells_from f end (to - end)
+cells_split f i end to low high =
+    let size : to - i ≡ (end - i) + (to - end) = omega (arith, low, high) in
+    let next : i + (end - i) ≡ end = omega (arith, low) in
+    ap (cells_from f i) size ∙ cells_from-append f i (end - i) (to - end) ∙ ap (λ (s : ℕ). cells_from f i (end - i) ++ cells_from f s (to - end)) next
+
+pub coded_split : (f : ℕ → Cell) (i end to : ℕ) → i ≤ end → end ≤ to → list_all is_coded (cells_from f i (to - i)) ≡ true
+    → (list_all is_coded (cells_from f i (end - i)) ≡ true) × (list_all is_coded (cells_from f end (to - end)) ≡ true)
+coded_split f i end to low high h =
+    all_front is_coded (cells_from f i (end - i)) (cells_from f end (to - end)) (sym (ap (list_all is_coded) (cells_split f i end to low high)) ∙ h)
 
 coded_some : (d : Option DictSpec) (name : List ℕ) (nullable : Bool) (kind : Kind) (pairs : List Pair) (cells : List Cell) → is_some d ≡ true
     → can_build (column name nullable kind (option_map index_of d) pairs) cells ≡ true → list_all is_coded cells ≡ true

@@ -1,9 +1,9 @@
 -- Texts and binaries under a mask, slot by slot and run by run.
-use Rattle.std.specs.Prelude.{Some, None, ◌*◌, ◌&&◌, nat_le, replicate, if◌then◌else◌}
+use Rattle.std.specs.Prelude.{Some, None, nat_le, replicate, if◌then◌else◌}
 use Rattle.std.specs.List.{flat_map, list_all, range_with_len}
-use Rattle.std.proofs.Common.{◌≡◌, ℕ, zero, suc, ◌+◌, ◌-◌, ◌≤◌, ◌<◌, ◌++◌, Bool, true, false, List, [], ◌∷◌, map, length, drop, refl, ap, ap₂, sym, ◌∙◌, arith, append_assoc, length-append}
+use Rattle.std.proofs.Common.{◌≡◌, ℕ, zero, suc, ◌+◌, ◌-◌, ◌≤◌, ◌<◌, ◌++◌, Bool, true, false, List, [], ◌∷◌, map, length, refl, ap, ap₂, sym, ◌∙◌, arith, append_assoc, length-append}
 use Rattle.std.proofs.lemmas.Bool.{and_parts, leb-true}
-use Rattle.std.proofs.lemmas.List.{length-replicate, map-append}
+use Rattle.std.proofs.lemmas.List.{length-replicate}
 use Rattle.std.proofs.lemmas.List.Concat.{flat_map-append}
 use Rattle.std.proofs.lemmas.List.Folds.{list_all-append, list_all-map}
 use Rattle.byteorder.specs.Endian.{little_bytes}
@@ -13,7 +13,7 @@ use Rattle.array_build.proofs.MaskedItems.{all_alike, all_kept, masked_append, m
 use Rattle.array_build.proofs.MaskedParts.{all_joined, below_append, bits_append, bits_length, joined_below, masked_itself}
 use Rattle.array_build.proofs.Masks.{bitmap_long, bits_counted, bits_with, bits_without}
 use Rattle.array_build.proofs.RunArrays.{contents_has, count_cells, count_run, runs_there}
-use Rattle.array_build.proofs.RunContents.{contents_room, no_contents, no_sizes, offsets_with, one_offset, ordered, slot_contents, slot_size, span_more, span_none}
+use Rattle.array_build.proofs.RunContents.{contents_room, offsets_with, one_offset, ordered, slot_contents, slot_size, span_more, span_none}
 use Rattle.array_build.proofs.RunSlots.{slots_counted}
 use Rattle.array_build.proofs.RunValues.{plain_cell}
 use Rattle.array_build.specs.Batch.{plain_column}

@@ -1,10 +1,10 @@
-// Arrays of columns that are given as runs of slots: bytes of slots stay where they stand or are copied, and no cell is made but of the entries of a dictionary.
+// Arrays of columns that are given as runs of slots: bytes of slots stay where they stand or are copied, and no cell is made but of a dictionary's entries.
 ghost use Rattle.std.specs.Prelude.{◌≡◌, true, OnOk, IfOk, List, Some, None, is_some, length, map};
 ghost use Rattle.arrow_schema.specs.Column.{columns_of, fixed_lists, structs};
 ghost use Rattle.arrow_schema.specs.View.{kind_of, column_of};
 ghost use Rattle.array_build.specs.Batch.{batch_in, batch_of, built_at, built_below, plain_column, with_arrays};
 ghost use Rattle.array_build.specs.inner.Nodes.{list_kind};
-ghost use Rattle.array_build.specs.inner.Masked.{AddsMasked, IsMask, masked_cells, masked_parts};
+ghost use Rattle.array_build.specs.inner.Masked.{AddsMasked, IsMask, masked_cells, masked_kind, masked_parts};
 ghost use Rattle.array_build.specs.inner.RunItems.{fixed_column};
 ghost use Rattle.array_build.specs.inner.Runs.{AddsRuns, AreAsWritten, are_runs_as_written, built_columns, contents_width, fixed_width, offsets_width};
 ghost use Rattle.columns.specs.Runs.{HaveRuns, are_columns_sound, are_runs_sound, can_build_columns, runs_cells};
@@ -172,7 +172,7 @@ fn build_split_kind<'k, 'a: 'k>(
     requires offsets { is_some (offsets_width (kind_of data_type.now)) ≡ true }
     requires sound { are_runs_sound (plain_column (kind_of data_type.now) None) runs.now ≡ true }
     requires mask { IsMask mask.now runs.now }
-    requires fits { can_build (plain_column (kind_of data_type.now) None) (masked_cells (plain_column (kind_of data_type.now) None) mask.now runs.now) ≡ true }
+    requires fits { can_build (plain_column (kind_of data_type.now) None) (masked_kind (kind_of data_type.now) mask.now runs.now) ≡ true }
     ensures { OnOk result (AddsMasked (kind_of data_type.now) runs.now mask.now batch.old batch.new) }
 {
     if are_copied(data_type, runs, mask) {
@@ -198,14 +198,14 @@ fn build_run_fixed_lists<'k, 'a: 'k>(
 ) -> Result<(), AllocError>
     requires sound { are_runs_sound (fixed_column size (column_of item.now)) runs.now ≡ true }
     requires mask { IsMask mask.now runs.now }
-    requires fits { can_build (fixed_column size (column_of item.now)) (masked_cells (fixed_column size (column_of item.now)) mask.now runs.now) ≡ true }
+    requires fits { can_build (fixed_column size (column_of item.now)) (masked_kind (fixed_lists size (column_of item.now)) mask.now runs.now) ≡ true }
     ensures { OnOk result (AddsMasked (fixed_lists size (column_of item.now)) runs.now mask.now batch.old batch.new) }
 {
     let below = push_masked_slots(alloc, batch, runs, mask)?;
     let items = fixed_item_runs(alloc, item, size, runs)?;
     let slots = count_slots(runs)?;
-    let mask = item_mask(alloc, &below, slots, size)?;
-    build_run_column(alloc, batch, entries, item, &items, &mask)
+    let items_mask = item_mask(alloc, &below, slots, size)?;
+    build_run_column(alloc, batch, entries, item, &items, &items_mask)
 }
 
 // Structs have a node and a validity bitmap, and below them the same slots of each field, which are nulls below a null.
@@ -221,7 +221,7 @@ fn build_run_structs<'k, 'a: 'k>(
     requires sound { are_runs_sound (plain_column (structs (columns_of (map column_of fields.now))) None) runs.now ≡ true }
     requires mask { IsMask mask.now runs.now }
     requires fits { can_build (plain_column (structs (columns_of (map column_of fields.now))) None)
-        (masked_cells (plain_column (structs (columns_of (map column_of fields.now))) None) mask.now runs.now) ≡ true }
+        (masked_kind (structs (columns_of (map column_of fields.now))) mask.now runs.now) ≡ true }
     ensures { OnOk result (AddsMasked (structs (columns_of (map column_of fields.now))) runs.now mask.now batch.old batch.new) }
 {
     let below = push_masked_slots(alloc, batch, runs, mask)?;
@@ -265,7 +265,7 @@ fn build_other_kind<'k, 'a: 'k>(
     requires offsets { offsets_width (kind_of data_type.now) ≡ None }
     requires sound { are_runs_sound (plain_column (kind_of data_type.now) None) runs.now ≡ true }
     requires mask { IsMask mask.now runs.now }
-    requires fits { can_build (plain_column (kind_of data_type.now) None) (masked_cells (plain_column (kind_of data_type.now) None) mask.now runs.now) ≡ true }
+    requires fits { can_build (plain_column (kind_of data_type.now) None) (masked_kind (kind_of data_type.now) mask.now runs.now) ≡ true }
     ensures { OnOk result (AddsMasked (kind_of data_type.now) runs.now mask.now batch.old batch.new) }
 {
     match data_type {
@@ -298,7 +298,7 @@ fn build_wide_kind<'k, 'a: 'k>(
     requires values { fixed_width (kind_of data_type.now) ≡ None }
     requires sound { are_runs_sound (plain_column (kind_of data_type.now) None) runs.now ≡ true }
     requires mask { IsMask mask.now runs.now }
-    requires fits { can_build (plain_column (kind_of data_type.now) None) (masked_cells (plain_column (kind_of data_type.now) None) mask.now runs.now) ≡ true }
+    requires fits { can_build (plain_column (kind_of data_type.now) None) (masked_kind (kind_of data_type.now) mask.now runs.now) ≡ true }
     ensures { OnOk result (AddsMasked (kind_of data_type.now) runs.now mask.now batch.old batch.new) }
 {
     match offsets_width(data_type) {
@@ -319,7 +319,7 @@ fn build_run_kind<'k, 'a: 'k>(
 ) -> Result<(), AllocError>
     requires sound { are_runs_sound (plain_column (kind_of data_type.now) None) runs.now ≡ true }
     requires mask { IsMask mask.now runs.now }
-    requires fits { can_build (plain_column (kind_of data_type.now) None) (masked_cells (plain_column (kind_of data_type.now) None) mask.now runs.now) ≡ true }
+    requires fits { can_build (plain_column (kind_of data_type.now) None) (masked_kind (kind_of data_type.now) mask.now runs.now) ≡ true }
     ensures { OnOk result (AddsMasked (kind_of data_type.now) runs.now mask.now batch.old batch.new) }
 {
     match value_width(data_type) {

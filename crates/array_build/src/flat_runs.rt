@@ -10,7 +10,7 @@ ghost use Rattle.columns.specs.Runs.{are_runs_sound};
 
 use crate::batch::{BuiltBatch, push_any_buffer, push_buffer, push_node};
 use crate::run_bits::run_booleans;
-use crate::run_contents::{run_contents, run_offsets};
+use crate::run_contents::push_written_contents;
 use crate::run_slots::{count_slots, push_run_slots};
 use crate::run_values::masked_values;
 use crate::slot_masks::push_masked_slots;
@@ -69,7 +69,6 @@ pub(crate) fn build_run_values<'a>(
 }
 
 /// Texts and binaries.
-#[tactic(auto, using(crate::proofs::RunArrays::content_runs_are))]
 pub(crate) fn build_run_contents<'a>(
     alloc: Global,
     batch: &mut BuiltBatch<'a>,
@@ -82,6 +81,5 @@ pub(crate) fn build_run_contents<'a>(
     ensures { OnOk result (AddsRuns (kind_of data_type.now) runs.now batch.old batch.new) }
 {
     push_run_slots(alloc, batch, runs)?;
-    push_buffer(batch, run_offsets(alloc, data_type, width, runs)?)?;
-    push_any_buffer(batch, run_contents(alloc, data_type, width, runs)?)
+    push_written_contents(alloc, batch, data_type, width, runs)
 }

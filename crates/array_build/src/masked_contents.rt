@@ -2,9 +2,9 @@
 ghost use Rattle.std.specs.Prelude.{◌≡◌, ◌≤◌, ◌<◌, ◌+◌, ◌-◌, ◌*◌, ◌^◌, ◌++◌, ℕ, List, [], false, true, OnOk, IfOk, Some, None, length, if◌then◌else◌};
 ghost use Rattle.std.specs.List.{flat_map};
 ghost use Rattle.array_build.specs.Batch.{batch_in, plain_column};
-ghost use Rattle.array_build.specs.inner.Masked.{AddsMasked, IsMask, are_below, mask_bits, masked_cells};
+ghost use Rattle.array_build.specs.inner.Masked.{AddsMasked, IsMask, are_below, mask_bits, masked_kind};
 ghost use Rattle.array_build.specs.inner.MaskedContents.{AreUnder, masked_sizes, masked_spans, run_under, runs_under, with_contents};
-ghost use Rattle.array_build.specs.inner.Runs.{AreAsWritten, AreOffsetsAdded, cell_sizes, contents_width, kind_cells, run_bits, span_contents};
+ghost use Rattle.array_build.specs.inner.Runs.{AreOffsetsAdded, cell_sizes, contents_width, run_bits, span_contents};
 ghost use Rattle.arrow_schema.specs.View.{kind_of};
 ghost use Rattle.bitmap.specs.Bits.{bit};
 ghost use Rattle.columns.specs.Array.{slots_in, contents_in};
@@ -16,9 +16,9 @@ ghost use Rattle.columns.specs.Runs.{are_runs_sound, is_run_sound};
 ghost use Rattle.columns.specs.Tests.{are_few_offsets, are_unordered};
 ghost use Rattle.columns.specs.View.{view_array};
 
-use crate::batch::{BuiltBatch, push_any_buffer, push_buffer};
-use crate::number_bytes::{offset_at, put_offset};
-use crate::run_contents::{push_null_offsets, run_contents, run_offsets, slot_contents};
+use crate::batch::{BuiltBatch, push_buffer};
+use crate::number_bytes::{last_offset, offset_at, put_offset};
+use crate::run_contents::{push_null_offsets, push_written_contents, slot_contents};
 use crate::run_slots::{count_slots, run_len};
 use crate::slot_masks::push_masked_slots;
 use crate::widths::offset_size;
@@ -151,8 +151,8 @@ fn push_run_offsets(
     }
 }
 
-/// The offsets of texts or binaries under a mask: 0, and then where each ends.
-pub(crate) fn masked_offsets(
+// The offsets of texts or binaries under a mask: 0, and then where each ends.
+fn masked_offsets(
     alloc: Global,
     data_type: &DataType,
     width: OffsetWidth,
@@ -257,13 +257,14 @@ fn push_run_contents(
     }
 }
 
-/// The bytes of texts or binaries under a mask, one after another.
-pub(crate) fn masked_contents(
+// The bytes of texts or binaries under a mask, one after another, where there is room for so many at once.
+fn masked_contents(
     alloc: Global,
     data_type: &DataType,
     width: OffsetWidth,
     runs: &[SlotRun<'_>],
     mask: &[u8],
+    room: usize,
 ) -> Result<Vec<u8>, AllocError>
     requires width { contents_width (kind_of data_type.now) ≡ Some (width_of width) }
     requires under { AreUnder (kind_of data_type.now) mask.now runs.now }
@@ -271,7 +272,7 @@ pub(crate) fn masked_contents(
 {
     // as many slots as a number counts, so that each place is below 2^64
     let _slots = count_slots(runs)?;
-    let mut contents = Vec::new(alloc);
+    let mut contents = Vec::with_capacity(alloc, room)?;
     let mut at = 0;
     for run in runs {
         push_run_contents(&mut contents, data_type, width, run, mask, at)?;
@@ -280,8 +281,8 @@ pub(crate) fn masked_contents(
     Ok(contents)
 }
 
-/// Adds the offsets and the bytes of texts or binaries under a mask.
-pub(crate) fn push_masked_contents(
+// Adds the offsets and the bytes of texts or binaries under a mask.
+fn push_masked_contents(
     alloc: Global,
     batch: &mut BuiltBatch<'_>,
     data_type: &DataType,
@@ -294,25 +295,11 @@ pub(crate) fn push_masked_contents(
     ensures { OnOk result (batch_in batch.new
         ≡ with_contents (width_of width) (batch_in batch.old) (runs_under (kind_of data_type.now) mask.now 0 runs.now)) }
 {
-    push_buffer(batch, masked_offsets(alloc, data_type, width, runs, mask)?)?;
-    push_buffer(batch, masked_contents(alloc, data_type, width, runs, mask)?)
-}
-
-// The same of runs that stand as they are written.
-fn push_written_contents<'a>(
-    alloc: Global,
-    batch: &mut BuiltBatch<'a>,
-    data_type: &DataType,
-    width: OffsetWidth,
-    runs: &[SlotRun<'a>],
-) -> Result<(), AllocError>
-    requires width { contents_width (kind_of data_type.now) ≡ Some (width_of width) }
-    requires ready { AreAsWritten (kind_of data_type.now) runs.now }
-    ensures { OnOk result (batch_in batch.new
-        ≡ with_contents (width_of width) (batch_in batch.old) (kind_cells (kind_of data_type.now) runs.now)) }
-{
-    push_buffer(batch, run_offsets(alloc, data_type, width, runs)?)?;
-    push_any_buffer(batch, run_contents(alloc, data_type, width, runs)?)
+    let offsets = masked_offsets(alloc, data_type, width, runs, mask)?;
+    let room = last_offset(&offsets, width);
+    push_buffer(batch, offsets)?;
+    let contents = masked_contents(alloc, data_type, width, runs, mask, room)?;
+    push_buffer(batch, contents)
 }
 
 /// Adds the array of texts or binaries under a mask, whatever stands below their nulls.
@@ -327,7 +314,7 @@ pub(crate) fn build_masked_contents<'a>(
     requires width { contents_width (kind_of data_type.now) ≡ Some (width_of width) }
     requires sound { are_runs_sound (plain_column (kind_of data_type.now) None) runs.now ≡ true }
     requires mask { IsMask mask.now runs.now }
-    requires fits { can_build (plain_column (kind_of data_type.now) None) (masked_cells (plain_column (kind_of data_type.now) None) mask.now runs.now) ≡ true }
+    requires fits { can_build (plain_column (kind_of data_type.now) None) (masked_kind (kind_of data_type.now) mask.now runs.now) ≡ true }
     ensures { OnOk result (AddsMasked (kind_of data_type.now) runs.now mask.now batch.old batch.new) }
 {
     let below = push_masked_slots(alloc, batch, runs, mask)?;

@@ -2,7 +2,7 @@
 ghost use Rattle.std.specs.Prelude.{◌≡◌, ◌≤◌, ◌<◌, ◌+◌, ◌*◌, true, OnOk, IfOk, None, length, replicate};
 ghost use Rattle.arrow_schema.specs.View.{kind_of};
 ghost use Rattle.array_build.specs.Batch.{plain_column};
-ghost use Rattle.array_build.specs.inner.Masked.{AreMasked, IsMask, IsMaskedAdded, mask_bits, masked_cells};
+ghost use Rattle.array_build.specs.inner.Masked.{AreMasked, IsMask, IsMaskedAdded, mask_bits, masked_kind};
 ghost use Rattle.array_build.specs.inner.Runs.{kind_cells, run_bits, runs_bits};
 ghost use Rattle.columns.specs.Runs.{are_runs_sound, are_runs_valid, has_validity};
 ghost use Rattle.std.specs.List.{list_all};
@@ -121,7 +121,7 @@ pub(crate) fn split_runs<'a>(
     requires mask { IsMask mask.now runs.now }
     ensures sound { IfOk result (λ split. are_runs_sound (plain_column (kind_of data_type.now) None) split.items ≡ true) }
     ensures valid { IfOk result (λ split. are_runs_valid split.items ≡ true) }
-    ensures cells { IfOk result (λ split. kind_cells (kind_of data_type.now) split.items ≡ masked_cells (plain_column (kind_of data_type.now) None) mask.now runs.now) }
+    ensures cells { IfOk result (λ split. kind_cells (kind_of data_type.now) split.items ≡ masked_kind (kind_of data_type.now) mask.now runs.now) }
 {
     if mask.is_empty() {
         return valid_runs(alloc, runs);

@@ -41,3 +41,13 @@ pub(crate) fn offset_at(offsets: &[u8], width: OffsetWidth, i: usize) -> u64
         OffsetWidth::Eight => LittleEndian::read_u64(&offsets[i * 8..]),
     }
 }
+
+/// The last of some offsets, or 0 where there is none: how many bytes stand before it, for which room is reserved.
+pub(crate) fn last_offset(offsets: &[u8], width: OffsetWidth) -> usize {
+    let len = offsets.len();
+    match width {
+        OffsetWidth::Four if len >= 4 => LittleEndian::read_u32(&offsets[len - 4..]) as usize,
+        OffsetWidth::Eight if len >= 8 => LittleEndian::read_u64(&offsets[len - 8..]) as usize,
+        _ => 0,
+    }
+}

@@ -23,6 +23,12 @@ use arrow_schema::{BitWidth, DictSpec, Field};
 use columns::{ArrayView, CodedSlots, SlotRun};
 use std::alloc::{AllocError, Global};
 
+// Where fewer slots than these have named entries in a row, the loop over named ones is left at nearly each slot, and costs more than it saves.
+const FEW_NAMED: usize = 16;
+
+// So many slots are written then before it is tried again.
+const SLOTS_AT_ONCE: usize = 64;
+
 #[inline]
 fn known_code(known: &StampedNumbers, number: Option<u64>) -> Option<usize>
     ensures { result ≡ known_at known.now number }
@@ -130,7 +136,8 @@ fn put_at<const SIZE: usize>(
     valid[place] = code.is_some();
 }
 
-// Writes what a slot has that is valid, and whose entry is not known.
+// Writes what a slot has that is valid, and whose entry is not known. It is no part of the loop over slots, which would keep its variables in memory for it.
+#[inline(never)]
 fn put_new_code<'a, const SIZE: usize>(
     entries: &mut KnownEntries<'a>,
     known: &mut StampedNumbers,
@@ -155,8 +162,8 @@ fn put_new_code<'a, const SIZE: usize>(
     Ok(())
 }
 
-// Writes what a slot has that is valid. It is no part of the loop over slots, which would keep its variables in memory for it.
-#[inline(never)]
+// Writes what a slot has. Each way writes by itself, so that none asks again whether there is a code.
+#[inline]
 fn put_slot_code<'a, const SIZE: usize, const SIGNED: bool>(
     entries: &mut KnownEntries<'a>,
     known: &mut StampedNumbers,
@@ -170,7 +177,6 @@ fn put_slot_code<'a, const SIZE: usize, const SIGNED: bool>(
     requires size { SIZE ≡ (index_of slots.spec).bits / 8 }
     requires signed { SIGNED ≡ (index_of slots.spec).signed }
     requires slot { IsCodedSlot field.now slots i }
-    requires valid { is_valid (view_array slots.view) i ≡ true }
     requires known { AreKnown (seen_cells entries.old) (own_entries field.now slots.view) known.old }
     requires place { HasPlace SIZE place indices.old valid.old }
     ensures entries { OnOk result (named_cells entries.new ≡ with_entry (named_cells entries.old) (coded_cell field.now slots.entry i)) }
@@ -178,6 +184,10 @@ fn put_slot_code<'a, const SIZE: usize, const SIGNED: bool>(
         indices.old indices.new valid.old valid.new) }
     ensures known { OnOk result (AreKnown (seen_cells entries.new) (own_entries field.now slots.entry.view) known.new) }
 {
+    if !slots.is_valid(i) {
+        put_at::<SIZE>(indices, valid, place, None);
+        return Ok(());
+    }
     let number = slots.number_below::<SIZE, SIGNED>(i, known.len() as u64);
     if let Some(known) = known_code(known, number) {
         let code = entries.place_of(known)?;
@@ -297,6 +307,63 @@ fn put_named_codes<const SIZE: usize, const SIGNED: bool>(
     to
 }
 
+// Writes what slots have from one on up to another, whether their entries are named or not. It is no part of the loop over named ones either.
+#[inline(never)]
+fn put_each_code<'a, const SIZE: usize, const SIGNED: bool>(
+    entries: &mut KnownEntries<'a>,
+    known: &mut StampedNumbers,
+    indices: &mut [u8],
+    valid: &mut [bool],
+    field: &'a Field,
+    slots: CodedSlots<'a>,
+    from: usize,
+    first: usize,
+    end: usize,
+) -> Result<(), AllocError>
+    requires small { SIZE ≤ 8 }
+    requires size { SIZE ≡ (index_of slots.spec).bits / 8 }
+    requires signed { SIGNED ≡ (index_of slots.spec).signed }
+    requires order { from ≤ first }
+    requires within { first ≤ end }
+    requires slots { AreCodedSlots field.now slots first end }
+    requires known { AreKnown (seen_cells entries.old) (own_entries field.now slots.view) known.old }
+    requires room { SIZE * (end - from) ≤ length indices.old }
+    requires places { end - from ≤ length valid.old }
+    requires set { AreSetFrom (first - from) valid.old }
+    ensures set { OnOk result (AreSetFrom (end - from) valid.new) }
+    ensures known { OnOk result (AreKnown (seen_cells entries.new) (own_entries field.now slots.entry.view) known.new) }
+    ensures written { OnOk result (let cells = coded_cell field.now slots.entry in (start all left : List Cell)
+        → IsPartWritten SIZE start all (named_cells entries.old) (cells_from cells first (end - first) ++ left) indices.old valid.old (first - from)
+        → IsPartWritten SIZE start all (named_cells entries.new) left indices.new valid.new (end - from)) }
+{
+    // a number of the code is below 2^64, so that the places of all indices are too
+    let _room = indices.len();
+    for i in first..end {
+        put_slot_code::<SIZE, SIGNED>(entries, known, indices, valid, field, slots, i, i - from)?;
+    }
+    Ok(())
+}
+
+// How many slots are written one by one behind some with named entries: one alone where these were many.
+fn count_of_each(named: usize) -> usize
+    ensures { 0 < result }
+{
+    if named < FEW_NAMED { SLOTS_AT_ONCE } else { 1 }
+}
+
+// Up to where slots are written one by one from the next on, where those from a first one on have named entries.
+fn end_of_each(first: usize, next: usize, to: usize) -> usize
+    requires order { first ≤ next }
+    requires within { next ≤ to }
+    requires more { first < to }
+    ensures order { next ≤ result }
+    ensures within { result ≤ to }
+    ensures later { first < result }
+{
+    let count = count_of_each(next - first);
+    if to - next < count { to } else { next + count }
+}
+
 // Writes the indices of n bytes, with a sign or without, of some slots of an array, and whether each slot has one, where there is room for just these.
 fn put_sized_codes<'a, const SIZE: usize, const SIGNED: bool>(
     entries: &mut KnownEntries<'a>,
@@ -324,25 +391,17 @@ fn put_sized_codes<'a, const SIZE: usize, const SIGNED: bool>(
     let _room = indices.len();
     valid.fill(true);
     let mut i = from;
-    loop {
+    while i < to {
         let next = put_named_codes::<SIZE, SIGNED>(
             entries, known, indices, valid, field, slots, from, i, to,
         );
-        if next == to {
-            return Ok(());
-        }
-        put_slot_code::<SIZE, SIGNED>(
-            entries,
-            known,
-            indices,
-            valid,
-            field,
-            slots,
-            next,
-            next - from,
+        let end = end_of_each(i, next, to);
+        put_each_code::<SIZE, SIGNED>(
+            entries, known, indices, valid, field, slots, from, next, end,
         )?;
-        i = next + 1;
+        i = end;
     }
+    Ok(())
 }
 
 // The same, by a loop for indices with a sign and one for those without.

@@ -1,7 +1,8 @@
 // The bytes of texts and binaries, and where they end, of runs that stand as they are written.
 ghost use Rattle.std.specs.Prelude.{◌≡◌, ◌≤◌, ◌+◌, ◌++◌, false, true, OnOk, IfOk, Some, None, length, replicate};
 ghost use Rattle.std.specs.List.{flat_map};
-ghost use Rattle.array_build.specs.Batch.{buffer_bytes, plain_column};
+ghost use Rattle.array_build.specs.Batch.{batch_in, buffer_bytes, plain_column};
+ghost use Rattle.array_build.specs.inner.MaskedContents.{with_contents};
 ghost use Rattle.array_build.specs.inner.Runs.{AreAsWritten, AreOffsetsAdded, cell_sizes, contents_width, is_run_as_written, kind_cells, span_contents};
 ghost use Rattle.columns.specs.Runs.{is_run_sound, run_cells};
 ghost use Rattle.columns.specs.declared.slot_runs.SlotRun.TheVariants.{Slots};
@@ -13,7 +14,8 @@ ghost use Rattle.columns.specs.Offsets.{width_of};
 ghost use Rattle.columns.specs.Tests.{are_few_offsets};
 ghost use Rattle.columns.specs.View.{view_array};
 
-use crate::batch::Buffer;
+use crate::batch::{Buffer, BuiltBatch, push_any_buffer, push_buffer};
+use crate::number_bytes::last_offset;
 use crate::run_slots::{count_slots, only_run};
 use crate::slot_offsets::push_slot_offsets;
 use crate::widths::offset_size;
@@ -77,30 +79,32 @@ fn push_contents(
     }
 }
 
-// The bytes of all texts or binaries, copied.
+// The bytes of all texts or binaries, copied, where there is room for so many at once.
 fn copied_contents(
     alloc: Global,
     data_type: &DataType,
     width: OffsetWidth,
     runs: &[SlotRun<'_>],
+    room: usize,
 ) -> Result<Vec<u8>, AllocError>
     requires width { contents_width (kind_of data_type.now) ≡ Some (width_of width) }
     requires ready { AreAsWritten (kind_of data_type.now) runs.now }
     ensures { IfOk result (λ bytes. bytes.items ≡ flat_map contents_of (kind_cells (kind_of data_type.now) runs.now)) }
 {
-    let mut contents = Vec::new(alloc);
+    let mut contents = Vec::with_capacity(alloc, room)?;
     for run in runs {
         push_contents(&mut contents, data_type, width, run)?;
     }
     Ok(contents)
 }
 
-/// The bytes of all texts or binaries, one after another; a null has none. They are where they stand, if the slots of one run are all.
-pub(crate) fn run_contents<'a>(
+// The bytes of all texts or binaries, one after another; a null has none. They are where they stand, if the slots of one run are all.
+fn run_contents<'a>(
     alloc: Global,
     data_type: &DataType,
     width: OffsetWidth,
     runs: &[SlotRun<'a>],
+    room: usize,
 ) -> Result<Buffer<'a>, AllocError>
     requires width { contents_width (kind_of data_type.now) ≡ Some (width_of width) }
     requires ready { AreAsWritten (kind_of data_type.now) runs.now }
@@ -109,7 +113,7 @@ pub(crate) fn run_contents<'a>(
     if let Some(SlotRun::Slots { array, from, len }) = only_run(runs) {
         return Ok(Buffer::Borrowed(run_slice(data_type, width, array, from, len)));
     }
-    Ok(Buffer::Made(copied_contents(alloc, data_type, width, runs)?))
+    Ok(Buffer::Made(copied_contents(alloc, data_type, width, runs, room)?))
 }
 
 /// The same offset for each of some nulls.
@@ -154,8 +158,8 @@ fn push_run_offsets(
     }
 }
 
-/// The offsets of texts or binaries: 0, and then where each ends.
-pub(crate) fn run_offsets(
+// The offsets of texts or binaries: 0, and then where each ends.
+fn run_offsets(
     alloc: Global,
     data_type: &DataType,
     width: OffsetWidth,
@@ -175,4 +179,23 @@ pub(crate) fn run_offsets(
     }
     push_offset(&mut offsets, width, next)?;
     Ok(offsets)
+}
+
+/// Adds the offsets and the bytes of texts or binaries.
+pub(crate) fn push_written_contents<'a>(
+    alloc: Global,
+    batch: &mut BuiltBatch<'a>,
+    data_type: &DataType,
+    width: OffsetWidth,
+    runs: &[SlotRun<'a>],
+) -> Result<(), AllocError>
+    requires width { contents_width (kind_of data_type.now) ≡ Some (width_of width) }
+    requires ready { AreAsWritten (kind_of data_type.now) runs.now }
+    ensures { OnOk result (batch_in batch.new
+        ≡ with_contents (width_of width) (batch_in batch.old) (kind_cells (kind_of data_type.now) runs.now)) }
+{
+    let offsets = run_offsets(alloc, data_type, width, runs)?;
+    let room = last_offset(&offsets, width);
+    push_buffer(batch, offsets)?;
+    push_any_buffer(batch, run_contents(alloc, data_type, width, runs, room)?)
 }

@@ -57,6 +57,10 @@ IsMask mask runs = mask ≡ bitmap_of (slots_mask mask runs)
 abbrev pub masked_cells : Column → (mask : List ℕ) → List SlotRun → List Cell
 masked_cells c mask runs = masked (slots_mask mask runs) (runs_cells c runs)
 
+-- and as those of a type
+abbrev pub masked_kind : Kind → (mask : List ℕ) → List SlotRun → List Cell
+masked_kind kind mask runs = masked_cells (plain_column kind None) mask runs
+
 -- the rows of the parts that structs have under it: those of a null have no part
 abbrev pub masked_parts : Columns → (mask : List ℕ) → List SlotRun → List (List Cell)
 masked_parts columns mask runs = masked_by [] (slots_mask mask runs) (flat_map (parts_behind 0 columns) runs)
@@ -67,7 +71,7 @@ masked_slots mask runs = joined (slots_mask mask runs) (runs_bits runs)
 
 -- a batch with the array of such cells, and all below it, after what it had
 abbrev pub AddsMasked : Kind → List SlotRun → (mask : List ℕ) → (old new : BuiltBatch) → Type 0
-AddsMasked kind runs mask old new = batch_in new ≡ with_arrays (batch_in old) (built_at (plain_column kind None) (masked_cells (plain_column kind None) mask runs))
+AddsMasked kind runs mask old new = batch_in new ≡ with_arrays (batch_in old) (built_at (plain_column kind None) (masked_kind kind mask runs))
 
 -- ---- runs under a mask, split where its bits change
 

@@ -148,9 +148,9 @@ build_run_fixed_lists-build_run_column-requires t c =
     let runs : List SlotRun = c.args.runs.now in
     let is = ap (λ (below : List ℕ). slots_mask below runs) c.deref.ensures.value ∙ c.in_ok-below.ensures.bits in
     let cells = ap (runs_cells item) c.deref-2.ensures.value ∙ c.in_ok-items.ensures.cells in
-    let bits = ap (λ (own : List ℕ). bitmap_bits own (c.in_ok-slots.slots * size)) c.deref-3.ensures.value ∙ c.in_ok-mask.ensures.bits in
+    let bits = ap (λ (own : List ℕ). bitmap_bits own (c.in_ok-slots.slots * size)) c.deref-3.ensures.value ∙ c.in_ok-items_mask.ensures.bits in
     let both = item_masked size item mask c.deref.result.now c.deref-3.result.now c.in_ok-slots.slots runs c.deref-2.result.now c.in_ok-slots.ensures is cells
-    (c.deref-3.ensures.value ∙ c.in_ok-mask.ensures.exact) bits in (
+    (c.deref-3.ensures.value ∙ c.in_ok-items_mask.ensures.exact) bits in (
       search (rules, field_lemmas),
       (
         ap (are_runs_sound item) c.deref-2.ensures.value ∙ c.in_ok-items.ensures.sound,
@@ -166,9 +166,9 @@ build_run_fixed_lists-returns t c =
     let runs : List SlotRun = c.args.runs.now in
     let is = ap (λ (below : List ℕ). slots_mask below runs) c.deref.ensures.value ∙ c.in_ok-below.ensures.bits in
     let cells = ap (runs_cells item) c.deref-2.ensures.value ∙ c.in_ok-items.ensures.cells in
-    let bits = ap (λ (own : List ℕ). bitmap_bits own (c.in_ok-slots.slots * size)) c.deref-3.ensures.value ∙ c.in_ok-mask.ensures.bits in
+    let bits = ap (λ (own : List ℕ). bitmap_bits own (c.in_ok-slots.slots * size)) c.deref-3.ensures.value ∙ c.in_ok-items_mask.ensures.bits in
     let both = item_masked size item mask c.deref.result.now c.deref-3.result.now c.in_ok-slots.slots runs c.deref-2.result.now c.in_ok-slots.ensures is cells
-    (c.deref-3.ensures.value ∙ c.in_ok-mask.ensures.exact) bits in
+    (c.deref-3.ensures.value ∙ c.in_ok-items_mask.ensures.exact) bits in
     on_ok_weaker c.build_run_column.result
     (λ h. h ∙ fixed_list_runs_are (batch_in c.args.batch.now) (batch_in c.push_masked_slots.new.batch) size item mask runs (masked_cells item c.deref-3.result.now c.deref-2.result.now) both.1
     c.in_ok-below.ensures.batch)

@@ -1,12 +1,12 @@
 use Rattle.std.specs.Prelude.{None}
 use Rattle.std.specs.List.{flat_map}
-use Rattle.std.proofs.Common.{◌≡◌, ◌≤◌, ◌∙◌, ◌+◌, ◌*◌, ◌++◌, ℕ, List, ap, ap₂, arith, drop, length, refl, sym, subst, true}
+use Rattle.std.proofs.Common.{◌≡◌, ◌∙◌, ◌+◌, ◌++◌, ℕ, List, ap, arith, drop, length, refl, sym, true}
 use Rattle.std.proofs.lemmas.Bool.{and_parts}
 use Rattle.std.proofs.lemmas.List.{map-append}
 use Rattle.byteorder.specs.Endian.{little_bytes}
 use Rattle.arrow_schema.specs.Column.{Column, Kind}
 use Rattle.arrow_schema.specs.View.{kind_of}
-use Rattle.array_build.proofs.MaskedContents.{IsNext, next_run, run_room}
+use Rattle.array_build.proofs.MaskedContents.{next_run, run_room}
 use Rattle.array_build.proofs.Offsets.{last_offset}
 use Rattle.array_build.proofs.masked_contents.masked_offsets.Goals as goal
 use Rattle.array_build.specs.Batch.{plain_column}

@@ -9,8 +9,8 @@ use Rattle.columns.specs.View.{view_array}
 use Rattle.array_build.proofs.run_codes.put_sized_codes.Given as goal
 
 -- what is written so far, and the cells that are left
-abbrev pub invariant-loop-from : goal.invariant-loop-from
-invariant-loop-from g l =
+abbrev pub invariant-loop-i : goal.invariant-loop-i
+invariant-loop-i g l =
     let left = cells_from (cell_at (column_of l.field) (view_array l.slots.view)) l.i (l.to - l.i) in
     record {
       order : l.from ≤ l.i;
@@ -22,5 +22,5 @@ invariant-loop-from g l =
           (named_cells l.entries) left l.indices l.valid (l.i - l.from);
     }
 
-abbrev pub decreases-loop-from : goal.decreases-loop-from
-decreases-loop-from g l = l.to - l.i
+abbrev pub decreases-loop-i : goal.decreases-loop-i
+decreases-loop-i g l = l.to - l.i
