@@ -12,12 +12,13 @@ use Rattle.segments.specs.Writing.{WritesOnly, HoldsEach, runs_of}
 use Rattle.segments.specs.Pieces.{PlainPiece}
 use Rattle.commit.specs.declared.sector.Commit.{Commit}
 use Rattle.commit.specs.Sector.{commit_at}
+use Rattle.commit.specs.laws.Sectors.{found_is}
 use Rattle.commit.specs.Ruling.{ruling, Rests}
-use Rattle.commit.specs.Publishing.{IsOutside, IsOldOrNew, IsPublishing, IsPublished, IsRuledBy}
+use Rattle.commit.specs.Publishing.{IsOutside, MayHoldCommit, IsOldOrNew, IsPublishing, IsPublished, IsRuledBy}
 use Rattle.commit.proofs.Rules.{same_rules, new_rules, old_rules}
 
 -- a commit sector lies in no run
-out_of_commits : (pieces : List PlainPiece) (n : ℕ) → n < 2 → StartFrom 2 (runs_of pieces) → OutOf (runs_of pieces) n
+pub out_of_commits : (pieces : List PlainPiece) (n : ℕ) → n < 2 → StartFrom 2 (runs_of pieces) → OutOf (runs_of pieces) n
 out_of_commits [] n lt above = tt
 out_of_commits (p ∷ ps) n lt above = (inl (omega (arith, above.0)), out_of_commits ps n lt above.1)
 
@@ -27,6 +28,9 @@ module _ (old new : Commit) (pieces : List PlainPiece) (d0 : Disk) (above : Star
 
   abbrev slot : ℕ
   slot = new.epoch % 2
+
+  slot_out : OutOf (runs_of pieces) slot
+  slot_out = out_of_commits pieces slot (mod_below new.epoch 2 (omega arith)) above
 
   -- while the pieces are written each image has the old commit sectors
   pub while_written : (d : Disk) → WritesOnly (runs_of pieces) d0 d → P d
@@ -38,6 +42,7 @@ module _ (old new : Commit) (pieces : List PlainPiece) (d0 : Disk) (above : Star
         begun = w.begun;
         leaves = λ image may. record {
           outside = λ n out. outside image may n out.0;
+          commit = inl (outside image may slot slot_out);
           which = inl (same_rules (synced_image d0) image (outside image may 0 (out_of_commits pieces 0 (omega arith) above)) (outside image may 1 (out_of_commits pieces 1 (omega arith) above)) ∙ rests.rules);
         };
       }
@@ -82,6 +87,12 @@ module _ (old new : Commit) (pieces : List PlainPiece) (d0 : Disk) (above : Star
     still : (d : Disk) → Staged d → (image : Image) → ((n : ℕ) → image n ≡ (d.at n).synced) → ruling image ≡ Some old
     still d s image same = same_rules (synced_image d) image (same 0) (same 1) ∙ rules_staged d s
 
+    -- what the sector of the new commit holds once it is written
+    written : (d : Disk) → Staged d → (image : Image) → (image slot ≡ (d.at slot).synced) ⊎ (image slot ≡ Some c) ⊎ (image slot ≡ None) → MayHoldCommit d0 new (image slot)
+    written d s image (inl was) = inl (was ∙ ap (λ (z : Sector). z.synced) (s.same slot slot_out))
+    written d s image (inr (inl is)) = inr (inl (is ∙ (found_is slot (Some c) new spells).text))
+    written d s image (inr (inr lost)) = inr (inr lost)
+
     -- an image with the new commit sector
     pub committed : (d : Disk) → Staged d → (image : Image) → ((n : ℕ) → n ≢ slot → image n ≡ (d.at n).synced) → image slot ≡ Some c → (ruling image ≡ Some new) × HoldsEach image pieces
     committed d s image others is = (
@@ -100,6 +111,7 @@ module _ (old new : Commit) (pieces : List PlainPiece) (d0 : Disk) (above : Star
           begun = inr (⊎_elim (λ (is : d ≡ d0). let e = ap (λ (y : Disk). y.writes) is in omega arith) (λ (lt : d0.writes < d.writes). omega arith) s.begun);
           leaves = λ image may. record {
             outside = λ n out. others image may n out.1 ∙ ap (λ (z : Sector). z.synced) (s.same n out.0);
+            commit = written d s image (holds_one (d.at slot) c x (image slot) (s.quiet slot) (subst (λ (z : Sector). MayHold z (image slot)) (put_same d slot c x) (may slot)));
             which = rules d s image (others image may) (holds_one (d.at slot) c x (image slot) (s.quiet slot) (subst (λ (z : Sector). MayHold z (image slot)) (put_same d slot c x) (may slot)));
           };
         }
@@ -140,6 +152,7 @@ module _ (old new : Commit) (pieces : List PlainPiece) (d0 : Disk) (above : Star
             begun = inr begun;
             leaves = λ image may. record {
               outside = λ n out. leaves_flushed x image n may ∙ shown n out.1 ∙ ap (λ (z : Sector). z.synced) (s.same n out.0);
+              commit = written d s image (inr (inl (leaves_flushed x image slot may ∙ here)));
               which = inr (committed d s image (λ n other. leaves_flushed x image n may ∙ shown n other) (leaves_flushed x image slot may ∙ here));
             };
           },

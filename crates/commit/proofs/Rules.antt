@@ -1,5 +1,5 @@
 -- Which commit rules an image.
-use Rattle.std.proofs.Common.{◌≡◌, ◌≢◌, ◌⊎◌, inl, inr, ⊎_elim, ◌≤◌, ◌<◌, ◌+◌, ◌%◌, if◌then◌else◌, nat_lt, ℕ, Bool, true, false, Option, Some, None, refl, ap, ◌∙◌, subst, arith}
+use Rattle.std.proofs.Common.{◌≡◌, ◌≢◌, ◌⊎◌, inl, inr, ⊎_elim, ◌≤◌, ◌<◌, ◌+◌, ◌%◌, if◌then◌else◌, nat_lt, ℕ, Bool, true, false, Option, Some, None, refl, sym, ap, ◌∙◌, subst, arith}
 use Rattle.std.proofs.lemmas.Bool.{cases_eq}
 use Rattle.std.proofs.lemmas.Bool.Decides.{nat_tests}
 use Rattle.sector_dev.specs.Disk.{Image}
@@ -94,3 +94,11 @@ old_rules i j epoch old rules next same here =
     let at : commit_at 0 (i 0) ≡ Some old = ⊎_elim (λ (l : commit_at 0 (i 0) ≡ Some old). l) (λ (r : commit_at 1 (i 1) ≡ Some old). let e = (found_is 1 (i 1) old r).placed in absurd (omega arith)) (one_of (commit_at 0 (i 0)) (commit_at 1 (i 1)) old rules) in
     (λ k. newer (commit_at 0 (other k)) (commit_at 1 (gone k))) ∙ newer_right (commit_at 0 (i 0)) ∙ at)
     (cases_eq (epoch % 2) 0)
+
+-- the commit that rules stands in the sector of its epoch
+pub rules_in : (i : Image) (old : Commit) → ruling i ≡ Some old → commit_at (old.epoch % 2) (i (old.epoch % 2)) ≡ Some old
+unfolding ruling
+rules_in i old rules =
+    ⊎_elim (λ (l : commit_at 0 (i 0) ≡ Some old). subst (λ k. commit_at k (i k) ≡ Some old) (sym (found_is 0 (i 0) old l).placed) l)
+    (λ (r : commit_at 1 (i 1) ≡ Some old). subst (λ k. commit_at k (i k) ≡ Some old) (sym (found_is 1 (i 1) old r).placed) r)
+    (one_of (commit_at 0 (i 0)) (commit_at 1 (i 1)) old rules)

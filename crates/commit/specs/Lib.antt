@@ -1,5 +1,6 @@
 pub mod Sector
 pub mod Ruling
+pub mod Agreeing
 pub mod Publishing
 pub mod Replacing
 pub mod Standing

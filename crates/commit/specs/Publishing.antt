@@ -1,5 +1,5 @@
 -- What may lie on a disk while a commit is published.
-use Rattle.std.specs.Prelude.{◌≡◌, ◌≢◌, ◌⊎◌, ◌<◌, ◌+◌, ◌%◌, ℕ, true, List, Some}
+use Rattle.std.specs.Prelude.{◌≡◌, ◌≢◌, ◌⊎◌, ◌<◌, ◌+◌, ◌%◌, ℕ, true, List, Option, Some, None}
 use Rattle.sector_dev.specs.Disk.{Disk, Image, Story, now, synced_image}
 use Rattle.sector_dev.specs.Time.{LeavesOnly, Grows}
 use Rattle.segments.specs.Runs.{OutOf, AreApart, StartFrom}
@@ -9,7 +9,7 @@ use Rattle.segments.specs.Pieces.{PlainPiece}
 use Rattle.commit.specs.declared.sector.CatalogueKind.{CatalogueKind}
 use Rattle.commit.specs.declared.sector.FormatVersion.{FormatVersion}
 use Rattle.commit.specs.declared.sector.Commit.{Commit}
-use Rattle.commit.specs.Sector.{IsCommit}
+use Rattle.commit.specs.Sector.{commit_text, IsCommit}
 use Rattle.commit.specs.Ruling.{ruling, IsQuiet, Rests}
 use Rattle.commit.specs.Standing.{is_size}
 
@@ -37,9 +37,14 @@ pub record IsPlan (size : ℕ) (old new : Commit) (pieces : List PlainPiece) : T
 abbrev pub IsOutside : Commit → List PlainPiece → ℕ → Type 0
 IsOutside new pieces n = OutOf (runs_of pieces) n × (n ≢ new.epoch % 2)
 
+-- the sector of the new commit: it holds what it held, the new commit, or nothing that can be read
+abbrev pub MayHoldCommit : Disk → Commit → Option (List ℕ) → Type 0
+MayHoldCommit before new x = (x ≡ (before.at (new.epoch % 2)).synced) ⊎ (x ≡ Some (commit_text new)) ⊎ (x ≡ None)
+
 -- by these two words: the image is old, or it is new and each piece lies in its run; elsewhere lies what lay there
 pub record IsOldOrNew (before : Disk) (new : Commit) (pieces : List PlainPiece) (Old New : Image → Type 0) (image : Image) : Type 0 where
   pub outside : (n : ℕ) → IsOutside new pieces n → image n ≡ (before.at n).synced
+  pub commit : MayHoldCommit before new (image (new.epoch % 2))
   pub which : Old image ⊎ (New image × HoldsEach image pieces)
 
 -- at a moment of the publishing: no other sector was touched, the disk is as it was or a write has begun, and each image

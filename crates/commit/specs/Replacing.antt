@@ -9,6 +9,7 @@ use Rattle.segments.specs.Pieces.{PlainPiece, plain_pieces}
 use Rattle.commit.specs.declared.sector.Commit.{Commit}
 use Rattle.commit.specs.declared.recovery.Opened.{Opened}
 use Rattle.commit.specs.declared.publishing.Plan.{Plan}
+use Rattle.commit.specs.Agreeing.{commits_agree}
 use Rattle.commit.specs.Standing.{Reading, rules, is_extent, used_runs, runs_fault, standing, Stands, InSome}
 use Rattle.commit.specs.Publishing.{IsOldOrNew, IsPublishing, IsPublished}
 
@@ -63,6 +64,12 @@ Replaces reading size change before after =
 -- of each image that a stop may have left since its beginning
 abbrev pub LeavesEither : {C : Type 0} → Reading C → ℕ → Change C → Story → Story → Type 0
 LeavesEither reading size change before after = CanReplace reading size (now before) change → (image : Image) → LeftSince after (moment before) image → StandsAsEither reading size change (now before) image
+
+-- where the commit sectors agreed before, they do in each of those images
+abbrev pub KeepsAgreement : {C : Type 0} → Reading C → ℕ → Change C → Story → Story → Type 0
+KeepsAgreement reading size change before after =
+    CanReplace reading size (now before) change
+    → commits_agree (synced_image (now before)) ≡ true → (image : Image) → LeftSince after (moment before) image → commits_agree image ≡ true
 
 -- and at its end, where it succeeded
 abbrev pub EndsReplaced : {C : Type 0} → Reading C → ℕ → Change C → Story → Story → Type 0

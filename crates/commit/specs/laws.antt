@@ -1,4 +1,5 @@
 pub mod Sectors
+pub mod Agreeing
 pub mod Frame
 pub mod Taking
 pub mod Apart

@@ -1,6 +1,6 @@
 // Why a store is damaged.
 
-/// Why a store is damaged, in the order in which the tests are made.
+/// Why a store is damaged, in the order in which the tests of an opening are made.
 #[derive(Clone, Copy, Debug, PartialEq, Eq)]
 pub enum Cause {
     /// The device has another number of sectors than the commit says, or one that no store has.

@@ -3,6 +3,7 @@ ghost use Rattle.std.specs.Prelude.{◌≡◌, ◌≢◌, ◌≤◌, ◌+◌, �
 ghost use Rattle.sector_dev.specs.Disk.{now, shown_image, Counts};
 ghost use Rattle.sector_dev.specs.Time.{Grows, OnlyReads};
 ghost use Rattle.commit.specs.Ruling.{ruling};
+ghost use Rattle.commit.specs.Agreeing.{commits_agree};
 ghost use Rattle.commit.specs.Standing.{is_size};
 ghost use Rattle.commit.specs.Formatting.{HasNoCommit, IsFormatting, IsFormatted, IsMadeEmpty, CountsFormat, first_commit};
 ghost use Rattle.commit.specs.Placing.{Uses};
@@ -146,6 +147,7 @@ pub fn format<D: SectorDevice>(
     ensures formatted { OnOk result (D.tells ≡ true → IsFormatted (D.size device.old) version (now (D.story device.old)) (now (D.story device.new))) }
     ensures made { OnOk result
         (D.tells ≡ true → IsMadeEmpty (D.size device.old) version (shown_image (now (D.story device.old))) (shown_image (now (D.story device.new)))) }
+    ensures agree { OnOk result (D.tells ≡ true → commits_agree (shown_image (now (D.story device.new))) ≡ true) }
     ensures map_size { IfOk result (λ store. store.1.size ≡ D.size device.old) }
     ensures uses { IfOk result (λ store. Uses store.1.entries (store.0.catalogue.run ∷ []) []) }
 {

@@ -13,6 +13,7 @@
 //! ```
 #![tactic(auto)]
 
+mod agreeing;
 mod catalogue;
 mod cause;
 mod entering;
@@ -25,6 +26,7 @@ mod reading;
 mod recovery;
 mod sector;
 
+pub use agreeing::commits_agree;
 pub use catalogue::ReadCatalogue;
 pub use cause::Cause;
 pub use entering::occupy_runs;

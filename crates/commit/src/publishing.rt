@@ -5,7 +5,7 @@ ghost use Rattle.segments.specs.Pieces.{plain_pieces};
 ghost use Rattle.segments.specs.Writing.{runs_of};
 ghost use Rattle.commit.specs.Placing.{HasRoom, contents_of, plain_contents};
 ghost use Rattle.commit.specs.Publishing.{IsPlan, next_commit, Publishes, EndsPublished};
-ghost use Rattle.commit.specs.Replacing.{change_of, Replaces, LeavesEither, EndsReplaced};
+ghost use Rattle.commit.specs.Replacing.{change_of, Replaces, LeavesEither, KeepsAgreement, EndsReplaced};
 
 use crate::placing::pieces_of;
 use crate::sector::commit_sector;
@@ -103,6 +103,9 @@ pub fn publish<C: ReadCatalogue, D: SectorDevice>(
         Replaces C.reading (D.size device.old) (change_of C.plain_of old.now plan.now) (D.story device.old) (D.story device.new) }
     ensures left { D.tells ≡ true →
         LeavesEither C.reading (D.size device.old) (change_of C.plain_of old.now plan.now) (D.story device.old) (D.story device.new) }
+    // Commit sectors that agree still do, whatever a stop leaves.
+    ensures agree { D.tells ≡ true →
+        KeepsAgreement C.reading (D.size device.old) (change_of C.plain_of old.now plan.now) (D.story device.old) (D.story device.new) }
     // After Ok the new one stands, and all is synced.
     ensures published { OnOk result
         (D.tells ≡ true → EndsReplaced C.reading (D.size device.old) (change_of C.plain_of old.now plan.now) (D.story device.old) (D.story device.new)) }

@@ -227,6 +227,7 @@ module _ {C : Type 0} (reading : Reading C) (size : ℕ) where
       let found = rules_found (synced_image before) change.old change.was can.stands.found in
       record {
         outside = is.outside;
+        commit = is.commit;
         which =
             ⊎_elim
             (λ (rule : ruling image ≡ Some change.old).

@@ -6,6 +6,7 @@ use Rattle.sector_dev.specs.laws.Time.{weaken, now_read}
 use Rattle.commit.specs.declared.sector.Commit.{Commit}
 use Rattle.commit.specs.Formatting.{IsFormatted, IsMadeEmpty, first_commit}
 use Rattle.commit.specs.Placing.{Uses}
+use Rattle.commit.proofs.Agreed.{made_agree}
 use Rattle.commit.proofs.Formatted.{read_first, still_none}
 use Rattle.commit.proofs.Told.{sized, no_size, within, failed_count}
 use Rattle.commit.proofs.formatting.format.Goals as goal
@@ -89,6 +90,12 @@ returns-in-Ok-clear_and_begin-clause-made g c = λ told.
     let s2 = D.story c.clear_and_begin.new.device in
     let made = subst (λ (n : ℕ). IsMadeEmpty n c.args.version (shown_image (now s1)) (shown_image (now s2))) c.read_ruling.ensures.size (c.in-Ok-clear_and_begin.ensures.made told) in
     subst (λ (d : Disk). IsMadeEmpty (D.size c.args.device.now) c.args.version (shown_image d) (shown_image (now s2))) (now_read s0 s1 (c.read_ruling.ensures.moments told)) made
+
+pub returns-in-Ok-clear_and_begin-clause-agree : goal.returns-in-Ok-clear_and_begin-clause-agree
+returns-in-Ok-clear_and_begin-clause-agree g c = λ told.
+    let D = g.D.SectorDevice in
+    made_agree (D.size c.args.device.now) c.args.version _ (shown_image (now (D.story c.clear_and_begin.new.device)))
+    (omega (arith, c.sectors-sectors.ensures)) (returns-in-Ok-clear_and_begin-clause-made g c told)
 
 pub returns-in_default-clause-limits : goal.returns-in_default-clause-limits
 returns-in_default-clause-limits g c = λ other. absurd (false≢true (sym other ∙ sized (g.D.SectorDevice.size c.args.device.now) c.sectors-sectors.result c.sectors-sectors.ensures (omega arith) (omega arith)))

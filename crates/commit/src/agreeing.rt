@@ -1,0 +1,97 @@
+// Whether the commit sectors hold what commits leave there.
+ghost use Rattle.std.specs.Prelude.{◌≡◌, ◌<◌, ◌+◌, ◌==◌, true, Some, IfOk, IfErr};
+ghost use Rattle.sector_dev.specs.Disk.{now, shown_image, Counts};
+ghost use Rattle.sector_dev.specs.Time.{OnlyReads};
+ghost use Rattle.commit.specs.Standing.{is_size};
+ghost use Rattle.commit.specs.Agreeing.{content_at, is_next, agree, commits_agree};
+
+use crate::Commit;
+use crate::sector::commit_in;
+use sector_dev::{DevError, SectorDevice};
+
+// What a commit sector holds.
+#[derive(Clone, Copy)]
+enum CommitSector {
+    // Zeros, as before its first commit, or nothing that can be read, as a stop may leave it.
+    Empty,
+    Holds(Commit),
+    // What no commit leaves there.
+    Changed,
+}
+
+// What stands in the sector of this number.
+fn content_in(n: u64, sector: &[u8; 512]) -> CommitSector
+    ensures { result ≡ content_at n (Some sector.now) }
+{
+    match commit_in(n, sector) {
+        Some(commit) => CommitSector::Holds(commit),
+        None => {
+            if *sector == [0u8; 512] {
+                CommitSector::Empty
+            } else {
+                CommitSector::Changed
+            }
+        }
+    }
+}
+
+// What the sector of this number holds.
+fn read_content<D: SectorDevice>(device: &mut D, n: u64) -> Result<CommitSector, DevError>
+    requires { n < D.size device.old }
+    ensures size { D.size device.new ≡ D.size device.old }
+    ensures count { Counts (D.failed device.old) (D.failed device.new) result }
+    ensures error { IfErr result (λ e. e ≡ DevError.Failed) }
+    ensures moments { D.tells ≡ true → OnlyReads (D.story device.old) (D.story device.new) }
+    ensures found { IfOk result (λ content. D.tells ≡ true → content_at n (shown_image (now (D.story device.old)) n) ≡ content) }
+{
+    let mut sector = [0u8; 512];
+    match device.read(n, &mut sector) {
+        Ok(()) => Ok(content_in(n, &sector)),
+        Err(DevError::Unreadable) => Ok(CommitSector::Empty),
+        Err(DevError::Failed) => Err(DevError::Failed),
+    }
+}
+
+// Whether a commit has the epoch after that of another one.
+fn is_next(a: Commit, b: Commit) -> bool
+    ensures { result ≡ is_next a b }
+{
+    a.epoch < b.epoch && b.epoch - a.epoch == 1
+}
+
+fn agree(zeroth: CommitSector, first: CommitSector) -> bool
+    ensures { result ≡ agree zeroth first }
+{
+    match zeroth {
+        CommitSector::Empty => match first {
+            CommitSector::Empty => true,
+            CommitSector::Holds(_) => true,
+            CommitSector::Changed => false,
+        },
+        CommitSector::Holds(a) => match first {
+            CommitSector::Empty => true,
+            CommitSector::Holds(b) => is_next(a, b) || is_next(b, a),
+            CommitSector::Changed => false,
+        },
+        CommitSector::Changed => false,
+    }
+}
+
+/// Whether the two commit sectors hold what commits leave there, whatever stopped them: each holds a commit, zeros, or nothing that can be read, and of two
+/// commits one has the epoch after that of the other. If not, something else has changed one, and the commit that rules may not be the newest that was
+/// acknowledged. Both sectors are read; nothing changes.
+///
+/// # Errors
+/// `Failed` alone: the device failed.
+pub fn commits_agree<D: SectorDevice>(device: &mut D) -> Result<bool, DevError>
+    requires { is_size (D.size device.old) ≡ true }
+    ensures size { D.size device.new ≡ D.size device.old }
+    ensures count { Counts (D.failed device.old) (D.failed device.new) result }
+    ensures error { IfErr result (λ e. e ≡ DevError.Failed) }
+    ensures moments { D.tells ≡ true → OnlyReads (D.story device.old) (D.story device.new) }
+    ensures found { IfOk result (λ said. D.tells ≡ true → commits_agree (shown_image (now (D.story device.old))) ≡ said) }
+{
+    let zeroth = read_content(device, 0)?;
+    let first = read_content(device, 1)?;
+    Ok(agree(zeroth, first))
+}
