@@ -23,6 +23,7 @@ pub mod Upgrading
 pub mod Verdicts
 pub mod Listing
 pub mod Summary
+pub mod Agreeing
 pub mod Reading
 pub mod Digests
 pub mod Input

@@ -12,6 +12,7 @@
 //! ```
 #![tactic(auto)]
 
+mod agreeing;
 mod appending;
 mod applying;
 mod beginning;
