@@ -17,6 +17,7 @@ use Rattle.tables.specs.View.{command_of}
 use Rattle.tables.specs.declared.refusal.Refusal as tables
 use Rattle.tables.specs.declared.refusal.Refusal.TheVariants.{BadName, NoTable}
 use Rattle.store.specs.declared.store.Store.{Store}
+use Rattle.store.specs.Agreeing.{SaysAgreement}
 use Rattle.store.specs.Applying.{GoesOn}
 use Rattle.store.specs.Calls.{apply_call, upgrade_call}
 use Rattle.store.specs.Deciding.{has_entry}
@@ -32,7 +33,7 @@ use Rattle.cli_refusals.specs.declared.refusal.Refusal.TheVariants.{Io}
 use Rattle.cli_commands.specs.Changing.{Answered, AnswersCommand, AnswersInput}
 use Rattle.cli_commands.specs.Compacting.{Compacts}
 use Rattle.cli_commands.specs.Upgrading.{AnsweredUpgrade, AnswersUpgrade}
-use Rattle.cli_commands.specs.Printed.{tables_text, schema_text, summary_text, RefusesPrinting}
+use Rattle.cli_commands.specs.Printed.{tables_text, schema_text, summary_text, RefusesPrinting, RefusesSummary}
 use Rattle.cli_commands.specs.Reading.{OfStore, store_ended, IsReadable, RefusesCheck}
 use Rattle.cli_commands.specs.Selecting.{rows_text, QueryAnswers, RefusesQuery}
 use Rattle.cli_commands.specs.TextRows.{HandsRows, RefusesText, IfOfText, IfHinted}
@@ -147,8 +148,9 @@ Serves {g = g} remaining contents opened.Check old new before after result =
     (OfStore (λ refusal. g.tells ≡ true → RefusesCheck (is_halted old) (image_of old) (listed_in old) refusal) (AreReadable old))
     (OnlyRead result old new) before after result
 Serves {g = g} remaining contents (opened.Info as_json) old new before after result =
-    Prints ((s : Summary) × IsSummary (g.size (device_of old)) old s × Appends (contents before.output) (contents after.output) (summary_text as_json s))
-    (RefusesPrinting (RefusesTables (is_halted old)) (is_halted old ≡ false)) (new ≡ old) before after result
+    Prints ((s : Summary) × (agree : Bool) × IsSummary (g.size (device_of old)) old s × SaysAgreement (is_halted old) g.tells (image_of old) agree
+    × Appends (contents before.output) (contents after.output) (summary_text as_json s agree))
+    (RefusesPrinting (RefusesSummary (is_halted old)) (is_halted old ≡ false)) (OnlyRead result old new) before after result
 Serves remaining contents opened.Compact old new before after result =
     Compacts contents old new before.output after.output result × (after.hint ≡ before.hint)
 Serves remaining contents opened.Upgrade old new before after result = Upgrades contents old new before after result

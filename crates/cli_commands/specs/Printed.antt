@@ -1,8 +1,10 @@
 -- What is printed of a store's tables, of a schema and of a store in numbers.
-use Rattle.std.specs.Prelude.{ℕ, Bool, if◌then◌else◌, List, [], ◌∷◌, ◌++◌, codes}
+use Rattle.std.specs.Prelude.{◌⊎◌, ℕ, Bool, if◌then◌else◌, List, [], ◌∷◌, ◌++◌, codes}
 use Rattle.std.specs.Fmt.{decimal}
 use Rattle.arrow_schema.specs.Column.{Column}
 use Rattle.field_texts.specs.FieldText.{printed, field_text}
+use Rattle.store.specs.Agreeing.{RefusesAgreement}
+use Rattle.store.specs.Listing.{RefusesTables}
 use Rattle.store.specs.declared.summary.Summary.{Summary}
 use Rattle.tables.specs.declared.refusal.Refusal as tables
 use Rattle.cli_refusals.specs.declared.refusal.Refusal.{Refusal}
@@ -22,24 +24,28 @@ schema_text (c ∷ cs) = field_text printed c ++ codes "\n" ++ schema_text cs
 abbrev pub numbered : List ℕ → ℕ → List ℕ
 numbered before number = before ++ decimal number
 
--- a line for each number of a store: its name, and the number
-abbrev pub summary_lines : Summary → List ℕ
-summary_lines s =
+-- a text, and a truth value after it
+abbrev pub flagged : List ℕ → Bool → List ℕ
+flagged before flag = before ++ (if flag then codes "true" else codes "false")
+
+-- a line for each number of a store: its name, and the number; and one that says whether its commit sectors agree
+abbrev pub summary_lines : Summary → (agree : Bool) → List ℕ
+summary_lines s agree =
     numbered (codes "format_version ") s.format_version ++ numbered (codes "\nepoch ") s.epoch ++ numbered (codes "\nsectors ") s.sectors
     ++ numbered (codes "\nused ") s.used ++ numbered (codes "\nfree ") s.free ++ numbered (codes "\nkept ") s.kept
     ++ numbered (codes "\nlargest_free_run ") s.largest_free_run ++ numbered (codes "\ntables ") s.tables ++ numbered (codes "\nsegments ") s.segments
-    ++ codes "\n"
+    ++ flagged (codes "\ncommits_agree ") agree ++ codes "\n"
 
 -- the same as one object of JSON (RFC 8259), on one line
-abbrev pub summary_object : Summary → List ℕ
-summary_object s =
+abbrev pub summary_object : Summary → (agree : Bool) → List ℕ
+summary_object s agree =
     numbered (codes "{\"format_version\":") s.format_version ++ numbered (codes ",\"epoch\":") s.epoch ++ numbered (codes ",\"sectors\":") s.sectors
     ++ numbered (codes ",\"used\":") s.used ++ numbered (codes ",\"free\":") s.free ++ numbered (codes ",\"kept\":") s.kept
     ++ numbered (codes ",\"largest_free_run\":") s.largest_free_run ++ numbered (codes ",\"tables\":") s.tables
-    ++ numbered (codes ",\"segments\":") s.segments ++ codes "}\n"
+    ++ numbered (codes ",\"segments\":") s.segments ++ flagged (codes ",\"commits_agree\":") agree ++ codes "}\n"
 
-abbrev pub summary_text : (as_json : Bool) → Summary → List ℕ
-summary_text as_json s = if as_json then summary_object s else summary_lines s
+abbrev pub summary_text : (as_json : Bool) → Summary → (agree : Bool) → List ℕ
+summary_text as_json s agree = if as_json then summary_object s agree else summary_lines s agree
 
 -- why no text is printed of what the store is asked for: the store refuses, and this holds of its refusal; or it answers, which that says, and memory was
 -- refused or the output failed
@@ -48,3 +54,7 @@ RefusesPrinting P there (Store r) = P r
 RefusesPrinting P there Io = there
 RefusesPrinting P there OutOfMemory = there
 RefusesPrinting P there _ = ⊥
+
+-- why a store gives no numbers, or does not say whether its commit sectors agree
+abbrev pub RefusesSummary : (halted : Bool) → tables.Refusal → Type 0
+RefusesSummary halted refusal = RefusesTables halted refusal ⊎ RefusesAgreement halted refusal

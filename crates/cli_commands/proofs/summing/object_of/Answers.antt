@@ -5,6 +5,7 @@ pub returns : goal.returns
 returns c =
     rw (
       c.in_ok-push_str.ensures.bytes,
+      c.in_ok-push_flag.ensures,
       c.in_ok-push_number-9.ensures,
       c.in_ok-push_number-8.ensures,
       c.in_ok-push_number-7.ensures,
