@@ -16,7 +16,8 @@ use Rattle.clap.specs.declared.error.kind.ErrorKind.{ErrorKind}
 use Rattle.clap.specs.declared.error.kind.ErrorKind.TheVariants.{DisplayHelp, DisplayVersion, UnknownArgument, InvalidSubcommand, TooManyValues, MissingSubcommand}
 use Rattle.clap.proofs.OnLiterals.{clap_on_literals}
 use Rattle.clap.proofs.FaultLemmas.{stopped_fault}
-use Rattle.arrowstore.specs.Arguments.{program_command, AreRecode, IsHelpFlag, long, short, AskForHelp, command, flag, flag_of_recode}
+use Rattle.arrowstore.specs.Arguments.{program_command, have_more_topics, AreRecode, IsHelpFlag, long, short, AskForHelp, flag, flag_of_recode}
+use Rattle.arrowstore.proofs.WordLemmas.{help_asks}
 
 -- ---- a word that is read for flags
 
@@ -288,20 +289,21 @@ top_first name word rest k ks e =
 -- what the program makes of its arguments
 pub record Judged (arguments : List Text) (kinds : Kinds) : Type 0 where
   pub right : kinds ≡ [] → AreRecode arguments
-  pub help : IsAmong DisplayHelp kinds → AskForHelp arguments
+  pub help : have_more_topics arguments ≡ false → IsAmong DisplayHelp kinds → AskForHelp arguments
   pub version : IsAmong DisplayVersion kinds → ⊥
 
 wrongly : (arguments : List Text) (kinds : Kinds) → IsWrong kinds → Judged arguments kinds
 wrongly arguments kinds w = record {
   right = λ h. absurd (w.some h);
-  help = λ h. absurd (lacks is_help DisplayHelp refl kinds w.help h);
+  help = λ few h. absurd (lacks is_help DisplayHelp refl kinds w.help h);
   version = lacks is_version DisplayVersion refl kinds w.version;
 }
 
-helpfully : (arguments : List Text) (ks : Kinds) → list_any is_version ks ≡ false → AskForHelp arguments → Judged arguments (DisplayHelp ∷ ks)
+helpfully : (arguments : List Text) (ks : Kinds) → list_any is_version ks ≡ false → (have_more_topics arguments ≡ false → AskForHelp arguments)
+    → Judged arguments (DisplayHelp ∷ ks)
 helpfully arguments ks none asked = record {
   right = λ h. absurd (some_kind DisplayHelp ks h);
-  help = λ h. asked;
+  help = λ few h. asked few;
   version = lacks is_version DisplayVersion refl (DisplayHelp ∷ ks) none;
 }
 
@@ -321,11 +323,11 @@ judged_recode name rest (nothing ended is) = subst (λ (ks : Kinds). Judged (nam
     | inl none ↦ (name, inl (ap (λ (ws : List Text). name ∷ codes "recode" ∷ ws) none))
     | inr dashes ↦ (name, inr (ap (λ (ws : List Text). name ∷ codes "recode" ∷ ws) dashes))
   ];
-  help = λ h. absurd h;
+  help = λ few h. absurd h;
   version = λ h. absurd h;
 })
 judged_recode name rest (asks_leaf word others words is_flag is) = subst (λ (ks : Kinds). Judged (name ∷ codes "recode" ∷ rest) (or_else ks [])) (sym is)
-    (helpfully (name ∷ codes "recode" ∷ rest) [] refl (flag_of_recode name word others (ap (λ (ws : List Text). name ∷ codes "recode" ∷ ws) words) is_flag))
+    (helpfully (name ∷ codes "recode" ∷ rest) [] refl (λ few. flag_of_recode name word others (ap (λ (ws : List Text). name ∷ codes "recode" ∷ ws) words) is_flag))
 judged_recode name rest (wrong_leaf k wrong is) = subst (λ (ks : Kinds). Judged (name ∷ codes "recode" ∷ rest) (or_else ks [])) (sym is) (wrongly (name ∷ codes "recode" ∷ rest) (k ∷ []) wrong)
 
 judged_dashes : (name : Text) (rest : List Text) → Judged (name ∷ codes "--" ∷ rest) (fault_of program_command (name ∷ codes "--" ∷ rest))
@@ -335,12 +337,12 @@ judged_dashes name (x ∷ xs) = wrongly (name ∷ codes "--" ∷ x ∷ xs) stray
 
 judged_help : (name : Text) (rest : List Text) → Judged (name ∷ codes "help" ∷ rest) (fault_of program_command (name ∷ codes "help" ∷ rest))
 judged_help name rest = as_kinds (name ∷ codes "help" ∷ rest) (DisplayHelp ∷ InvalidSubcommand ∷ []) (top_first name (codes "help") rest DisplayHelp (InvalidSubcommand ∷ []) refl)
-    (helpfully (name ∷ codes "help" ∷ rest) (InvalidSubcommand ∷ []) refl (command name rest refl))
+    (helpfully (name ∷ codes "help" ∷ rest) (InvalidSubcommand ∷ []) refl (help_asks name rest))
 
 top_word : (name word : Text) (rest : List Text) → turn_fault top names (walk_from nothing_held) word ≡ word_kinds strays_on_top (long_of word) word
     → Reads word strays_on_top (word_kinds strays_on_top (long_of word) word) → Judged (name ∷ word ∷ rest) (fault_of program_command (name ∷ word ∷ rest))
 top_word name word rest turn (asks is_flag is) =
-    as_kinds (name ∷ word ∷ rest) (DisplayHelp ∷ []) (top_first name word rest DisplayHelp [] (turn ∙ is)) (helpfully (name ∷ word ∷ rest) [] refl (flag name word rest refl is_flag))
+    as_kinds (name ∷ word ∷ rest) (DisplayHelp ∷ []) (top_first name word rest DisplayHelp [] (turn ∙ is)) (helpfully (name ∷ word ∷ rest) [] refl (λ few. flag name word rest refl is_flag))
 top_word name word rest turn (strays is) =
     as_kinds (name ∷ word ∷ rest) strays_on_top (top_first name word rest UnknownArgument (InvalidSubcommand ∷ []) (turn ∙ is)) (wrongly (name ∷ word ∷ rest) strays_on_top strays_wrong)
 top_word name word rest turn (unknown is) =

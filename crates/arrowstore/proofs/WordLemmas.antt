@@ -1,11 +1,11 @@
 -- Which command lines are for a store, and which for a text of the program's own: none that asks for `recode`, and none for both.
-use Rattle.std.proofs.Common.{◌≡◌, ◌∙◌, ◌&&◌, Bool, true, false, List, [], ◌∷◌, codes, refl, ap, sym, subst, inl, inr, true≢false}
+use Rattle.std.proofs.Common.{◌≡◌, ◌≤◌, ◌∙◌, ◌&&◌, ◌||◌, Bool, true, false, List, [], ◌∷◌, length, codes, refl, ap, sym, subst, inl, inr, true≢false, arith}
 use Rattle.std.specs.Str.{bytes_eq}
 use Rattle.std.proofs.lemmas.Slice.Eq.{bytes_eq-Decides}
 use Rattle.clap.specs.Words.{Text}
-use Rattle.arrowstore.specs.Arguments.{AreRecode, AskForHelp, command}
+use Rattle.arrowstore.specs.Arguments.{have_more_topics, AreRecode, AskForHelp, command}
 use Rattle.cli_texts.specs.OwnTexts.{is_own, asks_version, asks_refusals, is_version_word, is_refusals_topic}
-use Rattle.cli_requests.specs.StoreWords.{is_of_store, is_store_word, changes_word, makes_word, reads_word, takes_input_word, reads_table_word, ask_help_of_command}
+use Rattle.cli_requests.specs.StoreWords.{is_of_store, is_store_word, changes_word, makes_word, reads_word, takes_input_word, reads_table_word, is_help_word, ask_help_of_command}
 
 recode_of_none : (name : Text) (rest : List Text) → is_of_store (name ∷ codes "recode" ∷ rest) ≡ false
 unfolding is_of_store is_store_word changes_word makes_word reads_word takes_input_word reads_table_word
@@ -20,7 +20,9 @@ recode_of_no_store arguments are = elim are.1 [
 
 recode_of_no_own : (name : Text) (rest : List Text) → is_own (name ∷ codes "recode" ∷ rest) ≡ false
 unfolding is_own asks_version asks_refusals is_version_word is_refusals_topic
-recode_of_no_own name rest = refl
+recode_of_no_own name [] = refl
+recode_of_no_own name (topic ∷ []) = refl
+recode_of_no_own name (topic ∷ more ∷ rest) = refl
 
 pub recode_is_not_own : (arguments : List Text) → AreRecode arguments → is_own arguments ≡ false
 unfolding AreRecode
@@ -33,13 +35,20 @@ recode_is_not_own arguments are = elim are.1 [
 same_of_none : (other word : Text) (name : Text) (rest : List Text) → bytes_eq other word ≡ true → is_of_store (name ∷ other ∷ rest) ≡ false → is_of_store (name ∷ word ∷ rest) ≡ false
 same_of_none other word name rest same none = subst (λ (w : Text). is_of_store (name ∷ w ∷ rest) ≡ false) ((bytes_eq-Decides other word).0 same) none
 
+no_word_of_own : (name word : Text) (rest : List Text) → bytes_eq (codes "--version") word ≡ false → bytes_eq (codes "-V") word ≡ false → bytes_eq (codes "help") word ≡ false
+    → is_own (name ∷ word ∷ rest) ≡ false
+unfolding is_own asks_version asks_refusals is_version_word is_refusals_topic
+no_word_of_own name word [] l s h = rw (l, s) refl
+no_word_of_own name word (topic ∷ []) l s h = rw (l, s, h) refl
+no_word_of_own name word (topic ∷ more ∷ rest) l s h = rw (l, s) refl
+
 own_word_of_none : (name word : Text) (rest : List Text) (long short help : Bool) → bytes_eq (codes "--version") word ≡ long → bytes_eq (codes "-V") word ≡ short → bytes_eq (codes "help") word ≡ help
     → is_own (name ∷ word ∷ rest) ≡ true → is_of_store (name ∷ word ∷ rest) ≡ false
 unfolding is_own asks_version asks_refusals is_version_word is_refusals_topic is_of_store is_store_word changes_word makes_word reads_word takes_input_word reads_table_word
 own_word_of_none name word rest true short help l s h own = same_of_none (codes "--version") word name rest l refl
 own_word_of_none name word rest false true help l s h own = same_of_none (codes "-V") word name rest s refl
 own_word_of_none name word rest false false true l s h own = same_of_none (codes "help") word name rest h refl
-own_word_of_none name word rest false false false l s h own = absurd (true≢false (sym own ∙ rw (l, s, h) refl))
+own_word_of_none name word rest false false false l s h own = absurd (true≢false (sym own ∙ no_word_of_own name word rest l s h))
 
 pub own_of_no_store : (arguments : List Text) → is_own arguments ≡ true → is_of_store arguments ≡ false
 unfolding is_own asks_version asks_refusals is_version_word is_refusals_topic is_of_store
@@ -48,18 +57,30 @@ own_of_no_store (name ∷ []) own = refl
 own_of_no_store (name ∷ word ∷ rest) own =
     own_word_of_none name word rest (bytes_eq (codes "--version") word) (bytes_eq (codes "-V") word) (bytes_eq (codes "help") word) refl refl refl own
 
--- `help` and a command of a store ask for help, and not for `recode`
-help_word_asks : (name word : Text) (rest : List Text) (help of_store : Bool) → bytes_eq (codes "help") word ≡ help → (help && of_store) ≡ true → AskForHelp (name ∷ word ∷ rest)
-help_word_asks name word rest true of_store e is = command name rest (ap (λ (w : Text). name ∷ w ∷ rest) (sym ((bytes_eq-Decides (codes "help") word).0 e)))
-help_word_asks name word rest false of_store e is = absurd (true≢false (sym is))
+-- `help` without more than one word after it asks for help
+pub few_topics : (name : Text) (topics : List Text) → have_more_topics (name ∷ codes "help" ∷ topics) ≡ false → length topics ≤ 1
+unfolding have_more_topics
+few_topics name [] few = omega arith
+few_topics name (topic ∷ []) few = omega arith
+few_topics name (topic ∷ more ∷ rest) few = absurd (true≢false few)
 
-pub help_of_command_asks : (arguments : List Text) → ask_help_of_command arguments ≡ true → AskForHelp arguments
+pub help_asks : (name : Text) (topics : List Text) → have_more_topics (name ∷ codes "help" ∷ topics) ≡ false → AskForHelp (name ∷ codes "help" ∷ topics)
+help_asks name topics few = command name topics (few_topics name topics few) refl
+
+-- so do `help` and a command of a store, and they do not ask for `recode`
+help_word_asks : (name word : Text) (topics : List Text) (help known : Bool) → bytes_eq (codes "help") word ≡ help → (help && known) ≡ true
+    → have_more_topics (name ∷ word ∷ topics) ≡ false → AskForHelp (name ∷ word ∷ topics)
+help_word_asks name word topics true known e is =
+    subst (λ (w : Text). have_more_topics (name ∷ w ∷ topics) ≡ false → AskForHelp (name ∷ w ∷ topics)) ((bytes_eq-Decides (codes "help") word).0 e) (help_asks name topics)
+help_word_asks name word topics false known e is = absurd (true≢false (sym is))
+
+pub help_of_command_asks : (arguments : List Text) → ask_help_of_command arguments ≡ true → have_more_topics arguments ≡ false → AskForHelp arguments
 unfolding ask_help_of_command
-help_of_command_asks [] asks = absurd (true≢false (sym asks))
-help_of_command_asks (name ∷ []) asks = absurd (true≢false (sym asks))
-help_of_command_asks (name ∷ word ∷ []) asks = absurd (true≢false (sym asks))
-help_of_command_asks (name ∷ word ∷ other ∷ rest) asks =
-    help_word_asks name word (other ∷ rest) (bytes_eq (codes "help") word) (is_store_word other) refl asks
+help_of_command_asks [] asks few = absurd (true≢false (sym asks))
+help_of_command_asks (name ∷ []) asks few = absurd (true≢false (sym asks))
+help_of_command_asks (name ∷ word ∷ []) asks few = absurd (true≢false (sym asks))
+help_of_command_asks (name ∷ word ∷ other ∷ rest) asks few =
+    help_word_asks name word (other ∷ rest) (bytes_eq (codes "help") word) (is_store_word other || is_help_word other) refl asks few
 
 recode_asks_no_help : (name : Text) (rest : List Text) → ask_help_of_command (name ∷ codes "recode" ∷ rest) ≡ false
 unfolding ask_help_of_command
@@ -71,4 +92,17 @@ unfolding AreRecode
 recode_is_not_help arguments are = elim are.1 [
   | inl alone ↦ ap ask_help_of_command alone ∙ recode_asks_no_help are.0 []
   | inr ended ↦ ap ask_help_of_command ended ∙ recode_asks_no_help are.0 (codes "--" ∷ [])
+]
+
+recode_is_no_topic : (name : Text) (rest : List Text) → have_more_topics (name ∷ codes "recode" ∷ rest) ≡ false
+unfolding have_more_topics
+recode_is_no_topic name [] = refl
+recode_is_no_topic name (topic ∷ []) = refl
+recode_is_no_topic name (topic ∷ more ∷ rest) = refl
+
+pub recode_has_no_topics : (arguments : List Text) → AreRecode arguments → have_more_topics arguments ≡ false
+unfolding AreRecode
+recode_has_no_topics arguments are = elim are.1 [
+  | inl alone ↦ ap have_more_topics alone ∙ recode_is_no_topic are.0 []
+  | inr ended ↦ ap have_more_topics ended ∙ recode_is_no_topic are.0 (codes "--" ∷ [])
 ]

@@ -1,6 +1,6 @@
 -- The arguments of the program: the command `recode`, which takes none of its own, and requests for help.
-use Rattle.std.specs.Prelude.{◌≡◌, ◌⊎◌, List, [], ◌∷◌, codes, true, Some, slice_get}
-use Rattle.std.specs.Str.{chars}
+use Rattle.std.specs.Prelude.{◌≡◌, ◌⊎◌, ◌≤◌, Bool, true, false, List, [], ◌∷◌, length, codes, Some, slice_get}
+use Rattle.std.specs.Str.{bytes_eq, chars}
 use Rattle.clap.specs.Words.{App, Text, new_app, with_subcommand}
 use Rattle.cli_texts.specs.OwnTexts.{is_own}
 
@@ -21,9 +21,17 @@ pub data IsHelpFlag (word : Text) : Type 0 where
   long : word ≡ codes "--help" → IsHelpFlag word
   short : (letters : Text) → word ≡ 45 ∷ letters → slice_get (chars letters) 0 ≡ Some 104 → IsHelpFlag word
 
--- the command `help`, or a flag that asks for help, of the program or of `recode`
+-- more than one word follows `help`
+unfoldable pub have_more_topics : List Text → Bool
+have_more_topics [] = false
+have_more_topics (name ∷ []) = false
+have_more_topics (name ∷ word ∷ []) = false
+have_more_topics (name ∷ word ∷ topic ∷ []) = false
+have_more_topics (name ∷ word ∷ topic ∷ more ∷ rest) = bytes_eq (codes "help") word
+
+-- the command `help` with one word at most, or a flag that asks for help, of the program or of `recode`
 pub data AskForHelp (arguments : List Text) : Type 0 where
-  command : (name : Text) (rest : List Text) → arguments ≡ name ∷ codes "help" ∷ rest → AskForHelp arguments
+  command : (name : Text) (topics : List Text) → length topics ≤ 1 → arguments ≡ name ∷ codes "help" ∷ topics → AskForHelp arguments
   flag : (name word : Text) (rest : List Text) → arguments ≡ name ∷ word ∷ rest → IsHelpFlag word → AskForHelp arguments
   flag_of_recode : (name word : Text) (rest : List Text) → arguments ≡ name ∷ codes "recode" ∷ word ∷ rest → IsHelpFlag word → AskForHelp arguments
 

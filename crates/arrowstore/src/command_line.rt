@@ -1,12 +1,12 @@
 // What the arguments of a command line ask for.
-ghost use Rattle.std.specs.Prelude.{◌≡◌, map, codes, Some, IfOk, IfErr, OnOk, MatchResult};
+ghost use Rattle.std.specs.Prelude.{◌≡◌, false, map, codes, Some, IfOk, IfErr, OnOk, MatchResult};
 ghost use Rattle.clap.specs.Words.{app_of, kind_of, subcommand_name_of};
-ghost use Rattle.clap.specs.declared.error.kind.ErrorKind.TheVariants.{OutOfMemory};
-ghost use Rattle.arrowstore.specs.Arguments.{program_command, AreRecode, AskForHelp};
+ghost use Rattle.clap.specs.declared.error.kind.ErrorKind.TheVariants.{OutOfMemory, UnknownArgument};
+ghost use Rattle.arrowstore.specs.Arguments.{program_command, have_more_topics, AreRecode, AskForHelp};
 ghost use Rattle.cli_texts.specs.Reported.{IsRequest};
 
 use clap::error::ErrorKind;
-use clap::{ArgMatches, Command, Error};
+use clap::{Arg, ArgMatches, Command, Error};
 use cli_requests::{ask_help_of_command, cli_commands, command_lines, help_of_command};
 use std::alloc::{AllocError, Global};
 use std::convert::AsStr;
@@ -33,6 +33,45 @@ pub(crate) enum Action {
 
 /// Reads a command line, of which the program's name is the first argument. An `Err` is a mistake in it, or asks for help.
 pub(crate) fn action_of<S: AsStr>(alloc: Global, arguments: &[S]) -> Result<Action, Error>
+    ensures understood { AreRecode (map S.text arguments.now)
+        → MatchResult result (λ action. action ≡ Action.Recode) (λ error. kind_of error ≡ OutOfMemory) }
+    ensures asked { OnOk result (AreRecode (map S.text arguments.now)) }
+    ensures request { IfErr result (λ error. IsRequest (kind_of error) → AskForHelp (map S.text arguments.now)) }
+{
+    if have_more_topics(arguments) {
+        return Err(unexpected_topic(alloc, arguments)?);
+    }
+    action_of_few(alloc, arguments)
+}
+
+#[tactic(auto, unfolding(crate::specs::Arguments::have_more_topics))]
+fn have_more_topics<S: AsStr>(arguments: &[S]) -> bool
+    ensures { result ≡ have_more_topics (map S.text arguments.now) }
+{
+    match arguments {
+        [_, word, _, _, ..] => word.as_str() == "help",
+        _ => false,
+    }
+}
+
+// What follows `help` is one word, so the second one is wrong.
+fn unexpected_topic<S: AsStr>(alloc: Global, arguments: &[S]) -> Result<Error, AllocError>
+    ensures { IfOk result (λ error. kind_of error ≡ UnknownArgument) }
+{
+    let topic = match arguments {
+        [_, _, _, topic, ..] => topic.as_str(),
+        _ => "",
+    };
+    let message = format!(in alloc; "unexpected argument '{topic}' found")?;
+    let mut command = Command::new(alloc, "help")
+        .arg(Arg::new(alloc, "COMMAND"))?
+        .bin_name("arrowstore help")?;
+    command.error(ErrorKind::UnknownArgument, message.as_str())
+}
+
+// The same of arguments with one word after `help` at most.
+fn action_of_few<S: AsStr>(alloc: Global, arguments: &[S]) -> Result<Action, Error>
+    requires { have_more_topics (map S.text arguments.now) ≡ false }
     ensures understood { AreRecode (map S.text arguments.now)
         → MatchResult result (λ action. action ≡ Action.Recode) (λ error. kind_of error ≡ OutOfMemory) }
     ensures asked { OnOk result (AreRecode (map S.text arguments.now)) }

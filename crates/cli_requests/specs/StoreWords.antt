@@ -57,9 +57,9 @@ first_word [] = []
 first_word (name ∷ []) = []
 first_word (name ∷ word ∷ rest) = word
 
--- the program's name, the word `help` and a command of a store
+-- the program's name, the word `help` and a command of a store, or a word that asks for the help of `help` itself
 unfoldable pub ask_help_of_command : List Text → Bool
 ask_help_of_command [] = false
 ask_help_of_command (name ∷ []) = false
 ask_help_of_command (name ∷ word ∷ []) = false
-ask_help_of_command (name ∷ word ∷ command ∷ rest) = bytes_eq (codes "help") word && is_store_word command
+ask_help_of_command (name ∷ word ∷ command ∷ rest) = bytes_eq (codes "help") word && (is_store_word command || is_help_word command)

@@ -103,7 +103,7 @@ fn null_text<'a>(alloc: Global) -> Arg<'a>
         alloc,
         "null",
         "TEXT",
-        "In CSV, the text that stands for null where nulls are allowed; without this option the empty one",
+        "In CSV, the text that stands for null where nulls are allowed, without this option the empty one; other forms pass it over",
     )
     .default_value("")
     .hide_default_value(true)

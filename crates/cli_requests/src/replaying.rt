@@ -137,13 +137,13 @@ pub(crate) fn with_faults<'a>(alloc: Global, name: &'a str) -> Result<Command<'a
         alloc,
         "fail",
         "K",
-        "The write or sync that fails once; without this option none",
+        "The write or sync that fails once, counted from 1; without this option or with 0 none",
     );
     let stop = number(
         alloc,
         "stop",
         "K",
-        "The write or sync in which the device stops; without this option none",
+        "The write or sync in which the device stops, counted from 1; without this option or with 0 none",
     );
     with_script(alloc, name)?
         .arg(fail)?

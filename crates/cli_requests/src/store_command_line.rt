@@ -13,6 +13,7 @@ ghost use Rattle.cli_requests.specs.StoreWords.{is_store_word, is_of_store, firs
 use crate::command_parameters::{cli_commands, own_command, with_query};
 use crate::found_values::{limit_of, sectors_of, version_in, word, words_of};
 use crate::replaying::replay_request;
+use crate::store_words::is_help_word;
 use crate::{QueryWords, StoreCommand, StoreRequest};
 use clap::error::ErrorKind;
 use clap::{ArgMatches, Error};
@@ -71,15 +72,25 @@ pub fn request_of<'a, S: AsStr>(
     asked(alloc, word, &matches)
 }
 
-/// Looks for the help of the command that follows `help`.
+/// Looks for the help of the command that follows `help`, or of `help` itself where a word follows that asks for help.
 ///
 /// # Errors
-/// Always where a command of a store follows: `clap` gives the help as an error, or memory is refused.
+/// Always where such a word follows: `clap` gives the help as an error, or memory is refused.
 pub fn help_of_command<S: AsStr>(alloc: Global, arguments: &[S]) -> Result<(), Error> {
     if let [name, _, command, ..] = arguments {
-        cli_commands(alloc)?.try_get_matches_from(&[name.as_str(), command.as_str(), "--help"])?;
+        let words = words_for_help(name.as_str(), command.as_str());
+        cli_commands(alloc)?.try_get_matches_from(&words)?;
     }
     Ok(())
+}
+
+// As `clap` is asked for the help of a command; `help` takes no `--help`.
+fn words_for_help<'a>(name: &'a str, command: &'a str) -> [&'a str; 3] {
+    if is_help_word(command) {
+        [name, "help", "help"]
+    } else {
+        [name, command, "--help"]
+    }
 }
 
 // What a word asks for, with the words after it.

@@ -193,7 +193,7 @@ pub fn takes_input<S: AsStr>(arguments: &[S]) -> bool
 }
 
 #[tactic(auto, unfolding(crate::specs::StoreWords::is_help_word))]
-fn is_help_word(word: &str) -> bool
+pub(crate) fn is_help_word(word: &str) -> bool
     ensures { result ≡ is_help_word word.now }
 {
     word == "--help" || word.as_bytes().starts_with(b"-h")
@@ -212,13 +212,16 @@ pub fn ask_for_help<S: AsStr>(arguments: &[S]) -> bool
     false
 }
 
-/// Whether they ask by `help` for the help of a command of a store.
+/// Whether they ask by `help` for the help of a command of a store, or of `help` itself.
 #[tactic(auto, unfolding(crate::specs::StoreWords::ask_help_of_command))]
 pub fn ask_help_of_command<S: AsStr>(arguments: &[S]) -> bool
     ensures { result ≡ ask_help_of_command (map S.text arguments.now) }
 {
     match arguments {
-        [_, word, command, ..] => word.as_str() == "help" && is_store_word(command.as_str()),
+        [_, word, command, ..] => {
+            word.as_str() == "help"
+                && (is_store_word(command.as_str()) || is_help_word(command.as_str()))
+        }
         _ => false,
     }
 }

@@ -1,5 +1,5 @@
 -- Texts of the program's own: its version, and what each refusal means.
-use Rattle.std.specs.Prelude.{ℕ, Bool, ◌||◌, ◌&&◌, if◌then◌else◌, List, [], Option, Some, None, codes, slice_get}
+use Rattle.std.specs.Prelude.{ℕ, Bool, false, ◌||◌, ◌&&◌, if◌then◌else◌, List, [], ◌∷◌, Option, Some, None, codes, slice_get}
 use Rattle.std.specs.Str.{bytes_eq}
 use Rattle.clap.specs.Words.{Text}
 use Rattle.cli_refusals.specs.Page.{refusals_page}
@@ -23,8 +23,13 @@ is_refusals_topic word topic = bytes_eq (codes "help") word && bytes_eq (codes "
 unfoldable pub asks_version : List Text → Bool
 asks_version arguments = is_version_word (word_at arguments 1)
 
+-- after the program's name these two words, and nothing more
 unfoldable pub asks_refusals : List Text → Bool
-asks_refusals arguments = is_refusals_topic (word_at arguments 1) (word_at arguments 2)
+asks_refusals [] = false
+asks_refusals (name ∷ []) = false
+asks_refusals (name ∷ word ∷ []) = false
+asks_refusals (name ∷ word ∷ topic ∷ []) = is_refusals_topic word topic
+asks_refusals (name ∷ word ∷ topic ∷ more ∷ rest) = false
 
 unfoldable pub is_own : List Text → Bool
 is_own arguments = asks_version arguments || asks_refusals arguments

@@ -47,7 +47,10 @@ fn asks_version<S: AsStr>(arguments: &[S]) -> bool
 fn asks_refusals<S: AsStr>(arguments: &[S]) -> bool
     ensures { result ≡ asks_refusals (map S.text arguments.now) }
 {
-    is_refusals_topic(word_at(arguments, 1), word_at(arguments, 2))
+    match arguments {
+        [_, word, topic] => is_refusals_topic(word.as_str(), topic.as_str()),
+        _ => false,
+    }
 }
 
 /// Whether the arguments, of which the program's name is the first, ask for a text of the program's own.
