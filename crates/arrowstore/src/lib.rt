@@ -31,7 +31,9 @@ pub use cli_commands::{
 };
 pub use cli_refusals::{FileReason, Hint, REFUSALS, Refusal, Role, UnopenedFile, Word};
 pub use cli_requests::{QueryWords, StoreCommand};
-pub use cli_texts::{Audience, Ended, Status, VERSION, report_unreadable_arguments};
+pub use cli_texts::{
+    Audience, Ended, Output, Status, VERSION, WatchedOutput, report_unreadable_arguments,
+};
 pub use open_command::{OpenCommand, stated};
 pub use running::run;
 pub use serving_device::serve_device;

@@ -9,7 +9,7 @@ ghost use Rattle.arrowstore.specs.Running.{Recodes};
 ghost use Rattle.cli_texts.specs.Ending.{GivesSome, GivesText, HasReported, IsIo, TellsRefusal};
 ghost use Rattle.cli_texts.specs.LeftOut.{left_out_text};
 ghost use Rattle.cli_texts.specs.OwnTexts.{is_own, own_text};
-ghost use Rattle.cli_texts.specs.Told.{told};
+ghost use Rattle.cli_texts.specs.Told.{heard, told};
 ghost use Rattle.cli_requests.specs.Asked.{request_word};
 ghost use Rattle.cli_requests.specs.StoreWords.{first_word, is_of_store, takes_input, takes_input_word};
 ghost use Rattle.cli_texts.specs.Reported.{IsWrong};
@@ -24,7 +24,9 @@ use crate::serving::serve;
 use crate::unopened::{Unopened, is_there, refused_file};
 use cli_refusals::{Hint, Refusal};
 use cli_requests::{Mistake, StoreRequest, ask_for_help, is_of_store, refused_word, request_of};
-use cli_texts::{Audience, Ended, report_arguments, report_signed_number, report_wrong_arguments};
+use cli_texts::{
+    Audience, Ended, Output, heard, report_arguments, report_signed_number, report_wrong_arguments,
+};
 use sector_dev::{FileDevice, LockFile, ModelDevice, SectorDevice};
 use std::alloc::Global;
 use std::convert::AsStr;
@@ -67,7 +69,7 @@ fn unopened_for<'a, F: OpenFile + LockFile + Drop, H: Files<File = F> + AllocGlo
     audience: Audience,
 ) -> Option<Unopened<'a>> {
     match audience {
-        Audience::Program => None,
+        Audience::Program | Audience::Departed => None,
         Audience::Terminal => refused_file(rt, request, was_there, done),
     }
 }
@@ -103,7 +105,7 @@ fn serve_and_report<
     F: Read + Write + Seek + OpenFile + LockFile + Drop,
     H: Files<File = F> + AllocGlobal,
     R: Read,
-    W: Write,
+    W: Write + Output,
     E: Write,
 >(
     rt: &H,
@@ -114,7 +116,8 @@ fn serve_and_report<
     audience: Audience,
 ) -> Ended
     ensures serves { ServesTold ⟦<FileDevice<F> as SectorDevice>⟧ IsOpenedFile R.remaining W.contents
-        (Replays ⟦<ModelDevice as SectorDevice>⟧ F.remaining ⟦<Empty as Read>⟧.remaining W.contents) E.contents audience request.now
+        (Replays ⟦<ModelDevice as SectorDevice>⟧ F.remaining ⟦<Empty as Read>⟧.remaining W.contents) E.contents
+        (heard audience (W.unread output.new)) request.now
         (ends_of input.old output.old errors.old) (ends_of input.new output.new errors.new) result }
     ensures unread { (takes_input_word (request_word request.now) ≡ true) ⊎ (input.new ≡ input.old) }
 {
@@ -122,6 +125,7 @@ fn serve_and_report<
     let mut part = None;
     let mut left_out = Vec::new(rt.alloc());
     let done = serve(rt, request, input, output, &mut part, &mut left_out);
+    let audience = heard(audience, output);
     match part_of(&part) {
         Some(hint) => end_whole_or_partly(done, &left_out, Some(hint), audience, errors),
         None => {
@@ -140,7 +144,7 @@ fn serve_and_report<
 }
 
 // What `clap` says of the words of a command line. It gives help where one of them asks for it alone.
-fn report_mistake<W: Write, E: Write>(
+fn report_mistake<W: Write + Output, E: Write>(
     alloc: Global,
     error: &clap::Error,
     asks_for_help: bool,
@@ -150,12 +154,12 @@ fn report_mistake<W: Write, E: Write>(
 ) -> Ended
     ensures none { GivesHelpOrWrong W.contents asks_for_help output.old output.new result.status }
     ensures memory { kind_of error.now ≡ kinds.OutOfMemory → result.status ≡ Refused refusals.OutOfMemory }
-    ensures reports { HasReported E.contents audience None [] IsIo output.old output.new errors.old errors.new result }
+    ensures reports { HasReported E.contents (heard audience (W.unread output.new)) None [] IsIo output.old output.new errors.old errors.new result }
 {
     if asks_for_help {
         report_arguments(alloc, error, output, errors, audience)
     } else {
-        report_wrong_arguments(error, errors, audience)
+        report_wrong_arguments(error, output, errors, audience)
     }
 }
 
@@ -165,7 +169,7 @@ fn run_on_store<
     H: Files<File = F> + AllocGlobal,
     S: AsStr,
     R: Read,
-    W: Write,
+    W: Write + Output,
     E: Write,
 >(
     rt: &H,
@@ -177,7 +181,8 @@ fn run_on_store<
 ) -> Ended
     requires { is_of_store (map S.text arguments.now) ≡ true }
     ensures serves { RunsOnStore ⟦<FileDevice<F> as SectorDevice>⟧ IsOpenedFile R.remaining W.contents
-        (Replays ⟦<ModelDevice as SectorDevice>⟧ F.remaining ⟦<Empty as Read>⟧.remaining W.contents) E.contents audience (map S.text arguments.now)
+        (Replays ⟦<ModelDevice as SectorDevice>⟧ F.remaining ⟦<Empty as Read>⟧.remaining W.contents) E.contents
+        (heard audience (W.unread output.new)) (map S.text arguments.now)
         (ends_of input.old output.old errors.old) (ends_of input.new output.new errors.new) result }
     ensures input { (takes_input (map S.text arguments.now) ≡ true) ⊎ (input.new ≡ input.old) }
 {
@@ -204,7 +209,7 @@ pub fn run_with_files<
     H: Files<File = F> + AllocGlobal,
     S: AsStr,
     R: Read,
-    W: Write,
+    W: Write + Output,
     E: Write,
 >(
     rt: &H,
@@ -230,16 +235,18 @@ pub fn run_with_files<
     // the words state was carried out on one. But where a word asks for help that may be given, and wrong words are reported; right ones are not.
     ensures serves { is_of_store (map S.text arguments.now) ≡ true
         → RunsOnStore ⟦<FileDevice<F> as SectorDevice>⟧ IsOpenedFile R.remaining W.contents
-        (Replays ⟦<ModelDevice as SectorDevice>⟧ F.remaining ⟦<Empty as Read>⟧.remaining W.contents) E.contents audience (map S.text arguments.now)
+        (Replays ⟦<ModelDevice as SectorDevice>⟧ F.remaining ⟦<Empty as Read>⟧.remaining W.contents) E.contents
+        (heard audience (W.unread output.new)) (map S.text arguments.now)
         (ends_of input.old output.old errors.old) (ends_of input.new output.new errors.new) result }
     // Where no command is done, help that is asked for is written, and nothing else.
     ensures helps { result.status ≡ Done → AreRecode (map S.text arguments.now) ⊎ (is_own (map S.text arguments.now) ≡ true)
         ⊎ (is_of_store (map S.text arguments.now) ≡ true) ⊎ GivesSome (W.contents output.old) (W.contents output.new) }
-    // What is on `errors`: the report of a refusal to such an audience, the segments that are left out, and nothing where all is done. Only of commands of a
-    // store more is hinted, or something left out.
+    // What is on `errors`: the report of a refusal to such an audience, the segments that are left out, and nothing where all is done; nor that the output
+    // failed where its reader is gone. Only of commands of a store more is hinted, or something left out.
     ensures reports { (hint : Option Hint) × (left : List (ℕ × ℕ))
         × ((is_of_store (map S.text arguments.now) ≡ true) ⊎ ((hint ≡ None) × (left ≡ [])))
-        × HasTold E.contents audience (first_word (map S.text arguments.now)) left output.old output.new errors.old errors.new result hint }
+        × HasTold E.contents (heard audience (W.unread output.new)) (first_word (map S.text arguments.now)) left output.old output.new errors.old
+        errors.new result hint }
 {
     if is_of_store(arguments) {
         return run_on_store(rt, arguments, input, output, errors, audience);

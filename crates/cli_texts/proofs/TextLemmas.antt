@@ -7,7 +7,7 @@ use Rattle.cli_refusals.specs.declared.refusal.Refusal.TheVariants.{Io}
 use Rattle.cli_texts.specs.declared.own_texts.TheConstants.{VERSION}
 use Rattle.cli_texts.specs.declared.status.Ended.{Ended}
 use Rattle.cli_texts.specs.declared.status.Status.{Status}
-use Rattle.cli_texts.specs.declared.status.Status.TheVariants.{Done, PartlyDone, Refused}
+use Rattle.cli_texts.specs.declared.status.Status.TheVariants.{Done, Refused}
 use Rattle.cli_texts.specs.Ending.{HasReported, IsIo, TellsRefusal}
 use Rattle.cli_texts.specs.OwnTexts.{asks_version, own_text}
 use Rattle.cli_texts.specs.declared.telling.Audience.{Audience}

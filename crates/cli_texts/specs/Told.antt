@@ -1,8 +1,9 @@
--- What is reported of a refusal: its line, and on a terminal what to do.
-use Rattle.std.specs.Prelude.{ℕ, List, [], ◌∷◌, ◌++◌, Option, None, Some}
+-- What is reported of a refusal, and to whom: its line, and on a terminal what to do.
+use Rattle.std.specs.Prelude.{ℕ, Bool, true, false, if◌then◌else◌, List, [], ◌∷◌, ◌++◌, Option, None, Some}
 use Rattle.cli_refusals.specs.declared.refusal.Refusal.{Refusal}
+use Rattle.cli_refusals.specs.declared.refusal.Refusal.TheVariants.{Io}
 use Rattle.cli_texts.specs.declared.telling.Audience.{Audience}
-use Rattle.cli_texts.specs.declared.telling.Audience.TheVariants.{Program, Terminal}
+use Rattle.cli_texts.specs.declared.telling.Audience.TheVariants.{Program, Terminal, Departed}
 use Rattle.cli_refusals.specs.declared.hint.Hint.{Hint}
 use Rattle.cli_refusals.specs.Hint.{hint_text}
 use Rattle.cli_refusals.specs.Remedies.{remedy}
@@ -13,7 +14,17 @@ unfoldable pub remedy_line : Option Hint → Refusal → List ℕ
 remedy_line None refusal = remedy refusal ++ 10 ∷ []
 remedy_line (Some hint) refusal = hint_text hint ++ remedy refusal ++ 10 ∷ []
 
--- to a program the line of the refusal, and nothing else
+-- a read or a write failed
+abbrev pub is_io : Refusal → Bool
+is_io Io = true
+is_io _ = false
+
+-- to a program the line of the refusal, and nothing else; that an output failed whose reader is gone is told to nobody
 unfoldable pub told : Audience → Option Hint → Refusal → List ℕ
 told Program hint refusal = refusal_line refusal
 told Terminal hint refusal = refusal_line refusal ++ remedy_line hint refusal
+told Departed hint refusal = if is_io refusal then [] else refusal_line refusal
+
+-- who reads the report of a run, by whether the reader of its output is gone
+abbrev pub heard : Audience → (is_unread : Bool) → Audience
+heard audience is_unread = if is_unread then Departed else audience

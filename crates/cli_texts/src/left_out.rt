@@ -28,7 +28,7 @@ pub fn tell_lacking<E: Write>(audience: Audience, errors: &mut E) -> io::Result<
     ensures { OnOk result (Appends (E.contents errors.old) (E.contents errors.new) (lacking_line audience)) }
 {
     match audience {
-        Audience::Program => Ok(()),
+        Audience::Program | Audience::Departed => Ok(()),
         Audience::Terminal => writeln!(errors, "{STREAM_LACKS_THEM}"),
     }
 }

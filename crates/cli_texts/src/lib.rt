@@ -1,7 +1,9 @@
 //! What the program says, and how it ends: its status, what it reports of a refusal and to whom, and its own texts.
 //!
 //! [`end`] and [`report_arguments`] report on any writer how a run ended, and say which bytes are written: to a program the
-//! line of a refusal, and on a terminal after it what to do. [`tell_left_out`] and [`tell_lacking`] report what a salvage leaves out.
+//! line of a refusal, and on a terminal after it what to do. [`end_output`] does so of a run with an output, whose reader may be gone ([`Output`],
+//! [`WatchedOutput`]).
+//! [`tell_left_out`] and [`tell_lacking`] report what a salvage leaves out.
 //! [`write_own_text`] writes the version, or what each refusal means.
 //!
 //! ```
@@ -16,10 +18,14 @@ mod reports;
 mod status;
 mod telling;
 mod unreadable;
+mod watched;
 
 pub use left_out::{tell_lacking, tell_left_out};
 pub use own_texts::{VERSION, is_own, write_own_text};
-pub use reports::{end, report_arguments, report_signed_number, report_wrong_arguments};
+pub use reports::{
+    end, end_output, report_arguments, report_signed_number, report_wrong_arguments,
+};
 pub use status::{Ended, Status};
-pub use telling::Audience;
+pub use telling::{Audience, Output, heard};
 pub use unreadable::report_unreadable_arguments;
+pub use watched::WatchedOutput;

@@ -3,10 +3,10 @@ ghost use Rattle.std.specs.Prelude.{◌≡◌, ◌≢◌, ◌⊎◌, [], None, I
 ghost use Rattle.clap.specs.Words.{kind_of};
 ghost use Rattle.cli_texts.specs.Reported.{IsRequest, IsWrong};
 ghost use Rattle.cli_texts.specs.Ending.{GivesSome, IsIo, IsOfOutput, TellsRefusal, HasReported};
-ghost use Rattle.cli_texts.specs.Told.{told};
+ghost use Rattle.cli_texts.specs.Told.{heard, told};
 
-use crate::telling::tell;
-use crate::{Audience, Ended, Status};
+use crate::telling::{heard, tell};
+use crate::{Audience, Ended, Output, Status};
 use clap::error::ErrorKind;
 use cli_refusals::{Hint, Refusal, write_whole};
 use std::alloc::Global;
@@ -26,7 +26,7 @@ fn write_help<W: Write>(alloc: Global, error: &clap::Error, output: &mut W) -> R
 }
 
 /// Reports why the arguments ask for nothing: what is wrong with them goes to `errors`, and help to `output`.
-pub fn report_arguments<W: Write, E: Write>(
+pub fn report_arguments<W: Write + Output, E: Write>(
     alloc: Global,
     error: &clap::Error,
     output: &mut W,
@@ -37,28 +37,32 @@ pub fn report_arguments<W: Write, E: Write>(
     // Help that is asked for is written, and nothing else.
     ensures helps { result.status ≡ Status.Done → GivesSome (W.contents output.old) (W.contents output.new) }
     ensures memory { kind_of error.now ≡ ErrorKind.OutOfMemory → (result.status ≡ Status.Refused Refusal.OutOfMemory) × (output.new ≡ output.old) }
-    ensures reports { HasReported E.contents audience None [] IsIo output.old output.new errors.old errors.new result }
+    ensures reports { HasReported E.contents (heard audience (W.unread output.new)) None [] IsIo output.old output.new errors.old errors.new result }
 {
     match error.kind() {
         ErrorKind::DisplayHelp | ErrorKind::DisplayVersion => {
-            end(write_help(alloc, error, output), None, audience, errors)
+            let written = write_help(alloc, error, output);
+            end_output(written, None, audience, output, errors)
         }
-        _ => report_wrong_arguments(error, errors, audience),
+        _ => report_wrong_arguments(error, output, errors, audience),
     }
 }
 
 /// Reports that arguments are wrong, or that memory for what is wrong with them is refused.
-pub fn report_wrong_arguments<E: Write>(
+pub fn report_wrong_arguments<W: Output, E: Write>(
     error: &clap::Error,
+    output: &W,
     errors: &mut E,
     audience: Audience,
 ) -> Ended
     ensures wrong { IsWrong result.status }
     ensures memory { kind_of error.now ≡ ErrorKind.OutOfMemory → result.status ≡ Status.Refused Refusal.OutOfMemory }
-    ensures line { TellsRefusal (told audience None) result (E.contents errors.old) (E.contents errors.new) }
+    ensures line { TellsRefusal (told (heard audience (W.unread output.now)) None) result (E.contents errors.old) (E.contents errors.new) }
 {
     match error.kind() {
-        ErrorKind::OutOfMemory => end(Err(Refusal::OutOfMemory), None, audience, errors),
+        ErrorKind::OutOfMemory => {
+            end_output(Err(Refusal::OutOfMemory), None, audience, output, errors)
+        }
         _ => Ended {
             status: Status::WrongArguments,
             is_reported: write!(errors, "{error}").is_ok(),
@@ -74,6 +78,21 @@ pub fn report_signed_number<E: Write>(errors: &mut E) -> Ended
         status: Status::WrongArguments,
         is_reported: writeln!(errors, "error: a number is decimal digits, without a sign").is_ok(),
     }
+}
+
+/// The same of a run that has written to an output: where the reader of that is gone, nobody is told that it failed.
+pub fn end_output<W: Output, E: Write>(
+    done: Result<(), Refusal>,
+    hint: Option<Hint<'_>>,
+    audience: Audience,
+    output: &W,
+    errors: &mut E,
+) -> Ended
+    ensures done { IsOk done → (result.status ≡ Status.Done) × (errors.new ≡ errors.old) × IsTrue result.is_reported }
+    ensures refused { IfErr done (λ refusal. result.status ≡ Status.Refused refusal) }
+    ensures line { TellsRefusal (told (heard audience (W.unread output.now)) hint.entry) result (E.contents errors.old) (E.contents errors.new) }
+{
+    end(done, hint, heard(audience, output), errors)
 }
 
 /// Reports a refusal, with what is refused where more of it is known.

@@ -1,7 +1,8 @@
 // What is reported of a refusal, and to whom.
-ghost use Rattle.std.specs.Prelude.{◌≡◌, OnOk};
+ghost use Rattle.std.specs.Prelude.{◌≡◌, Bool, [], if◌then◌else◌, OnOk};
 ghost use Rattle.std.specs.Io.KnownBytes.{Appends};
-ghost use Rattle.cli_texts.specs.Told.{told};
+ghost use Rattle.cli_texts.specs.Reported.{refusal_line};
+ghost use Rattle.cli_texts.specs.Told.{heard, is_io, told};
 
 use cli_refusals::{Hint, Refusal};
 use std::io::{self, IsTerminal, Write};
@@ -13,6 +14,8 @@ pub enum Audience {
     Program,
     /// A person at a terminal: after it a line with what to do.
     Terminal,
+    /// Nobody, where the reader of the output is gone, of a read or a write that failed; a program, of all else.
+    Departed,
 }
 
 impl Audience {
@@ -23,6 +26,51 @@ impl Audience {
         } else {
             Audience::Program
         }
+    }
+}
+
+/// An output that knows whether its reader is gone.
+pub trait Output {
+    /// Its reader is gone.
+    ghost unread: { Self → Bool };
+
+    /// Whether its reader is gone: a write was answered so, as by a pipe that its reader has closed.
+    fn is_unread(&self) -> bool
+        ensures { result ≡ unread self.now };
+}
+
+/// Who reads the report of a run that has written to an output.
+pub fn heard<W: Output>(audience: Audience, output: &W) -> Audience
+    ensures { result ≡ heard audience (W.unread output.now) }
+{
+    if output.is_unread() {
+        Audience::Departed
+    } else {
+        audience
+    }
+}
+
+fn is_io(refusal: Refusal) -> bool
+    ensures { result ≡ is_io refusal }
+{
+    matches!(refusal, Refusal::Io)
+}
+
+#[tactic(auto, unfolding(crate::specs::Reported::refusal_line))]
+fn tell_line<E: Write>(refusal: Refusal, errors: &mut E) -> io::Result<()>
+    ensures { OnOk result (Appends (E.contents errors.old) (E.contents errors.new) (refusal_line refusal)) }
+{
+    writeln!(errors, "refused {refusal}")
+}
+
+// All but a read or a write that failed.
+fn tell_unless_io<E: Write>(refusal: Refusal, errors: &mut E) -> io::Result<()>
+    ensures { OnOk result (Appends (E.contents errors.old) (E.contents errors.new) (if is_io refusal then [] else refusal_line refusal)) }
+{
+    if is_io(refusal) {
+        Ok(())
+    } else {
+        tell_line(refusal, errors)
     }
 }
 
@@ -39,6 +87,7 @@ pub(crate) fn tell<E: Write>(
     let remedy = refusal.remedy();
     match (audience, hint) {
         (Audience::Program, _) => writeln!(errors, "refused {refusal}"),
+        (Audience::Departed, _) => tell_unless_io(refusal, errors),
         (Audience::Terminal, None) => writeln!(errors, "refused {refusal}\n{remedy}"),
         (Audience::Terminal, Some(hint)) => {
             writeln!(errors, "refused {refusal}\n{hint}{remedy}")

@@ -1,12 +1,13 @@
 //! The program `arrowstore`: hands the process's arguments and streams to the library of that name, and exits with its status.
 //! On a terminal one line shows meanwhile what goes on, where the work takes more than a second.
 //!
-//! Status 0 is done, 1 refused, with a line `refused CODE NAME ..` on standard error, and 2 wrong arguments.
+//! Status 0 is done, 1 refused, with a line `refused CODE NAME ..` on standard error, and 2 wrong arguments. Where the reader of the output is gone, as
+//! `head` when it has its lines, the status is 1 without such a line.
 #![tactic(auto)]
 
 mod progress;
 
-use arrowstore::{Audience, report_unreadable_arguments, run_with_files};
+use arrowstore::{Audience, WatchedOutput, report_unreadable_arguments, run_with_files};
 use progress::{ProgressFiles, ProgressLine, ProgressReader, ProgressWriter};
 use std::process::ExitCode;
 use std::{env, io};
@@ -21,7 +22,7 @@ fn main(rt: HostRuntime) -> ExitCode {
             &ProgressFiles::new(&rt, line.as_ref()),
             arguments.as_slice(),
             &mut ProgressReader::new(rt.reader(), line.as_ref()),
-            &mut ProgressWriter::new(rt.stdout(), line.as_ref()),
+            &mut WatchedOutput::new(ProgressWriter::new(rt.stdout(), line.as_ref())),
             &mut errors,
             audience,
         ),

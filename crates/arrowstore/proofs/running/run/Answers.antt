@@ -22,11 +22,11 @@ returns-then-is_own-clause-recodes g c = λ are. absurd (true≢false (sym (sym 
 
 pub returns-then-is_own-clause-own : goal.returns-then-is_own-clause-own
 returns-then-is_own-clause-own g c = λ _.
-    own_given c.write_own_text.result c.end.result.status _ _ _ c.end.ensures.done c.end.ensures.refused c.write_own_text.ensures.written c.write_own_text.ensures.refused
+    own_given c.write_own_text-written.result c.end_output.result.status _ _ _ c.end_output.ensures.done c.end_output.ensures.refused c.write_own_text-written.ensures.written c.write_own_text-written.ensures.refused
 
 pub returns-then-is_own-clause-reports : goal.returns-then-is_own-clause-reports
 returns-then-is_own-clause-reports g c =
-    own_reported g.E.Write.contents _ _ _ _ _ c.write_own_text.result c.end.result c.end.ensures.done c.end.ensures.refused c.write_own_text.ensures.silent c.end.ensures.line
+    own_reported g.E.Write.contents _ _ _ _ _ c.write_own_text-written.result c.end_output.result c.end_output.ensures.done c.end_output.ensures.refused c.write_own_text-written.ensures.silent c.end_output.ensures.line
 
 pub returns-in-Err-clause-recodes : goal.returns-in-Err-clause-recodes
 returns-in-Err-clause-recodes g c = λ are.

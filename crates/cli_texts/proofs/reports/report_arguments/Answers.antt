@@ -16,8 +16,9 @@ returns-in_default-clause-reports g c =
     wrong_reported g.E.Write.contents _ c.args.output.now _ _ c.report_wrong_arguments.result c.report_wrong_arguments.ensures.wrong c.report_wrong_arguments.ensures.line
 
 pub returns-in-DisplayHelp-clause-helps : goal.returns-in-DisplayHelp-clause-helps
-returns-in-DisplayHelp-clause-helps g c = help_given c.write_help.result c.end.result.status _ c.write_help.ensures.written c.end.ensures.refused
+returns-in-DisplayHelp-clause-helps g c = help_given c.write_help-written.result c.end_output.result.status _ c.write_help-written.ensures.written c.end_output.ensures.refused
 
 pub returns-in-DisplayHelp-clause-reports : goal.returns-in-DisplayHelp-clause-reports
 returns-in-DisplayHelp-clause-reports g c =
-    help_reported g.E.Write.contents _ _ _ _ _ c.write_help.result c.end.result c.end.ensures.done c.end.ensures.refused c.write_help.ensures.silent c.end.ensures.line
+    help_reported g.E.Write.contents _ _ _ _ _ c.write_help-written.result c.end_output.result c.end_output.ensures.done c.end_output.ensures.refused c.write_help-written.ensures.silent
+    c.end_output.ensures.line

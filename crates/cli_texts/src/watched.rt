@@ -1,0 +1,77 @@
+// An output that is watched for its reader.
+ghost use Rattle.std.specs.Prelude.{◌≡◌, ◌⊎◌, Bool, true, false, IsErrAnd};
+ghost use Rattle.std.specs.IoError.{error_kind};
+ghost use Rattle.std.specs.Io.{WritesAtMost};
+ghost use Rattle.std.specs.Io.KnownBytes.{Keeps, WriteAppends};
+
+use crate::Output;
+use std::io::{self, ErrorKind, Write};
+
+/// Writes to `output`, and knows whether its reader is gone.
+#[derive(Drop)]
+pub struct WatchedOutput<W: Write> {
+    output: W,
+    is_unread: bool,
+}
+
+impl<W: Write> WatchedOutput<W> {
+    /// The reader of an output is taken to be there until a write tells otherwise.
+    pub fn new(output: W) -> WatchedOutput<W>
+        ensures { (result.output ≡ output) × (result.is_unread ≡ false) }
+    {
+        WatchedOutput {
+            output,
+            is_unread: false,
+        }
+    }
+}
+
+// A pipe answers so whose reader has closed it.
+fn finds_no_reader<T>(written: &io::Result<T>) -> bool
+    ensures gone { result ≡ true → IsErrAnd written.now (λ e. error_kind e ≡ ErrorKind.BrokenPipe) }
+    ensures found { IsErrAnd written.now (λ e. error_kind e ≡ ErrorKind.BrokenPipe) → result ≡ true }
+{
+    match written {
+        Ok(_) => false,
+        Err(error) => error.kind() == ErrorKind::BrokenPipe,
+    }
+}
+
+impl<W: Write> Output for WatchedOutput<W> {
+    ghost unread = { λ watched. watched.is_unread };
+
+    fn is_unread(&self) -> bool {
+        self.is_unread
+    }
+}
+
+impl<W: Write> Write for WatchedOutput<W> {
+    ghost contents = { λ watched. W.contents watched.output };
+
+    fn write(&mut self, buf: &[u8]) -> io::Result<usize>
+        ensures bound { WritesAtMost result buf.now }
+        ensures bytes { WriteAppends (W.contents self.old.output) (W.contents self.new.output) result buf.now }
+        // Its reader is gone where a write was answered so, and for no other reason.
+        ensures gone { self.new.is_unread ≡ true
+            → (self.old.is_unread ≡ true) ⊎ IsErrAnd result (λ e. error_kind e ≡ ErrorKind.BrokenPipe) }
+        ensures found { IsErrAnd result (λ e. error_kind e ≡ ErrorKind.BrokenPipe) → self.new.is_unread ≡ true }
+    {
+        let written = self.output.write(buf);
+        if finds_no_reader(&written) {
+            self.is_unread = true;
+        }
+        written
+    }
+
+    fn flush(&mut self) -> io::Result<()>
+        ensures bytes { Keeps (W.contents self.old.output) (W.contents self.new.output) }
+        ensures gone { self.new.is_unread ≡ true
+            → (self.old.is_unread ≡ true) ⊎ IsErrAnd result (λ e. error_kind e ≡ ErrorKind.BrokenPipe) }
+    {
+        let flushed = self.output.flush();
+        if finds_no_reader(&flushed) {
+            self.is_unread = true;
+        }
+        flushed
+    }
+}
