@@ -4,7 +4,7 @@ use Rattle.std.specs.Str.{bytes_eq}
 use Rattle.std.proofs.lemmas.Slice.Eq.{bytes_eq-Decides}
 use Rattle.clap.specs.Words.{Text}
 use Rattle.arrowstore.specs.Arguments.{have_more_topics, AreRecode, AskForHelp, command}
-use Rattle.cli_texts.specs.OwnTexts.{is_own, asks_version, asks_refusals, is_version_word, is_refusals_topic}
+use Rattle.cli_texts.specs.OwnTexts.{is_own, asks_version, asks_refusals, asks_commands, is_version_word, is_refusals_topic, is_help_alone}
 use Rattle.cli_requests.specs.StoreWords.{is_of_store, is_store_word, changes_word, makes_word, reads_word, takes_input_word, reads_table_word, is_help_word, ask_help_of_command}
 
 recode_of_none : (name : Text) (rest : List Text) → is_of_store (name ∷ codes "recode" ∷ rest) ≡ false
@@ -19,7 +19,7 @@ recode_of_no_store arguments are = elim are.1 [
 ]
 
 recode_of_no_own : (name : Text) (rest : List Text) → is_own (name ∷ codes "recode" ∷ rest) ≡ false
-unfolding is_own asks_version asks_refusals is_version_word is_refusals_topic
+unfolding is_own asks_version asks_refusals asks_commands is_version_word is_refusals_topic is_help_alone
 recode_of_no_own name [] = refl
 recode_of_no_own name (topic ∷ []) = refl
 recode_of_no_own name (topic ∷ more ∷ rest) = refl
@@ -36,26 +36,30 @@ same_of_none : (other word : Text) (name : Text) (rest : List Text) → bytes_eq
 same_of_none other word name rest same none = subst (λ (w : Text). is_of_store (name ∷ w ∷ rest) ≡ false) ((bytes_eq-Decides other word).0 same) none
 
 no_word_of_own : (name word : Text) (rest : List Text) → bytes_eq (codes "--version") word ≡ false → bytes_eq (codes "-V") word ≡ false → bytes_eq (codes "help") word ≡ false
-    → is_own (name ∷ word ∷ rest) ≡ false
-unfolding is_own asks_version asks_refusals is_version_word is_refusals_topic
-no_word_of_own name word [] l s h = rw (l, s) refl
-no_word_of_own name word (topic ∷ []) l s h = rw (l, s, h) refl
-no_word_of_own name word (topic ∷ more ∷ rest) l s h = rw (l, s) refl
+    → bytes_eq (codes "--help") word ≡ false → bytes_eq (codes "-h") word ≡ false → is_own (name ∷ word ∷ rest) ≡ false
+unfolding is_own asks_version asks_refusals asks_commands is_version_word is_refusals_topic is_help_alone
+no_word_of_own name word [] l s h a c = rw (l, s, h, a, c) refl
+no_word_of_own name word (topic ∷ []) l s h a c = rw (l, s, h) refl
+no_word_of_own name word (topic ∷ more ∷ rest) l s h a c = rw (l, s) refl
 
-own_word_of_none : (name word : Text) (rest : List Text) (long short help : Bool) → bytes_eq (codes "--version") word ≡ long → bytes_eq (codes "-V") word ≡ short → bytes_eq (codes "help") word ≡ help
+own_word_of_none : (name word : Text) (rest : List Text) (long short help asks letter : Bool) → bytes_eq (codes "--version") word ≡ long → bytes_eq (codes "-V") word ≡ short
+    → bytes_eq (codes "help") word ≡ help → bytes_eq (codes "--help") word ≡ asks → bytes_eq (codes "-h") word ≡ letter
     → is_own (name ∷ word ∷ rest) ≡ true → is_of_store (name ∷ word ∷ rest) ≡ false
-unfolding is_own asks_version asks_refusals is_version_word is_refusals_topic is_of_store is_store_word changes_word makes_word reads_word takes_input_word reads_table_word
-own_word_of_none name word rest true short help l s h own = same_of_none (codes "--version") word name rest l refl
-own_word_of_none name word rest false true help l s h own = same_of_none (codes "-V") word name rest s refl
-own_word_of_none name word rest false false true l s h own = same_of_none (codes "help") word name rest h refl
-own_word_of_none name word rest false false false l s h own = absurd (true≢false (sym own ∙ no_word_of_own name word rest l s h))
+unfolding is_of_store is_store_word changes_word makes_word reads_word takes_input_word reads_table_word
+own_word_of_none name word rest true short help asks letter l s h a c own = same_of_none (codes "--version") word name rest l refl
+own_word_of_none name word rest false true help asks letter l s h a c own = same_of_none (codes "-V") word name rest s refl
+own_word_of_none name word rest false false true asks letter l s h a c own = same_of_none (codes "help") word name rest h refl
+own_word_of_none name word rest false false false true letter l s h a c own = same_of_none (codes "--help") word name rest a refl
+own_word_of_none name word rest false false false false true l s h a c own = same_of_none (codes "-h") word name rest c refl
+own_word_of_none name word rest false false false false false l s h a c own = absurd (true≢false (sym own ∙ no_word_of_own name word rest l s h a c))
 
 pub own_of_no_store : (arguments : List Text) → is_own arguments ≡ true → is_of_store arguments ≡ false
-unfolding is_own asks_version asks_refusals is_version_word is_refusals_topic is_of_store
+unfolding is_of_store
 own_of_no_store [] own = refl
 own_of_no_store (name ∷ []) own = refl
 own_of_no_store (name ∷ word ∷ rest) own =
-    own_word_of_none name word rest (bytes_eq (codes "--version") word) (bytes_eq (codes "-V") word) (bytes_eq (codes "help") word) refl refl refl own
+    own_word_of_none name word rest (bytes_eq (codes "--version") word) (bytes_eq (codes "-V") word) (bytes_eq (codes "help") word) (bytes_eq (codes "--help") word) (bytes_eq (codes "-h") word)
+    refl refl refl refl refl own
 
 -- `help` without more than one word after it asks for help
 pub few_topics : (name : Text) (topics : List Text) → have_more_topics (name ∷ codes "help" ∷ topics) ≡ false → length topics ≤ 1

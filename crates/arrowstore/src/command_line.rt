@@ -7,22 +7,10 @@ ghost use Rattle.cli_texts.specs.Reported.{IsRequest};
 
 use clap::error::ErrorKind;
 use clap::{Arg, ArgMatches, Command, Error};
-use cli_requests::{ask_help_of_command, cli_commands, command_lines, help_of_command};
+use cli_requests::{ask_help_of_command, cli_commands, help_of_command};
+use cli_texts::{abouts, help_page};
 use std::alloc::{AllocError, Global};
 use std::convert::AsStr;
-
-const ABOUT: &str = "A crash-safe store of named tables in the Apache Arrow format";
-
-const RECODE: &str =
-    "Reads a stream from standard input, and writes its canonical form to standard output";
-
-// What stands in the help after the commands.
-const OTHER_HELP: &str = "Options:
-  -h, --help  Print help
-
-Each command has its own help, with an example: 'arrowstore COMMAND --help'
-What each refusal means, and what to do: arrowstore help refusals
-The version: arrowstore --version";
 
 /// What a command line asks for.
 #[derive(Clone, Copy)]
@@ -80,19 +68,11 @@ fn action_of_few<S: AsStr>(alloc: Global, arguments: &[S]) -> Result<Action, Err
     if ask_help_of_command(arguments) {
         help_of_command(alloc, arguments)?;
     }
-    let help = help_of_all(alloc)?;
+    let help = help_page(alloc)?;
     match program(alloc, help.as_str())?.try_get_matches_from(arguments) {
         Ok(matches) => Ok(named(&matches)),
         Err(error) => Err(with_all_commands(alloc, arguments, error)),
     }
-}
-
-// The help of the program: all commands in one list, each with the line that its own help begins with.
-fn help_of_all(alloc: Global) -> Result<String, AllocError> {
-    let of_stores = command_lines(alloc)?;
-    format!(in alloc;
-        "{ABOUT}\n\nUsage: arrowstore <COMMAND>\n\nCommands:\n{of_stores}  recode   {RECODE}\n  help     Print this message or the help of the given command\n\n{OTHER_HELP}"
-    )
 }
 
 // Where no command is given, or one that is not known, what is said of it names all commands, or one that is near.
@@ -131,11 +111,11 @@ fn named(matches: &ArgMatches<'_>) -> Action
 fn program<'a>(alloc: Global, help: &'a str) -> Result<Command<'a>, AllocError>
     ensures { IfOk result (λ command. app_of command ≡ program_command) }
 {
-    let recode = Command::new(alloc, "recode").about(RECODE).after_help(
-        "Example: arrowstore recode < readings.arrows > canonical.arrows",
-    );
+    let recode = Command::new(alloc, "recode")
+        .about(abouts::RECODE)
+        .after_help("Example: arrowstore recode < readings.arrows > canonical.arrows");
     Command::new(alloc, "arrowstore")
-        .override_help(help)
+        .override_help(help.trim_end())
         .subcommand_required(true)
         .subcommand(recode)
 }

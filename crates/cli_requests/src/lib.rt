@@ -5,8 +5,7 @@
 //! names, fields, conditions and numbers of the request, in order (`specs/Operands.antt`); with options it has what `clap` finds by its own definitions.
 //! Operands that a command takes are right, and so are words that `clap` takes (`specs/Right.antt`); [`options_are_read`] says of which words with options
 //! this is so. [`refused_word`] gives the word that a refusal is of.
-//! [`help_of_command`] gives the help of a command that follows `help` ([`ask_help_of_command`]); [`command_lines`] and [`cli_commands`] give all commands,
-//! from one table.
+//! [`help_of_command`] gives the help of a command that follows `help` ([`ask_help_of_command`]); [`cli_commands`] gives all commands.
 //!
 //! ```
 //! let request = request_of(alloc, &["arrowstore", "drop", "store", "t"])?; // `StoreCommand::Drop`, of the store at `store`
@@ -32,4 +31,3 @@ pub use store_words::{
     QueryWords, StoreCommand, StoreRequest, ask_for_help, ask_help_of_command, is_of_store,
     takes_input,
 };
-pub use usages::command_lines;

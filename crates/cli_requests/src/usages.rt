@@ -1,5 +1,5 @@
 // What the help says of each command of a store: its name, what it does, and an example.
-use std::alloc::{AllocError, Global};
+use cli_texts::abouts;
 
 // A command as its help shows it.
 pub(crate) struct Usage {
@@ -12,12 +12,12 @@ pub(crate) struct Usage {
 pub(crate) const COMMANDS: [Usage; 17] = [
     Usage {
         name: "format",
-        about: "Makes a file of the given number of sectors, and an empty store in it",
+        about: abouts::FORMAT,
         example: "Example: arrowstore format store 4096",
     },
     Usage {
         name: "create",
-        about: "Makes a table without rows",
+        about: abouts::CREATE,
         example: "Example: arrowstore create store measurements id:uint64 'value:int32?' 'tags:list<utf8>'
 
 A TYPE is null, bool, int8 to int64, uint8 to uint64, utf8, large_utf8, binary,
@@ -29,18 +29,18 @@ are allowed.",
     },
     Usage {
         name: "import",
-        about: "Reads a stream from standard input, and makes its table, in place of one of this name",
+        about: abouts::IMPORT,
         example: "Example: arrowstore import store measurements < readings.arrows",
     },
     Usage {
         name: "append",
-        about: "Reads rows from standard input, and appends them to a table",
+        about: abouts::APPEND,
         example: "Example: arrowstore append store measurements --as csv --null NA < readings.csv
 where readings.csv begins with the line id,value",
     },
     Usage {
         name: "query",
-        about: "Prints the rows of a table that meet all conditions, each as a line of JSON",
+        about: abouts::QUERY,
         example: "Example: arrowstore query store measurements 'value >= 7' --columns id,value --limit 10
 
 A LITERAL stands without quotation marks, as in 'city = New York': all that follows
@@ -50,37 +50,37 @@ seconds, .. they are after 1970-01-01.",
     },
     Usage {
         name: "export",
-        about: "Writes the stream of a table to standard output",
+        about: abouts::EXPORT,
         example: "Example: arrowstore export store measurements > readings.arrows",
     },
     Usage {
         name: "rename",
-        about: "Gives a table another name",
+        about: abouts::RENAME,
         example: "Example: arrowstore rename store measurements readings",
     },
     Usage {
         name: "drop",
-        about: "Removes a table with all its rows",
+        about: abouts::DROP,
         example: "Example: arrowstore drop store measurements",
     },
     Usage {
         name: "tables",
-        about: "Prints a line for each table: its name, and how many rows it has",
+        about: abouts::TABLES,
         example: "Example: arrowstore tables store",
     },
     Usage {
         name: "schema",
-        about: "Prints a line for each field of a table",
+        about: abouts::SCHEMA,
         example: "Example: arrowstore schema store measurements",
     },
     Usage {
         name: "check",
-        about: "Reads all tables, and prints ok where each can be read",
+        about: abouts::CHECK,
         example: "Example: arrowstore check store",
     },
     Usage {
         name: "salvage",
-        about: "Writes the stream of the rows of a damaged table that can be read, and tells what is left out",
+        about: abouts::SALVAGE,
         example: "Example: arrowstore salvage store measurements > rescued.arrows
 
 It is for a table that check and export refuse. Each segment that can't be read is left
@@ -88,15 +88,16 @@ out, with a line on standard error, and the status is then 1. The store is only 
     },
     Usage {
         name: "info",
-        about: "Prints the store in numbers",
+        about: abouts::INFO,
         example: "Example: arrowstore info store --json
 
 Sectors are counted in 512 bytes. The used ones are those of the two commits, of the
-catalogue and of the tables.",
+catalogue and of the tables. Where commits_agree is false, something else than this
+program has changed a commit, and the last command may be undone.",
     },
     Usage {
         name: "compact",
-        about: "Joins small segments, moves the last ones forward, and prints how many steps that took",
+        about: abouts::COMPACT,
         example: "Example: arrowstore compact store
 
 The tables stay as they are, also where it is stopped. Each append leaves a segment of
@@ -104,7 +105,7 @@ its own, with a bound on how many a store has; what is joined is read faster too
     },
     Usage {
         name: "upgrade",
-        about: "Gives each segment of a store of version 1 the digest of its bytes",
+        about: abouts::UPGRADE,
         example: "Example: arrowstore upgrade store
 
 The tables stay as they are, also where it is stopped. A store of version 2 notices when
@@ -112,12 +113,12 @@ a disk has changed its bytes. Programs that know version 1 alone do not read it.
     },
     Usage {
         name: "copy",
-        about: "Makes a store of the given number of sectors in a new file, with all tables of another one",
+        about: abouts::COPY,
         example: "Example: arrowstore copy store larger 65536",
     },
     Usage {
         name: "replay",
-        about: "Plays a script on a device in memory that fails or stops, and prints what a crash leaves",
+        about: abouts::REPLAY,
         example: "Example: arrowstore replay script --sectors 16 --stop 8 --choice new
 where script has a command on each line, its words split by single spaces:
 create NAME FIELD .., import NAME FILE, append NAME FILE, rename NAME NEW, drop NAME,
@@ -134,17 +135,4 @@ pub(crate) fn texts_of(name: &str) -> (&'static str, &'static str) {
         }
     }
     ("", "")
-}
-
-/// A line for each command of a store: its name, and the first line of its help.
-///
-/// # Errors
-/// Memory is refused.
-pub fn command_lines(alloc: Global) -> Result<String, AllocError> {
-    let mut lines = String::new(alloc);
-    for usage in &COMMANDS {
-        let Usage { name, about, .. } = usage;
-        lines.push_str(format!(in alloc; "  {name:<9}{about}\n")?.as_str())?;
-    }
-    Ok(lines)
 }

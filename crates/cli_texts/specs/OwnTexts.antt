@@ -1,8 +1,9 @@
--- Texts of the program's own: its version, and what each refusal means.
-use Rattle.std.specs.Prelude.{ℕ, Bool, false, ◌||◌, ◌&&◌, if◌then◌else◌, List, [], ◌∷◌, Option, Some, None, codes, slice_get}
+-- Texts of the program's own: its version, what each refusal means, and the help that lists all commands.
+use Rattle.std.specs.Prelude.{ℕ, Bool, false, ◌||◌, ◌&&◌, if◌then◌else◌, List, [], ◌∷◌, Option, Some, None, codes, flat_map, slice_get}
 use Rattle.std.specs.Str.{bytes_eq}
 use Rattle.clap.specs.Words.{Text}
 use Rattle.cli_refusals.specs.Page.{refusals_page}
+use Rattle.cli_texts.specs.declared.help.TheConstants.{HELP}
 use Rattle.cli_texts.specs.declared.own_texts.TheConstants.{VERSION}
 
 abbrev pub word_or_none : Option Text → Text
@@ -31,9 +32,23 @@ asks_refusals (name ∷ word ∷ []) = false
 asks_refusals (name ∷ word ∷ topic ∷ []) = is_refusals_topic word topic
 asks_refusals (name ∷ word ∷ topic ∷ more ∷ rest) = false
 
+-- the help of the program
+unfoldable pub help_page : List ℕ
+help_page = flat_map (λ piece. piece.now) HELP
+
+unfoldable pub is_help_alone : Text → Bool
+is_help_alone word = bytes_eq (codes "help") word || (bytes_eq (codes "--help") word || bytes_eq (codes "-h") word)
+
+-- after the program's name such a word, and nothing more
+unfoldable pub asks_commands : List Text → Bool
+asks_commands [] = false
+asks_commands (name ∷ []) = false
+asks_commands (name ∷ word ∷ []) = is_help_alone word
+asks_commands (name ∷ word ∷ more ∷ rest) = false
+
 unfoldable pub is_own : List Text → Bool
-is_own arguments = asks_version arguments || asks_refusals arguments
+is_own arguments = asks_version arguments || (asks_refusals arguments || asks_commands arguments)
 
 -- the text that they ask for
 unfoldable pub own_text : List Text → Text
-own_text arguments = if asks_version arguments then VERSION.now else refusals_page
+own_text arguments = if asks_version arguments then VERSION.now else (if asks_refusals arguments then refusals_page else help_page)

@@ -4,7 +4,7 @@
 //! line of a refusal, and on a terminal after it what to do. [`end_output`] does so of a run with an output, whose reader may be gone ([`Output`],
 //! [`WatchedOutput`]).
 //! [`tell_left_out`] and [`tell_lacking`] report what a salvage leaves out.
-//! [`write_own_text`] writes the version, or what each refusal means.
+//! [`write_own_text`] writes the version, what each refusal means, or the help that lists all commands.
 //!
 //! ```
 //! let ended = end(Err(Refusal::Io), None, Audience::Program, &mut errors); // `errors` has the line `refused G1 Io`
@@ -12,6 +12,8 @@
 //! ```
 #![tactic(auto)]
 
+pub mod abouts;
+mod help;
 mod left_out;
 mod own_texts;
 mod reports;
@@ -20,6 +22,7 @@ mod telling;
 mod unreadable;
 mod watched;
 
+pub use help::{HELP, help_page};
 pub use left_out::{tell_lacking, tell_left_out};
 pub use own_texts::{VERSION, is_own, write_own_text};
 pub use reports::{

@@ -1,9 +1,11 @@
-// Texts of the program's own: its version, and what each refusal means.
+// Texts of the program's own: its version, what each refusal means, and the help that lists all commands.
 ghost use Rattle.std.specs.Prelude.{◌≡◌, ◌≢◌, map, IfErr, OnOk};
 ghost use Rattle.std.specs.Io.KnownBytes.{Appends};
 ghost use Rattle.cli_texts.specs.Ending.{IsOfOutput};
-ghost use Rattle.cli_texts.specs.OwnTexts.{word_at, is_version_word, is_refusals_topic, asks_version, asks_refusals, is_own, own_text};
+ghost use Rattle.cli_texts.specs.OwnTexts.{word_at, is_version_word, is_refusals_topic, is_help_alone};
+ghost use Rattle.cli_texts.specs.OwnTexts.{asks_version, asks_refusals, asks_commands, is_own, own_text};
 
+use crate::help_page;
 use cli_refusals::{Refusal, refusals_page, write_whole};
 use std::alloc::Global;
 use std::convert::AsStr;
@@ -53,12 +55,29 @@ fn asks_refusals<S: AsStr>(arguments: &[S]) -> bool
     }
 }
 
+#[tactic(auto, unfolding(crate::specs::OwnTexts::is_help_alone))]
+fn is_help_alone(word: &str) -> bool
+    ensures { result ≡ is_help_alone word.now }
+{
+    matches!(word, "help" | "--help" | "-h")
+}
+
+#[tactic(auto, unfolding(crate::specs::OwnTexts::asks_commands))]
+fn asks_commands<S: AsStr>(arguments: &[S]) -> bool
+    ensures { result ≡ asks_commands (map S.text arguments.now) }
+{
+    match arguments {
+        [_, word] => is_help_alone(word.as_str()),
+        _ => false,
+    }
+}
+
 /// Whether the arguments, of which the program's name is the first, ask for a text of the program's own.
 #[tactic(auto, unfolding(crate::specs::OwnTexts::is_own))]
 pub fn is_own<S: AsStr>(arguments: &[S]) -> bool
     ensures { result ≡ is_own (map S.text arguments.now) }
 {
-    asks_version(arguments) || asks_refusals(arguments)
+    asks_version(arguments) || asks_refusals(arguments) || asks_commands(arguments)
 }
 
 /// Writes the text that such arguments ask for, and nothing else.
@@ -75,5 +94,8 @@ pub fn write_own_text<S: AsStr, W: Write>(
     if asks_version(arguments) {
         return write_whole(output, VERSION.as_bytes());
     }
-    write_whole(output, refusals_page(alloc)?.as_bytes())
+    if asks_refusals(arguments) {
+        return write_whole(output, refusals_page(alloc)?.as_bytes());
+    }
+    write_whole(output, help_page(alloc)?.as_bytes())
 }
