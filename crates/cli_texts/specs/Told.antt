@@ -19,12 +19,13 @@ abbrev pub is_io : Refusal → Bool
 is_io Io = true
 is_io _ = false
 
--- to a program the line of the refusal, and nothing else; that an output failed whose reader is gone is told to nobody
+-- to a program the line of the refusal, and nothing else; at a terminal it is not told that an output failed whose reader is gone
 unfoldable pub told : Audience → Option Hint → Refusal → List ℕ
 told Program hint refusal = refusal_line refusal
 told Terminal hint refusal = refusal_line refusal ++ remedy_line hint refusal
 told Departed hint refusal = if is_io refusal then [] else refusal_line refusal
 
--- who reads the report of a run, by whether the reader of its output is gone
+-- who reads the report of a run: at a terminal nobody, where the reader of its output is gone
 abbrev pub heard : Audience → (is_unread : Bool) → Audience
-heard audience is_unread = if is_unread then Departed else audience
+heard Terminal true = Departed
+heard audience _ = audience

@@ -14,7 +14,7 @@ pub enum Audience {
     Program,
     /// A person at a terminal: after it a line with what to do.
     Terminal,
-    /// Nobody, where the reader of the output is gone, of a read or a write that failed; a program, of all else.
+    /// A person at a terminal, where the reader of the output is gone: nothing of a read or a write that failed, and of all else the line alone.
     Departed,
 }
 
@@ -39,14 +39,13 @@ pub trait Output {
         ensures { result ≡ unread self.now };
 }
 
-/// Who reads the report of a run that has written to an output.
+/// Who reads the report of a run that has written to an output: a person who has closed it, as by `head`, knows that it failed.
 pub fn heard<W: Output>(audience: Audience, output: &W) -> Audience
     ensures { result ≡ heard audience (W.unread output.now) }
 {
-    if output.is_unread() {
-        Audience::Departed
-    } else {
-        audience
+    match (audience, output.is_unread()) {
+        (Audience::Terminal, true) => Audience::Departed,
+        _ => audience,
     }
 }
 

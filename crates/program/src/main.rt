@@ -1,8 +1,8 @@
 //! The program `arrowstore`: hands the process's arguments and streams to the library of that name, and exits with its status.
 //! On a terminal one line shows meanwhile what goes on, where the work takes more than a second.
 //!
-//! Status 0 is done, 1 refused, with a line `refused CODE NAME ..` on standard error, and 2 wrong arguments. Where the reader of the output is gone, as
-//! `head` when it has its lines, the status is 1 without such a line.
+//! Status 0 is done, 1 refused, with a line `refused CODE NAME ..` on standard error, and 2 wrong arguments. On a terminal
+//! the line is left out where the reader of the output is gone, as `head` when it has its lines.
 #![tactic(auto)]
 
 mod progress;
