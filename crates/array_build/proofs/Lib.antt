@@ -13,6 +13,7 @@ mod Known
 mod Low
 mod MaskedContents
 mod MaskedItems
+mod MaskedLists
 mod MaskedParts
 mod MaskedRuns
 mod MaskedValues

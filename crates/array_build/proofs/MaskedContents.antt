@@ -12,7 +12,7 @@ use Rattle.array_build.proofs.AsWritten.{valid_runs_written}
 use Rattle.array_build.proofs.MaskedItems.{all_alike, all_kept, masked_append, masked_twice}
 use Rattle.array_build.proofs.MaskedParts.{all_joined, below_append, bits_append, bits_length, joined_below, masked_itself}
 use Rattle.array_build.proofs.Masks.{bitmap_long, bits_counted, bits_with, bits_without}
-use Rattle.array_build.proofs.RunArrays.{contents_has, count_cells, count_run, runs_there}
+use Rattle.array_build.proofs.RunArrays.{contents_has, count_cells, count_run, has_values, runs_there}
 use Rattle.array_build.proofs.RunContents.{contents_room, offsets_with, one_offset, ordered, slot_contents, slot_size, span_more, span_none}
 use Rattle.array_build.proofs.RunSlots.{slots_counted}
 use Rattle.array_build.proofs.RunValues.{plain_cell}
@@ -276,15 +276,15 @@ pub record AreMaskedBelow (kind : Kind) (mask below : List ℕ) (runs : List Slo
   pub under : AreUnder kind below runs
   pub cells : runs_under kind below 0 runs ≡ masked_cells (plain_column kind None) mask runs
 
-pub masked_below : (kind : Kind) (width : ℕ) (mask below : List ℕ) (runs : List SlotRun) → contents_width kind ≡ Some width → are_runs_sound (plain_column kind None) runs ≡ true
+pub under_below : (kind : Kind) (mask below : List ℕ) (runs : List SlotRun) → has_values kind ≡ true → are_runs_sound (plain_column kind None) runs ≡ true
     → can_build (plain_column kind None) (masked_cells (plain_column kind None) mask runs) ≡ true
     → bitmap_bits below (length (runs_bits runs)) ≡ masked_slots mask runs → IsMask below runs → (length below ≡ 0 → ⊥) → AreMaskedBelow kind mask below runs
-masked_below kind width mask below runs wide sound fits is bitmap some =
+under_below kind mask below runs values sound fits is bitmap some =
     let n : ℕ = length (runs_bits runs) in
     let own : List Bool = runs_bits runs in
     let cells : List Cell = kind_cells kind runs in
     let bits : mask_bits below 0 n ≡ masked_slots mask runs = sym (bits_with below n some) ∙ is in
-    let kept : masked own cells ≡ cells = ap (λ (bs : List Bool). masked bs cells) (sym (runs_there kind runs (contents_has kind width wide))) ∙ masked_itself cells in
+    let kept : masked own cells ≡ cells = ap (λ (bs : List Bool). masked bs cells) (sym (runs_there kind runs values)) ∙ masked_itself cells in
     let same : runs_under kind below 0 runs ≡ masked_cells (plain_column kind None) mask runs
     = ap (λ (bs : List Bool). masked bs cells) bits ∙ sym (masked_twice null (slots_mask mask runs) own cells (bits_counted mask n)) ∙ ap (masked (slots_mask mask runs)) kept in
     let count = bits_counted below n in
@@ -298,3 +298,8 @@ masked_below kind width mask below runs wide sound fits is bitmap some =
       };
       cells = same;
     }
+
+pub masked_below : (kind : Kind) (width : ℕ) (mask below : List ℕ) (runs : List SlotRun) → contents_width kind ≡ Some width → are_runs_sound (plain_column kind None) runs ≡ true
+    → can_build (plain_column kind None) (masked_cells (plain_column kind None) mask runs) ≡ true
+    → bitmap_bits below (length (runs_bits runs)) ≡ masked_slots mask runs → IsMask below runs → (length below ≡ 0 → ⊥) → AreMaskedBelow kind mask below runs
+masked_below kind width mask below runs wide sound fits is bitmap some = under_below kind mask below runs (contents_has kind width wide) sound fits is bitmap some

@@ -10,13 +10,12 @@ use Rattle.arrow_schema.specs.View.{column_of, kind_of, index_of, pair_of}
 use Rattle.arrow_schema.specs.declared.types.DictSpec.{DictSpec}
 use Rattle.arrow_schema.specs.declared.types.Field.{Field}
 use Rattle.arrow_schema.specs.laws.Parts.{field_parts}
-use Rattle.array_build.proofs.AsWritten.{valid_runs_written}
 use Rattle.array_build.proofs.Fields.{plain_can_be_built, plain_field}
 use Rattle.array_build.specs.Batch.{PlainBatch, built_at, built_below, plain_column, with_arrays}
 use Rattle.array_build.specs.inner.Masked.{masked, masked_cells, slots_mask}
-use Rattle.array_build.specs.inner.Runs.{AreAsWritten, built_columns, kind_cells}
+use Rattle.array_build.specs.inner.Runs.{built_columns, kind_cells}
 use Rattle.array_build.specs.laws.Joined.{more_arrays, no_arrays}
-use Rattle.columns.specs.Runs.{HaveRuns, are_columns_sound, are_runs_sound, are_runs_valid, can_build_columns, has_validity, is_run_sound, run_cells, runs_cells}
+use Rattle.columns.specs.Runs.{HaveRuns, are_columns_sound, are_runs_sound, can_build_columns, has_validity, is_run_sound, run_cells, runs_cells}
 use Rattle.columns.specs.laws.ReadableRuns.{sound_have_validity}
 use Rattle.columns.specs.declared.slot_runs.SlotRun.{SlotRun}
 use Rattle.columns.specs.declared.slot_runs.SlotRun.TheVariants.{Slots, Nulls}
@@ -31,15 +30,6 @@ use Rattle.columns.specs.Tests.{Typed, every_array}
 
 pub have_validity : (kind : Kind) (runs : List SlotRun) → are_runs_sound (plain_column kind None) runs ≡ true → list_all has_validity runs ≡ true
 have_validity kind runs h = sound_have_validity (plain_column kind None) runs h
-
--- runs that are split under a mask stand as they are written
-pub split_written : (kind : Kind) (mask : List ℕ) (split runs : List SlotRun) → are_runs_sound (plain_column kind None) split ≡ true → are_runs_valid split ≡ true
-    → kind_cells kind split ≡ masked_cells (plain_column kind None) mask runs → can_build (plain_column kind None) (masked_cells (plain_column kind None) mask runs) ≡ true → AreAsWritten kind split
-split_written kind mask split runs sound valid cells fit = record {
-  sound = sound;
-  written = valid_runs_written kind split valid;
-  fit = ap (can_build (plain_column kind None)) cells ∙ fit;
-}
 
 -- ---- a column of any name
 

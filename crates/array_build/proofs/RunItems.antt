@@ -47,7 +47,7 @@ pub record AreLists (width : OffsetWidth) (item : Column) (v : ArrayView) (from 
   pub within : from + n ≤ slots_in (view_array v)
   pub written : list_all (is_as_written (list_kind width item) (view_array v)) (range_with_len from n) ≡ true
 
-list_tests : (width : OffsetWidth) (item : Column) (a : Array) → is_sound (list_column width item) a ≡ true
+pub list_tests : (width : OffsetWidth) (item : Column) (a : Array) → is_sound (list_column width item) a ≡ true
     → (are_few_offsets (width_of width) a ≡ false) × ((are_unordered (width_of width) (slots_in (items_in a)) a ≡ false) × (is_sound item (items_in a) ≡ true))
 unfolding is_sound has_sound_children
 list_tests Four item a h = (sound_buffer (lists item) a h, (sound_offsets (lists item) a h, sound_children (lists item) a h))
@@ -62,7 +62,7 @@ are_lists width item v from n run is sound written =
     let tests = list_tests width item (view_array v) parts.0 in
     record { few = tests.0; up = tests.1.0; sound = tests.1.1; within = leb-true _ _ parts.1; written = written_slots }
 
-valid_items : (width : OffsetWidth) (item : Column) (a : Array) (i : ℕ) → is_valid a i ≡ true
+pub valid_items : (width : OffsetWidth) (item : Column) (a : Array) (i : ℕ) → is_valid a i ≡ true
     → item_list (cell_at (list_column width item) a i) ≡ span_cells (width_of width) (cell_at item (items_in a)) a i
 unfolding cell_at kind_cell
 valid_items Four item a i valid = rw valid (cells_listed (span_cells 4 (cell_at item (items_in a)) a i))
@@ -86,7 +86,7 @@ slot_items : (width : OffsetWidth) (item : Column) (a : Array) (i : ℕ) → is_
 slot_items width item a i written = items_by (is_valid a i) width item a i written refl
 
 -- the items of slots are those between the first offset and the last
-slots_items : (width : OffsetWidth) (item : Column) (a : Array) (from n : ℕ) → are_unordered (width_of width) (slots_in (items_in a)) a ≡ false → from + n ≤ slots_in a
+pub slots_items : (width : OffsetWidth) (item : Column) (a : Array) (from n : ℕ) → are_unordered (width_of width) (slots_in (items_in a)) a ≡ false → from + n ≤ slots_in a
     → list_all (is_as_written (list_kind width item) a) (range_with_len from n) ≡ true
     → flat_map item_list (cells_from (cell_at (list_column width item) a) from n)
     ≡ cells_from (cell_at item (items_in a)) (span_start (width_of width) a from) (number_at (width_of width) (offsets_in a) (from + n) - span_start (width_of width) a from)

@@ -3,6 +3,7 @@ pub mod Codes
 pub mod Known
 pub mod Masked
 pub mod MaskedContents
+pub mod MaskedLists
 pub mod Named
 pub mod Nodes
 pub mod RunCells

@@ -5,7 +5,7 @@ ghost use Rattle.arrow_schema.specs.View.{kind_of, column_of};
 ghost use Rattle.array_build.specs.Batch.{batch_in, batch_of, built_at, built_below, plain_column, with_arrays};
 ghost use Rattle.array_build.specs.inner.Nodes.{list_kind};
 ghost use Rattle.array_build.specs.inner.Masked.{AddsMasked, IsMask, masked_cells, masked_kind, masked_parts};
-ghost use Rattle.array_build.specs.inner.RunItems.{fixed_column};
+ghost use Rattle.array_build.specs.inner.RunItems.{fixed_column, list_column};
 ghost use Rattle.array_build.specs.inner.Runs.{AddsRuns, AreAsWritten, are_runs_as_written, built_columns, contents_width, fixed_width, offsets_width};
 ghost use Rattle.columns.specs.Runs.{HaveRuns, are_columns_sound, are_runs_sound, can_build_columns, runs_cells};
 ghost use Rattle.cells.specs.Cell.{Cell};
@@ -18,7 +18,8 @@ use crate::coded_cells::{push_dictionary, push_run_indices};
 use crate::flat_runs::{build_run_bits, build_run_contents, build_run_nulls, build_run_values};
 use crate::known_entries::KnownEntries;
 use crate::masked_contents::build_masked_contents;
-use crate::masked_runs::{masked_runs, split_runs};
+use crate::masked_lists::push_masked_lists;
+use crate::masked_runs::masked_runs;
 use crate::run_fixed_items::{fixed_item_runs, item_mask};
 use crate::run_items::{item_runs, run_list_offsets};
 use crate::run_parts::field_runs;
@@ -159,9 +160,68 @@ fn are_copied(data_type: &DataType, runs: &[SlotRun<'_>], mask: &[u8]) -> bool
     false
 }
 
-// The same under a mask: lists that do not stand as they are written are split at their nulls.
+// Lists under a mask, whatever stands below their nulls.
 #[cycle(by_runs)]
-fn build_split_kind<'k, 'a: 'k>(
+fn build_masked_lists<'k, 'a: 'k>(
+    alloc: Global,
+    batch: &mut BuiltBatch<'a>,
+    entries: &mut KnownEntries<'k>,
+    width: OffsetWidth,
+    item: &'k Field,
+    runs: &[SlotRun<'a>],
+    mask: &[u8],
+) -> Result<(), AllocError>
+    requires sound { are_runs_sound (list_column width (column_of item.now)) runs.now ≡ true }
+    requires mask { IsMask mask.now runs.now }
+    requires fits { can_build (list_column width (column_of item.now)) (masked_kind (list_kind width (column_of item.now)) mask.now runs.now) ≡ true }
+    ensures { OnOk result (AddsMasked (list_kind width (column_of item.now)) runs.now mask.now batch.old batch.new) }
+{
+    let items = push_masked_lists(alloc, batch, item, width, runs, mask)?;
+    build_run_column(alloc, batch, entries, item, &items, &[])
+}
+
+#[cycle(by_runs)]
+fn build_masked_list_kind<'k, 'a: 'k>(
+    alloc: Global,
+    batch: &mut BuiltBatch<'a>,
+    entries: &mut KnownEntries<'k>,
+    data_type: &'k DataType,
+    runs: &[SlotRun<'a>],
+    mask: &[u8],
+) -> Result<(), AllocError>
+    requires contents { contents_width (kind_of data_type.now) ≡ None }
+    requires offsets { is_some (offsets_width (kind_of data_type.now)) ≡ true }
+    requires sound { are_runs_sound (plain_column (kind_of data_type.now) None) runs.now ≡ true }
+    requires mask { IsMask mask.now runs.now }
+    requires fits { can_build (plain_column (kind_of data_type.now) None) (masked_kind (kind_of data_type.now) mask.now runs.now) ≡ true }
+    ensures { OnOk result (AddsMasked (kind_of data_type.now) runs.now mask.now batch.old batch.new) }
+{
+    match data_type {
+        DataType::List(item) => build_masked_lists(
+            alloc,
+            batch,
+            entries,
+            OffsetWidth::Four,
+            item,
+            runs,
+            mask,
+        ),
+        DataType::LargeList(item) => build_masked_lists(
+            alloc,
+            batch,
+            entries,
+            OffsetWidth::Eight,
+            item,
+            runs,
+            mask,
+        ),
+        _ => unreachable!(),
+    }
+}
+
+// The array of runs under a mask, and all below it, of a type that has offsets.
+#[cycle(by_runs)]
+fn build_offsets_kind<'k, 'a: 'k>(
     alloc: Global,
     batch: &mut BuiltBatch<'a>,
     entries: &mut KnownEntries<'k>,
@@ -178,11 +238,10 @@ fn build_split_kind<'k, 'a: 'k>(
     if are_copied(data_type, runs, mask) {
         return build_written_kind(alloc, batch, entries, data_type, runs);
     }
-    if let Some(width) = contents_width(data_type) {
-        return build_masked_contents(alloc, batch, data_type, width, runs, mask);
+    match contents_width(data_type) {
+        Some(width) => build_masked_contents(alloc, batch, data_type, width, runs, mask),
+        None => build_masked_list_kind(alloc, batch, entries, data_type, runs, mask),
     }
-    let split = split_runs(alloc, data_type, runs, mask)?;
-    build_written_kind(alloc, batch, entries, data_type, &split)
 }
 
 // Fixed lists have a node and a validity bitmap, and below them the items of all, which are nulls below a null.
@@ -302,7 +361,7 @@ fn build_wide_kind<'k, 'a: 'k>(
     ensures { OnOk result (AddsMasked (kind_of data_type.now) runs.now mask.now batch.old batch.new) }
 {
     match offsets_width(data_type) {
-        Some(_) => build_split_kind(alloc, batch, entries, data_type, runs, mask),
+        Some(_) => build_offsets_kind(alloc, batch, entries, data_type, runs, mask),
         None => build_other_kind(alloc, batch, entries, data_type, runs, mask),
     }
 }

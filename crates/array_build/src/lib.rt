@@ -26,6 +26,7 @@ mod item_slots;
 mod known_dictionary;
 mod known_entries;
 mod masked_contents;
+mod masked_lists;
 mod masked_runs;
 mod number_bytes;
 mod part_cells;

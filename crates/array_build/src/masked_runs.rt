@@ -1,17 +1,14 @@
 // Runs under a mask, split where its bits change: there are nulls where a bit is not set.
-ghost use Rattle.std.specs.Prelude.{◌≡◌, ◌≤◌, ◌<◌, ◌+◌, ◌*◌, true, OnOk, IfOk, None, length, replicate};
-ghost use Rattle.arrow_schema.specs.View.{kind_of};
-ghost use Rattle.array_build.specs.Batch.{plain_column};
-ghost use Rattle.array_build.specs.inner.Masked.{AreMasked, IsMask, IsMaskedAdded, mask_bits, masked_kind};
-ghost use Rattle.array_build.specs.inner.Runs.{kind_cells, run_bits, runs_bits};
-ghost use Rattle.columns.specs.Runs.{are_runs_sound, are_runs_valid, has_validity};
+ghost use Rattle.std.specs.Prelude.{◌≡◌, ◌≤◌, ◌<◌, ◌+◌, ◌*◌, true, OnOk, IfOk, length, replicate};
+ghost use Rattle.array_build.specs.inner.Masked.{AreMasked, IsMaskedAdded, mask_bits};
+ghost use Rattle.array_build.specs.inner.Runs.{run_bits, runs_bits};
+ghost use Rattle.columns.specs.Runs.{has_validity};
 ghost use Rattle.std.specs.List.{list_all};
 ghost use Rattle.columns.specs.declared.slot_runs.SlotRun.TheVariants.{Slots};
 
-use crate::run_slots::{count_slots, run_len};
-use arrow_schema::DataType;
+use crate::run_slots::run_len;
 use bitmap::{get, run_end};
-use columns::{ArrayView, SlotRun, valid_runs};
+use columns::{ArrayView, SlotRun};
 use std::alloc::{AllocError, Global};
 
 // Adds slots whose bits are all set, or none.
@@ -108,25 +105,4 @@ pub(crate) fn masked_runs<'a>(
         at += run_len(run);
     }
     Ok(split)
-}
-
-/// The same in runs of slots that are all valid and runs of nulls.
-pub(crate) fn split_runs<'a>(
-    alloc: Global,
-    data_type: &DataType,
-    runs: &[SlotRun<'a>],
-    mask: &[u8],
-) -> Result<Vec<SlotRun<'a>>, AllocError>
-    requires sound { are_runs_sound (plain_column (kind_of data_type.now) None) runs.now ≡ true }
-    requires mask { IsMask mask.now runs.now }
-    ensures sound { IfOk result (λ split. are_runs_sound (plain_column (kind_of data_type.now) None) split.items ≡ true) }
-    ensures valid { IfOk result (λ split. are_runs_valid split.items ≡ true) }
-    ensures cells { IfOk result (λ split. kind_cells (kind_of data_type.now) split.items ≡ masked_kind (kind_of data_type.now) mask.now runs.now) }
-{
-    if mask.is_empty() {
-        return valid_runs(alloc, runs);
-    }
-    let slots = count_slots(runs)?;
-    let split = masked_runs(alloc, slots, runs, mask)?;
-    valid_runs(alloc, &split)
 }

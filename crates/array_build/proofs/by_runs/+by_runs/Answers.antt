@@ -2,15 +2,16 @@ use Rattle.std.specs.Prelude.{None, is_some}
 use Rattle.std.specs.List.{flat_map}
 use Rattle.std.proofs.Common.{◌≡◌, ◌*◌, true, ◌∙◌, ℕ, List, [], map, ap, ap₂, refl, subst, sym, rules}
 use Rattle.std.proofs.lemmas.Result.{on_ok_weaker}
+use Rattle.array_build.proofs.MaskedLists.{masked_list_runs_are}
 use Rattle.array_build.proofs.MaskedRuns.{cells_without, no_mask}
-use Rattle.array_build.proofs.RunColumns.{field_built, field_fits, field_sound, have_validity, split_written}
+use Rattle.array_build.proofs.RunColumns.{field_built, field_fits, field_sound, have_validity}
 use Rattle.array_build.proofs.Premises.{items_can_be_built, fixed_items_can_be_built}
 use Rattle.array_build.proofs.RunFixedItems.{fixed_list_runs_are, item_masked}
 use Rattle.array_build.proofs.RunItems.{list_runs_are}
 use Rattle.array_build.proofs.RunParts.{all_behind, no_field, parts_can_be_masked, place_built, place_next, struct_runs_are}
 use Rattle.array_build.proofs.by_runs.+by_runs.Goals as goal
 use Rattle.array_build.specs.Batch.{batch_in, built_at, plain_column, with_arrays}
-use Rattle.array_build.specs.inner.Masked.{IsMask, bitmap_bits, masked_cells, slots_mask}
+use Rattle.array_build.specs.inner.Masked.{IsMask, bitmap_bits, masked_cells, masked_kind, slots_mask}
 use Rattle.array_build.specs.inner.Nodes.{list_kind}
 use Rattle.array_build.specs.inner.RunItems.{fixed_column}
 use Rattle.array_build.specs.inner.Runs.{AreAsWritten, bitmap_of, contents_width, kind_cells}
@@ -126,6 +127,31 @@ build_run_lists-returns t c =
     below c.in_ok-run_list_offsets.ensures c.in_ok-push_run_slots.ensures c.in_ok-push_buffer.ensures)
     c.build_run_column.ensures
 
+pub build_masked_lists-push_masked_lists-requires : goal.build_masked_lists-push_masked_lists-requires
+build_masked_lists-push_masked_lists-requires t c = record { sound = c.requires.sound; mask = c.requires.mask; fits = c.requires.fits }
+
+pub build_masked_lists-build_run_column-requires : goal.build_masked_lists-build_run_column-requires
+build_masked_lists-build_run_column-requires t c =
+    let item : Column = column_of c.args.item.now in
+    let cells : List Cell = masked_kind (list_kind c.args.width item) c.args.mask.now c.args.runs.now in
+    let below : runs_cells item c.deref.result.now ≡ flat_map item_list cells = ap (runs_cells item) c.deref.ensures.value ∙ c.in_ok-items.ensures.cells in (
+      search (rules, field_lemmas),
+      (
+        ap (are_runs_sound item) c.deref.ensures.value ∙ c.in_ok-items.ensures.sound,
+        (no_mask [] c.deref.result.now refl, ap (can_build item) (cells_without item [] c.deref.result.now refl ∙ below) ∙ items_can_be_built c.args.width item cells c.requires.fits),
+      ),
+    )
+
+pub build_masked_lists-returns : goal.build_masked_lists-returns
+build_masked_lists-returns t c =
+    let item : Column = column_of c.args.item.now in
+    let below : runs_cells item c.deref.result.now ≡ flat_map item_list (masked_kind (list_kind c.args.width item) c.args.mask.now c.args.runs.now)
+    = ap (runs_cells item) c.deref.ensures.value ∙ c.in_ok-items.ensures.cells in
+    on_ok_weaker c.build_run_column.result
+    (λ h. h ∙ ap (λ (cells : List Cell). with_arrays (batch_in c.push_masked_lists.new.batch) (built_at item cells)) (cells_without item [] c.deref.result.now refl)
+    ∙ masked_list_runs_are (batch_in c.args.batch.now) (batch_in c.push_masked_lists.new.batch) c.args.width item c.args.mask.now c.args.runs.now c.deref.result.now below c.in_ok-items.ensures.batch)
+    c.build_run_column.ensures
+
 pub build_run_fixed_lists-push_masked_slots-requires : goal.build_run_fixed_lists-push_masked_slots-requires
 build_run_fixed_lists-push_masked_slots-requires t c = record {
   validity = have_validity (fixed_lists c.args.size (column_of c.args.item.now)) c.args.runs.now c.requires.sound;
@@ -181,8 +207,8 @@ build_written_kind-build_list_kind-requires t c =
     let contents : contents_width (kind_of c.args.data_type.now) ≡ None = sym c.in-None.ensures in
     (search (rules, field_lemmas), (contents, (c.requires.offsets, c.requires.ready)))
 
-pub build_split_kind-build_written_kind-requires : goal.build_split_kind-build_written_kind-requires
-build_split_kind-build_written_kind-requires t c =
+pub build_offsets_kind-build_written_kind-requires : goal.build_offsets_kind-build_written_kind-requires
+build_offsets_kind-build_written_kind-requires t c =
     let kind : Kind = kind_of c.args.data_type.now in
     let none = c.are_copied.ensures.mask c.if-are_copied.true in
     let cells = cells_without (plain_column kind None) c.args.mask.now c.args.runs.now none in
@@ -193,29 +219,19 @@ build_split_kind-build_written_kind-requires t c =
     } in
     (search (rules, field_lemmas), (c.requires.offsets, ready))
 
-pub build_split_kind-returns-then-are_copied : goal.build_split_kind-returns-then-are_copied
-build_split_kind-returns-then-are_copied t c =
+pub build_offsets_kind-returns-then-are_copied : goal.build_offsets_kind-returns-then-are_copied
+build_offsets_kind-returns-then-are_copied t c =
     let kind : Kind = kind_of c.args.data_type.now in
     let none = c.are_copied.ensures.mask c.if-are_copied.true in
     let cells = cells_without (plain_column kind None) c.args.mask.now c.args.runs.now none in
     on_ok_weaker c.build_written_kind.result (λ h. h ∙ ap (λ (xs : List Cell). with_arrays (batch_in c.args.batch.now) (built_at (plain_column kind None) xs)) (sym cells)) c.build_written_kind.ensures
 
-pub build_split_kind-build_written_kind-requires-2 : goal.build_split_kind-build_written_kind-requires-2
-build_split_kind-build_written_kind-requires-2 t c =
-    let kind : Kind = kind_of c.args.data_type.now in
-    let split = c.in_ok-split.ensures in
-    let ready : AreAsWritten kind c.in_ok-split.split.items
-    = split_written kind c.args.mask.now c.in_ok-split.split.items c.args.runs.now split.sound split.valid split.cells c.requires.fits in
-    (search (rules, field_lemmas), (c.requires.offsets, subst (λ (runs : List SlotRun). AreAsWritten kind runs) (sym c.deref.ensures.value) ready))
+pub build_offsets_kind-build_masked_list_kind-requires : goal.build_offsets_kind-build_masked_list_kind-requires
+build_offsets_kind-build_masked_list_kind-requires t c =
+    (search (rules, field_lemmas), (sym c.in-None.ensures, (c.requires.offsets, (c.requires.sound, (c.requires.mask, c.requires.fits)))))
 
-pub build_split_kind-returns : goal.build_split_kind-returns
-build_split_kind-returns t c =
-    let kind : Kind = kind_of c.args.data_type.now in
-    let cells = ap (λ (runs : List SlotRun). kind_cells kind runs) c.deref.ensures.value ∙ c.in_ok-split.ensures.cells in
-    on_ok_weaker c.build_written_kind-2.result (λ h. h ∙ ap (λ (xs : List Cell). with_arrays (batch_in c.args.batch.now) (built_at (plain_column kind None) xs)) cells) c.build_written_kind-2.ensures
-
-pub build_wide_kind-build_split_kind-requires : goal.build_wide_kind-build_split_kind-requires
-build_wide_kind-build_split_kind-requires t c = (search (rules, field_lemmas), (ap is_some (sym c.in-Some.ensures), (c.requires.sound, (c.requires.mask, c.requires.fits))))
+pub build_wide_kind-build_offsets_kind-requires : goal.build_wide_kind-build_offsets_kind-requires
+build_wide_kind-build_offsets_kind-requires t c = (search (rules, field_lemmas), (ap is_some (sym c.in-Some.ensures), (c.requires.sound, (c.requires.mask, c.requires.fits))))
 
 pub build_wide_kind-build_other_kind-requires : goal.build_wide_kind-build_other_kind-requires
 build_wide_kind-build_other_kind-requires t c = (search (rules, field_lemmas), (c.requires.values, (sym c.in-None.ensures, (c.requires.sound, (c.requires.mask, c.requires.fits)))))

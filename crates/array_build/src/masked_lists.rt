@@ -1,0 +1,335 @@
+// Lists under a mask: a slot whose bit is not set has no items, whatever stands there. Items that stand in a row are one run.
+ghost use Rattle.std.specs.Prelude.{◌≡◌, ◌≤◌, ◌<◌, ◌+◌, ◌-◌, ◌*◌, ◌^◌, ◌++◌, [], true, OnOk, IfOk, length, get_or, if◌then◌else◌};
+ghost use Rattle.std.specs.List.{flat_map, list_all, range_with_len};
+ghost use Rattle.array_build.specs.Batch.{batch_in};
+ghost use Rattle.array_build.specs.inner.Masked.{IsMask, are_below, mask_bits, masked_kind, masked_slots};
+ghost use Rattle.array_build.specs.inner.MaskedContents.{AreUnder, run_under, runs_under};
+ghost use Rattle.array_build.specs.inner.MaskedLists.{AreValidUnder, lists_under};
+ghost use Rattle.array_build.specs.inner.Nodes.{list_kind, with_buffer};
+ghost use Rattle.array_build.specs.inner.RunItems.{list_column, list_sizes};
+ghost use Rattle.array_build.specs.inner.Runs.{AreOffsetsAdded, run_bits, with_run_slots};
+ghost use Rattle.arrow_schema.specs.View.{column_of};
+ghost use Rattle.cells.specs.Cell.{null};
+ghost use Rattle.cells.specs.Dictionary.{item_list};
+ghost use Rattle.columns.specs.Array.{items_in, slots_in};
+ghost use Rattle.columns.specs.Buildable.{can_build, large_offset};
+ghost use Rattle.columns.specs.Built.{list_offsets};
+ghost use Rattle.columns.specs.CellAt.{cell_at, cells_from, is_valid};
+ghost use Rattle.columns.specs.Offsets.{width_of};
+ghost use Rattle.columns.specs.Runs.{are_runs_sound, is_run_sound, runs_cells};
+ghost use Rattle.columns.specs.Sound.{is_sound};
+ghost use Rattle.columns.specs.View.{view_array};
+
+use crate::batch::{BuiltBatch, push_buffer};
+use crate::item_slots::item_slots;
+use crate::run_items::{item_runs, run_list_offsets};
+use crate::run_slots::{count_slots, run_len};
+use crate::slot_masks::push_masked_slots;
+use crate::widths::offset_size;
+use arrow_schema::Field;
+use bitmap::{get, run_end};
+use columns::{ArrayView, OffsetWidth, SlotRun, Span, push_offset};
+use std::alloc::{AllocError, Global};
+
+// How many items the list at a place of a run has, by the bits of a mask from one on.
+fn masked_list_size(
+    item: &Field,
+    width: OffsetWidth,
+    run: &SlotRun<'_>,
+    i: usize,
+    mask: &[u8],
+    at: usize,
+) -> usize
+    requires sound { is_run_sound (list_column width (column_of item.now)) run.now ≡ true }
+    requires within { i < length (run_bits run.now) }
+    requires counted { at + length (run_bits run.now) < 2 ^ 64 }
+    requires long { at + length (run_bits run.now) ≤ 8 * length mask.now }
+    requires below { are_below (mask_bits mask.now at (length (run_bits run.now))) (run_bits run.now) ≡ true }
+    ensures { result ≡ length (item_list (get_or (run_under (list_kind width (column_of item.now)) mask.now at run.now) i null)) }
+{
+    match run {
+        SlotRun::Slots { array, from, .. } => {
+            let place = at + i;
+            if !get(mask, place) {
+                return 0;
+            }
+            // a number of the code is below 2^64, so that the sum is too
+            let _slots = array.slots();
+            let slot = *from + i;
+            array.spanned(width, slot, 1).len
+        }
+        SlotRun::Nulls(_) => 0,
+    }
+}
+
+// The offsets at which the items of a run begin, by the bits of a mask from one on; and where the last end.
+fn push_masked_offsets(
+    offsets: &mut Vec<u8>,
+    item: &Field,
+    width: OffsetWidth,
+    run: &SlotRun<'_>,
+    mask: &[u8],
+    at: usize,
+    start: u64,
+) -> Result<u64, AllocError>
+    requires sound { is_run_sound (list_column width (column_of item.now)) run.now ≡ true }
+    requires counted { at + length (run_bits run.now) < 2 ^ 64 }
+    requires long { at + length (run_bits run.now) ≤ 8 * length mask.now }
+    requires below { are_below (mask_bits mask.now at (length (run_bits run.now))) (run_bits run.now) ≡ true }
+    requires room { start + length (flat_map item_list (run_under (list_kind width (column_of item.now)) mask.now at run.now)) ≤ large_offset }
+    ensures offsets { IfOk result (λ next. AreOffsetsAdded (width_of width) offsets.old.items offsets.new.items start next
+        (list_sizes (run_under (list_kind width (column_of item.now)) mask.now at run.now))) }
+    ensures next { IfOk result (λ next. next
+        ≡ start + length (flat_map item_list (run_under (list_kind width (column_of item.now)) mask.now at run.now))) }
+{
+    let count = run_len(run);
+    let mut next = start;
+    for i in 0..count {
+        push_offset(offsets, width, next)?;
+        next += masked_list_size(item, width, run, i, mask, at) as u64;
+    }
+    Ok(next)
+}
+
+// The offsets of lists under a mask: 0, and then where the items of each end.
+fn masked_list_offsets(
+    alloc: Global,
+    item: &Field,
+    width: OffsetWidth,
+    runs: &[SlotRun<'_>],
+    mask: &[u8],
+) -> Result<Vec<u8>, AllocError>
+    requires { AreUnder (list_kind width (column_of item.now)) mask.now runs.now }
+    ensures { IfOk result (λ bytes. bytes.items
+        ≡ list_offsets (width_of width) (runs_under (list_kind width (column_of item.now)) mask.now 0 runs.now)) }
+{
+    let slots = count_slots(runs)?;
+    let size = slots.saturating_add(1).saturating_mul(offset_size(width));
+    let mut offsets = Vec::with_capacity(alloc, size)?;
+    let mut next = 0;
+    let mut at = 0;
+    for run in runs {
+        next = push_masked_offsets(&mut offsets, item, width, run, mask, at, next)?;
+        at += run_len(run);
+    }
+    push_offset(&mut offsets, width, next)?;
+    Ok(offsets)
+}
+
+// Adds some items of an array, if there are any.
+fn push_items<'a>(
+    items: &mut Vec<SlotRun<'a>>,
+    item: &Field,
+    array: ArrayView<'a>,
+    start: usize,
+    len: usize,
+) -> Result<(), AllocError>
+    requires sound { is_sound (column_of item.now) (items_in (view_array array)) ≡ true }
+    requires within { start + len ≤ slots_in (items_in (view_array array)) }
+    requires good { are_runs_sound (column_of item.now) items.old.items ≡ true }
+    ensures good { OnOk result (are_runs_sound (column_of item.now) items.new.items ≡ true) }
+    ensures cells { OnOk result (runs_cells (column_of item.now) items.new.items ≡ runs_cells (column_of item.now) items.old.items
+        ++ cells_from (cell_at (column_of item.now) (items_in (view_array array.entry))) start len) }
+{
+    if len == 0 {
+        return Ok(());
+    }
+    items.push(item_slots(array, start, len))?;
+    Ok(())
+}
+
+// Adds some items of an array, and keeps others back, which stand behind them: if these stand in a row with them, all are kept back.
+fn join_items<'a>(
+    items: &mut Vec<SlotRun<'a>>,
+    item: &Field,
+    array: ArrayView<'a>,
+    start: usize,
+    len: usize,
+    from: usize,
+    count: usize,
+) -> Result<Span, AllocError>
+    requires sound { is_sound (column_of item.now) (items_in (view_array array)) ≡ true }
+    requires within { start + len ≤ slots_in (items_in (view_array array)) }
+    requires next { from + count ≤ slots_in (items_in (view_array array)) }
+    requires good { are_runs_sound (column_of item.now) items.old.items ≡ true }
+    ensures within { IfOk result (λ span. span.start + span.len ≤ slots_in (items_in (view_array array.entry))) }
+    ensures good { OnOk result (are_runs_sound (column_of item.now) items.new.items ≡ true) }
+    ensures cells { IfOk result (λ span. let own = cell_at (column_of item.now) (items_in (view_array array.entry)) in
+        runs_cells (column_of item.now) items.new.items ++ cells_from own span.start span.len
+        ≡ (runs_cells (column_of item.now) items.old.items ++ cells_from own start len) ++ cells_from own from count) }
+{
+    // a number of the code is below 2^64, so that each place is too
+    let _items = array.item_slots();
+    let end = start + len;
+    if from == end {
+        return Ok(Span {
+            start,
+            len: len + count,
+        });
+    }
+    push_items(items, item, array, start, len)?;
+    Ok(Span {
+        start: from,
+        len: count,
+    })
+}
+
+// The same with the items of lists whose bits are all set, or with none.
+fn push_stretch<'a>(
+    items: &mut Vec<SlotRun<'a>>,
+    item: &Field,
+    width: OffsetWidth,
+    array: ArrayView<'a>,
+    start: usize,
+    len: usize,
+    from: usize,
+    count: usize,
+    set: bool,
+) -> Result<Span, AllocError>
+    requires sound { is_sound (list_column width (column_of item.now)) (view_array array) ≡ true }
+    requires within { start + len ≤ slots_in (items_in (view_array array)) }
+    requires some { 0 < count }
+    requires slots { from + count ≤ slots_in (view_array array) }
+    requires valid { set ≡ true → list_all (is_valid (view_array array)) (range_with_len from count) ≡ true }
+    requires good { are_runs_sound (column_of item.now) items.old.items ≡ true }
+    ensures within { IfOk result (λ span. span.start + span.len ≤ slots_in (items_in (view_array array.entry))) }
+    ensures good { OnOk result (are_runs_sound (column_of item.now) items.new.items ≡ true) }
+    ensures cells { IfOk result (λ span. let own = cell_at (column_of item.now) (items_in (view_array array.entry)) in
+        runs_cells (column_of item.now) items.new.items ++ cells_from own span.start span.len
+        ≡ (runs_cells (column_of item.now) items.old.items ++ cells_from own start len)
+        ++ (if set then flat_map item_list (cells_from (cell_at (list_column width (column_of item.now)) (view_array array.entry)) from count) else [])) }
+{
+    if !set {
+        return Ok(Span { start, len });
+    }
+    let span = array.spanned(width, from, count);
+    join_items(items, item, array, start, len, span.start, span.len)
+}
+
+// Adds the items of some lists by the bits of a mask from one on up to another.
+fn push_slot_items<'a>(
+    items: &mut Vec<SlotRun<'a>>,
+    item: &Field,
+    width: OffsetWidth,
+    array: ArrayView<'a>,
+    from: usize,
+    mask: &[u8],
+    at: usize,
+    to: usize,
+) -> Result<(), AllocError>
+    requires sound { is_sound (list_column width (column_of item.now)) (view_array array) ≡ true }
+    requires order { at ≤ to }
+    requires bits { to ≤ 8 * length mask.now }
+    requires within { from + (to - at) ≤ slots_in (view_array array) }
+    requires valid { AreValidUnder (view_array array) mask.now from at to }
+    requires good { are_runs_sound (column_of item.now) items.old.items ≡ true }
+    ensures good { OnOk result (are_runs_sound (column_of item.now) items.new.items ≡ true) }
+    ensures cells { OnOk result (runs_cells (column_of item.now) items.new.items ≡ runs_cells (column_of item.now) items.old.items
+        ++ lists_under (cell_at (list_column width (column_of item.now)) (view_array array.entry)) mask.now from at (to - at)) }
+{
+    // a number of the code is below 2^64, so that each place is too
+    let _slots = array.slots();
+    let mut start = 0;
+    let mut len = 0;
+    let mut i = at;
+    while i < to {
+        let end = run_end(mask, i, to);
+        let span = push_stretch(
+            items,
+            item,
+            width,
+            array,
+            start,
+            len,
+            from + (i - at),
+            end - i,
+            get(mask, i),
+        )?;
+        start = span.start;
+        len = span.len;
+        i = end;
+    }
+    push_items(items, item, array, start, len)
+}
+
+// Adds the items of a run by the bits of a mask from one on.
+fn push_run_items<'a>(
+    items: &mut Vec<SlotRun<'a>>,
+    item: &Field,
+    width: OffsetWidth,
+    run: &SlotRun<'a>,
+    mask: &[u8],
+    at: usize,
+) -> Result<(), AllocError>
+    requires sound { is_run_sound (list_column width (column_of item.now)) run.now ≡ true }
+    requires counted { at + length (run_bits run.now) < 2 ^ 64 }
+    requires long { at + length (run_bits run.now) ≤ 8 * length mask.now }
+    requires below { are_below (mask_bits mask.now at (length (run_bits run.now))) (run_bits run.now) ≡ true }
+    requires good { are_runs_sound (column_of item.now) items.old.items ≡ true }
+    ensures good { OnOk result (are_runs_sound (column_of item.now) items.new.items ≡ true) }
+    ensures cells { OnOk result (runs_cells (column_of item.now) items.new.items ≡ runs_cells (column_of item.now) items.old.items
+        ++ flat_map item_list (run_under (list_kind width (column_of item.now)) mask.now at run.now)) }
+{
+    match run {
+        SlotRun::Slots { array, from, len } => {
+            push_slot_items(items, item, width, *array, *from, mask, at, at + *len)
+        }
+        SlotRun::Nulls(_) => Ok(()),
+    }
+}
+
+// The items of lists under a mask, one after another.
+fn masked_items<'a>(
+    alloc: Global,
+    item: &Field,
+    width: OffsetWidth,
+    runs: &[SlotRun<'a>],
+    mask: &[u8],
+) -> Result<Vec<SlotRun<'a>>, AllocError>
+    requires { AreUnder (list_kind width (column_of item.now)) mask.now runs.now }
+    ensures cells { IfOk result (λ items. runs_cells (column_of item.now) items.items
+        ≡ flat_map item_list (runs_under (list_kind width (column_of item.now)) mask.now 0 runs.now)) }
+    ensures sound { IfOk result (λ items. are_runs_sound (column_of item.now) items.items ≡ true) }
+{
+    // as many slots as a number counts, so that each place is below 2^64
+    let _slots = count_slots(runs)?;
+    let mut items = Vec::new(alloc);
+    let mut at = 0;
+    for run in runs {
+        push_run_items(&mut items, item, width, run, mask, at)?;
+        at += run_len(run);
+    }
+    Ok(items)
+}
+
+/// Adds the node, the validity bitmap and the offsets of lists under a mask, whatever stands below their nulls, and gives the runs of their items.
+pub(crate) fn push_masked_lists<'a>(
+    alloc: Global,
+    batch: &mut BuiltBatch<'_>,
+    item: &Field,
+    width: OffsetWidth,
+    runs: &[SlotRun<'a>],
+    mask: &[u8],
+) -> Result<Vec<SlotRun<'a>>, AllocError>
+    requires sound { are_runs_sound (list_column width (column_of item.now)) runs.now ≡ true }
+    requires mask { IsMask mask.now runs.now }
+    requires fits { can_build (list_column width (column_of item.now)) (masked_kind (list_kind width (column_of item.now)) mask.now runs.now) ≡ true }
+    ensures batch { IfOk result (λ _. batch_in batch.new ≡ with_buffer (with_run_slots (batch_in batch.old) (masked_slots mask.now runs.now))
+        (list_offsets (width_of width) (masked_kind (list_kind width (column_of item.now)) mask.now runs.now))) }
+    ensures cells { IfOk result (λ items. runs_cells (column_of item.now) items.items
+        ≡ flat_map item_list (masked_kind (list_kind width (column_of item.now)) mask.now runs.now)) }
+    ensures sound { IfOk result (λ items. are_runs_sound (column_of item.now) items.items ≡ true) }
+{
+    let below = push_masked_slots(alloc, batch, runs, mask)?;
+    if below.is_empty() {
+        let items = item_runs(alloc, item, width, runs)?;
+        push_buffer(batch, run_list_offsets(alloc, item, width, runs)?)?;
+        return Ok(items);
+    }
+    let items = masked_items(alloc, item, width, runs, &below)?;
+    push_buffer(
+        batch,
+        masked_list_offsets(alloc, item, width, runs, &below)?,
+    )?;
+    Ok(items)
+}
