@@ -1,5 +1,5 @@
 -- What `clap` makes of the arguments that ask for `recode`, and of those that it refuses.
-use Rattle.std.proofs.Common.{◌≡◌, ◌⊎◌, ◌∙◌, List, [], ◌∷◌, Option, Some, None, option_map, codes, true, refl, ap, sym, subst, inl, inr, true≢false, arith}
+use Rattle.std.proofs.Common.{◌≡◌, ◌⊎◌, ◌∙◌, List, [], ◌∷◌, Option, Some, None, option_map, codes, true, false, refl, ap, sym, subst, inl, inr, true≢false, arith}
 use Rattle.std.specs.Prelude.{Box}
 use Rattle.std.specs.Box.{box_value}
 use Rattle.clap.specs.Words.{App, Text, HasMatchesOf, subcommand_of, subcommand_name_of, takes, is_simple, fault_of, is_simple_and_free, IsAmong}
