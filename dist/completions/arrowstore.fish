@@ -30,7 +30,7 @@ complete -c arrowstore -n '__fish_seen_subcommand_from import; and test (count (
 complete -c arrowstore -n '__fish_seen_subcommand_from import' -s h -l help -d 'Print help'
 complete -c arrowstore -n '__fish_seen_subcommand_from append; and test (count (commandline -opc)) -eq 2' -F
 complete -c arrowstore -n '__fish_seen_subcommand_from append' -l as -x -a 'stream csv jsonl' -d 'What the input is: CSV begins with the names of the columns, JSON Lines has a row on each line'
-complete -c arrowstore -n '__fish_seen_subcommand_from append' -l null -x -d 'In CSV, the text that stands for null where nulls are allowed; without this option the empty one'
+complete -c arrowstore -n '__fish_seen_subcommand_from append' -l null -x -d 'In CSV, the text that stands for null where nulls are allowed, without this option the empty one; other forms pass it over'
 complete -c arrowstore -n '__fish_seen_subcommand_from append' -s h -l help -d 'Print help'
 complete -c arrowstore -n '__fish_seen_subcommand_from query; and test (count (commandline -opc)) -eq 2' -F
 complete -c arrowstore -n '__fish_seen_subcommand_from query' -l columns -x -d 'The columns, in this order; without this option all of them'
@@ -63,8 +63,8 @@ complete -c arrowstore -n '__fish_seen_subcommand_from copy; and test (count (co
 complete -c arrowstore -n '__fish_seen_subcommand_from copy' -s h -l help -d 'Print help'
 complete -c arrowstore -n '__fish_seen_subcommand_from replay; and test (count (commandline -opc)) -eq 2' -F
 complete -c arrowstore -n '__fish_seen_subcommand_from replay' -l sectors -x -d 'How many sectors of 512 bytes the device has, 16 to 4194304'
-complete -c arrowstore -n '__fish_seen_subcommand_from replay' -l fail -x -d 'The write or sync that fails once; without this option none'
-complete -c arrowstore -n '__fish_seen_subcommand_from replay' -l stop -x -d 'The write or sync in which the device stops; without this option none'
+complete -c arrowstore -n '__fish_seen_subcommand_from replay' -l fail -x -d 'The write or sync that fails once, counted from 1; without this option or with 0 none'
+complete -c arrowstore -n '__fish_seen_subcommand_from replay' -l stop -x -d 'The write or sync in which the device stops, counted from 1; without this option or with 0 none'
 complete -c arrowstore -n '__fish_seen_subcommand_from replay' -l choice -x -d 'What the crash leaves of sectors that are not yet synced: old, new, lost, N (new where its bits are 1) or lost:N'
 complete -c arrowstore -n '__fish_seen_subcommand_from replay' -l format-version -x -d 'The version of the store: 2, each segment with a digest, which it is without this option; 1 without digests'
 complete -c arrowstore -n '__fish_seen_subcommand_from replay' -s h -l help -d 'Print help'
