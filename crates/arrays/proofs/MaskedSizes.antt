@@ -1,6 +1,6 @@
 -- Bytes of slots, by runs of slots that are all valid or all null.
 use Rattle.std.specs.Prelude.{◌&&◌, if◌then◌else◌}
-use Rattle.std.proofs.Common.{◌≡◌, ℕ, zero, suc, ◌+◌, ◌-◌, ◌≤◌, ◌<◌, true, false, length, arith, ◌∙◌}
+use Rattle.std.proofs.Common.{◌≡◌, ℕ, zero, suc, ◌+◌, ◌-◌, ◌≤◌, ◌<◌, Bool, true, false, length, refl, arith, ◌∙◌}
 use Rattle.columns.specs.Array.{Array, contents_in, offsets_in, slots_in}
 use Rattle.columns.specs.CellAt.{is_valid, number_at, span_size}
 use Rattle.columns.specs.Tests.{are_unordered}
@@ -64,4 +64,15 @@ masked_hidden width mask a start n hidden alike =
     let each = each_same (λ (size : ℕ). size) (λ i. if is_valid mask i && is_valid a i then span_size width a i else 0) 0 start n (λ i l r.
     let here : is_valid mask i ≡ false = alike i l r ∙ hidden in
     rw here (omega arith)) in
+    omega (arith, each)
+
+-- slots under their own bits
+both : (b : Bool) (n : ℕ) → (if b && b then n else 0) ≡ (if b then n else 0)
+both true n = refl
+both false n = refl
+
+pub masked_self : (width : ℕ) (a : Array) (start n : ℕ) → masked_sizes width a a start n ≡ own_sizes width a start n
+masked_self width a start n =
+    let each = each_more (λ (size : ℕ). size) (λ i. if is_valid a i && is_valid a i then span_size width a i else 0) (λ (size : ℕ). size)
+    (λ i. if is_valid a i then span_size width a i else 0) 0 start n (λ i l r. omega (arith, both (is_valid a i) (span_size width a i))) in
     omega (arith, each)

@@ -1,8 +1,9 @@
 // How much texts and binaries weigh of which some are null, or stand below nulls.
-ghost use Rattle.std.specs.Prelude.{◌≡◌, ◌+◌, ◌-◌, ◌≤◌, false, length, option_map};
+ghost use Rattle.std.specs.Prelude.{◌≡◌, ◌+◌, ◌-◌, ◌≤◌, ◌<◌, ◌&&◌, false, length, option_map, if◌then◌else◌};
 ghost use Rattle.arrow_schema.specs.View.{kind_of};
 ghost use Rattle.cells.specs.Weight.{capped_weight};
 ghost use Rattle.columns.specs.Array.{contents_in, slots_in};
+ghost use Rattle.columns.specs.CellAt.{is_valid, span_size};
 ghost use Rattle.columns.specs.Offsets.{width_of};
 ghost use Rattle.columns.specs.Tests.{are_few_offsets, are_unordered, has_short_validity};
 ghost use Rattle.columns.specs.View.{view_array};
@@ -12,6 +13,12 @@ use crate::sized_slots::{SizedSlots, ValidSlots};
 use arrow_schema::DataType;
 use cells::add_weights;
 use columns::{ArrayView, OffsetWidth};
+
+// A run of fewer slots costs more than these one by one.
+const FEW: usize = 3;
+
+// So many slots are then gone through one by one.
+const AT_ONCE: usize = 32;
 
 /// How wide the offsets of texts or binaries are.
 pub(crate) fn contents_width(data_type: &DataType) -> Option<OffsetWidth>
@@ -24,24 +31,108 @@ pub(crate) fn contents_width(data_type: &DataType) -> Option<OffsetWidth>
     }
 }
 
-// The bytes of slots that are valid. It goes by runs of slots that are all valid: of one the bytes are those between two offsets.
+// What a slot has, if it is valid and is so in another array too.
+#[inline]
+fn masked_size(slots: SizedSlots<'_>, mask: ValidSlots<'_>, i: usize) -> u64
+    requires within { i < slots_in (view_array slots.view) }
+    requires below { i < slots_in (view_array mask.view) }
+    ensures { let own = view_array slots.entry.view in
+        result ≡ (if is_valid (view_array mask.entry.view) i && is_valid own i then span_size (width_of slots.entry.width) own i else 0) }
+{
+    if mask.is_valid(i) { slots.size(i) } else { 0 }
+}
+
+// The bytes of slots that are valid and are so in another array too, slot by slot.
+fn slot_sizes(slots: SizedSlots<'_>, mask: ValidSlots<'_>, from: usize, to: usize) -> u64
+    requires order { from ≤ to }
+    requires within { to ≤ slots_in (view_array slots.view) }
+    requires below { to ≤ slots_in (view_array mask.view) }
+    ensures { result
+        ≡ capped_weight (masked_sizes (width_of slots.entry.width) (view_array mask.entry.view) (view_array slots.entry.view) from (to - from)) }
+{
+    let mut total = 0;
+    for i in from..to {
+        total = add_weights(total, masked_size(slots, mask, i));
+    }
+    total
+}
+
+// Up to where slots are gone through one by one, where a run is short.
+fn end_of_few(start: usize, end: usize) -> usize
+    requires { start < end }
+    ensures later { start < result }
+    ensures within { result ≤ end }
+{
+    if end - start < AT_ONCE {
+        end
+    } else {
+        start + AT_ONCE
+    }
+}
+
+// The bytes of the next slots of which those that are valid count, and where the others begin: of a run of valid slots they stand between two offsets.
+fn own_step(slots: SizedSlots<'_>, start: usize, end: usize) -> (u64, usize)
+    requires some { start < end }
+    requires within { end ≤ slots_in (view_array slots.view) }
+    requires ordered { are_unordered (width_of slots.width) (length (contents_in (view_array slots.view))) (view_array slots.view) ≡ false }
+    ensures later { start < result.1 }
+    ensures within { result.1 ≤ end }
+    ensures sizes { result.0 ≡ capped_weight (own_sizes (width_of slots.entry.width) (view_array slots.entry.view) start (result.1 - start)) }
+{
+    let valid = slots.valid();
+    let next = valid.run_to(start, end);
+    if !valid.is_valid(start) {
+        return (0, next);
+    }
+    if next - start < FEW {
+        let stop = end_of_few(start, end);
+        return (slot_sizes(slots, valid, start, stop), stop);
+    }
+    (add_weights(0, slots.spanned(start, next)), next)
+}
+
+// The bytes of slots that are valid.
 fn own_sizes(slots: SizedSlots<'_>, from: usize, end: usize) -> u64
     requires order { from ≤ end }
     requires within { end ≤ slots_in (view_array slots.view) }
     requires ordered { are_unordered (width_of slots.width) (length (contents_in (view_array slots.view))) (view_array slots.view) ≡ false }
     ensures { result ≡ capped_weight (own_sizes (width_of slots.entry.width) (view_array slots.entry.view) from (end - from)) }
 {
-    let valid = slots.valid();
     let mut total = 0;
     let mut start = from;
     while start < end {
-        let next = valid.run_to(start, end);
-        if valid.is_valid(start) {
-            total = add_weights(total, slots.spanned(start, next));
-        }
-        start = next;
+        let step = own_step(slots, start, end);
+        total = add_weights(total, step.0);
+        start = step.1;
     }
     total
+}
+
+// The bytes of the next slots that are valid and are so in another array too, and where the others begin.
+fn masked_step(
+    slots: SizedSlots<'_>,
+    mask: ValidSlots<'_>,
+    start: usize,
+    end: usize,
+) -> (u64, usize)
+    requires some { start < end }
+    requires within { end ≤ slots_in (view_array slots.view) }
+    requires ordered { are_unordered (width_of slots.width) (length (contents_in (view_array slots.view))) (view_array slots.view) ≡ false }
+    requires below { end ≤ slots_in (view_array mask.view) }
+    ensures later { start < result.1 }
+    ensures within { result.1 ≤ end }
+    ensures sizes { result.0 ≡ capped_weight (masked_sizes (width_of slots.entry.width) (view_array mask.entry.view) (view_array slots.entry.view)
+        start (result.1 - start)) }
+{
+    let next = mask.run_to(start, end);
+    if !mask.is_valid(start) {
+        return (0, next);
+    }
+    if next - start < FEW {
+        let stop = end_of_few(start, end);
+        return (slot_sizes(slots, mask, start, stop), stop);
+    }
+    (own_sizes(slots, start, next), next)
 }
 
 // The bytes of slots that are valid and are so in another array too.
@@ -58,11 +149,9 @@ fn masked_sizes(slots: SizedSlots<'_>, mask: ValidSlots<'_>, from: usize, count:
     let mut total = 0;
     let mut start = from;
     while start < end {
-        let next = mask.run_to(start, end);
-        if mask.is_valid(start) {
-            total = add_weights(total, own_sizes(slots, start, next));
-        }
-        start = next;
+        let step = masked_step(slots, mask, start, end);
+        total = add_weights(total, step.0);
+        start = step.1;
     }
     total
 }
