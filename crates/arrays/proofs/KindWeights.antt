@@ -62,7 +62,7 @@ large_binaries_weigh width a start n ordered some le is =
 
 -- ---- lists
 
-sum_listed : (w : Cell → ℕ) (xs : List Cell) → sum_of w (cells_of xs) ≡ sum_by w xs
+pub sum_listed : (w : Cell → ℕ) (xs : List Cell) → sum_of w (cells_of xs) ≡ sum_by w xs
 sum_listed w [] = refl
 sum_listed w (x ∷ xs) = let rest = sum_listed w xs in let one = sum_by-cons w x xs in omega (arith, rest, one)
 
@@ -94,7 +94,7 @@ large_lists_weigh width item a start n ordered some le is =
 
 -- ---- fixed lists
 
-fixed_own : (size : ℕ) (item : Column) (a : Array) (i : ℕ) → kind_weight (fixed_lists size item) (kind_cell (fixed_lists size item) a i) ≡ 1 + span_weight item (items_in a) (i * size) size
+pub fixed_own : (size : ℕ) (item : Column) (a : Array) (i : ℕ) → kind_weight (fixed_lists size item) (kind_cell (fixed_lists size item) a i) ≡ 1 + span_weight item (items_in a) (i * size) size
 unfolding kind_weight kind_cell
 fixed_own size item a i = ap (λ (k : ℕ). 1 + k) (sum_listed (weight item) (cells_from (cell_at item (items_in a)) (i * size) size))
 

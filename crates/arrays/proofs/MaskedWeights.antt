@@ -7,21 +7,23 @@ use Rattle.arrow_schema.specs.View.{column_of, kind_of, index_of}
 use Rattle.arrow_schema.specs.Column.{Kind, Column, Columns, nulls, booleans, integers, dates, timestamps, texts, large_texts, binaries, large_binaries, fixed_binaries, lists, large_lists, fixed_lists, structs, column, no_column, and_column, columns_of}
 use Rattle.arrow_schema.specs.Parts.{kind_of_column, index_of_column}
 use Rattle.arrow_schema.specs.laws.Parts.{kind_of_field, index_of_field}
-use Rattle.cells.specs.Cell.{Cell, Cells, null, parts, no_cell, and_cell}
-use Rattle.cells.specs.Weight.{weight, kind_weight, parts_weight, capped_weight}
+use Rattle.cells.specs.Cell.{Cell, Cells, null, parts, no_cell, and_cell, cells_of}
+use Rattle.cells.specs.Weight.{weight, kind_weight, parts_weight, sum_of, capped_weight}
 use Rattle.columns.specs.declared.array.PlacedArray.{PlacedArray}
 use Rattle.columns.specs.declared.array.Dictionary.{Dictionary}
-use Rattle.columns.specs.Array.{Array, Arrays, slots_in, contents_in, children_in, first_array, other_arrays}
-use Rattle.columns.specs.CellAt.{cell_at, contents_at, is_valid, kind_cell, part_cells, span_size, span_start, unless_null}
+use Rattle.columns.specs.Array.{Array, Arrays, slots_in, contents_in, items_in, children_in, first_array, other_arrays}
+use Rattle.columns.specs.CellAt.{cell_at, contents_at, is_valid, kind_cell, part_cells, span_cells, span_size, span_start, unless_null}
 use Rattle.columns.specs.Tests.{are_few_offsets, are_unordered, has_short_buffer, has_bad_offsets}
 use Rattle.columns.specs.Sound.{is_kind_sound}
 use Rattle.columns.specs.View.{placed_arrays}
 use Rattle.columns.specs.laws.Offsets.{spans_fit}
 use Rattle.columns.specs.laws.Rows.{other_placed}
 use Rattle.columns.specs.laws.SoundParts.{sound_buffer, sound_offsets}
-use Rattle.arrays.specs.inner.Weights.{sum_from, span_weight, plain_weight, masked_cell, masked_weight, masked_parts_weight, masked_sizes, contents_width}
-use Rattle.arrays.proofs.SpanWeights.{next, split, each_same, each_both, each_more}
-use Rattle.arrays.proofs.KindWeights.{size_taken}
+use Rattle.arrays.specs.inner.Varying.{may_vary_in}
+use Rattle.arrays.specs.inner.Weights.{sum_from, span_weight, plain_weight, masked_cell, masked_weight, masked_parts_weight, masked_sizes, contents_width, sized_width, unit_weight}
+use Rattle.arrays.proofs.SpanWeights.{next, split, each_same, each_both, each_more, each_sized}
+use Rattle.arrays.proofs.KindWeights.{size_taken, sum_listed}
+use Rattle.arrays.proofs.SameWeights.{alike_cells}
 
 -- ---- texts and binaries
 
@@ -66,38 +68,6 @@ null_weight (large_lists item) width is = absurd cc
 null_weight (fixed_lists size item) width is = absurd cc
 null_weight (structs columns) width is = absurd cc
 
-own_case : (w : Cell → ℕ) (cell : Cell) (size : ℕ) (valid : Bool) → w cell ≡ 1 + size → w null ≡ 1 → w (if valid then cell else null) ≡ 1 + (if valid && valid then size else 0)
-own_case w cell size true own none = own
-own_case w cell size false own none = omega (arith, none)
-
-masked_case : (w : Cell → ℕ) (cell : Cell) (size : ℕ) (mask valid : Bool) → w cell ≡ 1 + size → w null ≡ 1
-    → w (if mask then (if valid then cell else null) else null) ≡ 1 + (if mask && valid then size else 0)
-masked_case w cell size true true own none = own
-masked_case w cell size true false own none = omega (arith, none)
-masked_case w cell size false valid own none = omega (arith, none)
-
-pub plain_contents : (k : Kind) (width : ℕ) (a : Array) (start n : ℕ) → contents_width k ≡ Some width → are_unordered width (length (contents_in a)) a ≡ false → start + n ≤ slots_in a
-    → plain_weight k a start n ≡ n + masked_sizes width a a start n
-plain_contents k width a start n is ordered le =
-    let all = each_more (kind_weight k) (unless_null (kind_cell k) a) (λ (size : ℕ). size) (λ i. if is_valid a i && is_valid a i then span_size width a i else 0) 1 start n
-    (λ i l r. own_case (kind_weight k) (kind_cell k a i) (span_size width a i) (is_valid a i) (own_weight k width a i is ordered (omega arith)) (null_weight k width is)) in
-    omega (arith, all)
-
-column_contents : (c : Column) (width : ℕ) (mask a : Array) (start n : ℕ) → index_of_column c ≡ None → contents_width (kind_of_column c) ≡ Some width → are_unordered width (length (contents_in a)) a ≡ false
-    → start + n ≤ slots_in a → masked_weight c mask a start n ≡ n + masked_sizes width mask a start n
-unfolding weight cell_at
-column_contents (column name nullable kind None pairs) width mask a start n plain is ordered le =
-    let all = each_more (kind_weight kind) (λ i. if is_valid mask i then unless_null (kind_cell kind) a i else null) (λ (size : ℕ). size)
-    (λ i. if is_valid mask i && is_valid a i then span_size width a i else 0) 1 start n
-    (λ i l r. masked_case (kind_weight kind) (kind_cell kind a i) (span_size width a i) (is_valid mask i) (is_valid a i) (own_weight kind width a i is ordered (omega arith)) (null_weight kind width is)) in
-    omega (arith, all)
-column_contents (column name nullable kind (Some index) pairs) width mask a start n plain is ordered le = absurd cc
-
-pub masked_contents : (field : Field) (width : ℕ) (mask a : Array) (start n : ℕ) → field.dictionary ≡ None → contents_width (kind_of field.data_type) ≡ Some width
-    → are_unordered width (length (contents_in a)) a ≡ false → start + n ≤ slots_in a → masked_weight (column_of field) mask a start n ≡ n + masked_sizes width mask a start n
-masked_contents field width mask a start n plain is ordered le =
-    column_contents (column_of field) width mask a start n (index_of_field field ∙ ap (option_map index_of) plain) (ap contents_width (kind_of_field field) ∙ is) ordered le
-
 tests_of : (width own : ℕ) (a : Array) → own ≡ width → are_few_offsets own a ≡ false → are_unordered own (length (contents_in a)) a ≡ false
     → (are_few_offsets width a ≡ false) × (are_unordered width (length (contents_in a)) a ≡ false)
 tests_of width own a is few ordered =
@@ -124,6 +94,120 @@ sound_offsets_of (structs columns) width a is few ordered = absurd cc
 pub contents_sound : (k : Kind) (width : ℕ) (a : Array) → contents_width k ≡ Some width → is_kind_sound k a ≡ true
     → (are_few_offsets width a ≡ false) × (are_unordered width (length (contents_in a)) a ≡ false)
 contents_sound k width a is sound = sound_offsets_of k width a is (sound_buffer k a sound) (sound_offsets k a sound)
+
+lists_of : (width own most : ℕ) (a : Array) → own ≡ width → are_few_offsets own a ≡ false → are_unordered own most a ≡ false
+    → (are_few_offsets width a ≡ false) × ((end : ℕ) × (are_unordered width end a ≡ false))
+lists_of width own most a is few ordered =
+    (subst (λ (w : ℕ). are_few_offsets w a ≡ false) is few, (most, subst (λ (w : ℕ). are_unordered w most a ≡ false) is ordered))
+
+-- ---- and lists of items that weigh alike
+
+items_alike : (width : ℕ) (item : Column) (a : Array) (i : ℕ) → may_vary_in item ≡ false
+    → 1 + sum_of (weight item) (cells_of (span_cells width (cell_at item (items_in a)) a i)) ≡ 1 + span_size width a i * weight item null
+items_alike width item a i h =
+    let all = sum_listed (weight item) (span_cells width (cell_at item (items_in a)) a i) in
+    let alike = alike_cells item (items_in a) (span_start width a i) (span_size width a i) h in
+    omega (arith, all, alike)
+
+list_width : (vary : Bool) (own width : ℕ) → (if vary then None else Some own) ≡ Some width → (vary ≡ false) × (own ≡ width)
+list_width true own width is = absurd cc
+list_width false own width is = (refl, cc)
+
+-- where the offsets alone tell what a type weighs: what a valid slot does, and a null, and each byte or item
+pub sized_weight : (k : Kind) (width : ℕ) (a : Array) (i : ℕ) → sized_width k ≡ Some width → is_kind_sound k a ≡ true → i < slots_in a
+    → kind_weight k (kind_cell k a i) ≡ 1 + span_size width a i * unit_weight k
+unfolding kind_weight kind_cell
+sized_weight (lists item) width a i is sound lt =
+    let h = list_width (may_vary_in item) 4 width is in
+    ap (λ (w : ℕ). 1 + sum_of (weight item) (cells_of (span_cells w (cell_at item (items_in a)) a i))) h.1 ∙ items_alike width item a i h.0
+sized_weight (large_lists item) width a i is sound lt =
+    let h = list_width (may_vary_in item) 8 width is in
+    ap (λ (w : ℕ). 1 + sum_of (weight item) (cells_of (span_cells w (cell_at item (items_in a)) a i))) h.1 ∙ items_alike width item a i h.0
+sized_weight texts width a i is sound lt = let own = own_weight texts width a i is (contents_sound texts width a is sound).1 lt in omega (arith, own)
+sized_weight large_texts width a i is sound lt = let own = own_weight large_texts width a i is (contents_sound large_texts width a is sound).1 lt in omega (arith, own)
+sized_weight binaries width a i is sound lt = let own = own_weight binaries width a i is (contents_sound binaries width a is sound).1 lt in omega (arith, own)
+sized_weight large_binaries width a i is sound lt = let own = own_weight large_binaries width a i is (contents_sound large_binaries width a is sound).1 lt in omega (arith, own)
+sized_weight nulls width a i is sound lt = absurd cc
+sized_weight booleans width a i is sound lt = absurd cc
+sized_weight (integers bits signed) width a i is sound lt = absurd cc
+sized_weight (dates unit) width a i is sound lt = absurd cc
+sized_weight (timestamps unit timezone) width a i is sound lt = absurd cc
+sized_weight (fixed_binaries size) width a i is sound lt = absurd cc
+sized_weight (fixed_lists size item) width a i is sound lt = absurd cc
+sized_weight (structs columns) width a i is sound lt = absurd cc
+
+pub sized_null : (k : Kind) (width : ℕ) → sized_width k ≡ Some width → kind_weight k null ≡ 1
+unfolding kind_weight
+sized_null (lists item) width is = refl
+sized_null (large_lists item) width is = refl
+sized_null texts width is = refl
+sized_null large_texts width is = refl
+sized_null binaries width is = refl
+sized_null large_binaries width is = refl
+sized_null nulls width is = absurd cc
+sized_null booleans width is = absurd cc
+sized_null (integers bits signed) width is = absurd cc
+sized_null (dates unit) width is = absurd cc
+sized_null (timestamps unit timezone) width is = absurd cc
+sized_null (fixed_binaries size) width is = absurd cc
+sized_null (fixed_lists size item) width is = absurd cc
+sized_null (structs columns) width is = absurd cc
+
+own_case : (w : Cell → ℕ) (cell : Cell) (size unit : ℕ) (valid : Bool) → w cell ≡ 1 + size * unit → w null ≡ 1
+    → w (if valid then cell else null) ≡ 1 + (if valid && valid then size else 0) * unit
+own_case w cell size unit true own none = own
+own_case w cell size unit false own none = let e : 1 + 0 * unit ≡ 1 = omega arith in none ∙ sym e
+
+masked_case : (w : Cell → ℕ) (cell : Cell) (size unit : ℕ) (mask valid : Bool) → w cell ≡ 1 + size * unit → w null ≡ 1
+    → w (if mask then (if valid then cell else null) else null) ≡ 1 + (if mask && valid then size else 0) * unit
+masked_case w cell size unit true true own none = own
+masked_case w cell size unit true false own none = let e : 1 + 0 * unit ≡ 1 = omega arith in none ∙ sym e
+masked_case w cell size unit false valid own none = let e : 1 + 0 * unit ≡ 1 = omega arith in none ∙ sym e
+
+pub plain_sizes : (k : Kind) (width : ℕ) (a : Array) (start n : ℕ) → sized_width k ≡ Some width → is_kind_sound k a ≡ true → start + n ≤ slots_in a
+    → plain_weight k a start n ≡ n + masked_sizes width a a start n * unit_weight k
+plain_sizes k width a start n is sound le =
+    each_sized (kind_weight k) (unless_null (kind_cell k) a) (λ i. if is_valid a i && is_valid a i then span_size width a i else 0) (unit_weight k) start n
+    (λ i l r. own_case (kind_weight k) (kind_cell k a i) (span_size width a i) (unit_weight k) (is_valid a i) (sized_weight k width a i is sound (omega arith)) (sized_null k width is))
+
+column_sizes : (c : Column) (width : ℕ) (mask a : Array) (start n : ℕ) → index_of_column c ≡ None → sized_width (kind_of_column c) ≡ Some width → is_kind_sound (kind_of_column c) a ≡ true
+    → start + n ≤ slots_in a → masked_weight c mask a start n ≡ n + masked_sizes width mask a start n * unit_weight (kind_of_column c)
+unfolding weight cell_at
+column_sizes (column name nullable kind None pairs) width mask a start n plain is sound le =
+    each_sized (kind_weight kind) (λ i. if is_valid mask i then unless_null (kind_cell kind) a i else null)
+    (λ i. if is_valid mask i && is_valid a i then span_size width a i else 0) (unit_weight kind) start n
+    (λ i l r. masked_case (kind_weight kind) (kind_cell kind a i) (span_size width a i) (unit_weight kind) (is_valid mask i) (is_valid a i) (sized_weight kind width a i is sound (omega arith)) (sized_null kind width is))
+column_sizes (column name nullable kind (Some index) pairs) width mask a start n plain is sound le = absurd cc
+
+pub masked_field_sizes : (field : Field) (width : ℕ) (mask a : Array) (start n : ℕ) → field.dictionary ≡ None → sized_width (kind_of field.data_type) ≡ Some width
+    → is_kind_sound (kind_of field.data_type) a ≡ true → start + n ≤ slots_in a
+    → masked_weight (column_of field) mask a start n ≡ n + masked_sizes width mask a start n * unit_weight (kind_of field.data_type)
+masked_field_sizes field width mask a start n plain is sound le =
+    column_sizes (column_of field) width mask a start n (index_of_field field ∙ ap (option_map index_of) plain) (ap sized_width (kind_of_field field) ∙ is)
+    (ap (λ (k : Kind). is_kind_sound k a) (kind_of_field field) ∙ sound) le
+    ∙ ap (λ (k : Kind). n + masked_sizes width mask a start n * unit_weight k) (kind_of_field field)
+
+-- a sound array of such a type has offsets enough, in order
+pub sized_sound : (k : Kind) (width : ℕ) (a : Array) → sized_width k ≡ Some width → is_kind_sound k a ≡ true
+    → (are_few_offsets width a ≡ false) × ((most : ℕ) × (are_unordered width most a ≡ false))
+sized_sound (lists item) width a is sound =
+    let h = list_width (may_vary_in item) 4 width is in
+    lists_of width 4 (slots_in (items_in a)) a h.1 (sound_buffer (lists item) a sound) (sound_offsets (lists item) a sound)
+sized_sound (large_lists item) width a is sound =
+    let h = list_width (may_vary_in item) 8 width is in
+    lists_of width 8 (slots_in (items_in a)) a h.1 (sound_buffer (large_lists item) a sound) (sound_offsets (large_lists item) a sound)
+sized_sound texts width a is sound = let own = contents_sound texts width a is sound in (own.0, (length (contents_in a), own.1))
+sized_sound large_texts width a is sound = let own = contents_sound large_texts width a is sound in (own.0, (length (contents_in a), own.1))
+sized_sound binaries width a is sound = let own = contents_sound binaries width a is sound in (own.0, (length (contents_in a), own.1))
+sized_sound large_binaries width a is sound = let own = contents_sound large_binaries width a is sound in (own.0, (length (contents_in a), own.1))
+sized_sound nulls width a is sound = absurd cc
+sized_sound booleans width a is sound = absurd cc
+sized_sound (integers bits signed) width a is sound = absurd cc
+sized_sound (dates unit) width a is sound = absurd cc
+sized_sound (timestamps unit timezone) width a is sound = absurd cc
+sized_sound (fixed_binaries size) width a is sound = absurd cc
+sized_sound (fixed_lists size item) width a is sound = absurd cc
+sized_sound (structs columns) width a is sound = absurd cc
 
 -- ---- structs
 

@@ -1,6 +1,6 @@
 -- Sums over spans of slots.
 use Rattle.std.specs.Prelude.{ℤ, nat_le, negsuc, pos, Some, None, get_or, not, option_map, ◌/◌}
-use Rattle.std.proofs.Common.{◌≡◌, ℕ, zero, suc, ◌+◌, ◌-◌, ◌*◌, ◌≤◌, ◌<◌, true, false, List, ◌∷◌, length, map, drop, refl, sym, ap, subst, arith, ◌∙◌}
+use Rattle.std.proofs.Common.{◌≡◌, ℕ, zero, suc, ◌+◌, ◌-◌, ◌*◌, ◌≤◌, ◌<◌, true, false, List, ◌∷◌, length, map, drop, refl, sym, ap, subst, arith, ◌∙◌, add-mul}
 use Rattle.std.specs.List.{range_with_len, list_all}
 use Rattle.std.proofs.lemmas.Bool.{and_parts, leb-true, not-true}
 use Rattle.std.proofs.lemmas.List.{drop_all}
@@ -8,7 +8,7 @@ use Rattle.std.proofs.lemmas.List.Sums.{sum_by-cons}
 use Rattle.arrow_schema.specs.declared.types.Field.{Field}
 use Rattle.arrow_schema.specs.declared.types.DictSpec.{DictSpec}
 use Rattle.arrow_schema.specs.View.{column_of, kind_of, index_of}
-use Rattle.arrow_schema.specs.Column.{Index, Kind, Column, Columns, nulls, booleans, integers, dates, timestamps, texts, large_texts, binaries, large_binaries, fixed_binaries, lists, large_lists, fixed_lists, structs, column, and_column, columns_of}
+use Rattle.arrow_schema.specs.Column.{Index, Kind, Column, Columns, column, and_column, columns_of}
 use Rattle.arrow_schema.specs.Parts.{kind_of_column, index_of_column}
 use Rattle.arrow_schema.specs.laws.Parts.{kind_of_field, index_of_field}
 use Rattle.cells.specs.Cell.{Cell, null}
@@ -21,7 +21,7 @@ use Rattle.columns.specs.Sound.{is_sound, is_kind_sound, are_sound}
 use Rattle.columns.specs.Tests.{are_few, has_short_validity}
 use Rattle.columns.specs.View.{placed_arrays}
 use Rattle.columns.specs.laws.Rows.{other_placed}
-use Rattle.arrays.specs.inner.Weights.{AreEntryWeights, sum_from, span_weight, plain_weight, valid_weight, parts_span_weight, has_one_weight}
+use Rattle.arrays.specs.inner.Weights.{AreEntryWeights, sum_from, span_weight, plain_weight, valid_weight, parts_span_weight}
 
 pub next : {X : Type 0} (w : X → ℕ) (f : ℕ → X) (start n : ℕ) → sum_from w f start (suc n) ≡ w (f start) + sum_from w f (start + 1) n
 next w f start n = sum_by-cons w (f start) (map f (range_with_len (start + 1) n))
@@ -48,6 +48,20 @@ each_more w f v g more start (suc n) h =
     let here : w (f start) ≡ more + v (g start) = h start (omega arith) (omega arith) in
     let rest : sum_from w f (start + 1) n ≡ n * more + sum_from v g (start + 1) n = each_more w f v g more (start + 1) n (λ i le lt. h i (omega arith) (omega arith)) in
     omega (arith, here, rest, next w f start n, next v g start n)
+
+-- where each weighs one, and a number of others so much each
+pub each_sized : {X : Type 0} (w : X → ℕ) (f : ℕ → X) (size : ℕ → ℕ) (unit start n : ℕ) → ((i : ℕ) → start ≤ i → i < start + n → w (f i) ≡ 1 + size i * unit)
+    → sum_from w f start n ≡ n + sum_from (λ (k : ℕ). k) size start n * unit
+each_sized w f size unit start zero h =
+    let none : sum_from (λ (k : ℕ). k) size start 0 * unit ≡ 0 * unit = refl in
+    let first : sum_from w f start 0 ≡ 0 = refl in
+    omega (arith, none, first)
+each_sized w f size unit start (suc n) h =
+    let here : w (f start) ≡ 1 + size start * unit = h start (omega arith) (omega arith) in
+    let rest : sum_from w f (start + 1) n ≡ n + sum_from (λ (k : ℕ). k) size (start + 1) n * unit = each_sized w f size unit (start + 1) n (λ i le lt. h i (omega arith) (omega arith)) in
+    let all : sum_from (λ (k : ℕ). k) size start (suc n) * unit ≡ (size start + sum_from (λ (k : ℕ). k) size (start + 1) n) * unit = ap (λ (k : ℕ). k * unit) (next (λ (k : ℕ). k) size start n) in
+    let both : (size start + sum_from (λ (k : ℕ). k) size (start + 1) n) * unit ≡ size start * unit + sum_from (λ (k : ℕ). k) size (start + 1) n * unit = add-mul _ _ _ in
+    omega (arith, here, rest, all, both, next w f start n)
 
 -- where all weigh the same
 pub each_same : {X : Type 0} (w : X → ℕ) (f : ℕ → X) (k start n : ℕ) → ((i : ℕ) → start ≤ i → i < start + n → w (f i) ≡ k) → sum_from w f start n ≡ n * k
@@ -88,27 +102,6 @@ each_spanned w f v g at start (suc n) each up =
     let joined : sum_from v g (at start) (at (start + 1 + n) - at start) ≡ sum_from v g (at start) (at (start + 1) - at start) + sum_from v g (at (start + 1)) (at (start + 1 + n) - at (start + 1))
     = rw (both, own) at whole in
     rw e (omega (arith, here, rest, joined, next w f start n))
-
-pub one_weight : (k : Kind) (x : Cell) → has_one_weight k ≡ true → kind_weight k x ≡ kind_weight k null
-unfolding kind_weight
-one_weight nulls x h = refl
-one_weight booleans x h = refl
-one_weight (integers bits signed) x h = refl
-one_weight (dates unit) x h = refl
-one_weight (timestamps unit timezone) x h = refl
-one_weight texts x h = cc
-one_weight large_texts x h = cc
-one_weight binaries x h = cc
-one_weight large_binaries x h = cc
-one_weight (fixed_binaries width) x h = refl
-one_weight (lists item) x h = cc
-one_weight (large_lists item) x h = cc
-one_weight (fixed_lists size item) x h = cc
-one_weight (structs columns) x h = cc
-
-pub column_one_weight : (c : Column) (f : ℕ → Cell) (start n : ℕ) → has_one_weight (kind_of_column c) ≡ true → sum_from (weight c) f start n ≡ n * kind_weight (kind_of_column c) null
-unfolding weight
-column_one_weight (column name nullable kind dictionary pairs) f start n h = each_same (kind_weight kind) f (kind_weight kind null) start n (λ i le lt. one_weight kind (f i) h)
 
 -- ---- runs
 

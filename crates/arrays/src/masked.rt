@@ -1,17 +1,20 @@
-// How much texts and binaries weigh of which some are null, or stand below nulls.
-ghost use Rattle.std.specs.Prelude.{◌≡◌, ◌+◌, ◌-◌, ◌≤◌, ◌<◌, ◌&&◌, false, length, option_map, if◌then◌else◌};
-ghost use Rattle.arrow_schema.specs.View.{kind_of};
-ghost use Rattle.cells.specs.Weight.{capped_weight};
-ghost use Rattle.columns.specs.Array.{contents_in, slots_in};
+// How much texts, binaries and lists weigh of which some are null, or stand below nulls, where their offsets alone tell it.
+ghost use Rattle.std.specs.Prelude.{◌≡◌, ◌+◌, ◌-◌, ◌*◌, ◌≤◌, ◌<◌, ◌&&◌, ℕ, false, IfSome, Some, None, option_map, if◌then◌else◌};
+ghost use Rattle.arrow_schema.specs.View.{column_of, kind_of};
+ghost use Rattle.cells.specs.Cell.{null};
+ghost use Rattle.cells.specs.Weight.{capped_weight, weight};
+ghost use Rattle.columns.specs.Array.{slots_in};
 ghost use Rattle.columns.specs.CellAt.{is_valid, span_size};
 ghost use Rattle.columns.specs.Offsets.{width_of};
 ghost use Rattle.columns.specs.Tests.{are_few_offsets, are_unordered, has_short_validity};
 ghost use Rattle.columns.specs.View.{view_array};
-ghost use Rattle.arrays.specs.inner.Weights.{contents_width, masked_sizes, own_sizes};
+ghost use Rattle.arrays.specs.inner.Varying.{may_vary_in};
+ghost use Rattle.arrays.specs.inner.Weights.{contents_width, masked_sizes, own_sizes, sized_width, unit_weight};
 
 use crate::sized_slots::{SizedSlots, ValidSlots};
-use arrow_schema::DataType;
-use cells::add_weights;
+use crate::varying::may_vary;
+use arrow_schema::{DataType, Field};
+use cells::{Value, add_weights, multiply_weight, weight};
 use columns::{ArrayView, OffsetWidth};
 
 // A run of fewer slots costs more than these one by one.
@@ -19,6 +22,13 @@ const FEW: usize = 3;
 
 // So many slots are then gone through one by one.
 const AT_ONCE: usize = 32;
+
+/// How much the slots of a type weigh: one each, and so much for each byte or item between their offsets, which are so wide.
+#[derive(Clone, Copy)]
+pub(crate) struct SizedType {
+    width: OffsetWidth,
+    unit: u64,
+}
 
 /// How wide the offsets of texts or binaries are.
 pub(crate) fn contents_width(data_type: &DataType) -> Option<OffsetWidth>
@@ -28,6 +38,41 @@ pub(crate) fn contents_width(data_type: &DataType) -> Option<OffsetWidth>
         DataType::Utf8 | DataType::Binary => Some(OffsetWidth::Four),
         DataType::LargeUtf8 | DataType::LargeBinary => Some(OffsetWidth::Eight),
         _ => None,
+    }
+}
+
+// Lists of items that weigh alike.
+fn sized_lists(width: OffsetWidth, item: &Field) -> Option<SizedType>
+    ensures width { option_map (λ t. width_of t.width) result ≡ (if may_vary_in (column_of item.now) then None else Some (width_of width)) }
+    ensures unit { IfSome result (λ t. t.unit ≡ capped_weight (weight (column_of item.now) null)) }
+{
+    if may_vary(&item.data_type) {
+        return None;
+    }
+    Some(SizedType {
+        width,
+        unit: weight(item, &Value::Null),
+    })
+}
+
+// Texts or binaries.
+fn sized_contents(data_type: &DataType) -> Option<SizedType>
+    ensures width { option_map (λ t. width_of t.width) result ≡ contents_width (kind_of data_type.now) }
+    ensures unit { IfSome result (λ t. t.unit ≡ 1) }
+{
+    let width = contents_width(data_type)?;
+    Some(SizedType { width, unit: 1 })
+}
+
+/// What tells how much slots of a type weigh, if offsets do.
+pub(crate) fn sized_type(data_type: &DataType) -> Option<SizedType>
+    ensures width { option_map (λ t. width_of t.width) result ≡ sized_width (kind_of data_type.now) }
+    ensures unit { IfSome result (λ t. t.unit ≡ capped_weight (unit_weight (kind_of data_type.now))) }
+{
+    match data_type {
+        DataType::List(item) => sized_lists(OffsetWidth::Four, item),
+        DataType::LargeList(item) => sized_lists(OffsetWidth::Eight, item),
+        _ => sized_contents(data_type),
     }
 }
 
@@ -74,7 +119,7 @@ fn end_of_few(start: usize, end: usize) -> usize
 fn own_step(slots: SizedSlots<'_>, start: usize, end: usize) -> (u64, usize)
     requires some { start < end }
     requires within { end ≤ slots_in (view_array slots.view) }
-    requires ordered { are_unordered (width_of slots.width) (length (contents_in (view_array slots.view))) (view_array slots.view) ≡ false }
+    requires ordered { (most : ℕ) × (are_unordered (width_of slots.width) most (view_array slots.view) ≡ false) }
     ensures later { start < result.1 }
     ensures within { result.1 ≤ end }
     ensures sizes { result.0 ≡ capped_weight (own_sizes (width_of slots.entry.width) (view_array slots.entry.view) start (result.1 - start)) }
@@ -95,7 +140,7 @@ fn own_step(slots: SizedSlots<'_>, start: usize, end: usize) -> (u64, usize)
 fn own_sizes(slots: SizedSlots<'_>, from: usize, end: usize) -> u64
     requires order { from ≤ end }
     requires within { end ≤ slots_in (view_array slots.view) }
-    requires ordered { are_unordered (width_of slots.width) (length (contents_in (view_array slots.view))) (view_array slots.view) ≡ false }
+    requires ordered { (most : ℕ) × (are_unordered (width_of slots.width) most (view_array slots.view) ≡ false) }
     ensures { result ≡ capped_weight (own_sizes (width_of slots.entry.width) (view_array slots.entry.view) from (end - from)) }
 {
     let mut total = 0;
@@ -117,7 +162,7 @@ fn masked_step(
 ) -> (u64, usize)
     requires some { start < end }
     requires within { end ≤ slots_in (view_array slots.view) }
-    requires ordered { are_unordered (width_of slots.width) (length (contents_in (view_array slots.view))) (view_array slots.view) ≡ false }
+    requires ordered { (most : ℕ) × (are_unordered (width_of slots.width) most (view_array slots.view) ≡ false) }
     requires below { end ≤ slots_in (view_array mask.view) }
     ensures later { start < result.1 }
     ensures within { result.1 ≤ end }
@@ -138,7 +183,7 @@ fn masked_step(
 // The bytes of slots that are valid and are so in another array too.
 fn masked_sizes(slots: SizedSlots<'_>, mask: ValidSlots<'_>, from: usize, count: usize) -> u64
     requires within { from + count ≤ slots_in (view_array slots.view) }
-    requires ordered { are_unordered (width_of slots.width) (length (contents_in (view_array slots.view))) (view_array slots.view) ≡ false }
+    requires ordered { (most : ℕ) × (are_unordered (width_of slots.width) most (view_array slots.view) ≡ false) }
     requires below { from + count ≤ slots_in (view_array mask.view) }
     ensures { result
         ≡ capped_weight (masked_sizes (width_of slots.entry.width) (view_array mask.entry.view) (view_array slots.entry.view) from count) }
@@ -156,23 +201,24 @@ fn masked_sizes(slots: SizedSlots<'_>, mask: ValidSlots<'_>, from: usize, count:
     total
 }
 
-/// One for each slot, and its bytes where it is valid and is so in another array too.
-pub(crate) fn masked_contents_weight(
-    width: OffsetWidth,
+/// One for each slot, and what its bytes or items weigh where it is valid and is so in another array too.
+pub(crate) fn masked_sizes_weight(
+    sized: SizedType,
     view: ArrayView<'_>,
     mask: ArrayView<'_>,
     from: usize,
     count: usize,
 ) -> u64
     requires short { has_short_validity (view_array view) ≡ false }
-    requires few { are_few_offsets (width_of width) (view_array view) ≡ false }
-    requires ordered { are_unordered (width_of width) (length (contents_in (view_array view))) (view_array view) ≡ false }
+    requires few { are_few_offsets (width_of sized.width) (view_array view) ≡ false }
+    requires ordered { (most : ℕ) × (are_unordered (width_of sized.width) most (view_array view) ≡ false) }
     requires within { from + count ≤ slots_in (view_array view) }
     requires long { has_short_validity (view_array mask) ≡ false }
     requires below { from + count ≤ slots_in (view_array mask) }
-    ensures { result ≡ capped_weight (count + masked_sizes (width_of width) (view_array mask.entry) (view_array view.entry) from count) }
+    ensures { result ≡ capped_weight
+        (count + masked_sizes (width_of sized.width) (view_array mask.entry) (view_array view.entry) from count * sized.unit) }
 {
-    let slots = SizedSlots::new(width, view);
+    let slots = SizedSlots::new(sized.width, view);
     let sizes = masked_sizes(slots, ValidSlots::new(mask), from, count);
-    add_weights(count as u64, sizes)
+    add_weights(count as u64, multiply_weight(sizes, sized.unit))
 }

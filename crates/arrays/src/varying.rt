@@ -14,7 +14,7 @@ fn may_vary_in(field: &Field) -> bool
     may_vary(&field.data_type)
 }
 
-/// A struct weighs as its fields do, and a null one as if all of them were null: where none varies, each cell has one weight.
+/// A struct weighs as its fields do, a fixed list as its items do, and a null one as if all of these were null: where none varies, each cell has one weight.
 #[tactic(auto, unfolding(crate::specs::inner::Varying::may_vary))]
 #[cycle(may_vary)]
 pub(crate) fn may_vary(data_type: &DataType) -> bool
@@ -33,7 +33,7 @@ pub(crate) fn may_vary(data_type: &DataType) -> bool
         DataType::FixedSizeBinary(_) => false,
         DataType::List(_) => true,
         DataType::LargeList(_) => true,
-        DataType::FixedSizeList(_, _) => true,
+        DataType::FixedSizeList(_, item) => may_vary_in(item),
         DataType::Struct(fields) => any_may_vary(fields),
     }
 }

@@ -13,10 +13,11 @@ ghost use Rattle.columns.specs.Sound.{is_sound, is_kind_sound, are_sound};
 ghost use Rattle.columns.specs.Tests.{are_few, are_few_offsets, are_unordered, has_short_validity};
 ghost use Rattle.columns.specs.View.{view_array, placed_arrays, IsNoArray};
 ghost use Rattle.arrays.specs.inner.EntryWeights.{weights_in};
-ghost use Rattle.arrays.specs.inner.Weights.{AreEntryWeights, IsKnownTotal, IsKnownWeight, sum_from, span_weight, plain_weight, valid_weight, masked_weight, parts_span_weight, has_one_weight};
+ghost use Rattle.arrays.specs.inner.Varying.{may_vary};
+ghost use Rattle.arrays.specs.inner.Weights.{AreEntryWeights, IsKnownTotal, IsKnownWeight, sum_from, span_weight, plain_weight, valid_weight, masked_weight, parts_span_weight};
 
 use crate::entry_weights::{EntryWeights, sized_entries};
-use crate::masked::{contents_width, masked_contents_weight};
+use crate::masked::{masked_sizes_weight, sized_type};
 use crate::runs::{are_alike, run_to};
 use crate::varying::may_vary;
 use arrow_schema::{BitWidth, DataType, DictSpec, Field};
@@ -28,27 +29,6 @@ use columns::{
 
 // Of how many entries of a dictionary the weights are kept while its slots are gone through.
 const FIRST_ENTRIES: usize = 256;
-
-fn has_one_weight(data_type: &DataType) -> bool
-    ensures { result ≡ has_one_weight (kind_of data_type.now) }
-{
-    match data_type {
-        DataType::Null => true,
-        DataType::Bool => true,
-        DataType::Int(_) => true,
-        DataType::Date(_) => true,
-        DataType::Timestamp(_, _) => true,
-        DataType::Utf8 => false,
-        DataType::LargeUtf8 => false,
-        DataType::Binary => false,
-        DataType::LargeBinary => false,
-        DataType::FixedSizeBinary(_) => true,
-        DataType::List(_) => false,
-        DataType::LargeList(_) => false,
-        DataType::FixedSizeList(_, _) => false,
-        DataType::Struct(_) => false,
-    }
-}
 
 // n nulls of a field.
 #[tactic(auto, using(cells::specs::laws::Weights::capped_product), unfolding(cells::specs::Weight::weight))]
@@ -87,7 +67,7 @@ fn span_weight(
     requires within { from + count ≤ slots_in (view_array view) }
     ensures { result ≡ capped_weight (span_weight (column_of field.now) (view_array view.entry) from count) }
 {
-    if has_one_weight(&field.data_type) {
+    if !may_vary(&field.data_type) {
         return nulls_weight(field, count);
     }
     match &field.dictionary {
@@ -106,7 +86,7 @@ fn plain_weight(
     none: &PlacedArray,
 ) -> u64
     requires empty { IsNoArray none.now }
-    requires varied { has_one_weight (kind_of field.now.data_type) ≡ false }
+    requires varied { may_vary (kind_of field.now.data_type) ≡ true }
     requires sound { is_kind_sound (kind_of field.now.data_type) (view_array view) ≡ true }
     requires within { from + count ≤ slots_in (view_array view) }
     ensures { result ≡ capped_weight (plain_weight (kind_of field.now.data_type) (view_array view.entry) from count) }
@@ -119,8 +99,8 @@ fn plain_weight(
     if are_alike(view, from, from + count) {
         return run_weight(field, view, from, count, none);
     }
-    match contents_width(&field.data_type) {
-        Some(width) => masked_contents_weight(width, view, view, from, count),
+    match sized_type(&field.data_type) {
+        Some(sized) => masked_sizes_weight(sized, view, view, from, count),
         None => mixed_weight(field, view, from, count, none),
     }
 }
@@ -135,7 +115,7 @@ fn mixed_weight(
     none: &PlacedArray,
 ) -> u64
     requires empty { IsNoArray none.now }
-    requires varied { has_one_weight (kind_of field.now.data_type) ≡ false }
+    requires varied { may_vary (kind_of field.now.data_type) ≡ true }
     requires sound { is_kind_sound (kind_of field.now.data_type) (view_array view) ≡ true }
     requires within { from + count ≤ slots_in (view_array view) }
     ensures { result ≡ capped_weight (plain_weight (kind_of field.now.data_type) (view_array view.entry) from count) }
@@ -156,7 +136,7 @@ fn runs_weight(
     none: &PlacedArray,
 ) -> u64
     requires empty { IsNoArray none.now }
-    requires varied { has_one_weight (kind_of field.now.data_type) ≡ false }
+    requires varied { may_vary (kind_of field.now.data_type) ≡ true }
     requires sound { is_kind_sound (kind_of field.now.data_type) (view_array view) ≡ true }
     requires within { from + count ≤ slots_in (view_array view) }
     ensures { result ≡ capped_weight (plain_weight (kind_of field.now.data_type) (view_array view.entry) from count) }
@@ -231,8 +211,8 @@ fn masked_weight(
     if !may_vary(&field.data_type) {
         return nulls_weight(field, count);
     }
-    match (&field.dictionary, contents_width(&field.data_type)) {
-        (None, Some(width)) => masked_contents_weight(width, view, mask, from, count),
+    match (&field.dictionary, sized_type(&field.data_type)) {
+        (None, Some(sized)) => masked_sizes_weight(sized, view, mask, from, count),
         _ => masked_runs_weight(field, view, mask, from, count, none),
     }
 }
@@ -286,7 +266,7 @@ fn run_weight(
     none: &PlacedArray,
 ) -> u64
     requires empty { IsNoArray none.now }
-    requires varied { has_one_weight (kind_of field.now.data_type) ≡ false }
+    requires varied { may_vary (kind_of field.now.data_type) ≡ true }
     requires sound { is_kind_sound (kind_of field.now.data_type) (view_array view) ≡ true }
     requires some { 0 < count }
     requires within { from + count ≤ slots_in (view_array view) }
@@ -301,7 +281,7 @@ fn run_weight(
 }
 
 // Slots that are all valid: one each, and what they have below.
-#[tactic(auto, unfolding(columns::specs::Sound::has_sound_children))]
+#[tactic(auto, unfolding(columns::specs::Sound::has_sound_children, crate::specs::inner::Varying::may_vary))]
 #[cycle(weights)]
 fn valid_weight(
     data_type: &DataType,
@@ -311,7 +291,7 @@ fn valid_weight(
     none: &PlacedArray,
 ) -> u64
     requires empty { IsNoArray none.now }
-    requires varied { has_one_weight (kind_of data_type.now) ≡ false }
+    requires varied { may_vary (kind_of data_type.now) ≡ true }
     requires sound { is_kind_sound (kind_of data_type.now) (view_array view) ≡ true }
     requires some { 0 < count }
     requires within { from + count ≤ slots_in (view_array view) }
@@ -440,7 +420,7 @@ pub(crate) fn parts_weight(
 #[cycle(weights)]
 fn place_weight(field: &Field, found: Option<EntryPlace<'_>>, none: &PlacedArray) -> u64
     requires empty { IsNoArray none.now }
-    requires varied { has_one_weight (kind_of field.now.data_type) ≡ false }
+    requires varied { may_vary (kind_of field.now.data_type) ≡ true }
     requires sound { IsSoundPlace (kind_of field.now.data_type) found }
     ensures { let kind = kind_of field.now.data_type in result ≡ capped_weight (kind_weight kind (located_cell kind found.entry)) }
 {
@@ -467,7 +447,7 @@ fn first_weights(
 ) -> [u64; FIRST_ENTRIES]
     requires few { few ≤ FIRST_ENTRIES }
     requires empty { IsNoArray none.now }
-    requires varied { has_one_weight (kind_of field.now.data_type) ≡ false }
+    requires varied { may_vary (kind_of field.now.data_type) ≡ true }
     requires sound { list_all (is_kind_sound (kind_of field.now.data_type)) (array_list (dictionary_in (view_array view))) ≡ true }
     ensures { AreEntryWeights (kind_of field.now.data_type) (dictionary_in (view_array view.entry)) (take few result) }
 {
@@ -490,7 +470,7 @@ fn first_entries_weight(
     none: &PlacedArray,
 ) -> u64
     requires empty { IsNoArray none.now }
-    requires varied { has_one_weight (kind_of field.now.data_type) ≡ false }
+    requires varied { may_vary (kind_of field.now.data_type) ≡ true }
     requires valid { has_short_validity (view_array view) ≡ false }
     requires long { are_few ((index_of spec).bits / 8) (view_array view) (indices_in (view_array view)) ≡ false }
     requires sound { list_all (is_kind_sound (kind_of field.now.data_type)) (array_list (dictionary_in (view_array view))) ≡ true }
@@ -531,7 +511,7 @@ fn entries_weight(
     none: &PlacedArray,
 ) -> u64
     requires empty { IsNoArray none.now }
-    requires varied { has_one_weight (kind_of field.now.data_type) ≡ false }
+    requires varied { may_vary (kind_of field.now.data_type) ≡ true }
     requires valid { has_short_validity (view_array view) ≡ false }
     requires long { are_few ((index_of spec).bits / 8) (view_array view) (indices_in (view_array view)) ≡ false }
     requires sound { list_all (is_kind_sound (kind_of field.now.data_type)) (array_list (dictionary_in (view_array view))) ≡ true }
@@ -640,7 +620,7 @@ fn slots_weight(
     none: &PlacedArray,
 ) -> u64
     requires empty { IsNoArray none.now }
-    requires varied { has_one_weight (kind_of field.now.data_type) ≡ false }
+    requires varied { may_vary (kind_of field.now.data_type) ≡ true }
     requires sound { list_all (is_kind_sound (kind_of field.now.data_type)) (array_list (dictionary_in (view_array slots.view))) ≡ true }
     requires within { from + count ≤ slots_in (view_array slots.view) }
     requires known { AreEntryWeights (kind_of field.now.data_type) (dictionary_in (view_array slots.view)) (weights_in known) }
@@ -675,7 +655,7 @@ fn slot_weight(
     none: &PlacedArray,
 ) -> u64
     requires empty { IsNoArray none.now }
-    requires varied { has_one_weight (kind_of field.now.data_type) ≡ false }
+    requires varied { may_vary (kind_of field.now.data_type) ≡ true }
     requires sound { list_all (is_kind_sound (kind_of field.now.data_type)) (array_list (dictionary_in (view_array slots.view))) ≡ true }
     requires within { i < slots_in (view_array slots.view) }
     requires known { AreEntryWeights (kind_of field.now.data_type) (dictionary_in (view_array slots.view)) (weights_in known) }

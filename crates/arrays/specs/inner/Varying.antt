@@ -19,7 +19,7 @@ unfoldable mutual
   may_vary (fixed_binaries width) = false
   may_vary (lists item) = true
   may_vary (large_lists item) = true
-  may_vary (fixed_lists size item) = true
+  may_vary (fixed_lists size item) = may_vary_in item
   may_vary (structs columns) = any_may_vary columns
 
   pub any_may_vary : Columns → Bool

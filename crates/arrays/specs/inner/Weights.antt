@@ -1,7 +1,7 @@
 -- What spans of slots weigh.
-use Rattle.std.specs.Prelude.{◌≡◌, ◌<◌, get_or, length, ℕ, ◌+◌, Bool, true, false, ◌&&◌, List, map, sum_by, Option, Some, None, IfSome, if◌then◌else◌}
+use Rattle.std.specs.Prelude.{◌≡◌, ◌<◌, get_or, length, ℕ, ◌+◌, ◌&&◌, List, map, sum_by, Option, Some, None, IfSome, if◌then◌else◌}
 use Rattle.std.specs.List.{range_with_len}
-use Rattle.arrow_schema.specs.Column.{PlainSchema, Kind, Column, Columns, nulls, booleans, integers, dates, timestamps, texts, large_texts, binaries, large_binaries, fixed_binaries, lists, large_lists, fixed_lists, structs, no_column, and_column}
+use Rattle.arrow_schema.specs.Column.{PlainSchema, Kind, Column, Columns, texts, large_texts, binaries, large_binaries, lists, large_lists, no_column, and_column}
 use Rattle.cells.specs.Cell.{Cell, null}
 use Rattle.cells.specs.Weight.{capped_weight, weight, kind_weight, table_weight}
 use Rattle.arrow_schema.specs.View.{index_of}
@@ -11,6 +11,7 @@ use Rattle.columns.specs.CellAt.{cell_at, entries_of_kind, indexed_cell, is_vali
 use Rattle.columns.specs.View.{view_array}
 use Rattle.columns.specs.declared.view.ArrayView.{ArrayView}
 use Rattle.arrays.specs.Checks.{are_too_heavy}
+use Rattle.arrays.specs.inner.Varying.{may_vary_in}
 
 -- the sum over n places, from one on
 abbrev pub sum_from : {X : Type 0} → (X → ℕ) → (ℕ → X) → (start n : ℕ) → ℕ
@@ -53,6 +54,17 @@ contents_width binaries = Some 4
 contents_width large_binaries = Some 8
 contents_width _ = None
 
+-- the same of types whose cells weigh one, and then each byte or item between their offsets so much: also of lists of items that weigh alike
+abbrev pub sized_width : Kind → Option ℕ
+sized_width (lists item) = if may_vary_in item then None else Some 4
+sized_width (large_lists item) = if may_vary_in item then None else Some 8
+sized_width k = contents_width k
+
+abbrev pub unit_weight : Kind → ℕ
+unit_weight (lists item) = weight item null
+unit_weight (large_lists item) = weight item null
+unit_weight k = 1
+
 -- what some slots have by their offsets, of those that are valid
 abbrev pub own_sizes : (width : ℕ) → Array → (start n : ℕ) → ℕ
 own_sizes width a start n = sum_from (λ (size : ℕ). size) (λ i. if is_valid a i then span_size width a i else 0) start n
@@ -60,23 +72,6 @@ own_sizes width a start n = sum_from (λ (size : ℕ). size) (λ i. if is_valid 
 -- the same of those that are so in another array too
 abbrev pub masked_sizes : (width : ℕ) → (mask a : Array) → (start n : ℕ) → ℕ
 masked_sizes width mask a start n = sum_from (λ (size : ℕ). size) (λ i. if is_valid mask i && is_valid a i then span_size width a i else 0) start n
-
--- each cell of the type has the same weight
-abbrev pub has_one_weight : Kind → Bool
-has_one_weight nulls = true
-has_one_weight booleans = true
-has_one_weight (integers bits signed) = true
-has_one_weight (dates unit) = true
-has_one_weight (timestamps unit timezone) = true
-has_one_weight texts = false
-has_one_weight large_texts = false
-has_one_weight binaries = false
-has_one_weight large_binaries = false
-has_one_weight (fixed_binaries width) = true
-has_one_weight (lists item) = false
-has_one_weight (large_lists item) = false
-has_one_weight (fixed_lists size item) = false
-has_one_weight (structs columns) = false
 
 -- the weights of the first entries of a dictionary, where what is no entry is a null
 abbrev pub AreEntryWeights : Kind → (dictionary : Arrays) → (weights : List ℕ) → Type 0

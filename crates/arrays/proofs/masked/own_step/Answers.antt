@@ -40,7 +40,7 @@ returns-clause-sizes c =
     let seam = c.run_to-next.ensures in
     let own : (i : ℕ) → is_valid (view_array c.valid-valid.result.view) i ≡ is_valid a i = λ i. ap (λ (v : ArrayView). is_valid (view_array v) i) c.valid-valid.ensures in
     let end : start + (next - start) ≡ next = omega (arith, seam.begins) in
-    let run = own_valid w a start (next - start) c.requires.ordered (omega (arith, seam.ends, end, c.requires.within)) (sym (own start) ∙ sym c.is_valid.ensures ∙ c.if-not-is_valid.false)
+    let run = own_valid w c.requires.ordered.0 a start (next - start) c.requires.ordered.1 (omega (arith, seam.ends, end, c.requires.within)) (sym (own start) ∙ sym c.is_valid.ensures ∙ c.if-not-is_valid.false)
     (λ i from to. sym (own i) ∙ seam.alike i from (omega (arith, end, to)) ∙ own start) in
     let spanned : own_sizes w a start (next - start) ≡ c.spanned.result = run ∙ ap (λ (n : ℕ). number_at w (offsets_in a) n - number_at w (offsets_in a) start) end ∙ sym c.spanned.ensures in
     omega (arith, spanned, c.add_weights.ensures)

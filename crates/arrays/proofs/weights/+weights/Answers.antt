@@ -1,16 +1,16 @@
-use Rattle.std.specs.Prelude.{Option, Some, nat_le, option_map}
+use Rattle.std.specs.Prelude.{IfSome, None, Option, Some, nat_le, option_map}
 use Rattle.std.specs.List.{list_all}
 use Rattle.std.proofs.Common.{◌≡◌, ◌+◌, ◌-◌, ◌*◌, ℕ, ◌<◌, ◌≤◌, List, get_or, inl, inr, length, set, subst, take, true, false, map, drop, refl, sym, ap, arith, rules, ◌∙◌}
-use Rattle.arrow_schema.specs.declared.types.Field.{the_lemmas as field_lemmas}
+use Rattle.arrow_schema.specs.declared.types.Field.{Field, the_lemmas as field_lemmas}
 use Rattle.arrow_schema.specs.Column.{Kind, Column, Columns, columns_of, texts, large_texts, binaries, large_binaries, lists, large_lists, fixed_lists, structs}
 use Rattle.arrow_schema.specs.View.{kind_of, column_of, index_of}
-use Rattle.arrow_schema.specs.Parts.{kind_of_column}
 use Rattle.std.proofs.lemmas.Bool.{and_parts, cases_lt}
 use Rattle.std.proofs.lemmas.List.{get_or-set_other, get_or-set_same, get_or-take, length-set, length-take-le}
 use Rattle.cells.specs.Cell.{Cell, null}
 use Rattle.cells.specs.Weight.{kind_weight, capped_weight}
+use Rattle.cells.specs.laws.Weights.{capped_product}
 use Rattle.columns.specs.Array.{Array, Arrays, array_list, dictionary_in, slots_in, items_in, children_in}
-use Rattle.columns.specs.CellAt.{cell_at, entries_of_kind, is_valid, kind_cell, unless_null, indexed_cell}
+use Rattle.columns.specs.CellAt.{entries_of_kind, is_valid, kind_cell, unless_null, indexed_cell}
 use Rattle.columns.specs.Offsets.{width_of}
 use Rattle.columns.specs.Located.{IsSoundPlace, located_cell}
 use Rattle.columns.specs.Sound.{is_sound, has_sound_children, is_kind_sound}
@@ -23,29 +23,42 @@ use Rattle.columns.specs.laws.Rows.{fewer_sound}
 use Rattle.facts.specs.laws.Lists.{drop-item}
 use Rattle.arrays.specs.inner.Varying.{may_vary}
 use Rattle.arrays.specs.inner.EntryWeights.{content_weights, weights_in}
-use Rattle.arrays.specs.inner.Weights.{AreEntryWeights, contents_width, has_one_weight, masked_parts_weight, masked_weight, plain_weight, sum_from, valid_weight}
+use Rattle.arrays.specs.inner.Weights.{AreEntryWeights, masked_parts_weight, masked_weight, plain_weight, sized_width, sum_from, valid_weight}
+use Rattle.arrays.specs.declared.masked.SizedType.{SizedType}
 use Rattle.arrays.specs.declared.sized_slots.SizedSlots.{SizedSlots}
-use Rattle.arrays.proofs.SpanWeights.{plain_sound, plain_spanned, coded_sound, coded_spanned, known_weight, one_slot, valid_weighs, column_one_weight, valid_run, null_run, run_more, slot_more, next_total, parts_next, parts_end, sound_next}
-use Rattle.arrays.proofs.SameWeights.{alike_masked}
-use Rattle.arrays.proofs.MaskedWeights.{contents_sound, field_null, masked_contents, masked_end, masked_more, masked_next, masked_null_run, masked_valid_run, nulls_more, plain_contents, structs_masked, valid_more}
+use Rattle.arrays.proofs.SpanWeights.{plain_sound, plain_spanned, coded_sound, coded_spanned, known_weight, one_slot, valid_weighs, valid_run, null_run, run_more, slot_more, next_total, parts_next, parts_end, sound_next}
+use Rattle.arrays.proofs.SameWeights.{alike_cells, alike_masked, field_is_alike}
+use Rattle.arrays.proofs.MaskedWeights.{field_null, masked_end, masked_field_sizes, masked_more, masked_next, masked_null_run, masked_valid_run, nulls_more, plain_sizes, sized_sound, structs_masked, valid_more}
 use Rattle.columns.specs.laws.SoundParts.{sound_parts, sound_validity}
 use Rattle.arrays.proofs.KindWeights.{items_total, fixed_total, fields_total, fixed_within}
 use Rattle.arrays.proofs.weights.+weights.Goals as goal
 
-pub span_weight-returns-then-has_one_weight : goal.span_weight-returns-then-has_one_weight
-span_weight-returns-then-has_one_weight t c =
-    let kind : Kind = kind_of c.args.field.now.data_type in
-    let own : kind_of_column (column_of c.args.field.now) ≡ kind = search (rules, field_lemmas) in
-    let one : has_one_weight (kind_of_column (column_of c.args.field.now)) ≡ true = ap has_one_weight own ∙ sym c.if-has_one_weight.ensures in
-    let all = column_one_weight (column_of c.args.field.now) (cell_at (column_of c.args.field.now) (view_array c.args.view)) c.args.from c.args.count one in
-    c.nulls_weight.ensures ∙ sym (ap capped_weight (all ∙ ap (λ (k : Kind). c.args.count * kind_weight k null) own))
+abbrev width_in : SizedType → ℕ
+width_in t = width_of t.width
+
+-- the unit is reported as a weight is
+unit_of_type : (found : Option SizedType) (sized : SizedType) (unit : ℕ) → found ≡ Some sized → IfSome found (λ t. t.unit ≡ unit) → sized.unit ≡ unit
+unit_of_type (Some own) sized unit is h = let same : own ≡ sized = cc in ap (λ (t : SizedType). t.unit) (sym same) ∙ h
+unit_of_type None sized unit is h = absurd cc
+
+reported_unit : (result count sizes unit own whole : ℕ) → result ≡ capped_weight (count + sizes * unit) → unit ≡ capped_weight own → whole ≡ count + sizes * own → result ≡ capped_weight whole
+reported_unit result count sizes unit own whole is unit_is all =
+    let same : capped_weight (sizes * unit) ≡ capped_weight (sizes * own) = ap (λ (n : ℕ). capped_weight (sizes * n)) unit_is ∙ capped_product sizes own in
+    omega (arith, is, all, same)
+
+pub span_weight-returns-then-not-may_vary : goal.span_weight-returns-then-not-may_vary
+span_weight-returns-then-not-may_vary t c =
+    let field : Field = c.args.field.now in
+    let alike = field_is_alike field (sym c.may_vary.ensures ∙ c.if-not-may_vary.true) in
+    c.nulls_weight.ensures
+    ∙ ap capped_weight (ap (λ (n : ℕ). c.args.count * n) (field_null field) ∙ sym (alike_cells (column_of field) (view_array c.args.view) c.args.from c.args.count alike))
 
 pub span_weight-plain_weight-requires : goal.span_weight-plain_weight-requires
 span_weight-plain_weight-requires t c = (
   search (rules, field_lemmas),
   (
     c.requires.empty,
-    (sym c.if-has_one_weight.ensures, (plain_sound c.args.field.now (view_array c.args.view) c.in-None.is c.requires.sound, c.requires.within)),
+    (sym c.may_vary.ensures ∙ c.if-not-may_vary.false, (plain_sound c.args.field.now (view_array c.args.view) c.in-None.is c.requires.sound, c.requires.within)),
   ),
 )
 
@@ -57,20 +70,31 @@ pub span_weight-entries_weight-requires : goal.span_weight-entries_weight-requir
 span_weight-entries_weight-requires t c =
     let parts = coded_sound c.args.field.now c.in-Some.spec (view_array c.args.view) c.in-Some.is c.requires.sound in (
       search (rules, field_lemmas),
-      (c.requires.empty, (sym c.if-has_one_weight.ensures, (parts.0, (parts.1, (parts.2, c.requires.within))))),
+      (c.requires.empty, (sym c.may_vary.ensures ∙ c.if-not-may_vary.false, (parts.0, (parts.1, (parts.2, c.requires.within))))),
     )
 
 pub span_weight-returns-in-Some : goal.span_weight-returns-in-Some
 span_weight-returns-in-Some t c =
     c.entries_weight.ensures ∙ ap capped_weight (coded_spanned c.args.field.now c.in-Some.spec (view_array c.args.view) c.args.from c.args.count c.in-Some.is)
 
+pub plain_weight-masked_sizes_weight-requires-clause-few : goal.plain_weight-masked_sizes_weight-requires-clause-few
+plain_weight-masked_sizes_weight-requires-clause-few t c =
+    let kind : Kind = kind_of c.args.field.now.data_type in
+    (sized_sound kind (width_of c.in-Some.sized.width) (view_array c.args.view) (sym c.sized_type.ensures.width ∙ ap (option_map width_in) c.in-Some.is) c.requires.sound).0
+
+pub plain_weight-masked_sizes_weight-requires-clause-ordered : goal.plain_weight-masked_sizes_weight-requires-clause-ordered
+plain_weight-masked_sizes_weight-requires-clause-ordered t c =
+    let kind : Kind = kind_of c.args.field.now.data_type in
+    (sized_sound kind (width_of c.in-Some.sized.width) (view_array c.args.view) (sym c.sized_type.ensures.width ∙ ap (option_map width_in) c.in-Some.is) c.requires.sound).1
+
 pub plain_weight-returns-in-Some : goal.plain_weight-returns-in-Some
 plain_weight-returns-in-Some t c =
     let kind : Kind = kind_of c.args.field.now.data_type in
     let a : Array = view_array c.args.view in
-    let width : contents_width kind ≡ Some (width_of c.in-Some.width) = sym c.contents_width.ensures ∙ ap (option_map width_of) c.in-Some.is in
-    let tests = contents_sound kind (width_of c.in-Some.width) a width c.requires.sound in
-    c.masked_contents_weight.ensures ∙ ap capped_weight (sym (plain_contents kind (width_of c.in-Some.width) a c.args.from c.args.count width tests.1 c.requires.within))
+    let w : ℕ = width_of c.in-Some.sized.width in
+    let width : sized_width kind ≡ Some w = sym c.sized_type.ensures.width ∙ ap (option_map width_in) c.in-Some.is in
+    let all = plain_sizes kind w a c.args.from c.args.count width c.requires.sound c.requires.within in
+    reported_unit _ _ _ _ _ _ c.masked_sizes_weight.ensures (unit_of_type _ _ _ c.in-Some.is c.sized_type.ensures.unit) all
 
 pub runs_weight-loop-start-preserved-then-is_valid : goal.runs_weight-loop-start-preserved-then-is_valid
 runs_weight-loop-start-preserved-then-is_valid t c =
@@ -153,32 +177,31 @@ masked_weight-returns-then-not-may_vary t c =
     c.nulls_weight.ensures
     ∙ ap capped_weight (ap (λ (n : ℕ). c.args.count * n) (field_null c.args.field.now) ∙ sym (alike_masked c.args.field.now (view_array c.args.mask) (view_array c.args.view) c.args.from c.args.count same))
 
-pub masked_weight-masked_contents_weight-requires-clause-short : goal.masked_weight-masked_contents_weight-requires-clause-short
-masked_weight-masked_contents_weight-requires-clause-short t c =
+pub masked_weight-masked_sizes_weight-requires-clause-short : goal.masked_weight-masked_sizes_weight-requires-clause-short
+masked_weight-masked_sizes_weight-requires-clause-short t c =
     sound_validity (kind_of c.args.field.now.data_type) (view_array c.args.view) (plain_sound c.args.field.now (view_array c.args.view) c.in-None-Some.is-0 c.requires.sound)
 
-pub masked_weight-masked_contents_weight-requires-clause-few : goal.masked_weight-masked_contents_weight-requires-clause-few
-masked_weight-masked_contents_weight-requires-clause-few t c =
+pub masked_weight-masked_sizes_weight-requires-clause-few : goal.masked_weight-masked_sizes_weight-requires-clause-few
+masked_weight-masked_sizes_weight-requires-clause-few t c =
     let kind : Kind = kind_of c.args.field.now.data_type in
     let a : Array = view_array c.args.view in
-    let width : contents_width kind ≡ Some (width_of c.in-None-Some.width) = sym c.contents_width.ensures ∙ ap (option_map width_of) c.in-None-Some.is-1 in
-    (contents_sound kind (width_of c.in-None-Some.width) a width (plain_sound c.args.field.now a c.in-None-Some.is-0 c.requires.sound)).0
+    (sized_sound kind (width_of c.in-None-Some.sized.width) a (sym c.sized_type.ensures.width ∙ ap (option_map width_in) c.in-None-Some.is-1) (plain_sound c.args.field.now a c.in-None-Some.is-0 c.requires.sound)).0
 
-pub masked_weight-masked_contents_weight-requires-clause-ordered : goal.masked_weight-masked_contents_weight-requires-clause-ordered
-masked_weight-masked_contents_weight-requires-clause-ordered t c =
+pub masked_weight-masked_sizes_weight-requires-clause-ordered : goal.masked_weight-masked_sizes_weight-requires-clause-ordered
+masked_weight-masked_sizes_weight-requires-clause-ordered t c =
     let kind : Kind = kind_of c.args.field.now.data_type in
     let a : Array = view_array c.args.view in
-    let width : contents_width kind ≡ Some (width_of c.in-None-Some.width) = sym c.contents_width.ensures ∙ ap (option_map width_of) c.in-None-Some.is-1 in
-    (contents_sound kind (width_of c.in-None-Some.width) a width (plain_sound c.args.field.now a c.in-None-Some.is-0 c.requires.sound)).1
+    (sized_sound kind (width_of c.in-None-Some.sized.width) a (sym c.sized_type.ensures.width ∙ ap (option_map width_in) c.in-None-Some.is-1) (plain_sound c.args.field.now a c.in-None-Some.is-0 c.requires.sound)).1
 
 pub masked_weight-returns-in-None-Some : goal.masked_weight-returns-in-None-Some
 masked_weight-returns-in-None-Some t c =
-    let kind : Kind = kind_of c.args.field.now.data_type in
+    let field : Field = c.args.field.now in
+    let kind : Kind = kind_of field.data_type in
     let a : Array = view_array c.args.view in
-    let width : contents_width kind ≡ Some (width_of c.in-None-Some.width) = sym c.contents_width.ensures ∙ ap (option_map width_of) c.in-None-Some.is-1 in
-    let tests = contents_sound kind (width_of c.in-None-Some.width) a width (plain_sound c.args.field.now a c.in-None-Some.is-0 c.requires.sound) in
-    c.masked_contents_weight.ensures
-    ∙ ap capped_weight (sym (masked_contents c.args.field.now (width_of c.in-None-Some.width) (view_array c.args.mask) a c.args.from c.args.count c.in-None-Some.is-0 width tests.1 c.requires.within))
+    let w : ℕ = width_of c.in-None-Some.sized.width in
+    let width : sized_width kind ≡ Some w = sym c.sized_type.ensures.width ∙ ap (option_map width_in) c.in-None-Some.is-1 in
+    let all = masked_field_sizes field w (view_array c.args.mask) a c.args.from c.args.count c.in-None-Some.is-0 width (plain_sound field a c.in-None-Some.is-0 c.requires.sound) c.requires.within in
+    reported_unit _ _ _ _ _ _ c.masked_sizes_weight.ensures (unit_of_type _ _ _ c.in-None-Some.is-1 c.sized_type.ensures.unit) all
 
 pub masked_runs_weight-loop-start-preserved-then-is_valid : goal.masked_runs_weight-loop-start-preserved-then-is_valid
 masked_runs_weight-loop-start-preserved-then-is_valid t c =
