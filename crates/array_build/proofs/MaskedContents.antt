@@ -5,6 +5,7 @@ use Rattle.std.proofs.Common.{◌≡◌, ℕ, zero, suc, ◌+◌, ◌-◌, ◌�
 use Rattle.std.proofs.lemmas.Bool.{and_parts, leb-true}
 use Rattle.std.proofs.lemmas.List.{length-replicate}
 use Rattle.std.proofs.lemmas.List.Concat.{flat_map-append}
+use Rattle.std.proofs.lemmas.List.Sums.{sum_by-cons}
 use Rattle.std.proofs.lemmas.List.Folds.{list_all-append, list_all-map}
 use Rattle.byteorder.specs.Endian.{little_bytes}
 use Rattle.arrow_schema.specs.Column.{Kind}
@@ -18,7 +19,7 @@ use Rattle.array_build.proofs.RunSlots.{slots_counted}
 use Rattle.array_build.proofs.RunValues.{plain_cell}
 use Rattle.array_build.specs.Batch.{plain_column}
 use Rattle.array_build.specs.inner.Masked.{IsMask, are_below, bitmap_bits, mask_bits, masked, masked_cells, masked_slots, slots_mask}
-use Rattle.array_build.specs.inner.MaskedContents.{AreUnder, masked_sizes, masked_spans, run_under, runs_under}
+use Rattle.array_build.specs.inner.MaskedContents.{AreUnder, masked_sizes, masked_spans, run_under, runs_under, total}
 use Rattle.array_build.specs.inner.Runs.{AreAsWritten, cell_sizes, contents_width, kind_cells, run_bits, runs_bits, span_contents}
 use Rattle.bitmap.specs.Bits.{bit}
 use Rattle.cells.specs.Cell.{Cell, null}
@@ -82,26 +83,32 @@ module _ (width : ℕ) (a : Array) (up : are_unordered width (length (contents_i
       ∙ alike_spans (bit mask i) (bit mask) (from + (i - at)) i (stop - i) (to - stop) (omega arith) (λ j begins ends. alike j begins (omega (arith, ends, end)))
       ∙ ap₂ (λ (p j : ℕ). (if bit mask i then span_contents width a (from + (i - at)) (stop - i) else []) ++ masked_spans width a p (mask_bits mask j (to - stop))) place end
 
-  -- one slot more
-  next_length : (b : Bool) (i : ℕ) → i < slots_in a → length (if b then contents_at width a i else []) ≡ (if b then span_size width a i else 0)
-  next_length true i lt = slot_size width a up i lt
-  next_length false i lt = refl
+-- ---- sizes
 
-  pub next_end : (mask : List ℕ) (from at i to next total : ℕ) → at ≤ i → i < to → from + (to - at) ≤ slots_in a
-      → next + length (masked_spans width a (from + (i - at)) (mask_bits mask i (to - i))) ≡ total
-      → next + (if bit mask i then span_size width a (from + (i - at)) else 0) + length (masked_spans width a (from + (i + 1 - at)) (mask_bits mask (i + 1) (to - (i + 1)))) ≡ total
-  next_end mask from at i to next total low lt within h =
-      let p : ℕ = from + (i - at) in
-      let left : to - i ≡ suc (to - (i + 1)) = omega arith in
-      let place : from + (i + 1 - at) ≡ from + (i - at) + 1 = omega arith in
-      let rest : List ℕ = masked_spans width a (p + 1) (mask_bits mask (i + 1) (to - (i + 1))) in
-      let own : List ℕ = if bit mask i then contents_at width a p else [] in
-      let whole : length (masked_spans width a p (mask_bits mask i (to - i))) ≡ length own + length rest
-      = ap (λ (n : ℕ). length (masked_spans width a p (mask_bits mask i n))) left ∙ length-append own rest in
-      let size : length own ≡ (if bit mask i then span_size width a p else 0) = next_length (bit mask i) p (omega arith) in
-      let others : length (masked_spans width a (from + (i + 1 - at)) (mask_bits mask (i + 1) (to - (i + 1)))) ≡ length rest
-      = ap (λ (k : ℕ). length (masked_spans width a k (mask_bits mask (i + 1) (to - (i + 1))))) place in
-      omega (arith, whole, size, others, h)
+-- so many bytes or items there are
+pub total_length : {X : Type 0} (f : Cell → List X) (cells : List Cell) → total (map (λ c. length (f c)) cells) ≡ length (flat_map f cells)
+total_length f [] = refl
+total_length f (c ∷ cells) =
+    let rest = total_length f cells in
+    let one = sum_by-cons (λ (n : ℕ). n) (length (f c)) (map (λ d. length (f d)) cells) in
+    let both = length-append (f c) (flat_map f cells) in
+    omega (arith, rest, one, both)
+
+-- one slot more
+pub next_total : (width : ℕ) (a : Array) (mask : List ℕ) (from at i to next whole : ℕ) → at ≤ i → i < to
+    → next + total (masked_sizes width a (from + (i - at)) (mask_bits mask i (to - i))) ≡ whole
+    → next + (if bit mask i then span_size width a (from + (i - at)) else 0) + total (masked_sizes width a (from + (i + 1 - at)) (mask_bits mask (i + 1) (to - (i + 1)))) ≡ whole
+next_total width a mask from at i to next whole low lt h =
+    let p : ℕ = from + (i - at) in
+    let left : to - i ≡ suc (to - (i + 1)) = omega arith in
+    let place : from + (i + 1 - at) ≡ from + (i - at) + 1 = omega arith in
+    let rest : List ℕ = masked_sizes width a (p + 1) (mask_bits mask (i + 1) (to - (i + 1))) in
+    let own : ℕ = if bit mask i then span_size width a p else 0 in
+    let first : total (masked_sizes width a p (mask_bits mask i (to - i))) ≡ own + total rest
+    = ap (λ (n : ℕ). total (masked_sizes width a p (mask_bits mask i n))) left ∙ sum_by-cons (λ (n : ℕ). n) own rest in
+    let others : total (masked_sizes width a (from + (i + 1 - at)) (mask_bits mask (i + 1) (to - (i + 1)))) ≡ total rest
+    = ap (λ (k : ℕ). total (masked_sizes width a k (mask_bits mask (i + 1) (to - (i + 1))))) place in
+    omega (arith, first, others, h)
 
 pub next_offset : (width : ℕ) (a : Array) (mask written : List ℕ) (from at i to next : ℕ) (rest : List ℕ) → at ≤ i → i < to
     → offsets_with width (written ++ little_bytes width next) (next + (if bit mask i then span_size width a (from + (i - at)) else 0))

@@ -1,26 +1,23 @@
 -- Lists under a mask, slot by slot and run by run.
-use Rattle.std.specs.Prelude.{nat_le, replicate, if◌then◌else◌}
+use Rattle.std.specs.Prelude.{nat_le, if◌then◌else◌}
 use Rattle.std.specs.List.{flat_map, list_all, range_with_len}
-use Rattle.std.proofs.Common.{◌≡◌, ℕ, zero, suc, ◌+◌, ◌-◌, ◌≤◌, ◌<◌, ◌++◌, Bool, true, false, List, [], ◌∷◌, map, length, get_or, drop, refl, ap, ap₂, sym, ◌∙◌, arith, append_assoc, append-nil, length-append}
+use Rattle.std.proofs.Common.{◌≡◌, ℕ, zero, suc, ◌+◌, ◌-◌, ◌≤◌, ◌<◌, ◌++◌, Bool, true, false, List, [], ◌∷◌, map, length, refl, ap, ap₂, sym, ◌∙◌, arith, append_assoc, append-nil, length-append}
 use Rattle.std.proofs.lemmas.Bool.{and_parts, and_from, leb-true}
-use Rattle.std.proofs.lemmas.List.{drop_more}
 use Rattle.std.proofs.lemmas.List.Concat.{flat_map-append}
 use Rattle.std.proofs.lemmas.List.FromFn.{length-map-range_with_len}
-use Rattle.byteorder.specs.Endian.{little_bytes}
 use Rattle.arrow_schema.specs.Column.{Column}
 use Rattle.array_build.proofs.Arrays.{lists_are}
 use Rattle.array_build.proofs.AsWritten.{valid_runs_written}
 use Rattle.array_build.proofs.MaskedContents.{IsNext, run_of_nulls_under}
-use Rattle.array_build.proofs.MaskedItems.{masked_length}
+use Rattle.array_build.proofs.MaskedParts.{bits_length}
 use Rattle.array_build.proofs.Premises.{lists_fit}
 use Rattle.array_build.proofs.Repeated.{none_each}
-use Rattle.array_build.proofs.RunArrays.{count_run, has_values, masked_kind_slots}
-use Rattle.array_build.proofs.RunContents.{offsets_with, one_offset}
+use Rattle.array_build.proofs.RunArrays.{has_values, masked_kind_slots}
 use Rattle.array_build.proofs.RunItems.{AreLists, list_tests, slots_items, valid_items}
 use Rattle.array_build.proofs.RunSlots.{slots_counted}
 use Rattle.array_build.specs.Batch.{PlainBatch, built_at, with_arrays}
 use Rattle.array_build.specs.inner.Masked.{are_below, mask_bits, masked, masked_kind, masked_slots}
-use Rattle.array_build.specs.inner.MaskedContents.{run_under, runs_under}
+use Rattle.array_build.specs.inner.MaskedContents.{masked_sizes, run_under, runs_under}
 use Rattle.array_build.specs.inner.MaskedLists.{AreValidUnder, lists_under}
 use Rattle.array_build.specs.inner.Nodes.{list_kind, with_buffer, with_slots}
 use Rattle.array_build.specs.inner.RunItems.{HasSlots, list_column, list_sizes, run_lists}
@@ -178,11 +175,18 @@ joined_items h start len from count old next =
     ap (λ (cells : List Cell). old ++ cells) (cells_from-append h start len count ∙ ap (λ (s : ℕ). cells_from h start len ++ cells_from h s count) (sym next))
     ∙ sym (append_assoc old (cells_from h start len) (cells_from h from count))
 
--- a slot by its bit
-pub valid_under : (a : Array) (mask : List ℕ) (from at n i : ℕ) → AreValidUnder a mask from at (at + n) → i < n → bit mask (at + i) ≡ true → is_valid a (from + i) ≡ true
-valid_under a mask from at n i under lt set =
-    let here : from + i ≡ from + (at + i - at) = omega arith in
-    ap (is_valid a) here ∙ under (at + i) (omega arith) (omega (arith, lt)) set
+-- how many items each list has by its bit
+lists_sizes : (width : OffsetWidth) (item : Column) (a : Array) (bits : List Bool) (from n : ℕ) → length bits ≡ n → are_below bits (map (is_valid a) (range_with_len from n)) ≡ true
+    → list_sizes (masked bits (cells_from (cell_at (list_column width item) a) from n)) ≡ masked_sizes (width_of width) a from bits
+lists_sizes width item a [] from zero len h = refl
+lists_sizes width item a [] from (suc n) len h = absurd (omega (arith, len))
+lists_sizes width item a (b ∷ bits) from zero len h = absurd (omega (arith, len))
+lists_sizes width item a (true ∷ bits) from (suc n) len h =
+    let both = and_parts (is_valid a from) (are_below bits (map (is_valid a) (range_with_len (from + 1) n))) h in
+    ap₂ (λ (k : ℕ) (ks : List ℕ). k ∷ ks)
+    (ap length (valid_items width item a from both.0) ∙ length-map-range_with_len (cell_at item (items_in a)) (span_start (width_of width) a from) (span_size (width_of width) a from))
+    (lists_sizes width item a bits (from + 1) n (omega (arith, len)) both.1)
+lists_sizes width item a (false ∷ bits) from (suc n) len h = ap (λ (ks : List ℕ). 0 ∷ ks) (lists_sizes width item a bits (from + 1) n (omega (arith, len)) h)
 
 -- ---- runs
 
@@ -193,6 +197,7 @@ pub record AreListsUnder (width : OffsetWidth) (item : Column) (mask : List ℕ)
   pub slots : from + n ≤ slots_in (view_array v)
   pub count : length (run_bits run) ≡ n
   pub valid : AreValidUnder (view_array v) mask from at (at + n)
+  pub sizes : list_sizes (run_under (list_kind width item) mask at run) ≡ masked_sizes (width_of width) (view_array v) from (mask_bits mask at (at + n - at))
   pub items : flat_map item_list (run_under (list_kind width item) mask at run) ≡ lists_under (cell_at (list_column width item) (view_array v)) mask from at (at + n - at)
 
 pub run_lists_under : (width : OffsetWidth) (item : Column) (mask : List ℕ) (at : ℕ) (v : ArrayView) (from n : ℕ) (run : SlotRun) → run ≡ Slots v from n
@@ -214,6 +219,10 @@ run_lists_under width item mask at v from n run is sound below =
       valid = λ j low high set.
           (let here : at + (j - at) ≡ j = omega (arith, low) in
           below_each (bit mask) (is_valid a) at from n own (j - at) (omega (arith, low, high)) (ap (bit mask) here ∙ set));
+      sizes =
+          ap₂ (λ (k : ℕ) (r : SlotRun). list_sizes (masked (mask_bits mask at k) (run_lists width item r))) many is
+          ∙ lists_sizes width item a (mask_bits mask at n) from n (bits_length mask at n) own
+          ∙ ap (λ (k : ℕ). masked_sizes (width_of width) a from (mask_bits mask at k)) (sym same);
       items =
           ap₂ (λ (k : ℕ) (r : SlotRun). flat_map item_list (masked (mask_bits mask at k) (run_lists width item r))) many is
           ∙ ap (λ (k : ℕ). flat_map item_list (masked (mask_bits mask at k) (cells_from (cell_at (list_column width item) a) from n))) (sym same)
@@ -224,75 +233,6 @@ pub nulls_have_none : (width : OffsetWidth) (item : Column) (mask : List ℕ) (a
 nulls_have_none width item mask at n run is =
     ap (flat_map item_list) (run_of_nulls_under (list_kind width item) mask at n run is)
     ∙ ap (λ (r : SlotRun). flat_map item_list (run_lists width item r)) is ∙ none_each item_list null n refl
-
--- ---- how many items a list has
-
-masked_at : (p : ℕ → Bool) (h : ℕ → Cell) (at from n i : ℕ) → i < n → get_or (masked (map p (range_with_len at n)) (cells_from h from n)) i null ≡ (if p (at + i) then h (from + i) else null)
-masked_at p h at from zero i lt = absurd (omega (arith, lt))
-masked_at p h at from (suc n) zero lt =
-    let place : at ≡ at + 0 = omega arith in
-    let slot : from ≡ from + 0 = omega arith in
-    ap₂ (λ (j k : ℕ). if p j then h k else null) place slot
-masked_at p h at from (suc n) (suc i) lt =
-    let place : at + 1 + i ≡ at + suc i = omega arith in
-    let slot : from + 1 + i ≡ from + suc i = omega arith in
-    masked_at p h (at + 1) (from + 1) n i (omega (arith, lt)) ∙ ap₂ (λ (j k : ℕ). if p j then h k else null) place slot
-
-slot_under : (width : OffsetWidth) (item : Column) (mask : List ℕ) (at : ℕ) (v : ArrayView) (from n i : ℕ) (run : SlotRun) → run ≡ Slots v from n → i < length (run_bits run)
-    → get_or (run_under (list_kind width item) mask at run) i null ≡ (if bit mask (at + i) then cell_at (list_column width item) (view_array v) (from + i) else null)
-slot_under width item mask at v from n i run is lt =
-    let many : length (run_bits run) ≡ n = slots_counted v from n run is in
-    ap₂ (λ (k : ℕ) (r : SlotRun). get_or (masked (mask_bits mask at k) (run_lists width item r)) i null) many is
-    ∙ masked_at (bit mask) (cell_at (list_column width item) (view_array v)) at from n i (omega (arith, many, lt))
-
-pub hidden_size : (width : OffsetWidth) (item : Column) (mask : List ℕ) (at : ℕ) (v : ArrayView) (from n i : ℕ) (run : SlotRun) → run ≡ Slots v from n → i < length (run_bits run)
-    → bit mask (at + i) ≡ false → 0 ≡ length (item_list (get_or (run_under (list_kind width item) mask at run) i null))
-hidden_size width item mask at v from n i run is lt unset =
-    sym (ap (λ (c : Cell). length (item_list c))
-    (slot_under width item mask at v from n i run is lt ∙ ap (λ (b : Bool). if b then cell_at (list_column width item) (view_array v) (from + i) else null) unset))
-
-pub shown_size : (width : OffsetWidth) (item : Column) (mask : List ℕ) (at : ℕ) (v : ArrayView) (from n i : ℕ) (run : SlotRun) → run ≡ Slots v from n → i < length (run_bits run)
-    → bit mask (at + i) ≡ true → is_valid (view_array v) (from + i) ≡ true
-    → length (item_list (get_or (run_under (list_kind width item) mask at run) i null)) ≡ span_size (width_of width) (view_array v) (from + i)
-shown_size width item mask at v from n i run is lt set valid =
-    let a : Array = view_array v in
-    ap (λ (c : Cell). length (item_list c))
-    (slot_under width item mask at v from n i run is lt ∙ ap (λ (b : Bool). if b then cell_at (list_column width item) a (from + i) else null) set)
-    ∙ ap length (valid_items width item a (from + i) valid)
-    ∙ length-map-range_with_len (cell_at item (items_in a)) (span_start (width_of width) a (from + i)) (span_size (width_of width) a (from + i))
-
-null_get : (n i : ℕ) → get_or (replicate n null) i null ≡ null
-null_get zero zero = refl
-null_get zero (suc i) = refl
-null_get (suc n) zero = refl
-null_get (suc n) (suc i) = null_get n i
-
-pub null_size : (width : OffsetWidth) (item : Column) (mask : List ℕ) (at n i : ℕ) (run : SlotRun) → run ≡ Nulls n → 0 ≡ length (item_list (get_or (run_under (list_kind width item) mask at run) i null))
-null_size width item mask at n i run is =
-    sym (ap (λ (cells : List Cell). length (item_list (get_or cells i null))) (run_of_nulls_under (list_kind width item) mask at n run is)
-    ∙ ap (λ (r : SlotRun). length (item_list (get_or (run_lists width item r) i null))) is ∙ ap (λ (c : Cell). length (item_list c)) (null_get n i))
-
-pub under_counted : (width : OffsetWidth) (item : Column) (mask : List ℕ) (at : ℕ) (run : SlotRun) (count : ℕ) → count ≡ length (run_bits run) → count ≡ length (run_under (list_kind width item) mask at run)
-under_counted width item mask at run count is =
-    is ∙ count_run (list_kind width item) run ∙ sym (masked_length null (mask_bits mask at (length (run_bits run))) (run_lists width item run))
-
--- ---- offsets, one by one
-
-sizes_more : (cells : List Cell) (i size : ℕ) → i < length cells → size ≡ length (item_list (get_or cells i null)) → list_sizes (drop i cells) ≡ size ∷ list_sizes (drop (i + 1) cells)
-sizes_more cells i size lt is = ap list_sizes (drop_more cells i null lt) ∙ ap (λ (k : ℕ). k ∷ list_sizes (drop (i + 1) cells)) (sym is)
-
-pub list_offset : (width : ℕ) (written : List ℕ) (next : ℕ) (cells : List Cell) (i size : ℕ) (rest : List ℕ) → i < length cells → size ≡ length (item_list (get_or cells i null))
-    → offsets_with width (written ++ little_bytes width next) (next + size) (list_sizes (drop (i + 1) cells)) rest ≡ offsets_with width written next (list_sizes (drop i cells)) rest
-list_offset width written next cells i size rest lt is =
-    one_offset width written next size (list_sizes (drop (i + 1) cells)) rest
-    ∙ ap (λ (ns : List ℕ). offsets_with width written next ns rest) (sym (sizes_more cells i size lt is))
-
-pub list_end : (cells : List Cell) (i size : ℕ) → i < length cells → size ≡ length (item_list (get_or cells i null))
-    → length (flat_map item_list (drop i cells)) ≡ size + length (flat_map item_list (drop (i + 1) cells))
-list_end cells i size lt is =
-    ap (λ (cs : List Cell). length (flat_map item_list cs)) (drop_more cells i null lt)
-    ∙ length-append (item_list (get_or cells i null)) (flat_map item_list (drop (i + 1) cells))
-    ∙ ap (λ (k : ℕ). k + length (flat_map item_list (drop (i + 1) cells))) (sym is)
 
 -- ---- runs one after another
 

@@ -17,108 +17,16 @@ ghost use Rattle.columns.specs.Tests.{are_few_offsets, are_unordered};
 ghost use Rattle.columns.specs.View.{view_array};
 
 use crate::batch::{BuiltBatch, push_buffer};
-use crate::number_bytes::{last_offset, offset_at, put_offset};
+use crate::number_bytes::last_offset;
 use crate::run_contents::{push_null_offsets, push_written_contents, slot_contents};
 use crate::run_slots::{count_slots, run_len};
 use crate::slot_masks::push_masked_slots;
+use crate::slot_offsets::push_masked_slot_offsets;
 use crate::widths::offset_size;
 use arrow_schema::DataType;
 use bitmap::{get, run_end};
 use columns::{ArrayView, OffsetWidth, SlotRun, push_offset};
 use std::alloc::{AllocError, Global};
-
-// How many bytes stand between an offset and the next, if a bit is set.
-fn masked_size(offsets: &[u8], width: OffsetWidth, i: usize, mask: &[u8], at: usize) -> u64
-    requires within { (i + 1 + 1) * width_of width ≤ length offsets.now }
-    requires counted { i + 1 < 2 ^ 64 }
-    requires ordered { number_at (width_of width) offsets.now i ≤ number_at (width_of width) offsets.now (i + 1) }
-    requires bit { at < 8 * length mask.now }
-    ensures { result ≡ (if bit mask.now at then number_at (width_of width) offsets.now (i + 1) - number_at (width_of width) offsets.now i else 0) }
-{
-    if get(mask, at) {
-        offset_at(offsets, width, i + 1) - offset_at(offsets, width, i)
-    } else {
-        0
-    }
-}
-
-// Writes the offsets at which the bytes of slots begin, by the bits of a mask from one on up to another, over as many; and answers where the last end.
-fn put_slot_offsets(
-    room: &mut [u8],
-    width: OffsetWidth,
-    array: ArrayView<'_>,
-    from: usize,
-    mask: &[u8],
-    at: usize,
-    to: usize,
-    start: u64,
-) -> u64
-    requires long { are_few_offsets (width_of width) (view_array array) ≡ false }
-    requires ordered { are_unordered (width_of width) (length (contents_in (view_array array))) (view_array array) ≡ false }
-    requires order { at ≤ to }
-    requires bits { to ≤ 8 * length mask.now }
-    requires within { from + (to - at) ≤ slots_in (view_array array) }
-    requires fits { start + length (masked_spans (width_of width) (view_array array) from (mask_bits mask.now at (to - at))) ≤ large_offset }
-    requires room { length room.old ≡ width_of width * (to - at) }
-    ensures offsets { (front : List ℕ) → AreOffsetsAdded (width_of width) front (front ++ room.new) start result
-        (masked_sizes (width_of width) (view_array array.entry) from (mask_bits mask.now at (to - at))) }
-    ensures next { result ≡ start + length (masked_spans (width_of width) (view_array array.entry) from (mask_bits mask.now at (to - at))) }
-{
-    // a number of the code is below 2^64, so that each place is too
-    let _slots = array.slots();
-    let source = array.offsets();
-    let mut next = start;
-    for i in at..to {
-        put_offset(room, width, i - at, next);
-        next += masked_size(source, width, from + (i - at), mask, i);
-    }
-    next
-}
-
-// The same after other offsets.
-fn push_slot_offsets(
-    offsets: &mut Vec<u8>,
-    width: OffsetWidth,
-    array: ArrayView<'_>,
-    from: usize,
-    mask: &[u8],
-    at: usize,
-    to: usize,
-    start: u64,
-) -> Result<u64, AllocError>
-    requires long { are_few_offsets (width_of width) (view_array array) ≡ false }
-    requires ordered { are_unordered (width_of width) (length (contents_in (view_array array))) (view_array array) ≡ false }
-    requires order { at ≤ to }
-    requires bits { to ≤ 8 * length mask.now }
-    requires within { from + (to - at) ≤ slots_in (view_array array) }
-    requires fits { start + length (masked_spans (width_of width) (view_array array) from (mask_bits mask.now at (to - at))) ≤ large_offset }
-    ensures offsets { IfOk result (λ next. AreOffsetsAdded (width_of width) offsets.old.items offsets.new.items start next
-        (masked_sizes (width_of width) (view_array array.entry) from (mask_bits mask.now at (to - at)))) }
-    ensures next { IfOk result (λ next. next
-        ≡ start + length (masked_spans (width_of width) (view_array array.entry) from (mask_bits mask.now at (to - at)))) }
-{
-    if at == to {
-        return Ok(start);
-    }
-    // a number of the code is below 2^64, so that the sum is too
-    let _slots = array.slots();
-    let source = array.offsets();
-    let size = offset_size(width);
-    let begin = offsets.len();
-    // room for as many, in which each is then written anew
-    offsets.extend_from_slice(&source[size * from..size * (from + (to - at))])?;
-    let next = put_slot_offsets(
-        &mut offsets[begin..],
-        width,
-        array,
-        from,
-        mask,
-        at,
-        to,
-        start,
-    );
-    Ok(next)
-}
 
 // The offsets at which the bytes of a run begin, by the bits of a mask from one on; and where its last end.
 fn push_run_offsets(
@@ -142,7 +50,7 @@ fn push_run_offsets(
 {
     match run {
         SlotRun::Slots { array, from, len } => {
-            push_slot_offsets(offsets, width, *array, *from, mask, at, at + *len, start)
+            push_masked_slot_offsets(offsets, width, *array, *from, mask, at, at + *len, start)
         }
         SlotRun::Nulls(count) => {
             push_null_offsets(offsets, width, *count, start)?;

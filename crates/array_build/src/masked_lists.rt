@@ -22,45 +22,16 @@ ghost use Rattle.columns.specs.View.{view_array};
 
 use crate::batch::{BuiltBatch, push_buffer};
 use crate::item_slots::item_slots;
+use crate::run_contents::push_null_offsets;
 use crate::run_items::{item_runs, run_list_offsets};
 use crate::run_slots::{count_slots, run_len};
 use crate::slot_masks::push_masked_slots;
+use crate::slot_offsets::push_masked_slot_offsets;
 use crate::widths::offset_size;
 use arrow_schema::Field;
 use bitmap::{get, run_end};
 use columns::{ArrayView, OffsetWidth, SlotRun, Span, push_offset};
 use std::alloc::{AllocError, Global};
-
-// How many items the list at a place of a run has, by the bits of a mask from one on.
-fn masked_list_size(
-    item: &Field,
-    width: OffsetWidth,
-    run: &SlotRun<'_>,
-    i: usize,
-    mask: &[u8],
-    at: usize,
-) -> usize
-    requires sound { is_run_sound (list_column width (column_of item.now)) run.now ≡ true }
-    requires within { i < length (run_bits run.now) }
-    requires counted { at + length (run_bits run.now) < 2 ^ 64 }
-    requires long { at + length (run_bits run.now) ≤ 8 * length mask.now }
-    requires below { are_below (mask_bits mask.now at (length (run_bits run.now))) (run_bits run.now) ≡ true }
-    ensures { result ≡ length (item_list (get_or (run_under (list_kind width (column_of item.now)) mask.now at run.now) i null)) }
-{
-    match run {
-        SlotRun::Slots { array, from, .. } => {
-            let place = at + i;
-            if !get(mask, place) {
-                return 0;
-            }
-            // a number of the code is below 2^64, so that the sum is too
-            let _slots = array.slots();
-            let slot = *from + i;
-            array.spanned(width, slot, 1).len
-        }
-        SlotRun::Nulls(_) => 0,
-    }
-}
 
 // The offsets at which the items of a run begin, by the bits of a mask from one on; and where the last end.
 fn push_masked_offsets(
@@ -82,13 +53,15 @@ fn push_masked_offsets(
     ensures next { IfOk result (λ next. next
         ≡ start + length (flat_map item_list (run_under (list_kind width (column_of item.now)) mask.now at run.now))) }
 {
-    let count = run_len(run);
-    let mut next = start;
-    for i in 0..count {
-        push_offset(offsets, width, next)?;
-        next += masked_list_size(item, width, run, i, mask, at) as u64;
+    match run {
+        SlotRun::Slots { array, from, len } => {
+            push_masked_slot_offsets(offsets, width, *array, *from, mask, at, at + *len, start)
+        }
+        SlotRun::Nulls(count) => {
+            push_null_offsets(offsets, width, *count, start)?;
+            Ok(start)
+        }
     }
-    Ok(next)
 }
 
 // The offsets of lists under a mask: 0, and then where the items of each end.

@@ -1,5 +1,5 @@
 -- Texts and binaries under a mask: a slot whose bit is not set has no bytes, whatever stands there.
-use Rattle.std.specs.Prelude.{◌≡◌, ◌≤◌, ℕ, ◌+◌, ◌*◌, Bool, true, List, [], ◌∷◌, ◌++◌, length, None, if◌then◌else◌}
+use Rattle.std.specs.Prelude.{◌≡◌, ◌≤◌, ℕ, ◌+◌, ◌*◌, Bool, true, List, [], ◌∷◌, ◌++◌, length, sum_by, None, if◌then◌else◌}
 use Rattle.std.specs.List.{flat_map}
 use Rattle.arrow_schema.specs.Column.{Kind}
 use Rattle.array_build.specs.Batch.{PlainBatch, plain_column}
@@ -23,6 +23,10 @@ masked_spans width a from (b ∷ bits) = (if b then contents_at width a from els
 abbrev pub masked_sizes : (width : ℕ) → Array → (from : ℕ) → List Bool → List ℕ
 masked_sizes width a from [] = []
 masked_sizes width a from (b ∷ bits) = (if b then span_size width a from else 0) ∷ masked_sizes width a (from + 1) bits
+
+-- how much some sizes are together
+abbrev pub total : List ℕ → ℕ
+total sizes = sum_by (λ (n : ℕ). n) sizes
 
 -- the cells of a run under the bits of a mask from a place on, and those of runs
 abbrev pub run_under : Kind → (mask : List ℕ) → (at : ℕ) → SlotRun → List Cell

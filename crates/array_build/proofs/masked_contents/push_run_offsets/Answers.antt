@@ -1,14 +1,14 @@
 use Rattle.std.specs.Prelude.{IfOk}
 use Rattle.std.specs.List.{flat_map}
-use Rattle.std.proofs.Common.{◌≡◌, ◌≤◌, ◌+◌, ◌++◌, ◌∙◌, ℕ, List, length, arith, ap, sym, subst}
+use Rattle.std.proofs.Common.{◌≡◌, ◌+◌, ◌++◌, ◌∙◌, ℕ, List, length, arith, ap, sym, subst}
 use Rattle.byteorder.specs.Endian.{little_bytes}
 use Rattle.arrow_schema.specs.View.{kind_of}
-use Rattle.array_build.proofs.MaskedContents.{run_of_nulls_under, run_texts_under}
+use Rattle.array_build.proofs.MaskedContents.{run_of_nulls_under, run_texts_under, total_length}
 use Rattle.array_build.proofs.RunContents.{no_contents, no_sizes}
 use Rattle.array_build.proofs.masked_contents.push_run_offsets.Goals as goal
+use Rattle.array_build.specs.inner.MaskedContents.{run_under, total}
 use Rattle.array_build.specs.inner.Runs.{AreOffsetsAdded, cell_sizes}
 use Rattle.cells.specs.Cell.{Cell}
-use Rattle.columns.specs.Buildable.{large_offset}
 use Rattle.columns.specs.Built.{contents_of, sums_from}
 use Rattle.columns.specs.Offsets.{width_of}
 
@@ -18,29 +18,31 @@ overflow_add-at c =
     let many = known.count in
     omega (arith, many, c.requires.counted)
 
-pub push_slot_offsets-requires : goal.push_slot_offsets-requires
-push_slot_offsets-requires c =
+pub push_masked_slot_offsets-requires : goal.push_masked_slot_offsets-requires
+push_masked_slot_offsets-requires c =
     let known = run_texts_under (kind_of c.args.data_type.now) (width_of c.args.width) c.args.mask.now c.args.at c.in-Slots.array c.in-Slots.from c.in-Slots.len c.args.run.now c.in-Slots.is c.requires.width c.requires.sound c.requires.below in
     let many = known.count in
+    let bytes = ap total (sym known.sizes) ∙ total_length contents_of (run_under (kind_of c.args.data_type.now) c.args.mask.now c.args.at c.args.run.now) in
     record {
       long = known.few;
-      ordered = known.up;
+      ordered = (_, known.up);
       order = omega arith;
       bits = omega (arith, many, c.requires.long);
       within = known.within;
-      fits = subst (λ (bytes : List ℕ). c.args.start + length bytes ≤ large_offset) known.contents c.requires.room;
+      fits = omega (arith, bytes, c.requires.room);
     }
 
 pub returns-in-Slots-clause-offsets : goal.returns-in-Slots-clause-offsets
 returns-in-Slots-clause-offsets c =
     let known = run_texts_under (kind_of c.args.data_type.now) (width_of c.args.width) c.args.mask.now c.args.at c.in-Slots.array c.in-Slots.from c.in-Slots.len c.args.run.now c.in-Slots.is c.requires.width c.requires.sound c.requires.below in
-    subst (λ (sizes : List ℕ). IfOk c.push_slot_offsets.result (λ next. AreOffsetsAdded (width_of c.args.width) c.args.offsets.now.items c.push_slot_offsets.new.offsets.items c.args.start next sizes))
-    (sym known.sizes) c.push_slot_offsets.ensures.offsets
+    subst (λ (sizes : List ℕ). IfOk c.push_masked_slot_offsets.result (λ next. AreOffsetsAdded (width_of c.args.width) c.args.offsets.now.items c.push_masked_slot_offsets.new.offsets.items c.args.start next sizes))
+    (sym known.sizes) c.push_masked_slot_offsets.ensures.offsets
 
 pub returns-in-Slots-clause-next : goal.returns-in-Slots-clause-next
 returns-in-Slots-clause-next c =
     let known = run_texts_under (kind_of c.args.data_type.now) (width_of c.args.width) c.args.mask.now c.args.at c.in-Slots.array c.in-Slots.from c.in-Slots.len c.args.run.now c.in-Slots.is c.requires.width c.requires.sound c.requires.below in
-    subst (λ (bytes : List ℕ). IfOk c.push_slot_offsets.result (λ next. next ≡ c.args.start + length bytes)) (sym known.contents) c.push_slot_offsets.ensures.next
+    let bytes = ap total (sym known.sizes) ∙ total_length contents_of (run_under (kind_of c.args.data_type.now) c.args.mask.now c.args.at c.args.run.now) in
+    subst (λ (n : ℕ). IfOk c.push_masked_slot_offsets.result (λ next. next ≡ c.args.start + n)) bytes c.push_masked_slot_offsets.ensures.next
 
 pub returns-in_ok-push_null_offsets-in-Nulls-clause-offsets : goal.returns-in_ok-push_null_offsets-in-Nulls-clause-offsets
 returns-in_ok-push_null_offsets-in-Nulls-clause-offsets c = λ rest.
