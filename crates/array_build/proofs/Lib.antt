@@ -38,4 +38,5 @@ mod Sized
 mod Stamped
 mod Turns
 mod Unset
+mod Words
 mod Written

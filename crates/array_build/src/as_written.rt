@@ -14,9 +14,9 @@ ghost use Rattle.columns.specs.View.{view_array};
 
 use crate::number_bytes::offset_at;
 use crate::run_slots::are_all_valid;
+use crate::unset_slots::next_unset;
 use crate::widths::{offsets_width, value_width};
 use arrow_schema::DataType;
-use bitmap::alike_end;
 use byteorder::{ByteOrder, LittleEndian};
 use columns::{ArrayView, OffsetWidth, SlotRun};
 
@@ -76,12 +76,12 @@ fn have_zeros_at_unset(validity: &[u8], values: &[u8], width: usize, from: usize
     requires values { to * width ≤ length values.now }
     ensures { result ≡ true → (i : ℕ) → from ≤ i → i < to → (bit validity.now i || are_zeros (value_at width values.now i)) ≡ true }
 {
-    let mut i = alike_end(validity, true, from, to);
+    let mut i = next_unset(validity, from, to);
     while i < to {
         if !is_zero_at(values, width, i) {
             return false;
         }
-        i = alike_end(validity, true, i + 1, to);
+        i = next_unset(validity, i + 1, to);
     }
     true
 }
@@ -119,12 +119,12 @@ fn have_no_bytes_at_unset(
     ensures { result ≡ true → (i : ℕ) → from ≤ i → i < to
         → (bit validity.now i || (number_at (width_of width) offsets.now (i + 1) - number_at (width_of width) offsets.now i) == 0) ≡ true }
 {
-    let mut i = alike_end(validity, true, from, to);
+    let mut i = next_unset(validity, from, to);
     while i < to {
         if offset_at(offsets, width, i) < offset_at(offsets, width, i + 1) {
             return false;
         }
-        i = alike_end(validity, true, i + 1, to);
+        i = next_unset(validity, i + 1, to);
     }
     true
 }

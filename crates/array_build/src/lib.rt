@@ -44,6 +44,7 @@ mod same_dictionary;
 mod slot_masks;
 mod slot_offsets;
 mod stamped_numbers;
+mod unset_slots;
 mod valid_bits;
 mod value_bytes;
 mod widths;

@@ -16,10 +16,11 @@ ghost use Rattle.facts.specs.Bytes.{AreBytes};
 
 use crate::as_written::are_slots_as_written;
 use crate::batch::Buffer;
+use crate::number_bytes::put_number;
 use crate::run_slots::{count_slots, only_run};
 use crate::slot_masks::are_bytes;
+use crate::unset_slots::next_unset;
 use arrow_schema::DataType;
-use bitmap::alike_end;
 use columns::{ArrayView, SlotRun};
 use std::alloc::{AllocError, Global};
 
@@ -68,13 +69,17 @@ fn push_zeros(values: &mut Vec<u8>, width: usize, count: usize) -> Result<(), Al
     }
 }
 
-// Puts zeros for a value.
+// Puts zeros for a value. One that is as wide as a number is written as one.
 #[inline]
 fn clear_value(values: &mut [u8], at: usize, width: usize)
     requires { at + width ≤ length values.old }
     ensures { values.new ≡ take at values.old ++ (replicate width 0 ++ drop (at + width) values.old) }
 {
-    values[at..at + width].fill(0);
+    match width {
+        4 => put_number::<4>(values, at, 0),
+        8 => put_number::<8>(values, at, 0),
+        _ => values[at..at + width].fill(0),
+    }
 }
 
 // Puts zeros for each value, from a place on, whose bit is not set: from one such bit to the next.
@@ -84,10 +89,10 @@ fn clear_unset(values: &mut [u8], start: usize, width: usize, bits: &[u8], from:
     requires values { length values.old ≡ start + (to - from) * width }
     ensures { values.new ≡ take start values.old ++ cleared width (map (bit bits.now) (range_with_len from (to - from))) (drop start values.old) }
 {
-    let mut i = alike_end(bits, true, from, to);
+    let mut i = next_unset(bits, from, to);
     while i < to {
         clear_value(values, start + (i - from) * width, width);
-        i = alike_end(bits, true, i + 1, to);
+        i = next_unset(bits, i + 1, to);
     }
 }
 

@@ -11,8 +11,8 @@ loop-i-preserved c =
     let at : ℕ → ℕ = number_at (width_of c.args.width) c.args.offsets.now in
     let none : at (c.loop-i.i + 1) - at c.loop-i.i ≡ 0 = omega (arith, c.offset_at.ensures, c.offset_at-in-loop-i.ensures, c.if-offset_at.false) in
     record {
-      begins = omega (arith, c.loop-i.invariant.begins, c.alike_end-i-in-loop-i.ensures.begins);
-      ends = c.alike_end-i-in-loop-i.ensures.ends;
-      written = next_unset (bit c.args.validity.now) (λ (k : ℕ). (at (k + 1) - at k) == 0) c.args.from c.loop-i.i c.alike_end-i-in-loop-i.result
-          c.loop-i.invariant.written (ap (λ (n : ℕ). n == 0) none) c.alike_end-i-in-loop-i.ensures.alike;
+      begins = omega (arith, c.loop-i.invariant.begins, c.next_unset-i-in-loop-i.ensures.begins);
+      ends = c.next_unset-i-in-loop-i.ensures.ends;
+      written = next_unset (bit c.args.validity.now) (λ (k : ℕ). (at (k + 1) - at k) == 0) c.args.from c.loop-i.i c.next_unset-i-in-loop-i.result
+          c.loop-i.invariant.written (ap (λ (n : ℕ). n == 0) none) c.next_unset-i-in-loop-i.ensures.alike;
     }

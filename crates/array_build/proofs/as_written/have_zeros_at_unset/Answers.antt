@@ -7,8 +7,8 @@ use Rattle.array_build.specs.inner.Runs.{are_zeros}
 
 pub loop-i-preserved : goal.loop-i-preserved
 loop-i-preserved c = record {
-  begins = omega (arith, c.loop-i.invariant.begins, c.alike_end-i-in-loop-i.ensures.begins);
-  ends = c.alike_end-i-in-loop-i.ensures.ends;
-  written = next_unset (bit c.args.validity.now) (λ (k : ℕ). are_zeros (value_at c.args.width c.args.values.now k)) c.args.from c.loop-i.i c.alike_end-i-in-loop-i.result
-      c.loop-i.invariant.written (c.is_zero_at.ensures c.if-not-is_zero_at.false) c.alike_end-i-in-loop-i.ensures.alike;
+  begins = omega (arith, c.loop-i.invariant.begins, c.next_unset-i-in-loop-i.ensures.begins);
+  ends = c.next_unset-i-in-loop-i.ensures.ends;
+  written = next_unset (bit c.args.validity.now) (λ (k : ℕ). are_zeros (value_at c.args.width c.args.values.now k)) c.args.from c.loop-i.i c.next_unset-i-in-loop-i.result
+      c.loop-i.invariant.written (c.is_zero_at.ensures c.if-not-is_zero_at.false) c.next_unset-i-in-loop-i.ensures.alike;
 }

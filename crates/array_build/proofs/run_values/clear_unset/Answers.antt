@@ -21,21 +21,21 @@ clear_value-requires c =
 pub loop-i-init : goal.loop-i-init
 loop-i-init c =
     let from : ℕ = c.args.from in
-    let i : ℕ = c.alike_end-i.result in
+    let i : ℕ = c.next_unset-i.result in
     let k : ℕ = i - from in
     let width : ℕ = c.args.width in
-    let low = c.alike_end-i.ensures.begins in
-    let high = c.alike_end-i.ensures.ends in
+    let low = c.next_unset-i.ensures.begins in
+    let high = c.next_unset-i.ensures.ends in
     let end : from + k ≡ i = omega (arith, low) in
     let count : k + (c.args.to - i) ≡ c.args.to - from = omega (arith, low, high) in
     let most : k * width ≤ (c.args.to - from) * width = mul-le-mul_right width (omega (arith, low, high)) in
     record {
       begins = low;
       ends = high;
-      unset = c.alike_end-i.ensures.longest;
+      unset = c.next_unset-i.ensures.longest;
       values = ap (λ (j : ℕ). cleared_with width (c.args.start + k * width) c.args.values.now (map (bit c.args.bits.now) (range_with_len j (c.args.to - i)))) (sym end)
           ∙ some_kept (bit c.args.bits.now) width c.args.start from k (c.args.to - i) c.args.values.now
-          (λ j begins ends. c.alike_end-i.ensures.alike j begins (omega (arith, ends, end))) (omega (arith, most, c.requires.values))
+          (λ j begins ends. c.next_unset-i.ensures.alike j begins (omega (arith, ends, end))) (omega (arith, most, c.requires.values))
           ∙ ap (λ (n : ℕ). cleared_with width c.args.start c.args.values.now (map (bit c.args.bits.now) (range_with_len from n))) count;
     }
 
@@ -45,15 +45,15 @@ loop-i-preserved c =
     let from : ℕ = c.args.from in
     let to : ℕ = c.args.to in
     let i : ℕ = c.loop-i.i in
-    let stop : ℕ = c.alike_end-i-in-loop-i.result in
+    let stop : ℕ = c.next_unset-i-in-loop-i.result in
     let at : ℕ = c.args.start + (i - from) * width in
     let k : ℕ = stop - (i + 1) in
     let old : List ℕ = c.loop-i.values in
     let new : List ℕ = c.clear_value.new.values in
     let set : ℕ → Bool = bit c.args.bits.now in
     let low = c.loop-i.invariant.begins in
-    let after = c.alike_end-i-in-loop-i.ensures.begins in
-    let ends = c.alike_end-i-in-loop-i.ensures.ends in
+    let after = c.next_unset-i-in-loop-i.ensures.begins in
+    let ends = c.next_unset-i-in-loop-i.ensures.ends in
     let size : length old ≡ c.args.start + (to - from) * width = c.loop-i.auto.values ∙ c.requires.values in
     let room : at + width ≤ length old = within from i to width c.args.start (length old) low (omega (arith, c.loop-i-test.true)) size in
     let long : length new ≡ length old = c.clear_value.auto.values in
@@ -69,10 +69,10 @@ loop-i-preserved c =
     record {
       begins = omega (arith, low, after);
       ends = ends;
-      unset = c.alike_end-i-in-loop-i.ensures.longest;
+      unset = c.next_unset-i-in-loop-i.ensures.longest;
       values = ap₂ (λ (p j : ℕ). cleared_with width p new (map set (range_with_len j (to - stop)))) place (sym end)
           ∙ some_kept set width (at + width) (i + 1) k (to - stop) new
-          (λ j begins below. c.alike_end-i-in-loop-i.ensures.alike j begins (omega (arith, below, end))) (omega (arith, place, most, size, long))
+          (λ j begins below. c.next_unset-i-in-loop-i.ensures.alike j begins (omega (arith, below, end))) (omega (arith, place, most, size, long))
           ∙ ap (λ (n : ℕ). cleared_with width (at + width) new (map set (range_with_len (i + 1) n))) count
           ∙ one_cleared width at (at + width) (set i) old new (map set (range_with_len (i + 1) (to - (i + 1)))) refl room is
           ∙ ap (λ (n : ℕ). cleared_with width at old (map set (range_with_len i n))) left
