@@ -23,6 +23,7 @@ mod Offsets
 mod PartColumns
 mod Premises
 mod Repeated
+mod RepeatedWords
 mod RunArrays
 mod RunBits
 mod RunColumns

@@ -11,7 +11,7 @@ use Rattle.std.proofs.lemmas.List.FromFn.{length-map-range_with_len}
 use Rattle.arrow_schema.specs.Column.{Column, fixed_lists}
 use Rattle.array_build.proofs.Arrays.{fixed_lists_are}
 use Rattle.array_build.proofs.MaskedItems.{alike_kept, all_alike, all_kept, masked_append, masked_length, masked_map, masked_twice, none_kept}
-use Rattle.array_build.proofs.MaskedRuns.{bits_append, cells_counted, same_as}
+use Rattle.array_build.proofs.MaskedRuns.{bits_append, cells_counted}
 use Rattle.array_build.proofs.Masks.{bits_counted}
 use Rattle.array_build.proofs.Repeated.{repeated_each, repeated_map}
 use Rattle.array_build.proofs.RunArrays.{masked_kind_slots}
@@ -19,7 +19,6 @@ use Rattle.array_build.specs.Batch.{PlainBatch, built_at, with_arrays}
 use Rattle.array_build.specs.inner.Masked.{IsMask, bitmap_bits, mask_bits, masked, masked_by, masked_cells, masked_slots, repeated, slots_mask}
 use Rattle.array_build.specs.inner.RunItems.{AreFixedItems, HasSlots, fixed_below, fixed_column}
 use Rattle.array_build.specs.inner.Runs.{bitmap_of, kind_cells, run_bits, runs_bits, with_run_slots}
-use Rattle.bitmap.specs.Bits.{bit}
 use Rattle.columns.specs.Runs.{run_cells, runs_cells, is_run_sound}
 use Rattle.columns.specs.declared.slot_runs.SlotRun.{SlotRun}
 use Rattle.columns.specs.declared.slot_runs.SlotRun.TheVariants.{Slots, Nulls}
@@ -220,16 +219,15 @@ some_repeated (suc size) [] some h = h
 some_repeated (suc size) (true ∷ bits) some h = all_left size (repeated (suc size) bits) ∙ some_repeated (suc size) bits some h
 some_repeated (suc size) (false ∷ bits) some h = refl
 
-pub next_repeated : (size : ℕ) (mask : List ℕ) (next stop : ℕ) (set : Bool) (old new : List Bool) → next ≤ stop → ((i : ℕ) → next ≤ i → i < stop → bit mask i ≡ set)
-    → new ≡ old ++ replicate ((stop - next) * size) set → old ≡ repeated size (mask_bits mask 0 next) → new ≡ repeated size (mask_bits mask 0 stop)
-next_repeated size mask next stop set old new order alike added was =
+pub more_repeated : (size : ℕ) (mask : List ℕ) (next stop : ℕ) (old new : List Bool) → next ≤ stop → new ≡ old ++ repeated size (mask_bits mask next (stop - next))
+    → old ≡ repeated size (mask_bits mask 0 next) → new ≡ repeated size (mask_bits mask 0 stop)
+more_repeated size mask next stop old new order added was =
     let end : next + (stop - next) ≡ stop = omega (arith, order) in
-    let own : mask_bits mask (0 + next) (stop - next) ≡ replicate (stop - next) set =
-    ap (λ (k : ℕ). mask_bits mask k (stop - next)) (let e : 0 + next ≡ next = omega arith in e) ∙ same_as (bit mask) set next (stop - next) (λ i low high. alike i low (omega (arith, high, order))) in
-    let bits : mask_bits mask 0 stop ≡ mask_bits mask 0 next ++ replicate (stop - next) set =
-    ap (mask_bits mask 0) (sym end) ∙ bits_append mask 0 next (stop - next) ∙ ap (λ (bs : List Bool). mask_bits mask 0 next ++ bs) own in
-    added ∙ ap₂ (λ (xs ys : List Bool). xs ++ ys) was (sym (repeated_alike size (stop - next) set))
-    ∙ sym (repeated_append size (mask_bits mask 0 next) (replicate (stop - next) set)) ∙ ap (repeated size) (sym bits)
+    let begin : next ≡ 0 + next = omega arith in
+    let bits : mask_bits mask 0 next ++ mask_bits mask next (stop - next) ≡ mask_bits mask 0 stop =
+    ap (λ (k : ℕ). mask_bits mask 0 next ++ mask_bits mask k (stop - next)) begin ∙ sym (bits_append mask 0 next (stop - next)) ∙ ap (mask_bits mask 0) end in
+    added ∙ ap (λ (bs : List Bool). bs ++ repeated size (mask_bits mask next (stop - next))) was
+    ∙ sym (repeated_append size (mask_bits mask 0 next) (mask_bits mask next (stop - next))) ∙ ap (repeated size) bits
 
 -- ---- the arrays
 

@@ -1,6 +1,7 @@
 // The items of lists of one size, whatever stands below nulls, and the mask of these items.
-ghost use Rattle.std.specs.Prelude.{◌≡◌, ◌≤◌, ◌*◌, ◌++◌, true, OnOk, IfOk, length, replicate};
+ghost use Rattle.std.specs.Prelude.{◌≡◌, ◌≤◌, ◌<◌, ◌-◌, ◌*◌, ◌++◌, true, IfOk, length, replicate};
 ghost use Rattle.std.specs.List.{flat_map};
+ghost use Rattle.std.specs.Simd.Lanes.{mask_l};
 ghost use Rattle.array_build.specs.inner.Masked.{bitmap_bits, mask_bits, repeated};
 ghost use Rattle.array_build.specs.inner.RunItems.{AreFixedItems, fixed_below, fixed_column};
 ghost use Rattle.array_build.specs.inner.Runs.{bitmap_of};
@@ -10,7 +11,7 @@ ghost use Rattle.arrow_schema.specs.View.{column_of};
 
 use crate::item_slots::item_slots;
 use arrow_schema::Field;
-use bitmap::{MaskBuilder, get, packed_reads_back, run_end};
+use bitmap::{MaskBuilder, get, packed_reads_back};
 use columns::SlotRun;
 use std::alloc::{AllocError, Global};
 
@@ -57,19 +58,51 @@ pub(crate) fn fixed_item_runs<'a>(
     Ok(items)
 }
 
-// Adds the same bit `count * size` times. More than a number counts have no room in memory.
+// A bit so many times, as a number.
+fn alike_word(set: bool, size: usize) -> u64
+    requires { size ≤ 32 }
+    ensures { result ≡ mask_l (replicate size set) }
+{
+    if set { (1 << size) - 1 } else { 0 }
+}
+
+// Some bits of a mask, each so many times, as a number.
+fn repeated_word(mask: &[u8], from: usize, to: usize, size: usize) -> u64
+    requires within { to ≤ 8 * length mask.now }
+    requires order { from ≤ to }
+    requires size { size ≤ 32 }
+    requires count { (to - from) * size ≤ 64 }
+    ensures { result ≡ mask_l (repeated size (mask_bits mask.now from (to - from))) }
+{
+    let mut word = 0;
+    for i in (from..to).rev() {
+        word = (word << size) + alike_word(get(mask, i), size);
+    }
+    word
+}
+
+// Adds the next bits of a mask, each so many times, of one slot or as many as there is room for in a number. Gives where the others begin.
 fn push_repeated(
     bits: &mut MaskBuilder,
-    count: usize,
+    mask: &[u8],
+    from: usize,
+    to: usize,
     size: usize,
-    set: bool,
-) -> Result<(), AllocError>
-    ensures { OnOk result (bits.new ≡ bits.old ++ replicate (count * size) set) }
+) -> Result<usize, AllocError>
+    requires within { to ≤ 8 * length mask.now }
+    requires order { from < to }
+    requires some { 0 < size }
+    ensures more { IfOk result (λ next. from < next) }
+    ensures ends { IfOk result (λ next. next ≤ to) }
+    ensures bits { IfOk result (λ next. bits.new ≡ bits.old ++ repeated size (mask_bits mask.now from (next - from))) }
 {
-    match count.checked_mul(size) {
-        Some(count) => bits.push_alike(count, set),
-        None => Err(AllocError),
+    if size > 32 {
+        bits.push_alike(size, get(mask, from))?;
+        return Ok(from + 1);
     }
+    let next = from + (64 / size).min(to - from);
+    bits.push_word(repeated_word(mask, from, next, size), (next - from) * size)?;
+    Ok(next)
 }
 
 // Each of n bits of a mask, so many times.
@@ -79,15 +112,14 @@ fn repeated_bits(
     slots: usize,
     size: usize,
 ) -> Result<Vec<u8>, AllocError>
-    requires { slots ≤ 8 * length mask.now }
+    requires within { slots ≤ 8 * length mask.now }
+    requires some { 0 < size }
     ensures { IfOk result (λ bytes. bytes.items ≡ packed (repeated size (mask_bits mask.now 0 slots))) }
 {
     let mut bits = MaskBuilder::with_capacity(alloc, slots.saturating_mul(size))?;
     let mut next = 0;
     while next < slots {
-        let stop = run_end(mask, next, slots);
-        push_repeated(&mut bits, stop - next, size, get(mask, next))?;
-        next = stop;
+        next = push_repeated(&mut bits, mask, next, slots, size)?;
     }
     Ok(bits.into_mask())
 }

@@ -25,8 +25,8 @@ returns-then-is_empty c =
     let alike : repeated size bits ≡ replicate (slots * size) true = ap (repeated size) (bits_without c.args.mask.now slots none) ∙ repeated_alike size slots true in
     c.new-then-is_empty.ensures.items ∙ sym (bitmap_none (repeated size bits) (ap (list_all (λ (b : Bool). b)) alike ∙ all_alike (slots * size)))
 
-pub repeated_bits-requires : goal.repeated_bits-requires
-repeated_bits-requires c =
+pub repeated_bits-requires-clause-within : goal.repeated_bits-requires-clause-within
+repeated_bits-requires-clause-within c =
     let long = bitmap_long c.args.mask.now (bitmap_bits c.args.mask.now c.args.slots) c.requires (eqb-false _ 0 (sym c.is_empty.ensures ∙ c.if-is_empty.false)) in
     omega (arith, long, bits_counted c.args.mask.now c.args.slots)
 
