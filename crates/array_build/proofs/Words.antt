@@ -2,11 +2,15 @@
 use Rattle.std.specs.Prelude.{◌==◌, slice_index}
 use Rattle.std.specs.Int.{bit_at, bit_not, trailing_zeros}
 use Rattle.std.specs.Int.Count.{trailing_of_zero}
-use Rattle.std.proofs.Common.{◌≡◌, ℕ, zero, suc, ◌+◌, ◌-◌, ◌*◌, ◌/◌, ◌%◌, ◌^◌, ◌<◌, true, false, List, drop, inl, inr, ap, ap₂, sym, ◌∙◌, arith, w64}
+use Rattle.std.specs.List.{range_with_len}
+use Rattle.std.specs.Simd.Lanes.{mask_l}
+use Rattle.std.proofs.Common.{◌≡◌, ℕ, zero, suc, ◌+◌, ◌-◌, ◌*◌, ◌/◌, ◌%◌, ◌^◌, ◌<◌, ◌≤◌, Bool, true, false, cond, List, drop, length, map, inl, inr, refl, ap, ap₂, sym, ◌∙◌, arith, w64}
 use Rattle.std.proofs.lemmas.Bool.{cases_lt}
 use Rattle.std.proofs.lemmas.List.{get_or-drop}
-use Rattle.std.proofs.lemmas.Nat.{shr-shr, shr_le}
-use Rattle.std.proofs.lemmas.Nat.Bits.{bit_at-lt, bit_at-trailing_zeros, bit_at_above, bit_at_cat_high, bit_at_cat_low, bit_at_not}
+use Rattle.std.proofs.lemmas.List.FromFn.{get_or-map-range_with_len, length-map-range_with_len}
+use Rattle.std.proofs.lemmas.Nat.{mod_below, pow_pos, shr-shr, shr_le, shr_split}
+use Rattle.std.proofs.lemmas.Nat.Bits.{bit_at-lt, bit_at-trailing_zeros, bit_at_above, bit_at_cat_high, bit_at_cat_low, bit_at_not, same_from_bits_below}
+use Rattle.std.proofs.lemmas.Simd.{bit_mask_l, mask_l-lt}
 use Rattle.byteorder.specs.Endian.{little_from, little_number}
 use Rattle.bitmap.specs.Bits.{bit}
 use Rattle.facts.specs.Bytes.{AreBytes}
@@ -31,8 +35,39 @@ bit_of_little (suc n) i j xs small lt =
           ∙ bit_of_little n (suc i) (j - 8) xs small (omega (arith, lt, high)) ∙ ap₂ (λ (k m : ℕ). bit_at (slice_index xs k) m) byte place
     ]
 
--- the bits from one on that are not set in a number of eight bytes of a bitmap
+digit : (x : ℕ) → x < 2 → cond (x == 1) 1 0 ≡ x
+digit zero lt = refl
+digit (suc zero) lt = refl
+digit (suc (suc x)) lt = absurd (omega (arith, lt))
+
+-- the bits from one on in a number of eight bytes of a bitmap
 module _ (bits : List ℕ) (from word : ℕ) (small : AreBytes bits) (fits : word < 2 ^ 64) (is : word ≡ little_number 8 (drop (from / 8) bits)) where
+  within_byte : (j : ℕ) → from % 8 + j < 64 → bit_at word (from % 8 + j) ≡ bit_at (slice_index bits ((from + j) / 8)) ((from + j) % 8)
+  within_byte j lt =
+      let at : ℕ = from % 8 + j in
+      let byte : from / 8 + (0 + at / 8) ≡ (from + j) / 8 = omega arith in
+      let place : at % 8 ≡ (from + j) % 8 = omega arith in
+      ap (λ (x : ℕ). bit_at x at) is ∙ bit_of_little 8 0 at (drop (from / 8) bits) (drop-bytes (from / 8) bits small) (omega (arith, lt))
+      ∙ ap (λ (x : ℕ). bit_at x (at % 8)) (get_or-drop (from / 8) bits (0 + at / 8) 0)
+      ∙ ap₂ (λ (k m : ℕ). bit_at (slice_index bits k) m) byte place
+
+  -- some of them as a number
+  same_bit : (count j : ℕ) → count ≤ 56 → j < count → bit_at (mask_l (map (bit bits) (range_with_len from count))) j ≡ bit_at (word / 2 ^ (from % 8) % 2 ^ count) j
+  same_bit count j few lt =
+      let high : ℕ = word / 2 ^ (from % 8) in
+      bit_mask_l (map (bit bits) (range_with_len from count)) j
+      ∙ ap (λ (b : Bool). cond b 1 0) (get_or-map-range_with_len (bit bits) from count j (from + j) false lt refl)
+      ∙ digit (bit_at (slice_index bits ((from + j) / 8)) ((from + j) % 8)) (bit_at-lt (slice_index bits ((from + j) / 8)) ((from + j) % 8))
+      ∙ sym (ap (λ (n : ℕ). n % 2) (shr-shr word (from % 8) j) ∙ within_byte j (omega (arith, few, lt)))
+      ∙ ap (λ (x : ℕ). bit_at x j) (sym (shr_split high count)) ∙ bit_at_cat_low (high / 2 ^ count) count (high % 2 ^ count) j lt
+
+  pub bits_in_word : (count : ℕ) → count ≤ 56 → word / 2 ^ (from % 8) % 2 ^ count ≡ mask_l (map (bit bits) (range_with_len from count))
+  bits_in_word count few =
+      let set : List Bool = map (bit bits) (range_with_len from count) in
+      let long : length set ≡ count = length-map-range_with_len (bit bits) from count in
+      sym (same_from_bits_below count (mask_l set) (word / 2 ^ (from % 8) % 2 ^ count) (omega (arith, mask_l-lt set, ap (λ (k : ℕ). 2 ^ k) long))
+      (mod_below (word / 2 ^ (from % 8)) (2 ^ count) (pow_pos count)) (λ j lt. same_bit count j few lt))
+
   abbrev pub unset_word : ℕ
   unset_word = bit_not w64 word / 2 ^ (from % 8)
 
@@ -43,14 +78,7 @@ module _ (bits : List ℕ) (from word : ℕ) (small : AreBytes bits) (fits : wor
   moved j = ap (λ (n : ℕ). n % 2) (shr-shr (bit_not w64 word) (from % 8) j)
 
   tells : (j : ℕ) → from % 8 + j < 64 → bit_at unset_word j ≡ 1 - bit_at (slice_index bits ((from + j) / 8)) ((from + j) % 8)
-  tells j lt =
-      let at : ℕ = from % 8 + j in
-      let byte : from / 8 + (0 + at / 8) ≡ (from + j) / 8 = omega arith in
-      let place : at % 8 ≡ (from + j) % 8 = omega arith in
-      moved j ∙ bit_at_not w64 word at fits lt
-      ∙ ap (λ (n : ℕ). 1 - n) (ap (λ (x : ℕ). bit_at x at) is ∙ bit_of_little 8 0 at (drop (from / 8) bits) (drop-bytes (from / 8) bits small) (omega (arith, lt))
-      ∙ ap (λ (x : ℕ). bit_at x (at % 8)) (get_or-drop (from / 8) bits (0 + at / 8) 0)
-      ∙ ap₂ (λ (k m : ℕ). bit_at (slice_index bits k) m) byte place)
+  tells j lt = moved j ∙ bit_at_not w64 word (from % 8 + j) fits lt ∙ ap (λ (n : ℕ). 1 - n) (within_byte j lt)
 
   below : unset_word < 2 ^ 64
   below = omega (arith, shr_le (bit_not w64 word) (from % 8))

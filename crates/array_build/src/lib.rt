@@ -25,6 +25,7 @@ mod item_cells;
 mod item_slots;
 mod known_dictionary;
 mod known_entries;
+mod mask_bits;
 mod masked_contents;
 mod masked_lists;
 mod masked_runs;

@@ -7,6 +7,7 @@ ghost use Rattle.columns.specs.Runs.{are_runs_sound, is_run_sound};
 ghost use Rattle.arrow_schema.specs.Column.{booleans};
 ghost use Rattle.bitmap.specs.Bits.{packed};
 
+use crate::mask_bits::push_mask_bits;
 use crate::run_flags::{are_short, push_alike, push_booleans};
 use crate::run_slots::count_slots;
 use crate::slot_masks::both_set;
@@ -23,8 +24,7 @@ fn push_run(bits: &mut MaskBuilder, run: &SlotRun<'_>) -> Result<(), AllocError>
     match run {
         SlotRun::Slots { array, from, len } => {
             let _slots = array.slots();
-            bits.push_bits(array.bits(), *from, *from + *len)?;
-            Ok(())
+            push_mask_bits(bits, array.bits(), *from, *from + *len)
         }
         SlotRun::Nulls(count) => bits.push_alike(*count, false),
     }

@@ -10,6 +10,7 @@ ghost use Rattle.columns.specs.Tests.{has_short_validity};
 ghost use Rattle.columns.specs.View.{view_array};
 
 use crate::batch::{BuiltBatch, push_validity};
+use crate::mask_bits::push_mask_bits;
 use crate::run_flags::{are_short, run_flags};
 use bitmap::{MaskBuilder, get, pack, run_end};
 use columns::{ArrayView, SlotRun};
@@ -110,7 +111,7 @@ fn push_slot_bits(
         return bits.push_alike(len, true);
     }
     let _slots = array.slots();
-    bits.push_bits(validity, from, from + len)
+    push_mask_bits(bits, validity, from, from + len)
 }
 
 fn push_run_bits(bits: &mut MaskBuilder, run: &SlotRun<'_>) -> Result<(), AllocError>
