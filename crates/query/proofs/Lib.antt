@@ -24,6 +24,6 @@ pub mod IntegerTests
 pub mod ContentsTests
 pub mod AnswerWords
 pub mod NullTests
-pub mod PlainTexts
 pub mod SlotTexts
+pub mod ColumnSlots
 pub mod SlotLines

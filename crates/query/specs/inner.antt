@@ -1,4 +1,5 @@
 pub mod BoundView
+pub mod ColumnSlots
 pub mod Contents
 pub mod Cuts
 pub mod IntegerRows
@@ -8,4 +9,3 @@ pub mod Nulls
 pub mod SlotTests
 pub mod Slots
 pub mod SlotLines
-pub mod PlainBytes

@@ -17,6 +17,7 @@
 mod blocks;
 mod bound;
 mod choice;
+mod column_slots;
 mod condition;
 mod contents_slots;
 mod copying;
@@ -30,6 +31,7 @@ mod literal;
 mod null_slots;
 mod object_line;
 mod operator;
+mod plain_text;
 mod query;
 mod row_form;
 mod selected_rows;

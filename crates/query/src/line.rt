@@ -1,14 +1,13 @@
 // A row as a line of JSON.
 ghost use Rattle.std.specs.Prelude.{◌≡◌, ◌++◌, ◌^◌, ◌<◌, IfOk, OnOk, codes, slice_index};
 ghost use Rattle.std.specs.Fmt.{signed_decimal};
-ghost use Rattle.std.specs.List.{list_all};
 ghost use Rattle.json.specs.Print.{quoted};
 ghost use Rattle.hex.specs.Hex.{encode_lower, lower_digits};
 ghost use Rattle.cells.specs.Cell.{cells_of};
 ghost use Rattle.values.specs.Borrowed.{borrowed_cell, borrowed_cells};
 ghost use Rattle.query.specs.Line.{json_of, json_of_all, line};
-ghost use Rattle.query.specs.inner.PlainBytes.{is_plain_byte};
 
+use crate::plain_text::are_plain;
 use json::Writer;
 use std::alloc::{AllocError, Global};
 use values::{ValueRef, Values};
@@ -37,19 +36,6 @@ pub(crate) fn push_number(out: &mut Vec<u8>, number: i128) -> Result<(), AllocEr
 {
     let mut digits = itoa::Buffer::new();
     out.extend_from_slice(digits.format(number).as_bytes())
-}
-
-fn is_plain_byte(byte: u8) -> bool
-    ensures { result ≡ is_plain_byte byte }
-{
-    byte >= 32 && byte != b'"' && byte != b'\\'
-}
-
-/// Whether bytes stand in a JSON string as themselves: one by one, since most texts are short.
-pub(crate) fn are_plain(bytes: &[u8]) -> bool
-    ensures { result ≡ list_all is_plain_byte bytes.now }
-{
-    bytes.iter().all(|byte| is_plain_byte(*byte))
 }
 
 /// Adds bytes between quotes.

@@ -12,14 +12,16 @@ ghost use Rattle.values.specs.Parts.{arrays_with, batch_rows, part_rows, parts_r
 ghost use Rattle.values.specs.Borrowed.{borrowed_cells};
 ghost use Rattle.values.specs.TableView.{table_of};
 ghost use Rattle.query.specs.ObjectLine.{line_in, lines_text};
+ghost use Rattle.query.specs.inner.ColumnSlots.{AreColumns};
 ghost use Rattle.query.specs.inner.SlotLines.{opening, closing, separator, lead, rest_of_line, is_batch_readable, is_part_readable};
 
 use crate::RowForm;
+use crate::column_slots::{ColumnSlots, columns_of};
 use crate::line::{push_bytes, push_text};
 use crate::object_line::push_line_in;
 use crate::slot_value::push_slot;
 use arrow_schema::Field;
-use columns::{ArrayView, array_or, no_array};
+use columns::no_array;
 use std::alloc::{AllocError, Global};
 use values::{Batch, Table, TablePart, Values};
 
@@ -82,24 +84,19 @@ fn push_slots(
     fields: &[Field],
     part: &TablePart,
     batch: &Batch,
+    columns: &[ColumnSlots<'_>],
     slot: usize,
 ) -> Result<(), AllocError>
+    requires columns { AreColumns part.now batch.now 0 fields.now columns.now }
     requires sound { are_sound (fields_of fields.now) batch.now.rows (arrays_with part.now batch.now) ≡ true }
     requires texts { have_utf8_texts (part_cells (fields_of fields.now) (arrays_with part.now batch.now) slot) ≡ true }
     requires within { slot < batch.now.rows }
     ensures { OnOk result (out.new.items ≡ out.old.items
         ++ rest_of_line form 0 (map column_of fields.now) (part_cells (fields_of fields.now) (arrays_with part.now batch.now) slot)) }
 {
-    let none = no_array();
     for place in 0..fields.len() {
-        let field = &fields[place];
-        let view = ArrayView {
-            array: array_or(&batch.arrays, place, &none),
-            bytes: &part.bytes,
-            dictionaries: &part.dictionaries,
-        };
-        push_lead(alloc, out, form, place, field)?;
-        push_slot(alloc, out, field, view, slot)?;
+        push_lead(alloc, out, form, place, &fields[place])?;
+        push_slot(alloc, out, &columns[place], slot)?;
     }
     Ok(())
 }
@@ -112,8 +109,10 @@ fn push_slot_line(
     fields: &[Field],
     part: &TablePart,
     batch: &Batch,
+    columns: &[ColumnSlots<'_>],
     slot: usize,
 ) -> Result<(), AllocError>
+    requires columns { AreColumns part.now batch.now 0 fields.now columns.now }
     requires sound { are_sound (fields_of fields.now) batch.now.rows (arrays_with part.now batch.now) ≡ true }
     requires texts { have_utf8_texts (part_cells (fields_of fields.now) (arrays_with part.now batch.now) slot) ≡ true }
     requires within { slot < batch.now.rows }
@@ -121,7 +120,7 @@ fn push_slot_line(
         ++ (line_in form (map column_of fields.now) (row_at (fields_of fields.now) (arrays_with part.now batch.now) slot) ++ codes "\n")) }
 {
     push_opening(out, form)?;
-    push_slots(alloc, out, form, fields, part, batch, slot)?;
+    push_slots(alloc, out, form, fields, part, batch, columns, slot)?;
     push_closing(out, form)
 }
 
@@ -137,8 +136,10 @@ fn push_batch(
     ensures { OnOk result (out.new.items ≡ out.old.items
         ++ lines_text form (map column_of fields.now) (batch_rows (fields_of fields.now) part.now batch.now)) }
 {
+    let none = no_array();
+    let columns = columns_of(alloc, fields, part, batch, &none)?;
     for slot in 0..batch.rows {
-        push_slot_line(alloc, out, form, fields, part, batch, slot)?;
+        push_slot_line(alloc, out, form, fields, part, batch, &columns, slot)?;
     }
     Ok(())
 }

@@ -1,14 +1,10 @@
 -- The line of a row of record batches, value by value from the arrays.
-use Rattle.std.specs.Prelude.{◌≡◌, ℕ, zero, suc, Bool, true, false, ◌&&◌, nat_lt, List, [], ◌++◌, codes, map, if◌then◌else◌}
+use Rattle.std.specs.Prelude.{ℕ, zero, suc, Bool, ◌&&◌, nat_lt, List, [], ◌++◌, codes, map, if◌then◌else◌}
 use Rattle.std.specs.List.{list_all}
 use Rattle.json.specs.Print.{quoted}
-use Rattle.arrow_schema.specs.Column.{Kind, Column, Columns}
+use Rattle.arrow_schema.specs.Column.{Column, Columns}
 use Rattle.arrow_schema.specs.Parts.{name_of_column}
-use Rattle.cells.specs.Cell.{Cell, Cells, text, cells_of, cell_list}
-use Rattle.columns.specs.Array.{Array}
-use Rattle.columns.specs.CellAt.{cell_at, kind_cell, contents_at, unless_null}
-use Rattle.columns.specs.Sound.{is_sound}
-use Rattle.columns.specs.Tests.{has_short_validity, has_short_buffer, are_few_offsets}
+use Rattle.cells.specs.Cell.{Cell, Cells, cells_of, cell_list}
 use Rattle.columns.specs.Texts.{have_utf8_texts}
 use Rattle.values.specs.declared.table_part.Batch.{Batch}
 use Rattle.values.specs.declared.table_part.TablePart.{TablePart}
@@ -17,17 +13,6 @@ use Rattle.query.specs.Line.{json_of_all, json_of_others}
 use Rattle.query.specs.ObjectLine.{members, other_members}
 use Rattle.query.specs.declared.row_form.RowForm.{RowForm}
 use Rattle.query.specs.declared.row_form.RowForm.TheVariants as forms
-
--- the values of a type are strings, whose offsets are so wide
-pub record IsTextKind (kind : Kind) (width : ℕ) : Type 0 where
-  pub cells : (a : Array) (i : ℕ) → kind_cell kind a i ≡ text (contents_at width a i)
-  pub buffer : (a : Array) → has_short_buffer kind a ≡ are_few_offsets width a
-
--- the cells of a column are strings or nulls, in the bytes of its arrays
-pub record IsTextColumn (c : Column) (width : ℕ) : Type 0 where
-  pub cells : (a : Array) (i : ℕ) → cell_at c a i ≡ unless_null (λ b j. text (contents_at width b j)) a i
-  pub validity : (a : Array) → is_sound c a ≡ true → has_short_validity a ≡ false
-  pub offsets : (a : Array) → is_sound c a ≡ true → are_few_offsets width a ≡ false
 
 abbrev pub opening : RowForm → List ℕ
 opening forms.Array = codes "["

@@ -1,17 +1,34 @@
 use Rattle.std.specs.Prelude.{OnOk}
-use Rattle.std.proofs.Common.{◌≡◌, ◌++◌, sym, subst, ◌∙◌}
+use Rattle.std.proofs.Common.{◌≡◌, ◌++◌, ℕ, List, subst}
 use Rattle.arrow_schema.specs.View.{column_of}
 use Rattle.cells.specs.Cell.{Cell}
 use Rattle.columns.specs.View.{view_array}
 use Rattle.query.specs.Line.{json_of}
-use Rattle.query.proofs.SlotTexts.{integer_there}
+use Rattle.query.proofs.SlotTexts.{plain_printed, number_is, integer_bit, integer_bytes, text_bit, text_bytes}
 use Rattle.query.proofs.slot_value.push_slot.Goals as goal
 
-pub slot_number-requires : goal.slot_number-requires
-slot_number-requires c =
-    integer_there (column_of c.args.field.now) c.in-Some.integer (view_array c.args.view) c.args.slot c.in-Some.ensures c.requires.sound c.requires.within
+pub number-requires-clause-valid : goal.number-requires-clause-valid
+number-requires-clause-valid c =
+    integer_bit (column_of c.args.column.now.field.now) (view_array c.args.column.now.view) c.in-Integers.buffers c.args.slot (rw c.in-Integers.is at c.requires.buffers) c.requires.sound c.requires.within
+
+pub number-requires-clause-long : goal.number-requires-clause-long
+number-requires-clause-long c =
+    integer_bytes (column_of c.args.column.now.field.now) (view_array c.args.column.now.view) c.in-Integers.buffers c.args.slot (rw c.in-Integers.is at c.requires.buffers) c.requires.sound c.requires.within
+
+pub plain_text-requires-clause-valid : goal.plain_text-requires-clause-valid
+plain_text-requires-clause-valid c =
+    text_bit (column_of c.args.column.now.field.now) (view_array c.args.column.now.view) c.in-Texts.buffers c.args.slot (rw c.in-Texts.is at c.requires.buffers) c.requires.sound c.requires.within
+
+pub plain_text-requires-clause-long : goal.plain_text-requires-clause-long
+plain_text-requires-clause-long c =
+    text_bytes (column_of c.args.column.now.field.now) (view_array c.args.column.now.view) c.in-Texts.buffers c.args.slot (rw c.in-Texts.is at c.requires.buffers) c.requires.sound c.requires.within
+
+pub returns-in-Integers : goal.returns-in-Integers
+returns-in-Integers c =
+    let P : Cell → Type 0 = λ x. OnOk c.push_integer.result (c.push_integer.new.out.items ≡ c.args.out.now.items ++ json_of x) in
+    subst P (number_is (column_of c.args.column.now.field.now) (view_array c.args.column.now.view) c.in-Integers.buffers c.args.slot _ (rw c.in-Integers.is at c.requires.buffers) c.number.ensures) c.push_integer.ensures
 
 pub returns-in-Some : goal.returns-in-Some
 returns-in-Some c =
-    let P : Cell → Type 0 = λ x. OnOk c.push_integer.result (c.push_integer.new.out.items ≡ c.args.out.now.items ++ json_of x) in
-    subst P (c.slot_number.ensures ∙ sym (c.in-Some.ensures.cells (view_array c.args.view) c.args.slot)) c.push_integer.ensures
+    let P : List ℕ → Type 0 = λ t. OnOk c.push_in_quotes.result (c.push_in_quotes.new.out.items ≡ c.args.out.now.items ++ t) in
+    subst P (plain_printed (column_of c.args.column.now.field.now) (view_array c.args.column.now.view) c.in-Texts.buffers c.args.slot _ (rw c.in-Texts.is at c.requires.buffers) c.in-Some.ensures) c.push_in_quotes.ensures

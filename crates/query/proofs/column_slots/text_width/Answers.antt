@@ -3,7 +3,7 @@ use Rattle.arrow_schema.specs.Column.{texts, large_texts}
 use Rattle.arrow_schema.specs.View.{kind_of}
 use Rattle.arrow_schema.specs.declared.types.Field.{the_lemmas as field_lemmas}
 use Rattle.query.proofs.SlotTexts.{text_kind, large_text_kind}
-use Rattle.query.proofs.slot_value.text_width.Goals as goal
+use Rattle.query.proofs.column_slots.text_width.Goals as goal
 
 pub returns-in-Utf8 : goal.returns-in-Utf8
 returns-in-Utf8 c =

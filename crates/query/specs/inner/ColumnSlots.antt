@@ -1,0 +1,57 @@
+-- The columns of a batch, as they are printed.
+use Rattle.std.specs.Prelude.{◌≡◌, ℕ, ◌/◌, suc, true, false, List, [], ◌∷◌}
+use Rattle.json.specs.Print.{escape}
+use Rattle.arrow_schema.specs.Column.{Kind, Column}
+use Rattle.arrow_schema.specs.View.{column_of, bits_of}
+use Rattle.arrow_schema.specs.declared.types.Field.{Field}
+use Rattle.cells.specs.Cell.{text}
+use Rattle.columns.specs.Array.{Array, validity_in, values_in, offsets_in, contents_in}
+use Rattle.columns.specs.CellAt.{cell_at, kind_cell, contents_at, unless_null}
+use Rattle.columns.specs.Sound.{is_sound}
+use Rattle.columns.specs.Tests.{has_short_validity, has_short_buffer, are_few_offsets}
+use Rattle.columns.specs.View.{view_array}
+use Rattle.values.specs.declared.table_part.Batch.{Batch}
+use Rattle.values.specs.declared.table_part.TablePart.{TablePart}
+use Rattle.query.specs.declared.column_slots.ColumnSlots.{ColumnSlots}
+use Rattle.query.specs.declared.column_slots.Buffers.{Buffers}
+use Rattle.query.specs.declared.column_slots.Buffers.TheVariants.{Integers, Texts, Others}
+use Rattle.query.specs.declared.column_slots.TextBuffers.{TextBuffers}
+use Rattle.query.specs.inner.Contents.{span_in}
+use Rattle.query.specs.inner.Slots.{IsIntegerColumn, array_of, is_valid_in}
+
+-- the values of a type are strings, whose offsets are so wide
+pub record IsTextKind (kind : Kind) (width : ℕ) : Type 0 where
+  pub cells : (a : Array) (i : ℕ) → kind_cell kind a i ≡ text (contents_at width a i)
+  pub buffer : (a : Array) → has_short_buffer kind a ≡ are_few_offsets width a
+
+-- the cells of a column are strings or nulls, in the bytes of its arrays
+pub record IsTextColumn (c : Column) (width : ℕ) : Type 0 where
+  pub cells : (a : Array) (i : ℕ) → cell_at c a i ≡ unless_null (λ b j. text (contents_at width b j)) a i
+  pub validity : (a : Array) → is_sound c a ≡ true → has_short_validity a ≡ false
+  pub offsets : (a : Array) → is_sound c a ≡ true → are_few_offsets width a ≡ false
+
+-- these are the buffers of an array of a column
+abbrev pub AreBuffers : Column → Array → Buffers → Type 0
+AreBuffers c a (Integers b) = IsIntegerColumn c b.integer × (b.validity.now ≡ validity_in a) × (b.values.now ≡ values_in a)
+AreBuffers c a (Texts b) =
+    IsTextColumn c (bits_of b.width / 8) × (b.validity.now ≡ validity_in a) × (b.offsets.now ≡ offsets_in a) × (b.contents.now ≡ contents_in a)
+AreBuffers c a Others = Unit {0}
+
+-- this is the column of a field with an array
+pub record IsColumn (f : Field) (a : Array) (s : ColumnSlots) : Type 0 where
+  pub column : column_of s.field.now ≡ column_of f
+  pub array : view_array s.view ≡ a
+  pub buffers : AreBuffers (column_of s.field.now) (view_array s.view) s.buffers
+
+-- these are the columns of fields, whose arrays begin at a place
+abbrev pub AreColumns : TablePart → Batch → (place : ℕ) → List Field → List ColumnSlots → Type 0
+AreColumns p b place [] [] = Unit {0}
+AreColumns p b place [] (s ∷ ss) = ⊥
+AreColumns p b place (f ∷ fs) [] = ⊥
+AreColumns p b place (f ∷ fs) (s ∷ ss) = IsColumn f (array_of place p b) s × AreColumns p b (suc place) fs ss
+
+-- the string of a slot, which stands in a JSON string as itself
+pub record IsPlainText (b : TextBuffers) (slot : ℕ) (t : List ℕ) : Type 0 where
+  pub valid : is_valid_in b.validity.now slot ≡ true
+  pub contents : t ≡ span_in (bits_of b.width / 8) b.offsets.now b.contents.now slot
+  pub plain : escape t ≡ t

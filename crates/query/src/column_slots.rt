@@ -1,0 +1,181 @@
+// The columns of a batch, as they are printed: what is asked of a field and of its array is asked once for all slots.
+ghost use Rattle.std.specs.Prelude.{◌≡◌, ◌+◌, ◌*◌, ◌/◌, ◌<◌, ◌≤◌, length, IfOk, IfSome, if◌then◌else◌};
+ghost use Rattle.arrow_schema.specs.View.{bits_of, kind_of, column_of};
+ghost use Rattle.cells.specs.Cell.{null, number};
+ghost use Rattle.columns.specs.CellAt.{integer_at};
+ghost use Rattle.columns.specs.View.{view_array, IsNoArray};
+ghost use Rattle.query.specs.inner.ColumnSlots.{IsTextKind, IsTextColumn, IsPlainText, AreBuffers, IsColumn, AreColumns};
+ghost use Rattle.query.specs.inner.IntegerRows.{number_or_null};
+ghost use Rattle.query.specs.inner.Slots.{array_of, is_valid_in, width_of};
+
+use crate::contents_slots::span_at;
+use crate::integer_slots::{field_integer, number_at};
+use crate::plain_text::are_plain;
+use arrow_schema::{BitWidth, DataType, Field, IntegerType};
+use columns::{ArrayView, PlacedArray, array_or};
+use std::alloc::{AllocError, Global};
+use values::{Batch, TablePart};
+
+/// The buffers of integers.
+#[derive(Clone, Copy)]
+pub(crate) struct IntegerBuffers<'a> {
+    integer: IntegerType,
+    validity: &'a [u8],
+    values: &'a [u8],
+}
+
+/// The buffers of strings, whose offsets are of a width.
+#[derive(Clone, Copy)]
+pub(crate) struct TextBuffers<'a> {
+    width: BitWidth,
+    validity: &'a [u8],
+    offsets: &'a [u8],
+    contents: &'a [u8],
+}
+
+/// The buffers that the values of a column are printed from, where they need not be borrowed.
+#[derive(Clone, Copy)]
+pub(crate) enum Buffers<'a> {
+    Integers(IntegerBuffers<'a>),
+    Texts(TextBuffers<'a>),
+    Others,
+}
+
+/// A column of a batch.
+#[derive(Clone, Copy)]
+pub(crate) struct ColumnSlots<'a> {
+    pub(crate) field: &'a Field,
+    pub(crate) view: ArrayView<'a>,
+    pub(crate) buffers: Buffers<'a>,
+}
+
+// How wide the offsets of strings are.
+#[tactic(auto, unfolding(columns::specs::CellAt::kind_cell))]
+fn text_width(data_type: &DataType) -> Option<BitWidth>
+    ensures { IfSome result (λ w. IsTextKind (kind_of data_type.now) (bits_of w / 8)) }
+{
+    match data_type {
+        DataType::Utf8 => Some(BitWidth::ThirtyTwo),
+        DataType::LargeUtf8 => Some(BitWidth::SixtyFour),
+        _ => None,
+    }
+}
+
+// The same of a field, where it has no dictionary.
+fn field_text_width(field: &Field) -> Option<BitWidth>
+    ensures { IfSome result (λ w. IsTextColumn (column_of field.now) (bits_of w / 8)) }
+{
+    match field.dictionary {
+        None => text_width(&field.data_type),
+        Some(_) => None,
+    }
+}
+
+fn text_buffers<'a>(field: &Field, view: ArrayView<'a>) -> Buffers<'a>
+    ensures { AreBuffers (column_of field.now) (view_array view.entry) result }
+{
+    match field_text_width(field) {
+        Some(width) => Buffers::Texts(TextBuffers {
+            width,
+            validity: view.validity(),
+            offsets: view.offsets(),
+            contents: view.contents(),
+        }),
+        None => Buffers::Others,
+    }
+}
+
+fn buffers_of<'a>(field: &Field, view: ArrayView<'a>) -> Buffers<'a>
+    ensures { AreBuffers (column_of field.now) (view_array view.entry) result }
+{
+    match field_integer(field) {
+        Some(integer) => Buffers::Integers(IntegerBuffers {
+            integer,
+            validity: view.validity(),
+            values: view.values(),
+        }),
+        None => text_buffers(field, view),
+    }
+}
+
+// The column of a field, whose array is at a place.
+fn column_at<'a>(
+    field: &'a Field,
+    part: &'a TablePart,
+    batch: &'a Batch,
+    none: &'a PlacedArray,
+    place: usize,
+) -> ColumnSlots<'a>
+    requires { IsNoArray none.now }
+    ensures { IsColumn field.now (array_of place part.now batch.now) result }
+{
+    let view = ArrayView {
+        array: array_or(&batch.arrays, place, none),
+        bytes: &part.bytes,
+        dictionaries: &part.dictionaries,
+    };
+    ColumnSlots {
+        field,
+        view,
+        buffers: buffers_of(field, view),
+    }
+}
+
+/// The columns of a batch.
+pub(crate) fn columns_of<'a>(
+    alloc: Global,
+    fields: &'a [Field],
+    part: &'a TablePart,
+    batch: &'a Batch,
+    none: &'a PlacedArray,
+) -> Result<Vec<ColumnSlots<'a>>, AllocError>
+    requires { IsNoArray none.now }
+    ensures { IfOk result (λ columns. AreColumns part.now batch.now 0 fields.now columns.items) }
+{
+    let mut columns = Vec::with_capacity(alloc, fields.len())?;
+    for place in 0..fields.len() {
+        columns.push_reserved(column_at(&fields[place], part, batch, none, place));
+    }
+    Ok(columns)
+}
+
+#[inline]
+fn is_valid(validity: &[u8], slot: usize) -> bool
+    requires { 0 < length validity.now → slot < 8 * length validity.now }
+    ensures { result ≡ is_valid_in validity.now slot }
+{
+    validity.is_empty() || bitmap::get(validity, slot)
+}
+
+impl IntegerBuffers<'_> {
+    /// The number of a slot, unless it is null.
+    #[inline]
+    pub(crate) fn number(self, slot: usize) -> Option<i128>
+        requires valid { 0 < length self.validity.now → slot < 8 * length self.validity.now }
+        requires long { (slot + 1) * width_of self.integer ≤ length self.values.now }
+        ensures { number_or_null result
+            ≡ (if is_valid_in self.entry.validity.now slot then number (integer_at (width_of self.entry.integer) self.entry.integer.signed self.entry.values.now slot) else null) }
+    {
+        if is_valid(self.validity, slot) {
+            Some(number_at(self.integer, self.values, slot))
+        } else {
+            None
+        }
+    }
+}
+
+impl<'a> TextBuffers<'a> {
+    /// The bytes of a string at a slot, where none of them is to be escaped.
+    #[inline]
+    pub(crate) fn plain_text(self, slot: usize) -> Option<&'a [u8]>
+        requires valid { 0 < length self.validity.now → slot < 8 * length self.validity.now }
+        requires long { (slot + 2) * (bits_of self.width / 8) ≤ length self.offsets.now }
+        ensures { IfSome result (λ t. IsPlainText self.entry slot t.now) }
+    {
+        if !is_valid(self.validity, slot) {
+            return None;
+        }
+        let text = span_at(self.width, self.offsets, self.contents, slot);
+        if are_plain(text) { Some(text) } else { None }
+    }
+}
