@@ -1,15 +1,15 @@
 // The columns of a batch, as they are printed: what is asked of a field and of its array is asked once for all slots.
-ghost use Rattle.std.specs.Prelude.{◌≡◌, ◌+◌, ◌*◌, ◌/◌, ◌<◌, ◌≤◌, length, IfOk, IfSome, if◌then◌else◌};
+ghost use Rattle.std.specs.Prelude.{◌≡◌, ◌+◌, ◌*◌, ◌/◌, ◌<◌, ◌≤◌, length, take, IfOk, IfSome, if◌then◌else◌};
 ghost use Rattle.arrow_schema.specs.View.{bits_of, kind_of, column_of};
 ghost use Rattle.cells.specs.Cell.{null, number};
 ghost use Rattle.columns.specs.CellAt.{integer_at};
 ghost use Rattle.columns.specs.View.{view_array, IsNoArray};
 ghost use Rattle.query.specs.inner.ColumnSlots.{IsTextKind, IsTextColumn, IsPlainText, AreBuffers, IsColumn, AreColumns};
+ghost use Rattle.query.specs.inner.Contents.{span_in};
 ghost use Rattle.query.specs.inner.IntegerRows.{number_or_null};
 ghost use Rattle.query.specs.inner.Slots.{array_of, is_valid_in, width_of};
 
-use crate::contents_slots::span_at;
-use crate::integer_slots::{field_integer, number_at};
+use crate::integer_slots::{field_integer, number_at, unsigned_at};
 use crate::plain_text::are_plain;
 use arrow_schema::{BitWidth, DataType, Field, IntegerType};
 use columns::{ArrayView, PlacedArray, array_or};
@@ -31,6 +31,13 @@ pub(crate) struct TextBuffers<'a> {
     validity: &'a [u8],
     offsets: &'a [u8],
     contents: &'a [u8],
+}
+
+/// The first bytes of some.
+#[derive(Clone, Copy)]
+pub(crate) struct FirstBytes<'a> {
+    pub(crate) bytes: &'a [u8],
+    pub(crate) size: usize,
 }
 
 /// The buffers that the values of a column are printed from, where they need not be borrowed.
@@ -164,18 +171,44 @@ impl IntegerBuffers<'_> {
     }
 }
 
+// The bytes of a slot, by these offsets, with those after them.
+#[inline]
+fn first_bytes<'a>(
+    width: BitWidth,
+    offsets: &[u8],
+    contents: &'a [u8],
+    slot: usize,
+) -> FirstBytes<'a>
+    requires { (slot + 2) * (bits_of width / 8) ≤ length offsets.now }
+    ensures within { result.size ≤ length result.bytes.now }
+    ensures bytes { take result.size result.bytes.now ≡ span_in (bits_of width / 8) offsets.now contents.now slot }
+{
+    let start = unsigned_at(width, offsets, slot) as usize;
+    let end = unsigned_at(width, offsets, slot + 1) as usize;
+    let bytes = &contents[start.min(contents.len())..];
+    FirstBytes {
+        bytes,
+        size: end.saturating_sub(start).min(bytes.len()),
+    }
+}
+
 impl<'a> TextBuffers<'a> {
     /// The bytes of a string at a slot, where none of them is to be escaped.
     #[inline]
-    pub(crate) fn plain_text(self, slot: usize) -> Option<&'a [u8]>
+    pub(crate) fn plain_text(self, slot: usize) -> Option<FirstBytes<'a>>
         requires valid { 0 < length self.validity.now → slot < 8 * length self.validity.now }
         requires long { (slot + 2) * (bits_of self.width / 8) ≤ length self.offsets.now }
-        ensures { IfSome result (λ t. IsPlainText self.entry slot t.now) }
+        ensures within { IfSome result (λ t. t.size ≤ length t.bytes.now) }
+        ensures text { IfSome result (λ t. IsPlainText self.entry slot (take t.size t.bytes.now)) }
     {
         if !is_valid(self.validity, slot) {
             return None;
         }
-        let text = span_at(self.width, self.offsets, self.contents, slot);
-        if are_plain(text) { Some(text) } else { None }
+        let text = first_bytes(self.width, self.offsets, self.contents, slot);
+        if are_plain(&text.bytes[..text.size]) {
+            Some(text)
+        } else {
+            None
+        }
     }
 }

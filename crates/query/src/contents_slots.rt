@@ -9,7 +9,7 @@ ghost use Rattle.cells.specs.View.{cell};
 ghost use Rattle.columns.specs.View.{view_array};
 ghost use Rattle.query.specs.Bound.{accepts};
 ghost use Rattle.query.specs.inner.BoundView.{bound_in};
-ghost use Rattle.query.specs.inner.Contents.{IsContentsKind, IsContentsColumn, IsContentsComparison, span_in, contents_hold_in, contents_hold_at, has_contents};
+ghost use Rattle.query.specs.inner.Contents.{IsContentsKind, IsContentsColumn, IsContentsComparison, contents_hold_in, contents_hold_at, has_contents};
 
 use crate::bound::{Bound, Predicate, field_at};
 use crate::integer_slots::unsigned_at;
@@ -93,21 +93,6 @@ pub(crate) fn contents_comparison_of<'a>(
     }
 }
 
-/// The bytes of a slot, by these offsets.
-#[inline]
-pub(crate) fn span_at<'a>(width: BitWidth, offsets: &[u8], contents: &'a [u8], i: usize) -> &'a [u8]
-    requires { (i + 2) * (bits_of width / 8) ≤ length offsets.now }
-    ensures { result.now ≡ span_in (bits_of width / 8) offsets.now contents.now i }
-{
-    let start = unsigned_at(width, offsets, i) as usize;
-    let end = unsigned_at(width, offsets, i + 1) as usize;
-    let span = Span {
-        start,
-        len: end.saturating_sub(start),
-    };
-    bytes_at(contents, span)
-}
-
 impl ContentsComparison<'_> {
     // Whether it holds of these bytes. Where they need only be told apart, their lengths are compared first.
     #[inline]
@@ -131,7 +116,13 @@ impl ContentsComparison<'_> {
         if !validity.is_empty() && !bitmap::get(validity, i) {
             return false;
         }
-        self.accepts(span_at(self.width, offsets, contents, i))
+        let start = unsigned_at(self.width, offsets, i) as usize;
+        let end = unsigned_at(self.width, offsets, i + 1) as usize;
+        let span = Span {
+            start,
+            len: end.saturating_sub(start),
+        };
+        self.accepts(bytes_at(contents, span))
     }
 
     // A bit for each of some slots from one on.

@@ -1,5 +1,5 @@
 // A row as a line of JSON.
-ghost use Rattle.std.specs.Prelude.{◌≡◌, ◌++◌, ◌^◌, ◌<◌, IfOk, OnOk, codes, slice_index};
+ghost use Rattle.std.specs.Prelude.{◌≡◌, ◌++◌, ◌^◌, ◌<◌, ◌≤◌, IfOk, OnOk, codes, length, slice_index, take};
 ghost use Rattle.std.specs.Fmt.{signed_decimal};
 ghost use Rattle.json.specs.Print.{quoted};
 ghost use Rattle.hex.specs.Hex.{encode_lower, lower_digits};
@@ -42,9 +42,30 @@ pub(crate) fn push_number(out: &mut Vec<u8>, number: i128) -> Result<(), AllocEr
 pub(crate) fn push_in_quotes(out: &mut Vec<u8>, bytes: &[u8]) -> Result<(), AllocError>
     ensures { OnOk result (out.new.items ≡ out.old.items ++ (codes "\"" ++ bytes.now ++ codes "\"")) }
 {
-    push_bytes(out, b"\"")?;
-    push_bytes(out, bytes)?;
-    push_bytes(out, b"\"")
+    out.reserve(bytes.len() + 2)?;
+    out.push_reserved(b'"');
+    out.extend_from_slice(bytes)?;
+    out.push_reserved(b'"');
+    Ok(())
+}
+
+/// The same of the first of some bytes, where these are few: 16 are copied, and what is too much is cut off.
+pub(crate) fn push_few_in_quotes(
+    out: &mut Vec<u8>,
+    bytes: &[u8],
+    size: usize,
+) -> Result<(), AllocError>
+    requires long { 16 ≤ length bytes.now }
+    requires few { size ≤ 16 }
+    ensures { OnOk result (out.new.items ≡ out.old.items ++ (codes "\"" ++ take size bytes.now ++ codes "\"")) }
+{
+    out.reserve(18)?;
+    out.push_reserved(b'"');
+    let end = out.len() + size;
+    out.extend_from_slice(&bytes[..16])?;
+    out.truncate(end);
+    out.push_reserved(b'"');
+    Ok(())
 }
 
 // Adds a text that has a byte to be escaped. It is written by itself, since the writer clears all the room that it is given.

@@ -1,5 +1,5 @@
 // The value at a slot of a column of a batch, as JSON. An integer, and a string without an escape, are printed from the bytes of the array: no value is borrowed.
-ghost use Rattle.std.specs.Prelude.{◌≡◌, ◌++◌, ◌<◌, true, OnOk};
+ghost use Rattle.std.specs.Prelude.{◌≡◌, ◌++◌, ◌<◌, ◌≤◌, true, codes, length, take, OnOk};
 ghost use Rattle.arrow_schema.specs.View.{column_of};
 ghost use Rattle.columns.specs.Array.{slots_in};
 ghost use Rattle.columns.specs.Borrowed.{borrowed_cell};
@@ -11,9 +11,10 @@ ghost use Rattle.query.specs.Line.{json_of};
 ghost use Rattle.query.specs.inner.ColumnSlots.{AreBuffers};
 ghost use Rattle.query.specs.inner.IntegerRows.{number_or_null};
 
-use crate::column_slots::{Buffers, ColumnSlots};
+use crate::column_slots::{Buffers, ColumnSlots, FirstBytes};
 use crate::line::{
-    push_array, push_bytes, push_in_quotes, push_number, push_quoted_hex, push_text,
+    push_array, push_bytes, push_few_in_quotes, push_in_quotes, push_number, push_quoted_hex,
+    push_text,
 };
 use columns::{ValueRef, value};
 use std::alloc::{AllocError, Global};
@@ -61,6 +62,18 @@ fn push_other(
     push_borrowed(alloc, out, value(column.field, column.view, slot))
 }
 
+// Adds the first bytes of some between quotes.
+#[inline]
+fn push_first_bytes(out: &mut Vec<u8>, text: FirstBytes<'_>) -> Result<(), AllocError>
+    requires { text.size ≤ length text.bytes.now }
+    ensures { OnOk result (out.new.items ≡ out.old.items ++ (codes "\"" ++ take text.entry.size text.entry.bytes.now ++ codes "\"")) }
+{
+    if text.size <= 16 && text.bytes.len() >= 16 {
+        return push_few_in_quotes(out, text.bytes, text.size);
+    }
+    push_in_quotes(out, &text.bytes[..text.size])
+}
+
 /// Adds the value at a slot.
 pub(crate) fn push_slot(
     alloc: Global,
@@ -77,7 +90,7 @@ pub(crate) fn push_slot(
     match column.buffers {
         Buffers::Integers(buffers) => push_integer(out, buffers.number(slot)),
         Buffers::Texts(buffers) => match buffers.plain_text(slot) {
-            Some(text) => push_in_quotes(out, text),
+            Some(text) => push_first_bytes(out, text),
             None => push_other(alloc, out, column, slot),
         },
         Buffers::Others => push_other(alloc, out, column, slot),

@@ -30,5 +30,5 @@ returns-in-Integers c =
 
 pub returns-in-Some : goal.returns-in-Some
 returns-in-Some c =
-    let P : List ℕ → Type 0 = λ t. OnOk c.push_in_quotes.result (c.push_in_quotes.new.out.items ≡ c.args.out.now.items ++ t) in
-    subst P (plain_printed (column_of c.args.column.now.field.now) (view_array c.args.column.now.view) c.in-Texts.buffers c.args.slot _ (rw c.in-Texts.is at c.requires.buffers) c.in-Some.ensures) c.push_in_quotes.ensures
+    let P : List ℕ → Type 0 = λ t. OnOk c.push_first_bytes.result (c.push_first_bytes.new.out.items ≡ c.args.out.now.items ++ t) in
+    subst P (plain_printed (column_of c.args.column.now.field.now) (view_array c.args.column.now.view) c.in-Texts.buffers c.args.slot _ (rw c.in-Texts.is at c.requires.buffers) c.in-Some.ensures.text) c.push_first_bytes.ensures
