@@ -46,6 +46,8 @@ pub struct KnownEntries<'a> {
     pub(crate) are_new: bool,
     // For how many entries more the slots that were gone through pay.
     pub(crate) paid: usize,
+    // How many entries were named where the slots of a run are begun.
+    pub(crate) named_before: usize,
     pub ghost count: { length places.items ≡ length seen.keys },
     pub ghost distinct: { AreDistinct (map entry_cell seen.keys) },
     pub ghost placed: { HavePlaces places.items named.items } by { Prim.hlevel props },
@@ -188,6 +190,7 @@ impl<'a> KnownEntries<'a> {
             dictionaries: Vec::new(alloc),
             are_new: false,
             paid: 0,
+            named_before: 0,
         }
     }
 
@@ -375,6 +378,7 @@ impl<'a> KnownEntries<'a> {
         ensures seen { seen_cells self.new ≡ seen_cells self.old }
         ensures named { named_cells self.new ≡ named_cells self.old }
     {
+        self.named_before = self.named.len();
         if let Some(i) = self.find(field, array, slots) {
             let known = self.dictionaries.remove(i);
             return Ok(known.numbers);
@@ -417,6 +421,7 @@ impl<'a> KnownEntries<'a> {
             bytes: array.bytes,
             arrays: array.dictionary(),
             numbers,
+            named: self.named.len().saturating_sub(self.named_before),
         })?;
         Ok(())
     }
