@@ -11,6 +11,7 @@ mod Fields
 mod FirstCells
 mod Known
 mod Low
+mod MaskedCodes
 mod MaskedContents
 mod MaskedItems
 mod MaskedLists

@@ -19,7 +19,6 @@ use crate::flat_runs::{build_run_bits, build_run_contents, build_run_nulls, buil
 use crate::known_entries::KnownEntries;
 use crate::masked_contents::build_masked_contents;
 use crate::masked_lists::push_masked_lists;
-use crate::masked_runs::masked_runs;
 use crate::run_fixed_items::{fixed_item_runs, item_mask};
 use crate::run_items::{item_runs, run_list_offsets};
 use crate::run_parts::field_runs;
@@ -30,27 +29,7 @@ use arrow_schema::{DataType, DictSpec, Field};
 use columns::{OffsetWidth, SlotRun};
 use std::alloc::{AllocError, Global};
 
-// Adds the indices of a column with a dictionary, and its entries.
-fn build_coded_runs<'k, 'a: 'k>(
-    alloc: Global,
-    batch: &mut BuiltBatch<'_>,
-    entries: &mut KnownEntries<'k>,
-    field: &'k Field,
-    spec: DictSpec,
-    runs: &[SlotRun<'a>],
-) -> Result<(), AllocError>
-    requires spec { field.now.dictionary ≡ Some spec }
-    requires sound { are_runs_sound (column_of field.now) runs.now ≡ true }
-    requires fits { can_build (column_of field.now) (runs_cells (column_of field.now) runs.now) ≡ true }
-    ensures { OnOk result (batch_in batch.new ≡ with_arrays (batch_in batch.old)
-        (built_at (column_of field.now) (runs_cells (column_of field.now) runs.now))) }
-{
-    let cells = push_run_indices(alloc, batch, entries, field, spec, runs)?;
-    let values = build_values(alloc, &field.data_type, &cells)?;
-    push_dictionary(batch, values)
-}
-
-// The same under a mask.
+// Adds the indices of a column with a dictionary under a mask, and its entries.
 fn build_coded_column<'k, 'a: 'k>(
     alloc: Global,
     batch: &mut BuiltBatch<'_>,
@@ -67,12 +46,9 @@ fn build_coded_column<'k, 'a: 'k>(
     ensures { OnOk result (batch_in batch.new ≡ with_arrays (batch_in batch.old)
         (built_at (column_of field.now) (masked_cells (column_of field.now) mask.now runs.now))) }
 {
-    if mask.is_empty() {
-        return build_coded_runs(alloc, batch, entries, field, spec, runs);
-    }
-    let slots = count_slots(runs)?;
-    let split = masked_runs(alloc, slots, runs, mask)?;
-    build_coded_runs(alloc, batch, entries, field, spec, &split)
+    let cells = push_run_indices(alloc, batch, entries, field, spec, runs, mask)?;
+    let values = build_values(alloc, &field.data_type, &cells)?;
+    push_dictionary(batch, values)
 }
 
 // Lists that stand as they are written.

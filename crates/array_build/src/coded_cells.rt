@@ -4,6 +4,7 @@ ghost use Rattle.std.specs.List.{flat_map, list_all};
 ghost use Rattle.arrow_schema.specs.View.{bits_of, column_of, index_of};
 ghost use Rattle.array_build.specs.Batch.{batch_in, dictionary_in};
 ghost use Rattle.array_build.specs.inner.Coded.{with_dictionary, with_indices};
+ghost use Rattle.array_build.specs.inner.Masked.{IsMask, masked_cells};
 ghost use Rattle.array_build.specs.inner.Nodes.{with_buffer};
 ghost use Rattle.array_build.specs.inner.RunCells.{is_coded};
 ghost use Rattle.array_build.specs.inner.Runs.{runs_bits};
@@ -69,8 +70,8 @@ fn room_for(alloc: Global, width: BitWidth, slots: usize) -> Result<Vec<u8>, All
     }
 }
 
-// Adds the node, the validity bitmap and the indices of the cells of runs that have n slots, and gives the cells of the entries, of which there are
-// none before.
+// Adds the node, the validity bitmap and the indices of the cells of runs that have n slots, under a mask, and gives the cells of the entries, of which
+// there are none before.
 fn push_codes<'a>(
     alloc: Global,
     batch: &mut BuiltBatch<'_>,
@@ -79,14 +80,16 @@ fn push_codes<'a>(
     field: &'a Field,
     spec: DictSpec,
     runs: &[SlotRun<'a>],
+    mask: &[u8],
 ) -> Result<Vec<ValueRef<'a>>, AllocError>
     requires none { entries.old.named.items ≡ [] }
     requires count { slots ≡ length (runs_bits runs.now) }
     requires spec { field.now.dictionary ≡ Some spec }
     requires sound { are_runs_sound (column_of field.now) runs.now ≡ true }
-    requires coded { list_all is_coded (runs_cells (column_of field.now) runs.now) ≡ true }
-    ensures entries { IfOk result (λ listed. map borrowed_cell listed.items ≡ entries_of (runs_cells (column_of field.now) runs.now)) }
-    ensures batch { OnOk result (batch_in batch.new ≡ with_indices (batch_in batch.old) (index_of spec) (runs_cells (column_of field.now) runs.now)) }
+    requires mask { IsMask mask.now runs.now }
+    requires coded { list_all is_coded (masked_cells (column_of field.now) mask.now runs.now) ≡ true }
+    ensures entries { IfOk result (λ listed. map borrowed_cell listed.items ≡ entries_of (masked_cells (column_of field.now) mask.now runs.now)) }
+    ensures batch { OnOk result (batch_in batch.new ≡ with_indices (batch_in batch.old) (index_of spec) (masked_cells (column_of field.now) mask.now runs.now)) }
 {
     let mut indices = room_for(alloc, spec.index.width, slots)?;
     let mut valid = vec![in alloc; false; slots]?;
@@ -98,6 +101,7 @@ fn push_codes<'a>(
         field,
         spec,
         runs,
+        mask,
     )?;
     push_bit_slots(alloc, batch, &valid)?;
     push_buffer(batch, indices)?;
@@ -112,16 +116,18 @@ pub(crate) fn push_run_indices<'a>(
     field: &'a Field,
     spec: DictSpec,
     runs: &[SlotRun<'a>],
+    mask: &[u8],
 ) -> Result<Vec<ValueRef<'a>>, AllocError>
     requires spec { field.now.dictionary ≡ Some spec }
     requires sound { are_runs_sound (column_of field.now) runs.now ≡ true }
-    requires coded { list_all is_coded (runs_cells (column_of field.now) runs.now) ≡ true }
-    ensures entries { IfOk result (λ entries. map borrowed_cell entries.items ≡ entries_of (runs_cells (column_of field.now) runs.now)) }
-    ensures batch { OnOk result (batch_in batch.new ≡ with_indices (batch_in batch.old) (index_of spec) (runs_cells (column_of field.now) runs.now)) }
+    requires mask { IsMask mask.now runs.now }
+    requires coded { list_all is_coded (masked_cells (column_of field.now) mask.now runs.now) ≡ true }
+    ensures entries { IfOk result (λ entries. map borrowed_cell entries.items ≡ entries_of (masked_cells (column_of field.now) mask.now runs.now)) }
+    ensures batch { OnOk result (batch_in batch.new ≡ with_indices (batch_in batch.old) (index_of spec) (masked_cells (column_of field.now) mask.now runs.now)) }
 {
     entries.end();
     let slots = count_slots(runs)?;
-    let cells = push_codes(alloc, batch, entries, slots, field, spec, runs)?;
+    let cells = push_codes(alloc, batch, entries, slots, field, spec, runs, mask)?;
     entries.end();
     Ok(cells)
 }
@@ -153,6 +159,7 @@ pub fn count_entries<'a>(
         field,
         spec,
         runs,
+        &[],
     )?;
     Ok(entries.count())
 }

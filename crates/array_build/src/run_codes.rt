@@ -1,10 +1,11 @@
 // The places of cells among the entries of a dictionary, of runs of slots. An entry of an array's own dictionary is looked up once, and then known by its
 // number.
-ghost use Rattle.std.specs.Prelude.{◌≡◌, ◌≤◌, ◌<◌, ◌+◌, ◌-◌, ◌*◌, ◌/◌, ◌++◌, List, true, false, OnOk, IfOk, IfSome, Some, drop, get_or, is_some, length, replicate, set, take};
+ghost use Rattle.std.specs.Prelude.{◌≡◌, ◌≢◌, ◌≤◌, ◌<◌, ◌+◌, ◌-◌, ◌*◌, ◌/◌, ◌++◌, List, true, false, OnOk, IfOk, IfSome, Some, drop, get_or, is_some, length, replicate, set, take};
 ghost use Rattle.std.specs.List.{list_all};
 ghost use Rattle.arrow_schema.specs.View.{bits_of, column_of, index_of};
 ghost use Rattle.array_build.specs.inner.Codes.{AreCodedSlots, AreKnown, AreSetFrom, HasPlace, IsCodedSlot, IsNumber, IsPartWritten, IsPut, IsWritten, code_in, coded_cell, known_at, noted, own_entries, sized_code};
 ghost use Rattle.array_build.specs.inner.Named.{named_cells, seen_cells};
+ghost use Rattle.array_build.specs.inner.Masked.{IsMask, masked, masked_cells, part_bits};
 ghost use Rattle.array_build.specs.inner.RunCells.{is_coded};
 ghost use Rattle.array_build.specs.inner.Runs.{run_bits, runs_bits};
 ghost use Rattle.columns.specs.Runs.{are_runs_sound, is_run_sound, run_cells, runs_cells};
@@ -16,6 +17,7 @@ ghost use Rattle.cells.specs.Cell.{Cell};
 
 use crate::dictionary_cells::put_code;
 use crate::known_entries::KnownEntries;
+use crate::masked_codes::put_part_codes;
 use crate::run_cells::slot_cell;
 use crate::run_slots::run_len;
 use crate::stamped_numbers::StampedNumbers;
@@ -433,8 +435,8 @@ fn put_codes_of_size<'a, const SIZE: usize>(
     }
 }
 
-// The same, by loops for each size of an index.
-fn put_slot_codes<'a>(
+/// The same, by loops for each size of an index.
+pub(crate) fn put_slot_codes<'a>(
     entries: &mut KnownEntries<'a>,
     known: &mut StampedNumbers,
     indices: &mut [u8],
@@ -469,7 +471,7 @@ fn put_slot_codes<'a>(
     }
 }
 
-// The same of some slots of the array of a run.
+// The same of some slots of the array of a run, under a mask.
 fn put_array_codes<'a>(
     alloc: Global,
     entries: &mut KnownEntries<'a>,
@@ -480,34 +482,29 @@ fn put_array_codes<'a>(
     array: ArrayView<'a>,
     from: usize,
     len: usize,
+    mask: &[u8],
+    at: usize,
 ) -> Result<(), AllocError>
     requires spec { field.now.dictionary ≡ Some spec }
     requires sound { is_run_sound (column_of field.now) (Slots array from len) ≡ true }
-    requires coded { list_all is_coded (run_cells (column_of field.now) (Slots array from len)) ≡ true }
+    requires coded { list_all is_coded (masked (part_bits mask.now at len) (run_cells (column_of field.now) (Slots array from len))) ≡ true }
     requires room { length indices.old ≡ bits_of spec.index.width / 8 * len }
     requires places { length valid.old ≡ len }
+    requires counted { at + len < 18446744073709551616 }
+    requires long { length mask.now ≢ 0 → at + len ≤ 8 * length mask.now }
     ensures { OnOk result (IsWritten (bits_of spec.index.width / 8) (named_cells entries.old) (named_cells entries.new) indices.new valid.new
-        (run_cells (column_of field.now) (Slots array.entry from len))) }
+        (masked (part_bits mask.now at len) (run_cells (column_of field.now) (Slots array.entry from len)))) }
 {
-    // a number of the code is below 2^64, so that the sum is too
-    let _slots = array.slots();
     let mut known = entries.take_numbers(alloc, field, array, len)?;
     let slots = CodedSlots::new(spec, array);
-    put_slot_codes(
-        entries,
-        &mut known,
-        indices,
-        valid,
-        field,
-        slots,
-        from,
-        from + len,
+    put_part_codes(
+        entries, &mut known, indices, valid, field, slots, from, len, mask, at,
     )?;
     entries.keep_numbers(field, array, known)
 }
 
-// Zeros stand for the indices of nulls.
-fn put_null_codes(indices: &mut [u8], valid: &mut [bool])
+/// Zeros stand for the indices of nulls.
+pub(crate) fn put_null_codes(indices: &mut [u8], valid: &mut [bool])
     ensures indices { indices.new ≡ replicate (length indices.old) 0 }
     ensures valid { valid.new ≡ replicate (length valid.old) false }
 {
@@ -524,19 +521,23 @@ fn put_run_codes<'a>(
     field: &'a Field,
     spec: DictSpec,
     run: &SlotRun<'a>,
+    mask: &[u8],
+    at: usize,
 ) -> Result<(), AllocError>
     requires spec { field.now.dictionary ≡ Some spec }
     requires sound { is_run_sound (column_of field.now) run.now ≡ true }
-    requires coded { list_all is_coded (run_cells (column_of field.now) run.now) ≡ true }
+    requires coded { list_all is_coded (masked (part_bits mask.now at (length (run_bits run.now))) (run_cells (column_of field.now) run.now)) ≡ true }
     requires room { length indices.old ≡ bits_of spec.index.width / 8 * length (run_bits run.now) }
     requires places { length valid.old ≡ length (run_bits run.now) }
+    requires counted { at + length (run_bits run.now) < 18446744073709551616 }
+    requires long { length mask.now ≢ 0 → at + length (run_bits run.now) ≤ 8 * length mask.now }
     ensures { OnOk result (IsWritten (bits_of spec.index.width / 8) (named_cells entries.old) (named_cells entries.new) indices.new valid.new
-        (run_cells (column_of field.now) run.now)) }
+        (masked (part_bits mask.now at (length (run_bits run.now))) (run_cells (column_of field.now) run.now))) }
 {
     match run {
         SlotRun::Slots { array, from, len } => {
             put_array_codes(
-                alloc, entries, indices, valid, field, spec, *array, *from, *len,
+                alloc, entries, indices, valid, field, spec, *array, *from, *len, mask, at,
             )
         }
         SlotRun::Nulls(_) => {
@@ -546,8 +547,8 @@ fn put_run_codes<'a>(
     }
 }
 
-/// Writes the indices of the cells of runs, each the place of a cell among the entries of the dictionary, to which they are added, and whether each slot has
-/// one, where there is room for just these.
+/// Writes the indices of the cells of runs under a mask, each the place of a cell among the entries of the dictionary, to which they are added, and whether
+/// each slot has one, where there is room for just these.
 pub(crate) fn put_codes<'a>(
     alloc: Global,
     entries: &mut KnownEntries<'a>,
@@ -556,14 +557,16 @@ pub(crate) fn put_codes<'a>(
     field: &'a Field,
     spec: DictSpec,
     runs: &[SlotRun<'a>],
+    mask: &[u8],
 ) -> Result<(), AllocError>
     requires spec { field.now.dictionary ≡ Some spec }
     requires sound { are_runs_sound (column_of field.now) runs.now ≡ true }
-    requires coded { list_all is_coded (runs_cells (column_of field.now) runs.now) ≡ true }
+    requires mask { IsMask mask.now runs.now }
+    requires coded { list_all is_coded (masked_cells (column_of field.now) mask.now runs.now) ≡ true }
     requires room { length indices.old ≡ bits_of spec.index.width / 8 * length (runs_bits runs.now) }
     requires places { length valid.old ≡ length (runs_bits runs.now) }
     ensures { OnOk result (IsWritten (bits_of spec.index.width / 8) (named_cells entries.old) (named_cells entries.new) indices.new valid.new
-        (runs_cells (column_of field.now) runs.now)) }
+        (masked_cells (column_of field.now) mask.now runs.now)) }
 {
     // a number of the code is below 2^64, so that all places are too
     let _room = indices.len();
@@ -573,7 +576,8 @@ pub(crate) fn put_codes<'a>(
     for run in runs {
         let end = at + run_len(run);
         let part = &mut indices[width * at..width * end];
-        put_run_codes(alloc, entries, part, &mut valid[at..end], field, spec, run)?;
+        let bits = &mut valid[at..end];
+        put_run_codes(alloc, entries, part, bits, field, spec, run, mask, at)?;
         at = end;
     }
     Ok(())

@@ -1,10 +1,10 @@
 -- Cells under a mask: below a struct or a fixed list that is null each cell is null, whatever stands there.
-use Rattle.std.specs.Prelude.{◌≡◌, ℕ, Bool, true, false, ◌&&◌, ◌==◌, List, [], ◌∷◌, ◌++◌, length, map, replicate, None, if◌then◌else◌}
+use Rattle.std.specs.Prelude.{◌≡◌, ℕ, Bool, true, false, ◌&&◌, ◌==◌, List, [], ◌∷◌, length, map, replicate, None, if◌then◌else◌}
 use Rattle.std.specs.List.{flat_map, range_with_len}
 use Rattle.arrow_schema.specs.Column.{Column, Columns, Kind}
 use Rattle.bitmap.specs.Bits.{bit}
 use Rattle.cells.specs.Cell.{Cell, null}
-use Rattle.columns.specs.Runs.{are_runs_sound, is_run_sound, run_cells, runs_cells}
+use Rattle.columns.specs.Runs.{runs_cells}
 use Rattle.columns.specs.declared.slot_runs.SlotRun.{SlotRun}
 use Rattle.array_build.specs.Batch.{batch_in, built_at, plain_column, with_arrays}
 use Rattle.array_build.specs.declared.batch.BuiltBatch.{BuiltBatch}
@@ -45,6 +45,10 @@ are_below (false ∷ bits) (o ∷ others) = are_below bits others
 unfoldable pub bitmap_bits : List ℕ → (n : ℕ) → List Bool
 bitmap_bits mask n = if length mask == 0 then replicate n true else mask_bits mask 0 n
 
+-- n bits of such a mask, from a place on
+unfoldable pub part_bits : List ℕ → (at n : ℕ) → List Bool
+part_bits mask at n = if length mask == 0 then replicate n true else mask_bits mask at n
+
 -- the bits of the slots of runs
 abbrev pub slots_mask : (mask : List ℕ) → List SlotRun → List Bool
 slots_mask mask runs = bitmap_bits mask (length (runs_bits runs))
@@ -72,15 +76,3 @@ masked_slots mask runs = joined (slots_mask mask runs) (runs_bits runs)
 -- a batch with the array of such cells, and all below it, after what it had
 abbrev pub AddsMasked : Kind → List SlotRun → (mask : List ℕ) → (old new : BuiltBatch) → Type 0
 AddsMasked kind runs mask old new = batch_in new ≡ with_arrays (batch_in old) (built_at (plain_column kind None) (masked_kind kind mask runs))
-
--- ---- runs under a mask, split where its bits change
-
--- a run more, under these bits
-pub record IsMaskedAdded (old new : List SlotRun) (run : SlotRun) (bits : List Bool) : Type 0 where
-  pub sound : (c : Column) → is_run_sound c run ≡ true → are_runs_sound c old ≡ true → are_runs_sound c new ≡ true
-  pub cells : (c : Column) → runs_cells c new ≡ runs_cells c old ++ masked bits (run_cells c run)
-
--- in any column where the others can be looked up they can too, and have the cells that these have under the mask
-abbrev pub AreMasked : (mask : List ℕ) → (split runs : List SlotRun) → Type 0
-AreMasked mask split runs = (c : Column) → are_runs_sound c runs ≡ true
-    → (are_runs_sound c split ≡ true) × (runs_cells c split ≡ masked (mask_bits mask 0 (length (runs_bits runs))) (runs_cells c runs))

@@ -1,55 +1,35 @@
-use Rattle.std.proofs.Common.{◌≡◌, ◌∙◌, List, ap, arith, length, sym}
-use Rattle.std.proofs.lemmas.Bool.{eqb-false, eqb-true}
-use Rattle.std.proofs.lemmas.Result.{on_ok_weaker}
-use Rattle.array_build.proofs.MaskedRuns.{cells_with, cells_without, mask_long}
+use Rattle.std.specs.Prelude.{OnOk, None, is_some}
+use Rattle.std.proofs.Common.{◌≡◌, ◌∙◌, List, ap, map, subst}
+use Rattle.arrow_schema.specs.Column.{Kind}
+use Rattle.arrow_schema.specs.View.{column_of, index_of, kind_of}
+use Rattle.array_build.proofs.Coded.{dictionary_built, entries_can}
+use Rattle.array_build.proofs.CodedRuns.{field_coded}
+use Rattle.array_build.proofs.Fields.{dictionary_can_be_built, dictionary_field}
 use Rattle.array_build.proofs.by_runs.build_coded_column.Goals as goal
-use Rattle.array_build.specs.Batch.{batch_in, built_at, with_arrays}
-use Rattle.arrow_schema.specs.Column.{Column}
-use Rattle.arrow_schema.specs.View.{column_of}
+use Rattle.array_build.specs.Batch.{PlainBatch, batch_in, dictionary_in, plain_column}
+use Rattle.array_build.specs.inner.Masked.{masked_cells}
 use Rattle.cells.specs.Cell.{Cell}
 use Rattle.columns.specs.Buildable.{can_build}
-use Rattle.columns.specs.Runs.{are_runs_sound, runs_cells}
-use Rattle.columns.specs.declared.slot_runs.SlotRun.{SlotRun}
-use Rattle.columns.specs.laws.ReadableRuns.{sound_have_validity}
+use Rattle.values.specs.Borrowed.{borrowed_cell}
 
-pub build_coded_runs-requires-clause-fits : goal.build_coded_runs-requires-clause-fits
-build_coded_runs-requires-clause-fits c =
-    let col : Column = column_of c.args.field.now in
-    let none : length c.args.mask.now ≡ 0 = eqb-true _ 0 (sym c.is_empty.ensures ∙ c.if-is_empty.true) in
-    ap (can_build col) (sym (cells_without col c.args.mask.now c.args.runs.now none)) ∙ c.requires.fits
+pub push_run_indices-requires-clause-coded : goal.push_run_indices-requires-clause-coded
+push_run_indices-requires-clause-coded c =
+    field_coded c.args.field.now (masked_cells (column_of c.args.field.now) c.args.mask.now c.args.runs.now) (ap is_some c.requires.spec) c.requires.fits
 
-pub returns-then-is_empty : goal.returns-then-is_empty
-returns-then-is_empty c =
-    let col : Column = column_of c.args.field.now in
-    let none : length c.args.mask.now ≡ 0 = eqb-true _ 0 (sym c.is_empty.ensures ∙ c.if-is_empty.true) in
-    on_ok_weaker c.build_coded_runs.result
-    (λ h. h ∙ ap (λ (cells : List Cell). with_arrays (batch_in c.args.batch.now) (built_at col cells)) (sym (cells_without col c.args.mask.now c.args.runs.now none)))
-    c.build_coded_runs.ensures
-
-pub masked_runs-requires : goal.masked_runs-requires
-masked_runs-requires c =
-    let long = mask_long c.args.mask.now c.args.runs.now c.requires.mask (eqb-false _ 0 (sym c.is_empty.ensures ∙ c.if-is_empty.false)) in
-    record {
-      count = c.in_ok-slots.ensures;
-      validity = sound_have_validity (column_of c.args.field.now) c.args.runs.now c.requires.sound;
-      long = omega (arith, long, c.in_ok-slots.ensures);
-    }
-
-pub build_coded_runs-requires-2 : goal.build_coded_runs-requires-2
-build_coded_runs-requires-2 c =
-    let col : Column = column_of c.args.field.now in
-    let some = eqb-false _ 0 (sym c.is_empty.ensures ∙ c.if-is_empty.false) in
-    let split = cells_with col c.args.mask.now c.in_ok-split.split.items c.args.runs.now some c.requires.sound c.in_ok-split.ensures in
-    record {
-      spec = c.requires.spec;
-      sound = ap (are_runs_sound col) c.deref.ensures.value ∙ split.0;
-      fits = ap (λ (runs : List SlotRun). can_build col (runs_cells col runs)) c.deref.ensures.value ∙ ap (can_build col) split.1 ∙ c.requires.fits;
-    }
+pub build_values-requires : goal.build_values-requires
+build_values-requires c =
+    let kind : Kind = kind_of c.args.field.now.data_type in
+    let cells : List Cell = masked_cells (column_of c.args.field.now) c.args.mask.now c.args.runs.now in
+    let entries = ap (map borrowed_cell) c.deref.ensures.value ∙ c.in_ok-cells.ensures.entries in
+    ap (can_build (plain_column kind None)) entries
+    ∙ entries_can kind (index_of c.args.spec) cells (dictionary_can_be_built c.args.field.now c.args.spec cells c.requires.spec c.requires.fits)
 
 pub returns : goal.returns
 returns c =
-    let col : Column = column_of c.args.field.now in
-    let some = eqb-false _ 0 (sym c.is_empty.ensures ∙ c.if-is_empty.false) in
-    let split = cells_with col c.args.mask.now c.in_ok-split.split.items c.args.runs.now some c.requires.sound c.in_ok-split.ensures in
-    let cells = ap (runs_cells col) c.deref.ensures.value ∙ split.1 in
-    on_ok_weaker c.build_coded_runs-2.result (λ h. h ∙ ap (λ (xs : List Cell). with_arrays (batch_in c.args.batch.now) (built_at col xs)) cells) c.build_coded_runs-2.ensures
+    let kind : Kind = kind_of c.args.field.now.data_type in
+    let cells : List Cell = masked_cells (column_of c.args.field.now) c.args.mask.now c.args.runs.now in
+    let entries = ap (map borrowed_cell) c.deref.ensures.value ∙ c.in_ok-cells.ensures.entries in
+    let built = dictionary_built kind (index_of c.args.spec) cells (map borrowed_cell c.deref.result.now) (batch_in c.args.batch.now) (batch_in c.push_run_indices.new.batch)
+    (dictionary_in c.in_ok-values.values) entries c.in_ok-cells.ensures.batch c.in_ok-values.ensures
+    ∙ dictionary_field (batch_in c.args.batch.now) c.args.field.now c.args.spec cells c.requires.spec in
+    subst (λ (p : PlainBatch). OnOk c.push_dictionary.result (batch_in c.push_dictionary.new.batch ≡ p)) built c.push_dictionary.ensures

@@ -12,13 +12,13 @@ use Rattle.array_build.specs.Batch.{PlainBatch, batch_in}
 use Rattle.array_build.specs.inner.Codes.{IsWritten}
 use Rattle.array_build.specs.inner.Nodes.{with_buffer}
 use Rattle.array_build.specs.inner.Runs.{with_run_slots}
-use Rattle.columns.specs.Runs.{runs_cells}
+use Rattle.array_build.specs.inner.Masked.{masked_cells}
 use Rattle.cells.specs.Cell.{Cell}
 use Rattle.values.specs.Borrowed.{borrowed_cell}
 
 pub returns-clause-entries : goal.returns-clause-entries
 returns-clause-entries c =
-    let cells : List Cell = runs_cells (column_of c.args.field.now) c.args.runs.now in
+    let cells : List Cell = masked_cells (column_of c.args.field.now) c.args.mask.now c.args.runs.now in
     let index : Index = index_of c.args.spec in
     let es : List Cell = named_cells c.put_codes.new.entries in
     let none : named_cells c.args.entries.now ≡ [] = ap (cells_numbered (seen_cells c.args.entries.now)) c.requires.none in
@@ -28,7 +28,7 @@ returns-clause-entries c =
 
 pub returns-clause-batch : goal.returns-clause-batch
 returns-clause-batch c =
-    let cells : List Cell = runs_cells (column_of c.args.field.now) c.args.runs.now in
+    let cells : List Cell = masked_cells (column_of c.args.field.now) c.args.mask.now c.args.runs.now in
     let p : PlainBatch = batch_in c.args.batch.now in
     let index : Index = index_of c.args.spec in
     let es : List Cell = named_cells c.put_codes.new.entries in

@@ -1,6 +1,6 @@
 use Rattle.std.specs.Prelude.{Some, get_or}
 use Rattle.std.specs.List.{list_all}
-use Rattle.std.proofs.Common.{◌≡◌, ◌≤◌, ◌+◌, ◌-◌, ◌/◌, ◌∙◌, ℕ, Bool, List, arith, ap, refl, subst, sym}
+use Rattle.std.proofs.Common.{◌≤◌, ◌+◌, ◌/◌, ◌∙◌, ℕ, Bool, List, arith, ap, subst, sym}
 use Rattle.std.proofs.lemmas.Bool.{and_parts, leb-true}
 use Rattle.std.proofs.lemmas.Result.{on_ok_weaker}
 use Rattle.arrow_schema.specs.Column.{Column}
@@ -10,9 +10,8 @@ use Rattle.array_build.specs.inner.Named.{named_cells, seen_cells}
 use Rattle.array_build.proofs.CodedRuns.{long_buffers}
 use Rattle.array_build.proofs.run_codes.put_array_codes.Goals as goal
 use Rattle.array_build.specs.inner.Codes.{IsWritten, own_entries}
+use Rattle.array_build.specs.inner.Masked.{masked, part_bits}
 use Rattle.array_build.specs.inner.RunCells.{is_coded}
-use Rattle.columns.specs.Runs.{run_cells}
-use Rattle.columns.specs.declared.slot_runs.SlotRun.TheVariants.{Slots}
 use Rattle.cells.specs.Cell.{Cell, null}
 use Rattle.cells.specs.Dictionary.{is_entry}
 use Rattle.columns.specs.Array.{slots_in}
@@ -33,29 +32,27 @@ new-slots-requires-clause-long c =
     let sound = and_parts (is_sound col (view_array c.args.array)) _ c.requires.sound in
     (long_buffers c.args.field.now c.args.spec (view_array c.args.array) c.requires.spec sound.0).1
 
--- the slots are those of the run
-same_slots : (col : Column) (v w : ArrayView) (from len to : ℕ) → v ≡ w → to ≡ from + len
-    → cells_from (cell_at col (view_array v)) from (to - from) ≡ run_cells col (Slots w from len)
-same_slots col v w from len to e end =
-    let size : to - from ≡ len = omega (arith, end) in
-    ap (λ (u : ArrayView). cells_from (cell_at col (view_array u)) from (to - from)) e
-    ∙ ap (cells_from (cell_at col (view_array w)) from) size
+pub put_part_codes-requires-clause-spec : goal.put_part_codes-requires-clause-spec
+put_part_codes-requires-clause-spec c = c.requires.spec ∙ ap (λ (d : DictSpec). Some d) (sym c.new-slots.ensures.spec)
 
-pub put_slot_codes-requires-clause-slots : goal.put_slot_codes-requires-clause-slots
-put_slot_codes-requires-clause-slots c =
+pub put_part_codes-requires-clause-sound : goal.put_part_codes-requires-clause-sound
+put_part_codes-requires-clause-sound c =
     let col : Column = column_of c.args.field.now in
-    let sound = and_parts (is_sound col (view_array c.args.array)) _ c.requires.sound in
-    let most : c.args.from + c.args.len ≤ slots_in (view_array c.args.array) = leb-true _ _ sound.1 in
-    let same = c.new-slots.ensures.view in
-    record {
-      spec = c.requires.spec ∙ ap (λ (d : DictSpec). Some d) (sym c.new-slots.ensures.spec);
-      sound = ap (λ (v : ArrayView). is_sound col (view_array v)) same ∙ sound.0;
-      within = omega (arith, most, ap (λ (v : ArrayView). slots_in (view_array v)) same);
-      coded = ap (list_all is_coded) (same_slots col c.new-slots.result.view c.args.array c.args.from c.args.len _ same refl) ∙ c.requires.coded;
-    }
+    ap (λ (v : ArrayView). is_sound col (view_array v)) c.new-slots.ensures.view ∙ (and_parts (is_sound col (view_array c.args.array)) _ c.requires.sound).0
 
-pub put_slot_codes-requires-clause-known : goal.put_slot_codes-requires-clause-known
-put_slot_codes-requires-clause-known c = λ n k some.
+pub put_part_codes-requires-clause-within : goal.put_part_codes-requires-clause-within
+put_part_codes-requires-clause-within c =
+    let sound = and_parts (is_sound (column_of c.args.field.now) (view_array c.args.array)) _ c.requires.sound in
+    let most : c.args.from + c.args.len ≤ slots_in (view_array c.args.array) = leb-true _ _ sound.1 in
+    omega (arith, most, ap (λ (v : ArrayView). slots_in (view_array v)) c.new-slots.ensures.view)
+
+pub put_part_codes-requires-clause-coded : goal.put_part_codes-requires-clause-coded
+put_part_codes-requires-clause-coded c =
+    let bits : List Bool = part_bits c.args.mask.now c.args.at c.args.len in
+    ap (λ (v : ArrayView). list_all is_coded (masked bits (cells_from (cell_at (column_of c.args.field.now) (view_array v)) c.args.from c.args.len))) c.new-slots.ensures.view ∙ c.requires.coded
+
+pub put_part_codes-requires-clause-known : goal.put_part_codes-requires-clause-known
+put_part_codes-requires-clause-known c = λ n k some.
     let seen : List Cell = seen_cells c.args.entries.now in
     ap (λ (xs : List Cell). is_entry (get_or (own_entries c.args.field.now c.new-slots.result.view) n null) (get_or xs k null)) c.in_ok-known.ensures.seen
     ∙ ap (λ (v : ArrayView). is_entry (get_or (own_entries c.args.field.now v) n null) (get_or seen k null)) c.new-slots.ensures.view
@@ -63,25 +60,26 @@ put_slot_codes-requires-clause-known c = λ n k some.
 
 pub keep_numbers-requires : goal.keep_numbers-requires
 keep_numbers-requires c = λ n k some.
-    let seen : List Cell = seen_cells c.put_slot_codes.new.entries in
+    let seen : List Cell = seen_cells c.put_part_codes.new.entries in
     ap (λ (v : ArrayView). is_entry (get_or (own_entries c.args.field.now v) n null) (get_or seen k null)) (sym c.new-slots.ensures.view)
-    ∙ c.in_ok-put_slot_codes.ensures.known n k some
+    ∙ c.in_ok-put_part_codes.ensures.known n k some
 
 pub returns : goal.returns
 returns c =
     let col : Column = column_of c.args.field.now in
     let es : List Cell = named_cells c.args.entries.now in
-    let after : List Cell = named_cells c.put_slot_codes.new.entries in
-    let indices : List ℕ = c.put_slot_codes.new.indices in
-    let valid : List Bool = c.put_slot_codes.new.valid in
-    let own : List Cell = run_cells col (Slots c.args.array c.args.from c.args.len) in
-    let same = same_slots col c.new-slots.result.view c.args.array c.args.from c.args.len _ c.new-slots.ensures.view refl in
+    let after : List Cell = named_cells c.put_part_codes.new.entries in
+    let indices : List ℕ = c.put_part_codes.new.indices in
+    let valid : List Bool = c.put_part_codes.new.valid in
+    let bits : List Bool = part_bits c.args.mask.now c.args.at c.args.len in
+    let cells : ArrayView → List Cell = λ v. masked bits (cells_from (cell_at col (view_array v)) c.args.from c.args.len) in
+    let own : List Cell = cells c.args.array in
     let size = ap (λ (d : DictSpec). bits_of d.index.width / 8) c.new-slots.ensures.spec in
     let written : IsWritten (bits_of c.args.spec.index.width / 8) es after indices valid own =
     subst (λ (n : ℕ). IsWritten n es after indices valid own) size
-    (subst (λ (cs : List Cell). IsWritten (bits_of c.new-slots.result.spec.index.width / 8) es after indices valid cs) same
-    (subst (λ (xs : List Cell). IsWritten (bits_of c.new-slots.result.spec.index.width / 8) xs after indices valid
-    (cells_from (cell_at col (view_array c.new-slots.result.view)) c.args.from (c.args.from + c.args.len - c.args.from))) c.in_ok-known.ensures.named c.in_ok-put_slot_codes.ensures.written)) in
+    (subst (λ (v : ArrayView). IsWritten (bits_of c.new-slots.result.spec.index.width / 8) es after indices valid (cells v)) c.new-slots.ensures.view
+    (subst (λ (xs : List Cell). IsWritten (bits_of c.new-slots.result.spec.index.width / 8) xs after indices valid (cells c.new-slots.result.view)) c.in_ok-known.ensures.named
+    c.in_ok-put_part_codes.ensures.written)) in
     on_ok_weaker c.keep_numbers.result
     (λ kept. subst (λ (xs : List Cell). IsWritten (bits_of c.args.spec.index.width / 8) es xs indices valid own) (sym kept) written)
     c.keep_numbers.ensures.named

@@ -5,17 +5,19 @@ use Rattle.array_build.specs.inner.Named.{named_cells}
 use Rattle.array_build.specs.inner.Codes.{IsPartWritten}
 use Rattle.array_build.specs.inner.RunCells.{is_coded}
 use Rattle.array_build.specs.inner.Runs.{runs_bits}
-use Rattle.columns.specs.Runs.{are_runs_sound, runs_cells}
+use Rattle.array_build.proofs.MaskedCodes.{cells_behind}
+use Rattle.array_build.specs.inner.Masked.{masked_cells}
+use Rattle.columns.specs.Runs.{are_runs_sound}
 use Rattle.array_build.proofs.run_codes.put_codes.Given as goal
 
 -- what is written so far, and the cells of the other runs
 abbrev pub invariant-loop-run : goal.invariant-loop-run
 invariant-loop-run l =
-    let left = runs_cells (column_of l.field) (drop l.run-index l.runs) in
+    let left = cells_behind (column_of l.field) l.mask l.at (drop l.run-index l.runs) in
     record {
       sound : are_runs_sound (column_of l.field) (drop l.run-index l.runs) ≡ true;
       coded : list_all is_coded left ≡ true;
       count : l.at + length (runs_bits (drop l.run-index l.runs)) ≡ length (runs_bits l.runs);
-      written : IsPartWritten (bits_of l.spec.index.width / 8) (named_cells l.fn.entries) (runs_cells (column_of l.field) l.runs) (named_cells l.entries) left
+      written : IsPartWritten (bits_of l.spec.index.width / 8) (named_cells l.fn.entries) (masked_cells (column_of l.field) l.mask l.runs) (named_cells l.entries) left
           l.indices l.valid l.at;
     }
