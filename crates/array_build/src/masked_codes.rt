@@ -1,9 +1,9 @@
 // The places of cells among the entries of a dictionary, of slots under a mask: there are nulls where a bit is not set, whatever stands there.
-ghost use Rattle.std.specs.Prelude.{◌≡◌, ◌≢◌, ◌≤◌, ◌<◌, ◌+◌, ◌-◌, ◌*◌, ◌/◌, true, OnOk, Some, length, replicate};
+ghost use Rattle.std.specs.Prelude.{◌≡◌, ◌≢◌, ◌≤◌, ◌<◌, ◌+◌, ◌-◌, ◌*◌, ◌/◌, ℕ, true, OnOk, Some, length, replicate};
 ghost use Rattle.std.specs.List.{list_all};
 ghost use Rattle.arrow_schema.specs.View.{bits_of, column_of};
 ghost use Rattle.array_build.specs.inner.Codes.{AreCodedSlots, AreKnown, IsWritten, coded_cell, own_entries};
-ghost use Rattle.array_build.specs.inner.Masked.{mask_bits, masked, part_bits};
+ghost use Rattle.array_build.specs.inner.Masked.{masked, part_bit, part_bits};
 ghost use Rattle.array_build.specs.inner.Named.{named_cells, seen_cells};
 ghost use Rattle.array_build.specs.inner.RunCells.{is_coded};
 ghost use Rattle.columns.specs.Array.{slots_in};
@@ -48,53 +48,25 @@ fn put_alike_codes<'a>(
     }
 }
 
-// The same of slots whose bits stand in a mask from a place on, by its runs of equal bits.
-fn put_masked_codes<'a>(
-    entries: &mut KnownEntries<'a>,
-    known: &mut StampedNumbers,
-    indices: &mut [u8],
-    valid: &mut [bool],
-    field: &'a Field,
-    slots: CodedSlots<'a>,
-    from: usize,
-    len: usize,
-    mask: &[u8],
-    at: usize,
-) -> Result<(), AllocError>
-    requires spec { field.now.dictionary ≡ Some slots.spec }
-    requires sound { is_sound (column_of field.now) (view_array slots.view) ≡ true }
-    requires within { from + len ≤ slots_in (view_array slots.view) }
-    requires coded { list_all is_coded (masked (mask_bits mask.now at len) (cells_from (coded_cell field.now slots) from len)) ≡ true }
-    requires known { AreKnown (seen_cells entries.old) (own_entries field.now slots.view) known.old }
-    requires room { length indices.old ≡ bits_of slots.spec.index.width / 8 * len }
-    requires places { length valid.old ≡ len }
-    requires counted { at + len < 18446744073709551616 }
-    requires long { at + len ≤ 8 * length mask.now }
-    ensures written { OnOk result (IsWritten (bits_of slots.entry.spec.index.width / 8) (named_cells entries.old) (named_cells entries.new)
-        indices.new valid.new (masked (mask_bits mask.now at len) (cells_from (coded_cell field.now slots.entry) from len))) }
-    ensures known { OnOk result (AreKnown (seen_cells entries.new) (own_entries field.now slots.entry.view) known.new) }
+// Where the bits of a mask from one on end that are alike, or `to`: all of them are set where the mask has no byte.
+fn alike_to(mask: &[u8], from: usize, to: usize) -> usize
+    requires some { from < to }
+    requires long { length mask.now ≢ 0 → to ≤ 8 * length mask.now }
+    ensures begins { from < result }
+    ensures ends { result ≤ to }
+    ensures alike { (i : ℕ) → from ≤ i → i < result → part_bit mask.now i ≡ part_bit mask.now from }
 {
-    // a number of the code is below 2^64, so that all places are too
-    let _room = indices.len();
-    let _slots = slots.view.slots();
-    let width = slots.spec.index.width.bytes();
-    let mut done = 0;
-    while done < len {
-        let stop = run_end(mask, at + done, at + len) - at;
-        put_alike_codes(
-            entries,
-            known,
-            &mut indices[width * done..width * stop],
-            &mut valid[done..stop],
-            field,
-            slots,
-            from + done,
-            from + stop,
-            get(mask, at + done),
-        )?;
-        done = stop;
+    if mask.is_empty() {
+        return to;
     }
-    Ok(())
+    run_end(mask, from, to)
+}
+
+fn is_set(mask: &[u8], i: usize) -> bool
+    requires { length mask.now ≢ 0 → i < 8 * length mask.now }
+    ensures { result ≡ part_bit mask.now i }
+{
+    mask.is_empty() || get(mask, i)
 }
 
 /// Writes the indices of slots of an array, and whether each slot has one, where there is room for just these. Their bits stand in a mask from a place on,
@@ -124,21 +96,26 @@ pub(crate) fn put_part_codes<'a>(
         indices.new valid.new (masked (part_bits mask.now at len) (cells_from (coded_cell field.now slots.entry) from len))) }
     ensures known { OnOk result (AreKnown (seen_cells entries.new) (own_entries field.now slots.entry.view) known.new) }
 {
-    if mask.is_empty() {
-        // a number of the code is below 2^64, so that the sum is too
-        let _slots = slots.view.slots();
-        return put_slot_codes(
+    // a number of the code is below 2^64, so that all places are too
+    let _room = indices.len();
+    let _slots = slots.view.slots();
+    let width = slots.spec.index.width.bytes();
+    let mut done = 0;
+    while done < len {
+        let stop = alike_to(mask, at + done, at + len) - at;
+        // called at this place alone, so that it is compiled into the loop, and what is known of the slots stays in registers
+        put_alike_codes(
             entries,
             known,
-            indices,
-            valid,
+            &mut indices[width * done..width * stop],
+            &mut valid[done..stop],
             field,
             slots,
-            from,
-            from + len,
-        );
+            from + done,
+            from + stop,
+            is_set(mask, at + done),
+        )?;
+        done = stop;
     }
-    put_masked_codes(
-        entries, known, indices, valid, field, slots, from, len, mask, at,
-    )
+    Ok(())
 }

@@ -1,5 +1,5 @@
 -- Cells under a mask: below a struct or a fixed list that is null each cell is null, whatever stands there.
-use Rattle.std.specs.Prelude.{◌≡◌, ℕ, Bool, true, false, ◌&&◌, ◌==◌, List, [], ◌∷◌, length, map, replicate, None, if◌then◌else◌}
+use Rattle.std.specs.Prelude.{◌≡◌, ℕ, Bool, true, false, ◌&&◌, ◌||◌, ◌==◌, List, [], ◌∷◌, length, map, replicate, None, if◌then◌else◌}
 use Rattle.std.specs.List.{flat_map, range_with_len}
 use Rattle.arrow_schema.specs.Column.{Column, Columns, Kind}
 use Rattle.bitmap.specs.Bits.{bit}
@@ -45,9 +45,12 @@ are_below (false ∷ bits) (o ∷ others) = are_below bits others
 unfoldable pub bitmap_bits : List ℕ → (n : ℕ) → List Bool
 bitmap_bits mask n = if length mask == 0 then replicate n true else mask_bits mask 0 n
 
--- n bits of such a mask, from a place on
+-- a bit of such a mask, and n from a place on
+abbrev pub part_bit : List ℕ → ℕ → Bool
+part_bit mask i = length mask == 0 || bit mask i
+
 unfoldable pub part_bits : List ℕ → (at n : ℕ) → List Bool
-part_bits mask at n = if length mask == 0 then replicate n true else mask_bits mask at n
+part_bits mask at n = map (part_bit mask) (range_with_len at n)
 
 -- the bits of the slots of runs
 abbrev pub slots_mask : (mask : List ℕ) → List SlotRun → List Bool

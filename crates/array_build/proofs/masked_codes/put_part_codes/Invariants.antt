@@ -2,22 +2,22 @@ use Rattle.std.proofs.Common.{◌≡◌, ◌≤◌, ◌+◌, ◌-◌, ◌/◌, t
 use Rattle.std.specs.List.{list_all}
 use Rattle.arrow_schema.specs.View.{bits_of}
 use Rattle.array_build.specs.inner.Codes.{AreKnown, IsPartWritten, coded_cell, own_entries}
-use Rattle.array_build.specs.inner.Masked.{mask_bits, masked}
+use Rattle.array_build.specs.inner.Masked.{part_bits, masked}
 use Rattle.array_build.specs.inner.Named.{named_cells, seen_cells}
 use Rattle.array_build.specs.inner.RunCells.{is_coded}
 use Rattle.columns.specs.CellAt.{cells_from}
-use Rattle.array_build.proofs.masked_codes.put_masked_codes.Given as goal
+use Rattle.array_build.proofs.masked_codes.put_part_codes.Given as goal
 
 -- what is written so far, and the cells that are left
 abbrev pub invariant-loop-done : goal.invariant-loop-done
 invariant-loop-done l =
-    let left = masked (mask_bits l.mask (l.at + l.done) (l.len - l.done)) (cells_from (coded_cell l.field l.slots) (l.from + l.done) (l.len - l.done)) in
+    let left = masked (part_bits l.mask (l.at + l.done) (l.len - l.done)) (cells_from (coded_cell l.field l.slots) (l.from + l.done) (l.len - l.done)) in
     record {
       high : l.done ≤ l.len;
       coded : list_all is_coded left ≡ true;
       known : AreKnown (seen_cells l.entries) (own_entries l.field l.slots.view) l.known;
       written : IsPartWritten (bits_of l.slots.spec.index.width / 8) (named_cells l.fn.entries)
-          (masked (mask_bits l.mask l.at l.len) (cells_from (coded_cell l.field l.slots) l.from l.len)) (named_cells l.entries) left l.indices l.valid l.done;
+          (masked (part_bits l.mask l.at l.len) (cells_from (coded_cell l.field l.slots) l.from l.len)) (named_cells l.entries) left l.indices l.valid l.done;
     }
 
 abbrev pub decreases-loop-done : goal.decreases-loop-done
