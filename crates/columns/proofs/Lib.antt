@@ -18,5 +18,3 @@ pub mod EachBuilt
 pub mod BuiltShape
 pub mod BuiltDictionaries
 pub mod KindParts
-pub mod SlotCells
-pub mod Split

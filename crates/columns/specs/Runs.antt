@@ -44,10 +44,6 @@ is_run_valid (Nulls n) = true
 abbrev pub are_runs_valid : List SlotRun → Bool
 are_runs_valid runs = list_all is_run_valid runs
 
--- in any column where the others can be looked up they can too, and have the same cells
-abbrev pub HaveSameCells : (runs others : List SlotRun) → Type 0
-HaveSameCells runs others = (c : Column) → are_runs_sound c others ≡ true → (are_runs_sound c runs ≡ true) × (runs_cells c runs ≡ runs_cells c others)
-
 -- ---- runs for each column
 
 unfoldable pub are_columns_sound : Columns → List (List SlotRun) → Bool

@@ -5,7 +5,7 @@
 //! memory: a list's items and a struct's parts are found where they are asked for.
 //!
 //! A [`SlotRun`] is slots of an array one after another, or nulls. The cells of a column, from whatever arrays, are a list of runs
-//! (`specs/Runs.antt`), without a value for each and without a copy of their bytes; [`valid_runs`] separates the nulls among slots.
+//! (`specs/Runs.antt`), without a value for each and without a copy of their bytes.
 //!
 //! ```ignore
 //! let values = PlacedArray { slots: 2, validity, layout: PlacedLayout::Fixed(numbers) };
@@ -26,7 +26,6 @@ mod numbers;
 mod read;
 mod slot_runs;
 mod span;
-mod valid_slots;
 mod view;
 
 pub use array::{Dictionary, DictionaryPart, PlacedArray, PlacedLayout};
@@ -45,5 +44,4 @@ pub use numbers::{OffsetWidth, date_integer, least_negative, push_offset, timest
 pub use read::{row, value};
 pub use slot_runs::SlotRun;
 pub use span::{Span, bytes_at};
-pub use valid_slots::valid_runs;
 pub use view::{ArrayView, array_or, known_arrays, no_array};
