@@ -1,5 +1,5 @@
 // A row as a line of JSON.
-ghost use Rattle.std.specs.Prelude.{◌≡◌, ◌++◌, ◌^◌, ◌<◌, ◌≤◌, IfOk, OnOk, codes, length, slice_index, take};
+ghost use Rattle.std.specs.Prelude.{◌≡◌, ◌++◌, ◌^◌, ◌<◌, ◌≤◌, OnOk, codes, length, slice_index, take};
 ghost use Rattle.std.specs.Fmt.{signed_decimal};
 ghost use Rattle.json.specs.Print.{quoted};
 ghost use Rattle.hex.specs.Hex.{encode_lower, lower_digits};
@@ -11,19 +11,6 @@ use crate::plain_text::are_plain;
 use json::Writer;
 use std::alloc::{AllocError, Global};
 use values::{ValueRef, Values};
-
-/// The line of a row without its end: a JSON array of its values, without spaces. Bytes are strings of hexadecimal digits in
-/// lower case; lists and structs are arrays. No value takes memory of its own, but for a string with an escape.
-///
-/// # Errors
-/// `AllocError` where memory was refused.
-pub fn json_line(alloc: Global, row: Values<'_>) -> Result<Vec<u8>, AllocError>
-    ensures { IfOk result (λ text. text.items ≡ line (borrowed_cells row.entry)) }
-{
-    let mut text = Vec::new(alloc);
-    push_array(alloc, &mut text, row)?;
-    Ok(text)
-}
 
 pub(crate) fn push_bytes(out: &mut Vec<u8>, bytes: &[u8]) -> Result<(), AllocError>
     ensures { OnOk result (out.new.items ≡ out.old.items ++ bytes.now) }

@@ -1,5 +1,5 @@
 // A row as an object of JSON.
-ghost use Rattle.std.specs.Prelude.{◌≡◌, ◌++◌, IfOk, OnOk, codes, map};
+ghost use Rattle.std.specs.Prelude.{◌≡◌, ◌++◌, OnOk, codes, map};
 ghost use Rattle.arrow_schema.specs.Parts.{name_of_column};
 ghost use Rattle.arrow_schema.specs.View.{column_of};
 ghost use Rattle.values.specs.Borrowed.{borrowed_cell, borrowed_cells, values_left};
@@ -103,20 +103,9 @@ fn push_object(
     push_bytes(out, b"}")
 }
 
-/// The line of a row without its end: a JSON object of its values by the names of the fields, in their order, without spaces. The names are JSON
-/// strings, and the values are those of [`json_line`].
-///
-/// # Errors
-/// `AllocError` where memory was refused.
-pub fn json_object(alloc: Global, fields: &[Field], row: Values<'_>) -> Result<Vec<u8>, AllocError>
-    ensures { IfOk result (λ text. text.items ≡ object_line (map name_of_column (map column_of fields.now)) (borrowed_cells row.entry)) }
-{
-    let mut text = Vec::new(alloc);
-    push_object(alloc, &mut text, fields, row)?;
-    Ok(text)
-}
-
-/// Appends the line of a row of these fields in a form, without its end. Neither the line nor a value takes memory of its own, but for a string with an escape.
+/// Appends the line of a row of these fields in a form, without its end: a JSON array of its values, or a JSON object of them by the names of the
+/// fields, in their order, without spaces. Bytes are strings of hexadecimal digits in lower case; lists and structs are arrays.
+/// Neither the line nor a value takes memory of its own, but for a string with an escape.
 ///
 /// # Errors
 /// `AllocError` where memory was refused: some of the line may be appended then.
@@ -133,21 +122,4 @@ pub fn push_line_in(
         RowForm::Array => push_array(alloc, text, row),
         RowForm::Object => push_object(alloc, text, fields, row),
     }
-}
-
-/// The line of a row of these fields in a form, without its end.
-///
-/// # Errors
-/// `AllocError` where memory was refused.
-pub fn line_in(
-    alloc: Global,
-    form: RowForm,
-    fields: &[Field],
-    row: Values<'_>,
-) -> Result<Vec<u8>, AllocError>
-    ensures { IfOk result (λ text. text.items ≡ line_in form (map column_of fields.now) (borrowed_cells row.entry)) }
-{
-    let mut text = Vec::new(alloc);
-    push_line_in(alloc, &mut text, form, fields, row)?;
-    Ok(text)
 }
