@@ -19,12 +19,6 @@ map_next f g xs x ids i so_far next within =
     map-append f xs (x ∷ []) ∙ ap (λ ys. ys ++ f x ∷ []) so_far ∙ ap (λ y. map g (take i ids) ++ y ∷ []) next
     ∙ sym (map-append g (take i ids) (get_or ids i 0 ∷ [])) ∙ ap (map g) (sym (take_more ids i 0 within))
 
--- the arrays that are known of an id are those in effect
-pub known_in_effect : (bytes : List ℕ) (before : List DictionaryBatch) (k : Kept) (id : ℕ) (part : DictionaryPart) (lists : List Dictionary) (arrays : List PlacedArray) → HasInEffect bytes k before → lists_of lists ≡ k.lists
-    → known_arrays k.lists part ≡ arrays_for k id → arrays ≡ known_arrays (lists_of lists) part → map (array_in bytes no_dictionary) arrays ≡ in_effect id before
-known_in_effect bytes before k id part lists arrays h same known is =
-    ap (map (array_in bytes no_dictionary)) (is ∙ ap (λ (xs : List (List PlacedArray)). known_arrays xs part) same ∙ known) ∙ h id
-
 none_known : (count n : ℕ) → [] ≡ take count (get_or {A = List PlacedArray} [] n [])
 none_known zero n = refl
 none_known (suc count) zero = refl

@@ -1,20 +1,15 @@
 // The dictionaries of a stream.
-ghost use Rattle.std.specs.Prelude.{◌≡◌, ◌++◌, ◌<◌, ℕ, true, false, not, nat_le, is_some, List, [], ◌∷◌, OnOk, OnErr, IfOk, length, get_or};
+ghost use Rattle.std.specs.Prelude.{◌≡◌, ◌++◌, ◌<◌, ℕ, true, false, List, [], ◌∷◌, OnOk, OnErr, IfOk, length};
 ghost use Rattle.std.specs.List.{list_any, AllByRecursion};
-ghost use Rattle.arrow_schema.specs.Column.{Kind};
-ghost use Rattle.cells.specs.Cell.{null};
-ghost use Rattle.columns.specs.Array.{arrays_of};
-ghost use Rattle.columns.specs.CellAt.{entries_of_kind};
-ghost use Rattle.columns.specs.Located.{located_cell};
 ghost use Rattle.columns.specs.View.{array_in, no_dictionary};
-ghost use Rattle.dictionary.specs.InEffect.{DictionaryBatch, has_id, in_effect};
+ghost use Rattle.dictionary.specs.InEffect.{DictionaryBatch, has_id};
 ghost use Rattle.dictionary.specs.Kept.{HasInEffect, IsInEffect, AreInEffect, KeepsParts, IsPart, StaysWithin, AreWithin};
 ghost use Rattle.dictionary.specs.Kept.{arrays_for, known_arrays, lists_of, batch_of, are_kept_within};
 ghost use Rattle.dictionary.specs.inner.Numbers.{with_number};
 ghost use Rattle.dictionary.specs.inner.Lists.{with_array};
 
 use crate::current::{CurrentList, number_of, set_number};
-use columns::{Dictionary, DictionaryPart, EntryPlace, PlacedArray, entry_place, known_arrays};
+use columns::{Dictionary, DictionaryPart, PlacedArray};
 use std::alloc::{AllocError, Global};
 use std::marker::Model;
 
@@ -148,17 +143,6 @@ impl Dictionaries {
             parts.push(self.part(*id))?;
         }
         Ok(parts)
-    }
-
-    /// Where an entry of an id's dictionary stands, of those that are in effect. It is found by binary search.
-    pub fn entry<'a>(&'a self, id: u64, bytes: &'a [u8], index: u128) -> Option<EntryPlace<'a>>
-        ensures cell { (before : List DictionaryBatch) (kind : Kind) → HasInEffect bytes.now self.now before
-            → located_cell kind result ≡ get_or (entries_of_kind kind (arrays_of (in_effect id before))) index null }
-        ensures present { (before : List DictionaryBatch) (kind : Kind) → HasInEffect bytes.now self.now before
-            → is_some result ≡ not (nat_le (length (entries_of_kind kind (arrays_of (in_effect id before)))) index) }
-    {
-        let part = self.part(id);
-        entry_place(known_arrays(&self.lists, &part), bytes, index)
     }
 
     /// Begins the dictionary of an id anew, with one array. Arrays that were read before keep theirs.
