@@ -13,7 +13,7 @@ const BYTES_PER_NAMED: usize = 256;
 
 /// A dictionary of values of a type, and the number that each of its entries is known by.
 #[derive(Drop)]
-pub struct KnownDictionary<'a> {
+pub(crate) struct KnownDictionary<'a> {
     pub(crate) data_type: &'a DataType,
     pub(crate) bytes: &'a [u8],
     pub(crate) arrays: KnownArrays<'a>,

@@ -63,7 +63,7 @@ fn is_alike(a: &PlacedArray, b: &PlacedArray) -> bool {
 }
 
 /// Whether two dictionaries stand at the same places, each in its own bytes: within the same bytes they are one.
-pub fn are_alike(own: KnownArrays<'_>, others: KnownArrays<'_>) -> bool {
+pub(crate) fn are_alike(own: KnownArrays<'_>, others: KnownArrays<'_>) -> bool {
     if own.arrays.len() != others.arrays.len() {
         return false;
     }

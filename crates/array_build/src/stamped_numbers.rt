@@ -7,7 +7,7 @@ use std::marker::Model;
 
 /// A number, and the stamp under which it was written.
 #[derive(Clone, Copy, Drop)]
-pub struct StampedNumber {
+pub(crate) struct StampedNumber {
     pub(crate) stamp: u32,
     pub(crate) number: u32,
 }
@@ -21,7 +21,7 @@ const UNWRITTEN: StampedNumber = StampedNumber {
 /// Numbers at places, some of which have none. To clear it, the stamp is advanced: only the numbers that were written under the last stamp are there.
 /// Contracts see the list of these.
 #[derive(Drop)]
-pub struct StampedNumbers {
+pub(crate) struct StampedNumbers {
     numbers: Vec<StampedNumber>,
     stamp: u32,
 }

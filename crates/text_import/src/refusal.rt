@@ -62,7 +62,7 @@ pub enum TextError {
 
 // The same of a part of a record, which does not know its number.
 #[derive(Clone, Copy)]
-pub enum CellError {
+pub(crate) enum CellError {
     Refused(Refusal),
     OutOfMemory,
 }

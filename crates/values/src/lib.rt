@@ -27,10 +27,7 @@ mod table_part;
 mod weighed_table;
 
 pub use borrowed::{ValueRef, Values, ValuesIter, borrow_value};
-pub use cells::{
-    Entry, MAX_ROW_WEIGHT, MAX_TABLE_WEIGHT, Row, TOO_HEAVY, Value, entry_limit, entry_of, fits,
-    note, row_weight, weight,
-};
+pub use cells::{Row, Value};
 pub use errors::TableError;
 pub use laws::{accepted_rows_are_a_table, tables_are_joined_and_cut};
 pub use list_items::{items, push_all};
