@@ -89,7 +89,8 @@ fn push_codes<'a>(
     requires mask { IsMask mask.now runs.now }
     requires coded { list_all is_coded (masked_cells (column_of field.now) mask.now runs.now) ≡ true }
     ensures entries { IfOk result (λ listed. map borrowed_cell listed.items ≡ entries_of (masked_cells (column_of field.now) mask.now runs.now)) }
-    ensures batch { OnOk result (batch_in batch.new ≡ with_indices (batch_in batch.old) (index_of spec) (masked_cells (column_of field.now) mask.now runs.now)) }
+    ensures batch { OnOk result (batch_in batch.new
+        ≡ with_indices (batch_in batch.old) (index_of spec) (masked_cells (column_of field.now) mask.now runs.now)) }
 {
     let mut indices = room_for(alloc, spec.index.width, slots)?;
     let mut valid = vec![in alloc; false; slots]?;
@@ -123,7 +124,8 @@ pub(crate) fn push_run_indices<'a>(
     requires mask { IsMask mask.now runs.now }
     requires coded { list_all is_coded (masked_cells (column_of field.now) mask.now runs.now) ≡ true }
     ensures entries { IfOk result (λ entries. map borrowed_cell entries.items ≡ entries_of (masked_cells (column_of field.now) mask.now runs.now)) }
-    ensures batch { OnOk result (batch_in batch.new ≡ with_indices (batch_in batch.old) (index_of spec) (masked_cells (column_of field.now) mask.now runs.now)) }
+    ensures batch { OnOk result (batch_in batch.new
+        ≡ with_indices (batch_in batch.old) (index_of spec) (masked_cells (column_of field.now) mask.now runs.now)) }
 {
     entries.end();
     let slots = count_slots(runs)?;

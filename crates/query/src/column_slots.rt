@@ -160,8 +160,8 @@ impl IntegerBuffers<'_> {
     pub(crate) fn number(self, slot: usize) -> Option<i128>
         requires valid { 0 < length self.validity.now → slot < 8 * length self.validity.now }
         requires long { (slot + 1) * width_of self.integer ≤ length self.values.now }
-        ensures { number_or_null result
-            ≡ (if is_valid_in self.entry.validity.now slot then number (integer_at (width_of self.entry.integer) self.entry.integer.signed self.entry.values.now slot) else null) }
+        ensures { number_or_null result ≡ (if is_valid_in self.entry.validity.now slot
+            then number (integer_at (width_of self.entry.integer) self.entry.integer.signed self.entry.values.now slot) else null) }
     {
         if is_valid(self.validity, slot) {
             Some(number_at(self.integer, self.values, slot))

@@ -116,7 +116,8 @@ fn has_limit(dictionary: &Option<DictSpec>) -> bool
 // The buffers of a column below another, where no row fills its dictionary.
 #[cycle(starting)]
 fn no_items(alloc: Global, item: &Field) -> Result<Option<ColumnBuilder>, AllocError>
-    ensures { IfOk result (λ started. IfSome started (λ items. (has_limit (index_of_column (column_of item.now)) ≡ false) × Keeps (column_of item.now) [] items)) }
+    ensures { IfOk result (λ started. IfSome started (λ items.
+        (has_limit (index_of_column (column_of item.now)) ≡ false) × Keeps (column_of item.now) [] items)) }
 {
     if has_limit(&item.dictionary) {
         return Ok(None);
