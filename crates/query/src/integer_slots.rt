@@ -12,11 +12,11 @@ use crate::blocks::{answers_of_block, slots_in_block, valid_slots};
 use crate::bound::{Bound, Predicate, field_at};
 use crate::cut::Cut;
 use crate::operator::{Operator, accepts};
-use arrow_schema::{BitWidth, DataType, DateUnit, Field, IntegerType};
+use arrow_schema::{BitWidth, DataType, Field, IntegerType};
 use bitmap::MaskBuilder;
 use byteorder::{ByteOrder, LittleEndian};
 use cells::Value;
-use columns::{ArrayView, least_negative};
+use columns::{ArrayView, date_integer, least_negative, timestamp_integer};
 use std::alloc::AllocError;
 
 /// What is asked of the integers of the column at a place.
@@ -28,16 +28,6 @@ pub(crate) struct IntegerComparison {
     literal: i128,
 }
 
-fn signed(width: BitWidth) -> IntegerType
-    ensures width { result.width ≡ width }
-    ensures signed { result.signed ≡ true }
-{
-    IntegerType {
-        width,
-        signed: true,
-    }
-}
-
 // The integers that the values of a type are.
 #[tactic(auto, unfolding(columns::specs::CellAt::kind_cell))]
 fn integer_of(data_type: &DataType) -> Option<IntegerType>
@@ -45,9 +35,8 @@ fn integer_of(data_type: &DataType) -> Option<IntegerType>
 {
     match data_type {
         DataType::Int(integer) => Some(*integer),
-        DataType::Date(DateUnit::Day) => Some(signed(BitWidth::ThirtyTwo)),
-        DataType::Date(DateUnit::Millisecond) => Some(signed(BitWidth::SixtyFour)),
-        DataType::Timestamp(_, _) => Some(signed(BitWidth::SixtyFour)),
+        DataType::Date(unit) => Some(date_integer(*unit)),
+        DataType::Timestamp(_, _) => Some(timestamp_integer()),
         _ => None,
     }
 }
