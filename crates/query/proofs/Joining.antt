@@ -1,11 +1,8 @@
 -- Masks that are joined, test by test.
-use Rattle.std.proofs.Common.{◌≡◌, ℕ, inl, inr, zero, suc, ◌+◌, Bool, true, false, List, [], ◌∷◌, ◌++◌, map, length, take, get_or, replicate, refl, sym, ap, subst, ◌∙◌, arith}
-use Rattle.std.specs.Prelude.{◌&&◌, ◌/◌, ◌%◌, ◌==◌, ◌<◌, nat_lt, slice_index, slice_index_or}
+use Rattle.std.proofs.Common.{◌≡◌, ℕ, zero, suc, ◌+◌, Bool, true, false, List, [], ◌∷◌, ◌++◌, map, length, take, get_or, replicate, refl, sym, ap, subst, ◌∙◌, arith}
+use Rattle.std.specs.Prelude.{◌&&◌, ◌<◌, nat_lt, slice_index_or}
 use Rattle.std.proofs.lemmas.List.{length-map, take_more}
-use Rattle.std.specs.Int.{bit_at}
-use Rattle.std.proofs.lemmas.Simd.{length-replicate, get_or-replicate}
-use Rattle.std.proofs.lemmas.Nat.Bits.{bit_at_ones}
-use Rattle.std.proofs.lemmas.Bool.{and_right, lt-ltb, le-ltb, cases_lt}
+use Rattle.std.proofs.lemmas.Bool.{and_right, lt-ltb}
 use Rattle.std.proofs.lemmas.Bool.Decides.{nat_tests}
 use Rattle.std.proofs.lemmas.List.Folds.{list_all-append}
 use Rattle.std.proofs.Math.Bool.{and-true}
@@ -66,28 +63,6 @@ pub one_taken : (bounds others : List code.Bound) (first b : code.Bound) (k : �
     → take (suc (k + 1)) bounds ≡ take (suc k) bounds ++ b ∷ []
 one_taken bounds others first b k e within is =
     rw e (ap (λ (bs : List code.Bound). first ∷ bs) (take_more others k b within ∙ ap (λ (x : code.Bound). take k others ++ x ∷ []) (sym is)))
-
--- bytes of ones, without the bits past the end
-trues_at : (n i : ℕ) → slice_index_or (replicate n true) i false ≡ nat_lt i n
-trues_at zero i = sym (le-ltb i 0 (omega arith))
-trues_at (suc n) zero = sym (lt-ltb 0 (suc n) (omega arith))
-trues_at (suc n) (suc i) = trues_at n i ∙ sym (lt-suc i n)
-
-ones_at : (whole : List ℕ) (n i : ℕ) → whole ≡ replicate (bytes_of n) 255 → both whole whole n i ≡ slice_index_or (replicate n true) i false
-ones_at whole n i is = elim (cases_lt i n) [
-  | inl lt ↦
-      (let byte : slice_index whole (i / 8) ≡ 255 = ap (λ (bytes : List ℕ). slice_index bytes (i / 8)) is ∙ get_or-replicate (bytes_of n) (i / 8) 255 0 (omega arith) in
-      let set : bit whole i ≡ true = ap (λ b. bit_at b (i % 8) == 1) byte ∙ ap (λ b. b == 1) (bit_at_ones 8 (i % 8) (omega arith)) in
-      rw (lt-ltb i n lt, set) (sym (trues_at n i ∙ lt-ltb i n lt)))
-  | inr le ↦ rw (le-ltb i n le) (sym (trues_at n i ∙ le-ltb i n le))
-]
-
-pub ones_mask : (whole mask : List ℕ) (n : ℕ) → whole ≡ replicate (bytes_of n) 255 → ((i : ℕ) → bit mask i ≡ both whole whole n i) → length mask ≡ bytes_of n
-    → IsMask mask (replicate n true)
-ones_mask whole mask n is bits size = record {
-  each = λ i. bits i ∙ ones_at whole n i is;
-  size = size ∙ ap bytes_of (sym (length-replicate n true));
-}
 
 -- what flags are packed into
 pub packed_mask : (mask : List ℕ) (flags bits : List Bool) → flags ≡ bits → ((i : ℕ) → bit mask i ≡ slice_index_or flags i false) → length mask ≡ bytes_of (length flags) → IsMask mask bits

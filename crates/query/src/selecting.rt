@@ -28,6 +28,7 @@ use crate::query::Query;
 use crate::selected_rows::{SelectedRows, next_set};
 use crate::slot_test::slot_test_of;
 use arrow_schema::{Field, Schema};
+use bitmap::MaskBuilder;
 use cells::Value;
 use std::alloc::{AllocError, Global};
 use values::{Table, TableError, Values, accepted_rows_are_a_table};
@@ -107,9 +108,9 @@ fn mask_of(alloc: Global, table: &Table, bound: &Bound) -> Result<Vec<u8>, Alloc
 fn all_rows(alloc: Global, rows: usize) -> Result<Vec<u8>, AllocError>
     ensures { IfOk result (λ mask. IsMask mask.items (replicate rows true)) }
 {
-    let whole = vec![in alloc; 255u8; bitmap::bytes_for(rows)]?;
-    let mask = bitmap::and(alloc, &whole, &whole, rows)?;
-    Ok(mask)
+    let mut mask = MaskBuilder::with_capacity(alloc, rows)?;
+    mask.push_alike(rows, true)?;
+    Ok(mask.into_mask())
 }
 
 // A bit for each row, which is set where all conditions hold.
