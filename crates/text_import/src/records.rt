@@ -21,7 +21,7 @@ use crate::flat::field_cell;
 use crate::refusal::{CellError, Refusal, Refused, TextError};
 use crate::rows::{accepted, numbered};
 use crate::texts::name_of;
-use arrow_schema::{DataType, Field, Schema};
+use arrow_schema::{Field, Schema};
 use cells::{Row, Value, has_limits};
 use csv::{ByteRecord, Reader, ReaderBuilder};
 use std::alloc::{AllocError, Global};
@@ -71,13 +71,7 @@ pub fn read_next(reader: &mut Reader<&[u8]>, row: &mut ByteRecord) -> Result<boo
 fn is_nested(field: &Field) -> bool
     ensures { result ≡ is_nested_column (column_of field.now) }
 {
-    match &field.data_type {
-        DataType::List(_) => true,
-        DataType::LargeList(_) => true,
-        DataType::FixedSizeList(_, _) => true,
-        DataType::Struct(_) => true,
-        _ => false,
-    }
+    field.data_type.is_nested()
 }
 
 fn has_nested(fields: &[Field]) -> bool
