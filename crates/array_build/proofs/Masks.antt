@@ -11,12 +11,17 @@ use Rattle.std.proofs.lemmas.List.FromFn.{length-map-range_with_len}
 use Rattle.std.proofs.lemmas.Nat.Bits.{bit_at-lt, same_from_bits_below}
 use Rattle.std.proofs.lemmas.Simd.{mask_l-lt}
 use Rattle.array_build.proofs.MaskedItems.{all_alike, all_are_alike, all_kept, joined_at, masked_length, others_all, some_joined}
-use Rattle.array_build.specs.inner.Masked.{bitmap_bits, joined, mask_bits}
-use Rattle.array_build.specs.inner.Runs.{bitmap_of}
+use Rattle.array_build.specs.inner.Masked.{bitmap_bits, joined, mask_bits, masked_slots, slots_mask}
+use Rattle.array_build.specs.inner.Runs.{bitmap_of, runs_bits}
 use Rattle.bitmap.specs.Bits.{bit, both, bytes_of, packed, packed_in}
 use Rattle.bitmap.specs.laws.Packed.{length-packed_in}
+use Rattle.columns.specs.declared.slot_runs.SlotRun.{SlotRun}
 use Rattle.facts.specs.Bytes.{AreBytes}
 use Rattle.facts.specs.laws.Bytes.{cons-bytes}
+
+-- there is a bit for each slot
+pub counted : (mask : List ℕ) (runs : List SlotRun) (slots : ℕ) → slots ≡ length (runs_bits runs) → slots ≡ length (masked_slots mask runs)
+counted mask runs slots is = is ∙ sym (masked_length false (slots_mask mask runs) (runs_bits runs))
 
 -- ---- bytes by their bits
 

@@ -7,6 +7,7 @@ ghost use Rattle.columns.specs.Built.{contents_of, list_offsets, offsets_of};
 ghost use Rattle.columns.specs.Offsets.{width_of};
 ghost use Rattle.values.specs.Borrowed.{borrowed_cell};
 
+use crate::widths::offset_size;
 use byteorder::{ByteOrder, LittleEndian};
 use columns::{OffsetWidth, push_offset};
 use std::alloc::{AllocError, Global};
@@ -43,7 +44,11 @@ pub(crate) fn content_offsets(
     requires { contents_fit large_offset (map borrowed_cell cells.now) ≡ true }
     ensures { IfOk result (λ bytes. bytes.items ≡ offsets_of (width_of width) (map (λ c. length (contents_of c)) (map borrowed_cell cells.now))) }
 {
-    let mut offsets = Vec::new(alloc);
+    let size = cells
+        .len()
+        .saturating_add(1)
+        .saturating_mul(offset_size(width));
+    let mut offsets = Vec::with_capacity(alloc, size)?;
     let mut end = 0;
     for cell in cells {
         push_offset(&mut offsets, width, end)?;
@@ -72,7 +77,11 @@ pub(crate) fn item_offsets(
     requires { items_fit large_offset (map borrowed_cell cells.now) ≡ true }
     ensures { IfOk result (λ bytes. bytes.items ≡ list_offsets (width_of width) (map borrowed_cell cells.now)) }
 {
-    let mut offsets = Vec::new(alloc);
+    let size = cells
+        .len()
+        .saturating_add(1)
+        .saturating_mul(offset_size(width));
+    let mut offsets = Vec::with_capacity(alloc, size)?;
     let mut end = 0;
     for cell in cells {
         push_offset(&mut offsets, width, end)?;

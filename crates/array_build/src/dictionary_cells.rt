@@ -111,7 +111,8 @@ pub(crate) fn indices(
         ≡ flat_map (index_bytes (record { bits = bits_of index.width; signed = index.signed }) (map entry_cell entries.now.keys))
         (map borrowed_cell cells.now)) }
 {
-    let mut indices = Vec::new(alloc);
+    let size = cells.len().saturating_mul(index.width.bytes());
+    let mut indices = Vec::with_capacity(alloc, size)?;
     for cell in cells {
         let place = entry_index(entries, *cell) as u64;
         push_index(&mut indices, index.width, place)?;

@@ -13,7 +13,7 @@ use crate::run_bits::run_booleans;
 use crate::run_contents::push_written_contents;
 use crate::run_slots::{count_slots, push_run_slots};
 use crate::run_values::masked_values;
-use crate::slot_masks::push_masked_slots;
+use crate::slot_masks::{push_masked_slots, push_slots_under};
 use arrow_schema::DataType;
 use columns::{OffsetWidth, SlotRun};
 use std::alloc::{AllocError, Global};
@@ -64,7 +64,7 @@ pub(crate) fn build_run_values<'a>(
     requires mask { IsMask mask.now runs.now }
     ensures { OnOk result (AddsMasked (kind_of data_type.now) runs.now mask.now batch.old batch.new) }
 {
-    push_masked_slots(alloc, batch, runs, mask)?;
+    push_slots_under(alloc, batch, runs, mask)?;
     push_any_buffer(batch, masked_values(alloc, data_type, width, runs, mask)?)
 }
 

@@ -1,6 +1,6 @@
 // Masks of what stands below structs and fixed lists, as validity bitmaps: where a bit is not set the cell is null, whatever stands there. A mask has no byte
 // where all bits are set.
-ghost use Rattle.std.specs.Prelude.{◌≡◌, ◌≤◌, ◌*◌, true, IfOk, length};
+ghost use Rattle.std.specs.Prelude.{◌≡◌, ◌≤◌, ◌*◌, true, IfOk, OnOk, length};
 ghost use Rattle.std.specs.List.{list_all};
 ghost use Rattle.array_build.specs.Batch.{batch_in};
 ghost use Rattle.array_build.specs.inner.Masked.{IsMask, bitmap_bits, joined, mask_bits, masked_slots};
@@ -58,6 +58,22 @@ fn masked_validity(
     }
     packed_reads_back();
     both_set(alloc, mask, &own, slots)
+}
+
+/// Adds the node and the validity bitmap of runs under a mask.
+pub(crate) fn push_slots_under(
+    alloc: Global,
+    batch: &mut BuiltBatch<'_>,
+    runs: &[SlotRun<'_>],
+    mask: &[u8],
+) -> Result<(), AllocError>
+    requires validity { list_all has_validity runs.now ≡ true }
+    requires mask { IsMask mask.now runs.now }
+    ensures { OnOk result (batch_in batch.new ≡ with_run_slots (batch_in batch.old) (masked_slots mask.now runs.now)) }
+{
+    let slots = count_slots(runs)?;
+    let validity = masked_validity(alloc, slots, runs, mask)?;
+    push_validity(batch, slots, validity)
 }
 
 /// Adds the node and the validity bitmap of runs under a mask, and gives the mask of what stands below them.

@@ -43,7 +43,7 @@ pub(crate) fn fixed_values(
 ) -> Result<Vec<u8>, AllocError>
     ensures { IfOk result (λ bytes. bytes.items ≡ flat_map (fixed_bytes width) (map borrowed_cell cells.now)) }
 {
-    let mut values = Vec::new(alloc);
+    let mut values = Vec::with_capacity(alloc, cells.len().saturating_mul(width))?;
     for cell in cells {
         push_fixed(&mut values, width, *cell)?;
     }

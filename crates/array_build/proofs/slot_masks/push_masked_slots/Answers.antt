@@ -1,16 +1,11 @@
 use Rattle.std.specs.Prelude.{◌*◌, ◌==◌, ◌||◌, nat_le}
 use Rattle.std.proofs.Common.{◌≡◌, ◌∙◌, ℕ, Bool, true, false, List, ap, ap₂, length, subst, sym}
 use Rattle.array_build.proofs.MaskedItems.{masked_length}
-use Rattle.array_build.proofs.Masks.{bitmap_back, bitmap_fits}
+use Rattle.array_build.proofs.Masks.{bitmap_back, bitmap_fits, counted}
 use Rattle.array_build.proofs.slot_masks.push_masked_slots.Goals as goal
 use Rattle.array_build.specs.Batch.{batch_in}
 use Rattle.array_build.specs.inner.Masked.{bitmap_bits, masked_slots, slots_mask}
 use Rattle.array_build.specs.inner.Runs.{bitmap_of, runs_bits, with_validity}
-use Rattle.columns.specs.declared.slot_runs.SlotRun.{SlotRun}
-
--- there is a bit for each slot
-counted : (mask : List ℕ) (runs : List SlotRun) (slots : ℕ) → slots ≡ length (runs_bits runs) → slots ≡ length (masked_slots mask runs)
-counted mask runs slots is = is ∙ sym (masked_length false (slots_mask mask runs) (runs_bits runs))
 
 pub push_validity-requires : goal.push_validity-requires
 push_validity-requires c =
