@@ -3,6 +3,10 @@
 //! It has the nodes and buffers of the one array that the cells of each column are written as (`columns`, `specs/Built.antt`), each array before those
 //! below it. A column with a dictionary has indices; its dictionary has an entry for each distinct value, and is a batch of its own.
 //!
+//! [`build`] makes it of borrowed rows. [`build_runs`] makes the same of columns that are given as runs of slots, without a value for each slot, and
+//! keeps what it knows of dictionaries for the next rows ([`KnownEntries`]). [`count_entries`] counts the distinct values of such a column, and
+//! [`is_same_dictionary`] tells of two dictionaries that they are one.
+//!
 //! ```
 //! let batch = build(alloc, &schema.fields, &rows)?;
 //! ```

@@ -17,7 +17,8 @@ fn word_at(mask: &[u8], from: usize, count: usize) -> u64
     (LittleEndian::read_u64(&mask[from / 8..]) >> (from % 8)) % (1 << count)
 }
 
-/// Adds bits of a mask, from one on up to another. Those that don't begin with a byte are added as numbers of 56 bits, since the builder takes them byte by byte.
+/// Adds bits of a mask, from one on up to another. Those that don't begin with a byte are added as numbers of 56 bits, since the builder takes them byte
+/// by byte.
 pub(crate) fn push_mask_bits(
     bits: &mut MaskBuilder,
     mask: &[u8],

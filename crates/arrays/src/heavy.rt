@@ -37,7 +37,8 @@ fn rows_weight(placed: Placed<'_>, from: usize, count: usize, none: &PlacedArray
     add_weights(count as u64, parts)
 }
 
-// Whether one of n rows, from one on, weighs too much, by what all of them weigh: none does where that is no more than one may, and others are looked at by halves.
+// Whether one of n rows, from one on, weighs too much, by what all of them weigh: none does where that is no more than one may, and others are looked at
+// by halves.
 fn has_heavy_row(
     placed: Placed<'_>,
     from: usize,
@@ -103,7 +104,7 @@ pub(crate) fn weigh_rows(before: u64, placed: Placed<'_>, rows: usize) -> Option
     weigh(before, placed, rows, &none)
 }
 
-/// What n rows of a record batch weigh, from one on, as weights are reported. It makes no value for a cell.
+/// What `count` rows of a record batch weigh, from row `from` on, as weights are reported. It makes no value for a cell.
 #[tactic(auto, using(crate::proofs::RowWeights::rows_spanned_from))]
 pub fn row_span_weight(
     fields: &[Field],

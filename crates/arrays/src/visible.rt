@@ -21,7 +21,7 @@ use crate::visible::spans::any_part;
 use arrow_schema::Field;
 use columns::{Dictionary, PlacedArray, no_array};
 
-/// F26: a visible slot of arrays of n rows is valid, and its index is negative or past the entries.
+/// F26: a visible slot of arrays of `rows` rows is valid, and its index is negative or past the entries.
 pub fn names_no_entry_in(
     fields: &[Field],
     arrays: &[PlacedArray],

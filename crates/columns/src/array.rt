@@ -34,8 +34,8 @@ pub struct DictionaryPart {
     pub count: usize,
 }
 
-/// The arrays of a dictionary: that of the batch that began it, and those of the batches that were appended. It keeps how many entries there are up to the end of
-/// each, so that an entry is found by binary search.
+/// The arrays of a dictionary: that of the batch that began it, and those of the batches that were appended. It keeps how many entries there are up to the
+/// end of each, so that an entry is found by binary search.
 #[derive(Debug, Drop)]
 pub struct Dictionary {
     pub arrays: Vec<PlacedArray>,

@@ -125,7 +125,7 @@ pub(crate) fn messages_of_parts<'a>(
     Ok(stream)
 }
 
-/// The one stream of the rows of some runs, of which there are n: that of [`crate::encode`] of a table that has these rows.
+/// The one stream of the rows of some runs, `rows` in all: that of [`crate::encode`] of a table that has these rows.
 ///
 /// The caller sees to it that the rows are a table. Refused only where a growth was. It takes the memory of the stream, and of the buffers that had to be
 /// made, and time linear in the stream and in the runs; and in the cells of the pieces that have rows under several dictionaries of 8 or 16 bit indices,

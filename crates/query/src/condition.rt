@@ -3,7 +3,7 @@ use crate::errors::QueryError;
 use crate::operator::{Operator, operator_of};
 use std::alloc::{AllocError, Global};
 
-/// What a condition asks of a value: a literal is the string as it was typed, which `select` reads by the column's type.
+/// What a condition asks of a value: a literal is the string as it was typed, which [`crate::choose`] reads by the column's type.
 #[derive(Drop)]
 pub enum Test {
     IsNull,

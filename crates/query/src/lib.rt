@@ -11,7 +11,8 @@
 //! let found = chosen_cells(alloc, &table, &choice)?;
 //! ```
 //!
-//! gives the first ten rows of `table` whose `a` is at least 1, with all columns; a null is not. `selection::select` does both, and keeps record batches as they are.
+//! gives the first ten rows of `table` whose `a` is at least 1, with all columns; a null is not. `selection::select` does both, and keeps record batches
+//! as they are.
 #![tactic(auto)]
 
 mod blocks;

@@ -248,8 +248,8 @@ fn table_of_kept(alloc: Global, schema: Schema, kept: SelectedRows) -> Result<Ta
     }
 }
 
-/// The table of the columns and rows that are chosen of another, each value copied. It takes time linear in the values, and for a table that is
-/// not kept in record batches, or has another type than integers, dates and timestamps, in the rows that are passed over by bytes of the mask.
+/// The table of the columns and rows that are chosen of another, each value copied. It takes time linear in the values and in the bytes of the mask; of
+/// a table that is kept in record batches, unless all columns have integers, dates or timestamps, the batch of each row is found by binary search.
 ///
 /// # Errors
 /// `OutOfMemory` alone, where memory was refused.

@@ -1,4 +1,5 @@
-// The value at a slot of a column of a batch, as JSON. An integer, and a string without an escape, are printed from the bytes of the array: no value is borrowed.
+// The value at a slot of a column of a batch, as JSON. An integer, and a string without an escape, are printed from the bytes of the array: no value is
+// borrowed.
 ghost use Rattle.std.specs.Prelude.{◌≡◌, ◌++◌, ◌<◌, ◌≤◌, true, codes, length, take, OnOk};
 ghost use Rattle.arrow_schema.specs.View.{column_of};
 ghost use Rattle.columns.specs.Array.{slots_in};

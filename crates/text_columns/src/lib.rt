@@ -1,9 +1,9 @@
 //! A text as the arrays of one record batch, under a schema of columns of any type, with dictionaries or without.
 //!
 //! [`csv_table`] answers the table of just the rows that `text_import::csv_rows` gives of the same text, and what they weigh, or the same
-//! refusal. No value is made of a cell and no row is: each field goes into the buffers of its column where it is read. For other schemas,
-//! for rows that are too heavy for a table, and for more entries than the indices of a dictionary name, it answers none, and the rows are those of
-//! `csv_rows`.
+//! refusal. No value is made of a cell and no row is: each field goes into the buffers of its column where it is read. For some schemas with lists or
+//! structs, which `csv_rows` refuses, for rows that are too heavy for a table, and for more entries than the indices of a dictionary name, it answers
+//! none, and the rows are those of `csv_rows`.
 //!
 //! [`jsonl_table`] does the same of JSON Lines, token by token: no tree is made of a line, and the items of a list and the members of a struct go into
 //! buffers of their own. It answers none also for a text that is refused, that has an object with a name twice, or where a dictionary below lists or

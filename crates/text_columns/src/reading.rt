@@ -60,8 +60,8 @@ fn read_records(
     }
 }
 
-/// The columns of a text; none where a column has a type that is not read into arrays, or more entries than its indices name, or where the rows are too
-/// heavy for a table.
+/// The columns of a text; none for a dictionary with a limit below lists or structs, where a column has more entries than its indices name, or where the
+/// rows are too heavy for a table.
 ///
 /// # Errors
 ///
@@ -80,8 +80,8 @@ pub(crate) fn read_columns(
     }
 }
 
-/// The columns of a text of JSON Lines; none where a column has a type that is not read into arrays, or more entries than its indices name, where two
-/// columns have one name, where a line is neither an object nor an array, or where the rows are too heavy for a table.
+/// The columns of a text of JSON Lines; none for a dictionary with a limit below lists or structs, where a column has more entries than its indices name,
+/// where two columns have one name, where a line is neither an object nor an array, or where the rows are too heavy for a table.
 pub(crate) fn read_lines(
     alloc: Global,
     schema: &Schema,

@@ -40,7 +40,7 @@ fn no_binaries(alloc: Global, width: OffsetWidth) -> Result<Values, AllocError>
     Ok(Values::Binaries(width, offsets, contents))
 }
 
-// The values of a type of which no cell is written, where it is read into arrays.
+// The values of a type of which no cell is written, where it has no parts.
 fn no_values(alloc: Global, data_type: &DataType) -> Result<Option<Values>, AllocError>
     ensures { IfOk result (λ started. IfSome started (Takes (kind_of data_type.now) [])) }
 {
@@ -265,7 +265,7 @@ fn no_cells(alloc: Global, field: &Field) -> Result<Option<ColumnBuilder>, Alloc
     }
 }
 
-/// The buffers of columns that have no cell yet, where each column has a type that is read into arrays.
+/// The buffers of columns that have no cell yet, where no dictionary below lists or structs has a limit, and no struct has two fields of one name.
 #[cycle(starting)]
 pub(crate) fn no_rows(
     alloc: Global,

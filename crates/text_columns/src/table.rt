@@ -72,8 +72,9 @@ fn build_table(
     Ok(table)
 }
 
-/// The table of the rows of a CSV text, kept in one record batch, and what its rows weigh; none where a column has a type that is not read
-/// into arrays, or more entries than its indices name, or where the rows are too heavy for a table: the rows are then those of `text_import::csv_rows`.
+/// The table of the rows of a CSV text, kept in one record batch, and what its rows weigh; none for some schemas with lists or structs, where a column
+/// has more entries than its indices name, or where the rows are too heavy for a table: the rows are then those of `text_import::csv_rows`, or its
+/// refusal.
 ///
 /// # Errors
 ///
