@@ -88,9 +88,10 @@ fn digit(bits: u8) -> u8
 fn push_hex(out: &mut Vec<u8>, bytes: &[u8]) -> Result<(), AllocError>
     ensures { OnOk result (out.new.items ≡ out.old.items ++ encode_lower bytes.now) }
 {
+    out.reserve(2 * bytes.len())?;
     for byte in bytes {
-        out.push(digit(byte / 16))?;
-        out.push(digit(byte % 16))?;
+        out.push_reserved(digit(byte / 16));
+        out.push_reserved(digit(byte % 16));
     }
     Ok(())
 }
