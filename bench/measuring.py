@@ -34,11 +34,12 @@ def ratio(seconds, plain):
     return f"{seconds / plain:.1f}" if plain else "-"
 
 
-def write_again(path, size, fields, batch):
-    """Writes a record batch again and again, up to about so many bytes. Batch by batch: what this process ever held counts as memory of the programs
-    that it starts."""
+def write_again(path, size, fields, batch, first=b""):
+    """Writes a record batch again and again, up to about so many bytes, and before it the first messages. Batch by batch: what this process ever held
+    counts as memory of the programs that it starts."""
     with open(path, "wb") as out:
         out.write(streams.schema(fields))
+        out.write(first)
         for _ in range(size // len(batch)):
             out.write(batch)
         out.write(streams.END)
@@ -61,3 +62,16 @@ def write_texts(path, size, count):
     buffers = [b"", pick.randbytes(4 * ROWS_IN_BATCH), b"", struct.pack(f"<{ROWS_IN_BATCH + 1}i", *ends), b"".join(texts)]
     fields = [streams.field("a", False, 2, streams.integer("int32")), streams.field("s", False, 5, streams.Table())]
     write_again(path, size, fields, streams.rows(ROWS_IN_BATCH, [(ROWS_IN_BATCH, 0)] * 2, buffers))
+
+
+def write_coded(path, size, kind, count):
+    """Writes about so many bytes of a stream of ten columns of texts with a dictionary of so many, whose indices are of this type."""
+    pick = random.Random(1)
+    texts = [f"text number {number}".encode() for number in range(count)]
+    ends = [0]
+    for text in texts:
+        ends.append(ends[-1] + len(text))
+    fields = [streams.field(f"c{place}", False, 5, streams.Table(), (), streams.Table((8, place), streams.integer(kind))) for place in range(10)]
+    first = b"".join(streams.entries(place, count, [(count, 0)], [b"", struct.pack(f"<{count + 1}i", *ends), b"".join(texts)]) for place in range(10))
+    indices = [streams.numbers(kind, [pick.randrange(count) for _ in range(ROWS_IN_BATCH)]) for _ in fields]
+    write_again(path, size, fields, streams.record_batch(ROWS_IN_BATCH, indices), first)

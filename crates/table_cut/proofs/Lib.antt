@@ -4,6 +4,7 @@ mod Unlimited
 mod SeenLemmas
 pub mod CutRows
 pub mod Fronts
+mod FillingLemmas
 mod RowsTaken
 pub mod RowLemmas
 pub mod SpanWeights

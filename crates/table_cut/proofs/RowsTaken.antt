@@ -9,12 +9,13 @@ use Rattle.arrow_schema.specs.Column.{PlainSchema, columns_of}
 use Rattle.arrow_schema.specs.Shape.{HaveOneShape}
 use Rattle.cells.specs.Cell.{Cell, PlainTable}
 use Rattle.cells.specs.declared.limits.TheConstants.{MAX_ROW_WEIGHT}
-use Rattle.cells.specs.Dictionary.{dictionaries_fit, is_any_limited}
+use Rattle.cells.specs.Dictionary.{dictionaries_fit}
 use Rattle.cells.specs.Row.{is_row, row_fits}
 use Rattle.cells.specs.Weight.{row_weight}
 use Rattle.cells.specs.laws.Shapes.{one_shape_fits, one_shape_weighs}
 use Rattle.values.specs.Table.{IsTable, first_unfit}
-use Rattle.cells.specs.laws.Unlimited.{unlimited_fit}
+use Rattle.table_cut.specs.inner.Filling.{can_row_fill}
+use Rattle.table_cut.proofs.FillingLemmas.{row_fills_none}
 
 -- which of the rows from this place on is the first that is not taken
 abbrev pub unfit_from : PlainSchema → ℕ → List (List Cell) → Option ℕ
@@ -53,12 +54,12 @@ pub taken_by : (s : PlainSchema) (t : PlainTable) → HaveOneShape s t.schema �
     → is_row s row ≡ dictionaries_fit s (row ∷ [])
 taken_by s t same is i row next = row_by s t.schema same row (row_at_is (is_row t.schema) t.rows i row (list_all-from_AllPass (is_row t.schema) t.rows is.rows) next)
 
--- where no dictionary has a limit all are taken
-none_from : (s t : PlainSchema) → HaveOneShape s t → is_any_limited (columns_of s.columns) ≡ false → (i : ℕ) (rows : List (List Cell)) → list_all (is_row t) rows ≡ true → unfit_from s i rows ≡ None
+-- where no row can fill a dictionary all are taken
+none_from : (s t : PlainSchema) → HaveOneShape s t → can_row_fill (columns_of s.columns) ≡ false → (i : ℕ) (rows : List (List Cell)) → list_all (is_row t) rows ≡ true → unfit_from s i rows ≡ None
 none_from s t same free i [] h = refl
 none_from s t same free i (row ∷ rows) h =
     let own = and_parts (is_row t row) (list_all (is_row t) rows) h in
-    unfit_later s i row rows (row_by s t same row own.0 ∙ unlimited_fit s (row ∷ []) free) ∙ none_from s t same free (i + 1) rows own.1
+    unfit_later s i row rows (row_by s t same row own.0 ∙ row_fills_none s row free) ∙ none_from s t same free (i + 1) rows own.1
 
-pub all_taken : (s : PlainSchema) (t : PlainTable) → HaveOneShape s t.schema → IsTable t → is_any_limited (columns_of s.columns) ≡ false → first_unfit s t.rows ≡ None
+pub all_taken : (s : PlainSchema) (t : PlainTable) → HaveOneShape s t.schema → IsTable t → can_row_fill (columns_of s.columns) ≡ false → first_unfit s t.rows ≡ None
 all_taken s t same is free = unfit_first s t.rows ∙ none_from s t.schema same free 0 t.rows (list_all-from_AllPass (is_row t.schema) t.rows is.rows)

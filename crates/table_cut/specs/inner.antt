@@ -1,5 +1,6 @@
 pub mod Seen
 pub mod Columns
+pub mod Filling
 pub mod Fit
 pub mod Weights
 pub mod Room

@@ -148,6 +148,23 @@ fn hold_parts<'a>(
     Ok(())
 }
 
+// The cell of a field at its place in one row, and those of all fields below it. No vector is made of one value.
+fn hold_cell<'a>(
+    alloc: Global,
+    held: &mut Vec<Held<'a>>,
+    field: &Field,
+    row: Values<'a>,
+    i: usize,
+) -> Result<(), AllocError>
+    ensures { OnOk result (map held_in held.new.items ≡ map held_in held.old.items
+        ++ map held_of (holdings (column_of field.now) (cells_at i (borrowed_cells row.entry ∷ [])))) }
+{
+    match row.get(i) {
+        Some(value) => hold_field(alloc, held, field, &[value]),
+        None => hold_field(alloc, held, field, &[]),
+    }
+}
+
 /// The cells of the dictionary columns of a row, in preorder.
 #[tactic(auto, using(crate::proofs::SeenLemmas::held_append), unfolding(cells::specs::Dictionary::holdings_from))]
 pub(crate) fn held_in_row<'a>(
@@ -160,9 +177,7 @@ pub(crate) fn held_in_row<'a>(
 {
     let mut held = Vec::new(alloc);
     for (i, field) in fields.iter().enumerate() {
-        let mut cells = Vec::new(alloc);
-        add_at(&mut cells, row, i)?;
-        hold_field(alloc, &mut held, field, &cells)?;
+        hold_cell(alloc, &mut held, field, row, i)?;
     }
     Ok(held)
 }

@@ -2,7 +2,8 @@
 //!
 //! [`next_piece`] has the longest front of the rows that are left which is within the limits: at most 4,096 rows, a weight of at most 16,777,216,
 //! and in no dictionary more values than its indices can name. It borrows the rows, and weighs each once, but for the first of the next piece.
-//! [`first_unfit_row`] gives which row of a table another schema of its shape does not take.
+//! [`first_unfit_row`] gives which row of a table another schema of its shape does not take: rows are borrowed only where a dictionary of 8 or 16 bit
+//! indices stands below a list.
 //!
 //! ```ignore
 //! let piece = next_piece(alloc, table.schema(), &table, from)?;
@@ -23,6 +24,7 @@
 
 mod columns_fit;
 mod columns_of_runs;
+mod filling;
 mod fitting;
 mod holding;
 mod laws;
