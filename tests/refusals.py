@@ -1,5 +1,5 @@
-"""Runs a program with each of its allocations refused, or each read of its input, write of its output, or write and sync of a file failed, in turn, or
-all reads of files from each one on, by a library that is loaded before the C library."""
+"""Runs a program with each of its allocations refused, or each read of its input, write of its output, or change of a file failed, in turn, or all reads of
+files from each one on, by a library that is loaded before the C library."""
 import functools
 import os
 import shutil
@@ -88,7 +88,7 @@ def each_write_failed(command, given, error, most, answer=answer_of):
 
 
 def each_change_failed(command, given, error, answer=answer_of):
-    """With each write to a file and each sync of one failed, with this error of the system."""
+    """With each write to a file, each sync of one and each change of its length failed, with this error of the system."""
     return in_turn(3, command, given, answer, "FAILED_CHANGE", CALL_ERROR=str(error))
 
 

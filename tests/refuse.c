@@ -1,9 +1,9 @@
 /* Loaded before the C library: refuses one allocation of a program, the one whose number is in REFUSED, or fails one read of its
    standard input, the one whose number is in FAILED_READ, or one write to its standard output, that in FAILED_WRITE, or one write to a
-   file or sync of one, that in FAILED_CHANGE, or the reads of files from that in FAILED_FILE_READ on, with the error CALL_ERROR, where
-   0 is a call that moves no byte; all are counted from 1. Where MOST is set, a read of standard input or a write to standard output
-   moves at most so many bytes. At its end the program's numbers of allocations, and of such reads, writes, changes and reads of files,
-   are written into the file COUNTS, where that is set. */
+   file, sync of one or change of its length, that in FAILED_CHANGE, or the reads of files from that in FAILED_FILE_READ on, with the
+   error CALL_ERROR, where 0 is a call that moves no byte; all are counted from 1. Where MOST is set, a read of standard input or a
+   write to standard output moves at most so many bytes. At its end the program's numbers of allocations, and of such reads, writes,
+   changes and reads of files, are written into the file COUNTS, where that is set. */
 #define _GNU_SOURCE
 #include <errno.h>
 #include <stdio.h>
@@ -108,4 +108,8 @@ int fsync(int file) {
 
 int fdatasync(int file) {
     return change_fails(file) ? (int)failed() : (int)syscall(SYS_fdatasync, file);
+}
+
+int ftruncate(int file, off_t length) {
+    return change_fails(file) ? (int)failed() : (int)syscall(SYS_ftruncate, file, length);
 }

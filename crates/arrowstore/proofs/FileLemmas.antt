@@ -75,6 +75,11 @@ unfolding FailsToFormat RefusesFormat
 of_formatting g size sectors version (Opening r) same limits why = (limits, subst (λ (n : ℕ). FailsToFormat g n version (Opening r)) same why)
 of_formatting g size sectors version _ same limits why = absurd why
 
+-- a formatting that was refused or not
+pub of_formatted : {D T : Type 0} (g : Ghosts D) (size sectors : ℕ) (version : FormatVersion) (result : Result T Refusal) → size ≡ sectors → is_size sectors ≡ true → IfErr result (FailsToFormat g size version) → IfErr result (RefusesFormat g sectors version)
+of_formatted g size sectors version (Ok made) same limits why = tt
+of_formatted g size sectors version (Err refusal) same limits why = of_formatting g size sectors version refusal same limits why
+
 -- a refusal of a store of one version is one of a store of the same version
 pub in_version : {D : Type 0} (g : Ghosts D) (sectors : ℕ) (v w : FormatVersion) (refusal : Refusal) → v ≡ w → RefusesFormat g sectors v refusal → RefusesFormat g sectors w refusal
 in_version g sectors v w refusal same why = subst (λ (version : FormatVersion). RefusesFormat g sectors version refusal) same why

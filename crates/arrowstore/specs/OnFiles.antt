@@ -130,7 +130,7 @@ pub record CopiesInto {D : Type 0} (g : Ghosts D) (sectors : ℕ) (from : Store 
   pub full : Store D g
   pub copies : Copies from after_it made full answer
 
--- why no copy is made: no new store is made, or some table is not copied into it
+-- why no copy is made: no new store is made, the system refuses its file, or some table is not copied into it
 abbrev pub FailsToCopy : {D : Type 0} → (g : Ghosts D) → (sectors : ℕ) → (from : Store D g) → Refusal → Type 0
 FailsToCopy g sectors from refusal = RefusesFormat g sectors (commit_of from).version refusal
     ⊎ ((r : tables.Refusal) × (refusal ≡ refusals.Store r) × CopiesInto g sectors from (Err r))

@@ -1,13 +1,14 @@
 // A copy of the store of a file, in a new file.
-ghost use Rattle.std.specs.Prelude.{◌≡◌, ◌≢◌, Ok, IfOk, IfErr, OnOk};
+ghost use Rattle.std.specs.Prelude.{◌≡◌, ◌≢◌, ◌≤◌, Ok, IfOk, IfErr, OnOk};
+ghost use Rattle.sector_dev.specs.declared.file.TheConstants.{MOST_SECTORS};
 ghost use Rattle.arrowstore.specs.OnFiles.{IsOpenedFile, OpensStore, FailsToOpen, CopiesInto, FailsToCopy, CopiesStore};
 
-use crate::serving::{format_file, take_places_of_streams};
+use crate::serving::{format_new, or_removed, take_places_of_streams};
 use cli_commands::copy_tables;
 use cli_refusals::{Refusal, write_whole};
 use sector_dev::{FileDevice, LockFile, SectorDevice};
 use std::alloc::Global;
-use std::fs::{self, OpenFile};
+use std::fs::{OpenFile, OpenOptions};
 use std::io::{Read, Seek, Write};
 use std::rt::Files;
 use store::Store;
@@ -27,6 +28,38 @@ pub(crate) fn open_to_read<
     }
 }
 
+// Gives a file this length, and has the system bring that to the disk.
+fn set_length<F: OpenFile>(file: &F, bytes: u64) -> Result<(), Refusal>
+    ensures { IfErr result (λ refusal. refusal ≡ Refusal.Io) }
+{
+    file.set_len(bytes).map_err(|_| Refusal::Io)?;
+    file.sync_all().map_err(|_| Refusal::Io)
+}
+
+// Makes a new file a byte longer than its sectors. No file of such a length is opened as a store, whatever it has by then.
+fn mark_unfinished<F: OpenFile + Drop, H: Files<File = F>>(
+    rt: &H,
+    path: &str,
+    sectors: u64,
+) -> Result<F, Refusal>
+    requires { sectors ≤ MOST_SECTORS }
+    ensures { IfErr result (λ refusal. refusal ≡ Refusal.Io) }
+{
+    let file = OpenOptions::new()
+        .write(true)
+        .open(rt, path)
+        .map_err(|_| Refusal::Io)?;
+    set_length(&file, sectors * 512 + 1)?;
+    Ok(file)
+}
+
+fn mark_finished<F: OpenFile>(file: &F, sectors: u64) -> Result<(), Refusal>
+    requires { sectors ≤ MOST_SECTORS }
+    ensures { IfErr result (λ refusal. refusal ≡ Refusal.Io) }
+{
+    set_length(file, sectors * 512)
+}
+
 // All tables of a store, in a store of its version in a new file. Where that is refused, no file is left, unless the system refuses to remove it too.
 fn copy_into_file<
     F: Read + Write + Seek + OpenFile + LockFile + Drop,
@@ -35,19 +68,18 @@ fn copy_into_file<
     ensures copied { OnOk result (CopiesInto ⟦<FileDevice<F> as SectorDevice>⟧ sectors from.old (Ok tt)) }
     ensures refused { IfErr result (FailsToCopy ⟦<FileDevice<F> as SectorDevice>⟧ sectors from.old) }
 {
-    let mut to = format_file(rt, path, sectors, from.version())?;
+    let device = FileDevice::create(rt, path, sectors)?;
+    let file = or_removed(rt, path, mark_unfinished(rt, path, sectors))?;
+    let mut to = format_new(rt, path, device, from.version())?;
     match copy_tables(rt.alloc(), from, &mut to) {
-        Ok(()) => Ok(()),
-        // It is removed while the device still has it locked: nobody else has put anything into it.
-        Err(refusal) => {
-            let _removed = fs::remove_file(rt, path);
-            Err(Refusal::Store(refusal))
-        }
+        // The commit point of the copy: from here on the file is opened as a store.
+        Ok(()) => or_removed(rt, path, mark_finished(&file, sectors)),
+        Err(refusal) => or_removed(rt, path, Err(Refusal::Store(refusal))),
     }
 }
 
 /// Makes a store of `sectors` sectors of 512 bytes in a new file, in the version of the store in another file, copies all tables of that one into it, and
-/// writes `ok`.
+/// writes `ok`. Where that is broken off, the new file is not opened as a store.
 pub(crate) fn serve_copy<
     F: Read + Write + Seek + OpenFile + LockFile + Drop,
     H: Files<File = F> + AllocGlobal,

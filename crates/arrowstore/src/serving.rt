@@ -1,5 +1,6 @@
 // The commands of a store, on its file.
 ghost use Rattle.std.specs.Prelude.{◌≡◌, ◌≢◌, ◌⊎◌, true, IfOk, IfErr};
+ghost use Rattle.sector_dev.specs.View.{sectors_of};
 ghost use Rattle.store.specs.Fits.{device_of, IsNewStore};
 ghost use Rattle.store.specs.Salvaging.{plain_left};
 ghost use Rattle.cli_requests.specs.Asked.{command_word, request_word};
@@ -65,8 +66,42 @@ fn device_of<F: Read + Write + Seek + OpenFile + LockFile + Drop, H: Files<File 
     }
 }
 
-// A store in a new file. Where it is not made, no file is left, unless the system refuses to remove it too.
-pub(crate) fn format_file<
+/// What was done to a new file. Where that is refused the file is removed. Its device still has it locked: nobody else has put anything into it.
+pub(crate) fn or_removed<T: Drop, H: Files>(
+    rt: &H,
+    path: &str,
+    done: Result<T, Refusal>,
+) -> Result<T, Refusal>
+    ensures { result ≡ done }
+{
+    if done.is_err() {
+        let _removed = fs::remove_file(rt, path);
+    }
+    done
+}
+
+/// A store in a new file, on its device. Where it is not made, no file is left, unless the system refuses to remove it too.
+pub(crate) fn format_new<
+    F: Read + Write + Seek + OpenFile + LockFile + Drop,
+    H: Files<File = F> + AllocGlobal,
+>(
+    rt: &H,
+    path: &str,
+    device: FileDevice<F>,
+    version: FormatVersion,
+) -> Result<Store<FileDevice<F>>, Refusal>
+    ensures made { IfOk result (IsNewStore (sectors_of device) version) }
+    ensures size { IfOk result (λ store. ⟦<FileDevice<F> as SectorDevice>⟧.size (device_of store) ≡ sectors_of device) }
+    ensures refused { IfErr result (FailsToFormat ⟦<FileDevice<F> as SectorDevice>⟧ (sectors_of device) version) }
+{
+    match format_on(rt.alloc(), device, version) {
+        Ok(store) => Ok(store),
+        Err((refusal, _device)) => or_removed(rt, path, Err(refusal)),
+    }
+}
+
+// A new file with an empty store. Where it is not made, no file is left, unless the system refuses to remove it too.
+fn format_file<
     F: Read + Write + Seek + OpenFile + LockFile + Drop,
     H: Files<File = F> + AllocGlobal,
 >(rt: &H, path: &str, sectors: u64, version: FormatVersion) -> Result<Store<FileDevice<F>>, Refusal>
@@ -75,14 +110,7 @@ pub(crate) fn format_file<
     ensures refused { IfErr result (RefusesFormat ⟦<FileDevice<F> as SectorDevice>⟧ sectors version) }
 {
     let device = FileDevice::create(rt, path, sectors)?;
-    match format_on(rt.alloc(), device, version) {
-        Ok(store) => Ok(store),
-        // It is removed while the device still has it locked: nobody else has put anything into it.
-        Err((refusal, _device)) => {
-            let _removed = fs::remove_file(rt, path);
-            Err(refusal)
-        }
-    }
+    format_new(rt, path, device, version)
 }
 
 fn serve_format<
