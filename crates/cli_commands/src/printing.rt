@@ -25,6 +25,9 @@ fn push_number(text: &mut String, number: u64) -> Result<(), AllocError>
 }
 
 /// The lines of these tables: the name of each, and how many rows it has.
+///
+/// # Errors
+/// `AllocError` where memory was refused.
 pub fn lines_of_tables(alloc: Global, tables: &[(String, u64)]) -> Result<String, AllocError>
     ensures { IfOk result (λ text. string_bytes text ≡ tables_text (map (λ t. (string_bytes t.0, t.1)) tables.now)) }
 {

@@ -107,8 +107,9 @@ imported or appended. A fault without a remedy of its own lies with the program 
   ",
     SEE_TO_FILES,
     "
-- G2 BadSize: the file or the number of sectors that was given is of a size that no store has, in sectors
-  of 512 bytes. The file may be cut short, or be no store.
+- G2 BadSize: the number of sectors that was given, or the length of the file, is none of a store, which has
+  16 to 4,194,304 sectors of 512 bytes, and not a byte more or less. Such a file is no store, or was cut
+  short or made longer, or a `copy` into it was broken off.
   ",
     SIZE_OF_A_STORE,
     "
@@ -126,7 +127,8 @@ imported or appended. A fault without a remedy of its own lies with the program 
     "
 - C3 Damaged CAUSE: a store stands in the file, but it can't be used: the file was cut short or made
   longer, bytes of it were changed, or it was copied while it was written.
-  DeviceSize: the file is shorter or longer than its store says.
+  DeviceSize: the file is shorter or longer than its store says. `replay`, which makes a device of its own,
+  answers so where no store has as many sectors as `--sectors` says.
   CatalogueRange: the list of tables would lie past the end of the file or in its first two sectors, or
   has an impossible length.
   CatalogueUnreadable: a sector of the list of tables can't be read.
@@ -144,7 +146,8 @@ imported or appended. A fault without a remedy of its own lies with the program 
 
 ## P: the fields of `create`
 
-- P1 BadText N: the field text N, counted from 1, states no field.
+- P1 BadText N: the field text N, counted from 1, states no field: its form is another one, or its type is
+  not known.
   ",
     FORM_OF_A_FIELD,
     "
@@ -230,10 +233,13 @@ appended. A refusal without a remedy of its own lies with that record.
     "
 - S7 TooMany WHAT: a limit would be passed. Bytes: 2,147,483,647 of an input. Tables: 1,024. Segments:
   65,536 of all tables, of up to 4,096 rows each. Weight: 268,435,456 of a table (F28). Epochs: the
-  store has taken as many changes as it can number. ",
+  store has taken as many changes as it can number.
+  ",
     GIVE_LESS,
     "
-- S8 NoRoom N: nowhere in the store are N free sectors in a row.
+- S8 NoRoom N: one of the parts that the change writes needs N free sectors in a row, and there were none
+  when its turn came. The parts before it count as used then, so `info` may show a longer free run. Of
+  `copy` it speaks of the new store.
   ",
     MORE_ROOM,
     "

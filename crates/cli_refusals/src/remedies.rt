@@ -16,7 +16,7 @@ pub const WRITE_AGAIN: &str =
 pub const GIVE_ALL: &str = "Give all of the stream.";
 
 pub const GIVE_A_STREAM: &str =
-    "Give an IPC stream, not an Arrow file and not a stream of an Arrow before 0.15.";
+    "Give an Arrow IPC stream, not an Arrow file (Feather), Parquet, or a stream of an Arrow before 0.15; `append` with `--as` takes CSV and JSON Lines.";
 
 pub const WRITE_V5: &str = "Have the stream written with metadata of version V5.";
 
@@ -45,7 +45,7 @@ pub const SEE_TO_FILES: &str =
     "See to the file, the input and the output, and look with `tables` what a store has.";
 
 pub const SIZE_OF_A_STORE: &str =
-    "Give `format` 16 to 4,194,304 sectors, and other commands the whole file of a store.";
+    "Give 16 to 4,194,304 sectors, or the whole file of a store; where a `copy` was broken off, delete its new file and copy again.";
 
 pub const LINES_OF_A_SCRIPT: &str =
     "Write each line as `create NAME FIELD ..`, `import NAME FILE`, `append NAME FILE`, `rename FROM TO`, `drop NAME`, `compact`, `upgrade` or `reopen`.";
@@ -53,16 +53,18 @@ pub const LINES_OF_A_SCRIPT: &str =
 pub const FILE_OF_A_STORE: &str =
     "Give the file of a store; where `format` was interrupted, delete the file and format again.";
 
-pub const EARLIER_COPY: &str = "Take a copy of the file from before.";
+pub const EARLIER_COPY: &str =
+    "Take a copy of the file from before; to `replay` give 16 to 4,194,304 sectors.";
 
 pub const TRY_AGAIN: &str = "See to the disk, and try again.";
 
 // ---- P: of field texts
 
 pub const FORM_OF_A_FIELD: &str =
-    "Write a field as `NAME:TYPE`, or `NAME:TYPE?` where nulls are allowed, as `id:uint64`.";
+    "Write a field without spaces as `NAME:TYPE`, or `NAME:TYPE?` where nulls are allowed, as `id:uint64`: `help create` lists the types.";
 
-pub const SMALLER_FIELDS: &str = "Give fewer or shorter fields, with smaller numbers.";
+pub const SMALLER_FIELDS: &str =
+    "Give numbers of at most 2,147,483,647, and fewer, shorter or less deeply nested fields.";
 
 // ---- X: of a text
 
@@ -78,10 +80,10 @@ pub const GIVE_ARRAYS: &str = "Give arrays in place of objects.";
 // ---- Q: of a query
 
 pub const NAMES_OF_COLUMNS: &str =
-    "Ask for columns by their names, which `schema` prints, each once, and as objects for columns of different names.";
+    "Give names of columns as `schema` prints them, without the quotation marks: in `--columns` each once, and for `--objects` no two alike.";
 
 pub const FORM_OF_A_CONDITION: &str =
-    "Write a condition as `NAME OP LITERAL`, `NAME is null` or `NAME is not null`, with OP one of = != < <= > >=.";
+    "Write `NAME OP LITERAL`, `NAME is null` or `NAME is not null`: OP is = != < <= > or >=, LITERAL is of the column's type (dates are integers).";
 
 pub const TEST_FOR_NULL: &str = "Ask `is null` or `is not null` of such a column.";
 
@@ -94,19 +96,20 @@ pub const OTHER_NAME: &str = "Take another name, or drop the table that has it."
 pub const FORM_OF_A_NAME: &str = "Take a name of 1 to 64 ASCII letters, digits, `_`, `-` and `.`.";
 
 pub const FIELDS_OF_THE_TABLE: &str =
-    "Give rows with the fields of the table: `schema` prints them.";
+    "Give rows with the fields of the table, in name, type and nullability: `schema` prints them.";
 
 pub const FIX_ROW: &str = "Fix the row, and append all rows again.";
 
-pub const GIVE_LESS: &str = "Give less, or use a new store.";
+pub const GIVE_LESS: &str =
+    "For Bytes give less at once, for Weight begin another table, for Segments use `compact`, for Tables drop some, for Epochs `copy` the store.";
 
 pub const MORE_ROOM: &str =
-    "Drop tables, bring free sectors together with `compact`, or use a larger store.";
+    "Drop tables, bring free sectors together with `compact`, or `copy` the store into a larger one; where a `copy` is refused give it more sectors.";
 
 pub const LOOK_AGAIN: &str = "See to the disk, and look with `tables` whether the command is done.";
 
 pub const IMPORT_AGAIN: &str =
-    "Write what can be read of the table with `salvage`, and drop it or import it again: the others are as they were.";
+    "Write what can be read of the table with `salvage`, and drop it or import it again. Then use `check` once more: other tables may be damaged too.";
 
 pub const MORE_MEMORY: &str =
     "Give the program more memory: a stream needs a small multiple of its size.";

@@ -225,7 +225,7 @@ fn read_line(alloc: Global, line: &[u8]) -> Result<Option<ScriptLine<'_>>, Scrip
 /// The lines of a script.
 ///
 /// # Errors
-/// `BadLine` with the number of the first line that is none.
+/// `BadLine` with the number of the first line that is none, counted from 1; `OutOfMemory`.
 pub fn parse_script(alloc: Global, script: &[u8]) -> Result<Vec<ScriptLine<'_>>, ScriptError>
     ensures { IsScript script.now (result_map_both (λ lines. plain_lines lines.items) (λ e. e) result) }
 {

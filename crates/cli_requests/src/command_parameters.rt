@@ -280,7 +280,7 @@ pub(crate) fn with_query<'a>(alloc: Global, name: &'a str) -> Result<Command<'a>
         alloc,
         "save",
         "NEW",
-        "Makes a table of this name of them, in place of printing",
+        "Stores these rows as a new table NEW, in place of printing them",
     );
     with_conditions(alloc, name)?
         .arg(columns)?

@@ -13,7 +13,10 @@ pub(crate) const COMMANDS: [Usage; 17] = [
     Usage {
         name: "format",
         about: abouts::FORMAT,
-        example: "Example: arrowstore format store 4096",
+        example: "Example: arrowstore format store 4096
+
+The size is fixed. A sector takes room on the disk only once it has been written: where
+in doubt take 4194304, the most, which are 2 GiB.",
     },
     Usage {
         name: "create",
@@ -25,7 +28,7 @@ large_binary, date_day, date_ms, timestamp_s, timestamp_ms, timestamp_us or
 timestamp_ns, each of these four also with a zone, as timestamp_ms(UTC),
 fixed_binary(N), list<ITEM>, large_list<ITEM>, fixed_list(N,ITEM), struct<FIELD,..>
 or dict<INDEX,TYPE>, as dict<int8,utf8>. An ITEM is a TYPE, with a ? where nulls
-are allowed.",
+are allowed. A column of the type null takes no row without its ?, as in n:null?.",
     },
     Usage {
         name: "import",
@@ -91,9 +94,12 @@ out, with a line on standard error, and the status is then 1. The store is only 
         about: abouts::INFO,
         example: "Example: arrowstore info store --json
 
-Sectors are counted in 512 bytes. The used ones are those of the two commits, of the
-catalogue and of the tables. Where commits_agree is false, something else than this
-program has changed a commit, and the last command may be undone.",
+A sector has 512 bytes. The used ones are those of the two commits, of the catalogue
+and of the tables. None is kept here: only a program over the library keeps sectors,
+for its readers. The epoch grows by one with each change, of which a step of compact is
+one. Segments are the pieces in which tables lie. Where commits_agree is false,
+something else than this program has changed a commit, and the last command may be
+undone.",
     },
     Usage {
         name: "compact",
@@ -101,7 +107,7 @@ program has changed a commit, and the last command may be undone.",
         example: "Example: arrowstore compact store
 
 The tables stay as they are, also where it is stopped. Each append leaves a segment of
-its own, with a bound on how many a store has; what is joined is read faster too.",
+its own, and a store has at most 65,536 of them. Joined ones are read faster too.",
     },
     Usage {
         name: "upgrade",
@@ -123,7 +129,7 @@ a disk has changed its bytes. Programs that know version 1 alone do not read it.
 where script has a command on each line, its words split by single spaces:
 create NAME FIELD .., import NAME FILE, append NAME FILE, rename NAME NEW, drop NAME,
 compact (one step), upgrade or reopen. Each line prints ok or its refusal. Writes and syncs of
-the device are counted from 1, the first one after the formatting.",
+the device are counted from 1, the first one after the formatting. No line is empty.",
     },
 ];
 

@@ -39,12 +39,13 @@ help_page = flat_map (λ piece. piece.now) HELP
 unfoldable pub is_help_alone : Text → Bool
 is_help_alone word = bytes_eq (codes "help") word || (bytes_eq (codes "--help") word || bytes_eq (codes "-h") word)
 
--- after the program's name such a word, and nothing more
+-- after the program's name such a word, or `help` and such a word, and nothing more
 unfoldable pub asks_commands : List Text → Bool
 asks_commands [] = false
 asks_commands (name ∷ []) = false
 asks_commands (name ∷ word ∷ []) = is_help_alone word
-asks_commands (name ∷ word ∷ more ∷ rest) = false
+asks_commands (name ∷ word ∷ topic ∷ []) = bytes_eq (codes "help") word && is_help_alone topic
+asks_commands (name ∷ word ∷ topic ∷ more ∷ rest) = false
 
 unfoldable pub is_own : List Text → Bool
 is_own arguments = asks_version arguments || (asks_refusals arguments || asks_commands arguments)

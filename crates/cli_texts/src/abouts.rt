@@ -5,14 +5,14 @@ pub const FORMAT: &str = "Makes a file of the given number of sectors, and an em
 pub const CREATE: &str = "Makes a table without rows";
 
 pub const IMPORT: &str =
-    "Reads a stream from standard input, and makes its table, in place of one of this name";
+    "Reads an Arrow IPC stream from standard input, and stores it as the table NAME, in place of one that is there";
 
 pub const APPEND: &str = "Reads rows from standard input, and appends them to a table";
 
 pub const QUERY: &str =
     "Prints the rows of a table that meet all conditions, each as a line of JSON";
 
-pub const EXPORT: &str = "Writes the stream of a table to standard output";
+pub const EXPORT: &str = "Writes a table as an Arrow IPC stream to standard output";
 
 pub const RENAME: &str = "Gives a table another name";
 
@@ -25,7 +25,7 @@ pub const SCHEMA: &str = "Prints a line for each field of a table";
 pub const CHECK: &str = "Reads all tables, and prints ok where each can be read";
 
 pub const SALVAGE: &str =
-    "Writes the stream of the rows of a damaged table that can be read, and tells what is left out";
+    "Writes, as an Arrow IPC stream, the rows of a damaged table that can be read, and tells what is left out";
 
 pub const INFO: &str = "Prints the store in numbers";
 
@@ -41,4 +41,4 @@ pub const REPLAY: &str =
     "Plays a script on a device in memory that fails or stops, and prints what a crash leaves";
 
 pub const RECODE: &str =
-    "Reads a stream from standard input, and writes its canonical form to standard output";
+    "Reads an Arrow IPC stream from standard input, and writes the same rows in the one form of this program";

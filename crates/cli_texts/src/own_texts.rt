@@ -68,6 +68,7 @@ fn asks_commands<S: AsStr>(arguments: &[S]) -> bool
 {
     match arguments {
         [_, word] => is_help_alone(word.as_str()),
+        [_, word, topic] => word.as_str() == "help" && is_help_alone(topic.as_str()),
         _ => false,
     }
 }
@@ -81,6 +82,9 @@ pub fn is_own<S: AsStr>(arguments: &[S]) -> bool
 }
 
 /// Writes the text that such arguments ask for, and nothing else.
+///
+/// # Errors
+/// `OutOfMemory`, and then nothing is written; `Io` where the output fails: some may be written.
 #[tactic(auto, unfolding(crate::specs::OwnTexts::own_text))]
 pub fn write_own_text<S: AsStr, W: Write>(
     alloc: Global,
