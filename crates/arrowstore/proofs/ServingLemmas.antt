@@ -1,6 +1,6 @@
 -- What commands of an open store do.
 use Rattle.std.proofs.Common.{◌≡◌, ℕ, List, sym, subst}
-use Rattle.std.specs.Prelude.{Option, Result, Ok, Err, OnOk}
+use Rattle.std.specs.Prelude.{Option, Result}
 use Rattle.std.specs.Borrow.{Bor}
 use Rattle.sector_dev.specs.declared.device.SectorDevice.{Ghosts}
 use Rattle.text_import.specs.declared.form.TextForm.{TextForm}
@@ -41,8 +41,3 @@ module _ {D : Type 0} {g : Ghosts D} {R W : Type 0} (remaining : R → Option (L
 pub serves_as : {D : Type 0} {g : Ghosts D} {R W : Type 0} (remaining : R → Option (List ℕ)) (contents : W → Option (List ℕ)) (command same : OpenCommand) (old new : Store D g)
     (before after : Channels R W) (result : Result (Unit {0}) Refusal) → command ≡ same → Serves remaining contents same old new before after result → Serves remaining contents command old new before after result
 serves_as remaining contents command same old new before after result is serves = subst (λ (c : OpenCommand). Serves remaining contents c old new before after result) (sym is) serves
-
--- what holds of a result by two clauses
-pub both_written : {A E : Type 0} (r : Result A E) (P Q : Type 0) → OnOk r P → OnOk r Q → OnOk r (P × Q)
-both_written (Ok x) P Q p q = (p, q)
-both_written (Err e) P Q p q = tt

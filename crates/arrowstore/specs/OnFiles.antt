@@ -10,7 +10,6 @@ use Rattle.sector_dev.specs.Written.{IsEmpty}
 use Rattle.sector_dev.specs.declared.file.FileDevice.{FileDevice}
 use Rattle.sector_dev.specs.declared.file.TheConstants.{LEAST_SECTORS, MOST_SECTORS}
 use Rattle.commit.specs.Standing.{is_size}
-use Rattle.text_import.specs.declared.part.RefusedPart.{RefusedPart}
 use Rattle.store.specs.declared.store.Store.{Store}
 use Rattle.commit.specs.declared.sector.FormatVersion.{FormatVersion}
 use Rattle.catalogue.specs.Edits.{entry_of}
@@ -27,6 +26,8 @@ use Rattle.cli_commands.specs.Reading.{OfStore, refusal_ended}
 use Rattle.cli_commands.specs.Salvaging.{IsBrokenOff}
 use Rattle.cli_refusals.specs.declared.hint.Hint.{Hint}
 use Rattle.cli_refusals.specs.declared.hint.Hint.TheVariants as hints
+use Rattle.cli_refusals.specs.declared.hint.Hinted.{Hinted}
+use Rattle.cli_refusals.specs.declared.hint.Hinted.TheVariants.{Part, Table}
 use Rattle.cli_texts.specs.Reported.{IsWrong}
 use Rattle.cli_texts.specs.Ending.{GivesSome, HasReported, IsIo}
 use Rattle.cli_texts.specs.declared.telling.Audience.{Audience}
@@ -221,10 +222,11 @@ status_of (Ok unit) [] = Done
 status_of (Ok unit) (s ∷ ss) = PartlyDone
 status_of (Err refusal) left = Refused refusal
 
--- the part of the input that a hint names, if it names one
-abbrev pub hinted_part : Option Hint → Option RefusedPart
-hinted_part (Some (hints.Part p)) = Some p.now
-hinted_part _ = None
+-- the part of the input or the table that a hint names, if it names one
+abbrev pub hinted_of : Option Hint → Option Hinted
+hinted_of (Some (hints.Part p)) = Some (Part p.now)
+hinted_of (Some (hints.Table name)) = Some (Table name.now)
+hinted_of _ = None
 
 -- what a run reads, what it writes, and where it reports
 pub record Ends (R W E : Type 0) : Type 0 where
@@ -246,15 +248,15 @@ HasTold reported audience word left output output' errors errors' ended hint =
 pub record ServesTold {D : Type 0} (g : Ghosts D) (is_opened : D → Type 0) {R W E : Type 0} (remaining : R → Option (List ℕ)) (contents : W → Option (List ℕ))
     (replays : ReplayWords → W → W → Result (Unit {0}) Refusal → Type 0) (reported : E → Option (List ℕ)) (audience : Audience) (request : StoreRequest)
     (before after : Ends R W E) (ended : Ended) : Type 0 where
-  pub part : Option RefusedPart
+  pub hinted : Option Hinted
   pub left : List (ℕ × ℕ)
   pub result : Result (Unit {0}) Refusal
   pub serves : ServesRequest g is_opened remaining contents replays request (channels before.input before.output None)
-      (channels after.input after.output part) [] left result
+      (channels after.input after.output hinted) [] left result
   pub ends : ended.status ≡ status_of result left
   pub hint : Option Hint
-  -- what is hinted of the input is the part that is refused, and else none is
-  pub hints : hinted_part hint ≡ part
+  -- what is hinted of the input and the tables is what the command has hinted at, and else nothing is
+  pub hints : hinted_of hint ≡ hinted
   pub told : HasTold reported audience (request_word request) left before.output after.output before.errors after.errors ended hint
 
 -- the request that the words state: the command of the first one, where operands alone follow the file and the tables that they name, and all that `clap`

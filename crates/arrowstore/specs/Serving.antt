@@ -7,7 +7,6 @@ use Rattle.sector_dev.specs.declared.device.SectorDevice.{Ghosts}
 use Rattle.cells.specs.Cell.{PlainTable}
 use Rattle.query.specs.View.{query_in}
 use Rattle.text_import.specs.declared.form.TextForm.{TextForm}
-use Rattle.text_import.specs.declared.part.RefusedPart.{RefusedPart}
 use Rattle.catalogue.specs.Entries.{PlainEntry, is_name}
 use Rattle.catalogue.specs.Edits.{entry_of, tables_of}
 use Rattle.ipc_canonical.specs.Canonical.{canonical}
@@ -28,25 +27,26 @@ use Rattle.store.specs.Reading.{ReadsTable, RefusesRead, OnlyReadsStore, ended}
 use Rattle.store.specs.Summary.{IsSummary}
 use Rattle.store.specs.Upgrading.{upgrade_ended}
 use Rattle.store.specs.declared.summary.Summary.{Summary}
+use Rattle.cli_refusals.specs.declared.hint.Hinted.{Hinted}
 use Rattle.cli_refusals.specs.declared.refusal.Refusal.{Refusal}
 use Rattle.cli_refusals.specs.declared.refusal.Refusal.TheVariants.{Io}
 use Rattle.cli_commands.specs.Changing.{Answered, AnswersCommand, AnswersInput}
 use Rattle.cli_commands.specs.Compacting.{Compacts}
 use Rattle.cli_commands.specs.Upgrading.{AnsweredUpgrade, AnswersUpgrade}
 use Rattle.cli_commands.specs.Printed.{tables_text, schema_text, summary_text, RefusesPrinting, RefusesSummary}
-use Rattle.cli_commands.specs.Reading.{OfStore, store_ended, IsReadable, RefusesCheck}
+use Rattle.cli_commands.specs.Reading.{OfStore, store_ended, IsReadable, RefusesCheck, IfChecked}
 use Rattle.cli_commands.specs.Selecting.{rows_text, QueryAnswers, RefusesQuery}
 use Rattle.cli_commands.specs.TextRows.{HandsRows, RefusesText, IfOfText, IfHinted}
 use Rattle.arrowstore.specs.declared.open_command.OpenCommand.{OpenCommand}
 use Rattle.arrowstore.specs.declared.open_command.OpenCommand.TheVariants as opened
 
--- what a command reads, writes and hints at: an input, an output, and the part of the input that is refused
+-- what a command reads, writes and hints at: an input, an output, and the part of the input that is refused or the table that can't be read
 pub record Channels (R W : Type 0) : Type 0 where
   pub input : R
   pub output : W
-  pub hint : Option RefusedPart
+  pub hint : Option Hinted
 
-abbrev pub channels : {R W : Type 0} → R → W → Option RefusedPart → Channels R W
+abbrev pub channels : {R W : Type 0} → R → W → Option Hinted → Channels R W
 channels input output hint = record { input = input; output = output; hint = hint }
 
 -- a change of the tables is carried out as the store carries it out (`apply_command`)
@@ -89,8 +89,8 @@ pub record CarriesText {D : Type 0} {g : Ghosts D} {R W : Type 0} (contents : W 
   pub hinted : IfHinted after.hint form (entry_of (listed_in old) name) input result
   pub written : OnOk result (Appends (contents before.output) (contents after.output) (codes "ok\n"))
 
--- what is printed of a store, why nothing is, and what becomes of the store (`print_tables`, `print_schema`, `print_selection`, `print_summary`, `export_table`,
--- `check_tables`)
+-- what is printed of a store, why nothing is, and what becomes of the store (`print_tables`, `print_schema`, `print_selection`, `print_summary`,
+-- `export_table`)
 pub record Prints {R W : Type 0} (printed : Type 0) (refuses : Refusal → Type 0) (left : Type 0) (before after : Channels R W)
     (result : Result (Unit {0}) Refusal) : Type 0 where
   pub written : OnOk result printed
@@ -113,6 +113,15 @@ AreReadable {g = g} store = g.tells ≡ true → AllByRecursion (IsReadable (is_
 -- the store was only read
 abbrev pub OnlyRead : {D : Type 0} {g : Ghosts D} → Result (Unit {0}) Refusal → (old new : Store D g) → Type 0
 OnlyRead {g = g} result old new = OnlyReadsStore g.size g.story g.failed g.tells (store_ended result) old new
+
+-- all tables of a store can be read, or the first one that can't is told and hinted at (`check_tables`)
+pub record Checks {D : Type 0} {g : Ghosts D} {R W : Type 0} (contents : W → Option (List ℕ)) (old new : Store D g) (before after : Channels R W)
+    (result : Result (Unit {0}) Refusal) : Type 0 where
+  pub written : OnOk result (Appends (contents before.output) (contents after.output) (codes "ok\n"))
+  pub read : OnOk result (AreReadable old)
+  pub told : IfErr result (OfStore (λ refusal. g.tells ≡ true → RefusesCheck (is_halted old) (image_of old) (listed_in old) refusal) (AreReadable old))
+  pub reads : OnlyRead result old new
+  pub hinted : IfChecked after.hint g.tells (is_halted old) (image_of old) (listed_in old) result
 
 -- what each command does, from a store and what it reads, writes and hints at to what they are after it
 unfoldable pub Serves : {D : Type 0} {g : Ghosts D} {R W : Type 0} → (remaining : R → Option (List ℕ)) → (contents : W → Option (List ℕ)) → OpenCommand
@@ -143,10 +152,7 @@ Serves {g = g} remaining contents (opened.Export name) old new before after resu
     Prints ((t : PlainTable) × Shows old name.now t × Appends (contents before.output) (contents after.output) (canonical t))
     (OfStore (RefusesRead (is_halted old) g.tells (image_of old) (entry_of (listed_in old) name.now)) ((t : PlainTable) × Shows old name.now t))
     (OnlyRead result old new) before after result
-Serves {g = g} remaining contents opened.Check old new before after result =
-    Prints (Appends (contents before.output) (contents after.output) (codes "ok\n") × AreReadable old)
-    (OfStore (λ refusal. g.tells ≡ true → RefusesCheck (is_halted old) (image_of old) (listed_in old) refusal) (AreReadable old))
-    (OnlyRead result old new) before after result
+Serves remaining contents opened.Check old new before after result = Checks contents old new before after result
 Serves {g = g} remaining contents (opened.Info as_json) old new before after result =
     Prints ((s : Summary) × (agree : Bool) × IsSummary (g.size (device_of old)) old s × SaysAgreement (is_halted old) g.tells (image_of old) agree
     × Appends (contents before.output) (contents after.output) (summary_text as_json s agree))

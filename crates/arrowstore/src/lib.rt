@@ -11,6 +11,7 @@
 //! ```
 #![tactic(auto)]
 
+mod asking_again;
 mod command_line;
 mod copying_files;
 mod ending;
@@ -29,7 +30,7 @@ pub use cli_commands::{
     copy_tables, export_table, import_input, new_table, print_schema, print_selection,
     print_tables, query_of, recode,
 };
-pub use cli_refusals::{FileReason, Hint, REFUSALS, Refusal, Role, UnopenedFile, Word};
+pub use cli_refusals::{FileReason, Hint, Hinted, REFUSALS, Refusal, Role, UnopenedFile, Word};
 pub use cli_requests::{QueryWords, StoreCommand};
 pub use cli_texts::{
     Audience, Ended, Output, Status, VERSION, WatchedOutput, report_unreadable_arguments,

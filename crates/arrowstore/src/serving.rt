@@ -13,7 +13,7 @@ use crate::open_command::stated;
 use crate::replaying::serve_replay;
 use crate::salvaging_files::serve_salvage;
 use crate::serving_device::serve_device;
-use cli_refusals::{Refusal, write_whole};
+use cli_refusals::{Hinted, Refusal, write_whole};
 use cli_requests::{StoreCommand, StoreRequest};
 use commit::FormatVersion;
 use sector_dev::{FileDevice, FileError, LockFile, ModelDevice, SectorDevice};
@@ -22,7 +22,6 @@ use std::fs::{self, OpenFile};
 use std::io::{Empty, Read, Seek, Write};
 use std::rt::Files;
 use store::{LeftOut, Store};
-use text_import::RefusedPart;
 
 // An empty store on a device, or why not, with the device.
 fn format_on<D: SectorDevice + Drop>(
@@ -138,7 +137,7 @@ fn serve_command<
     command: &StoreCommand<'_>,
     input: &mut R,
     output: &mut W,
-    hint: &mut Option<RefusedPart>,
+    hint: &mut Option<Hinted>,
 ) -> Result<(), Refusal>
     ensures serves { ServesCommand ⟦<FileDevice<F> as SectorDevice>⟧ IsOpenedFile R.remaining W.contents command.now
         (channels input.old output.old hint.old) (channels input.new output.new hint.new) result }
@@ -153,7 +152,8 @@ fn serve_command<
     done
 }
 
-/// Does what is asked of a store. Where a text is refused, `hint` is left with the part of it that is, and `left_out` with what a salvage leaves out.
+/// Does what is asked of a store. Where a text is refused, `hint` is left with the part of it that is, and where a check is, with the first table that can't
+/// be read; `left_out` is left with what a salvage leaves out.
 pub(crate) fn serve<
     F: Read + Write + Seek + OpenFile + LockFile + Drop,
     H: Files<File = F> + AllocGlobal,
@@ -164,7 +164,7 @@ pub(crate) fn serve<
     request: &StoreRequest<'_>,
     input: &mut R,
     output: &mut W,
-    hint: &mut Option<RefusedPart>,
+    hint: &mut Option<Hinted>,
     left_out: &mut Vec<LeftOut>,
 ) -> Result<(), Refusal>
     ensures serves { ServesRequest ⟦<FileDevice<F> as SectorDevice>⟧ IsOpenedFile R.remaining W.contents

@@ -6,15 +6,14 @@ ghost use Rattle.arrowstore.specs.Serving.{channels};
 
 use crate::OpenCommand;
 use crate::serving_open::serve_open;
-use cli_refusals::Refusal;
+use cli_refusals::{Hinted, Refusal};
 use sector_dev::SectorDevice;
 use std::alloc::Global;
 use std::io::{Read, Write};
 use store::Store;
-use text_import::RefusedPart;
 
 /// Opens the store that stands on a device, does what is asked of it, closes it, and gives the device back. Where a text is refused, `hint`
-/// is left with the part of it that is.
+/// is left with the part of it that is, and where a check is, with the first table that can't be read.
 ///
 /// # Errors
 /// `Opening` where no store is opened there: nothing was written to the device; and what [`serve_open`] refuses.
@@ -24,7 +23,7 @@ pub fn serve_device<D: SectorDevice, R: Read, W: Write>(
     command: OpenCommand<'_>,
     input: &mut R,
     output: &mut W,
-    hint: &mut Option<RefusedPart>,
+    hint: &mut Option<Hinted>,
 ) -> (Result<(), Refusal>, D)
     // What is done is the command, on the store of this very device, and nothing before or after it.
     ensures serves { ServesDevice ⟦<D as SectorDevice>⟧ R.remaining W.contents command.entry device result.1

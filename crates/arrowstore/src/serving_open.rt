@@ -8,14 +8,14 @@ use cli_commands::{
     append_input, append_text, apply_command, check_tables, compact_tables, export_table,
     import_input, print_schema, print_selection, print_summary, print_tables, upgrade_store,
 };
-use cli_refusals::Refusal;
+use cli_refusals::{Hinted, Refusal};
 use sector_dev::SectorDevice;
 use std::alloc::Global;
 use std::io::{Read, Write};
 use store::Store;
-use text_import::RefusedPart;
 
-/// Does what is asked of an open store, on any device. Where a text is refused, `hint` is left with the part of it that is.
+/// Does what is asked of an open store, on any device. Where a text is refused, `hint` is left with the part of it that is, and where a check is, with the
+/// first table that can't be read.
 ///
 /// # Errors
 /// Those of the function of `cli_commands` that does the command.
@@ -26,7 +26,7 @@ pub fn serve_open<D: SectorDevice, R: Read, W: Write>(
     command: OpenCommand<'_>,
     input: &mut R,
     output: &mut W,
-    hint: &mut Option<RefusedPart>,
+    hint: &mut Option<Hinted>,
 ) -> Result<(), Refusal>
     // Each command does what its function promises.
     ensures serves { Serves R.remaining W.contents command.entry store.old store.new
@@ -48,7 +48,7 @@ pub fn serve_open<D: SectorDevice, R: Read, W: Write>(
         OpenCommand::Tables => print_tables(alloc, store, output),
         OpenCommand::Schema { name } => print_schema(alloc, store, name, output),
         OpenCommand::Export { name } => export_table(alloc, store, name, output),
-        OpenCommand::Check => check_tables(alloc, store, output),
+        OpenCommand::Check => check_tables(alloc, store, output, hint),
         OpenCommand::Info { as_json } => print_summary(alloc, store, as_json, output),
         OpenCommand::Compact => compact_tables(alloc, store, output),
         OpenCommand::Upgrade => upgrade_store(alloc, store, output),

@@ -1,6 +1,6 @@
 // Why the system did not open or make a file: it is asked once more, and its reason is reported.
 ghost use Rattle.std.specs.Prelude.{◌≡◌, None, Some};
-ghost use Rattle.arrowstore.specs.OnFiles.{hinted_part};
+ghost use Rattle.arrowstore.specs.OnFiles.{hinted_of};
 
 use cli_refusals::{FileReason, Hint, Refusal, UnopenedFile};
 use cli_requests::StoreRequest;
@@ -38,7 +38,7 @@ impl<'a> Unopened<'a> {
 
     /// The hint that names the file and the reason.
     pub(crate) fn hint(&self) -> Hint<'_>
-        ensures { hinted_part (Some result) ≡ None }
+        ensures { hinted_of (Some result) ≡ None }
     {
         let reason = match &self.reason {
             Reason::Locked => FileReason::Locked,

@@ -4,7 +4,7 @@ ghost use Rattle.std.specs.Io.KnownBytes.{Appends};
 ghost use Rattle.clap.specs.Words.{kind_of};
 ghost use Rattle.clap.specs.declared.error.kind.ErrorKind.TheVariants as kinds;
 ghost use Rattle.arrowstore.specs.Arguments.{AreRecode, AreRight};
-ghost use Rattle.arrowstore.specs.OnFiles.{GivesHelpOrWrong, HasTold, IsOpenedFile, Replays, RunsOnStore, ServesTold, ends_of, hinted_part, status_of};
+ghost use Rattle.arrowstore.specs.OnFiles.{GivesHelpOrWrong, HasTold, IsOpenedFile, Replays, RunsOnStore, ServesTold, ends_of, hinted_of, status_of};
 ghost use Rattle.arrowstore.specs.Running.{Recodes};
 ghost use Rattle.cli_texts.specs.Ending.{GivesSome, GivesText, HasReported, IsIo, TellsRefusal};
 ghost use Rattle.cli_texts.specs.LeftOut.{left_out_text};
@@ -18,11 +18,12 @@ ghost use Rattle.cli_refusals.specs.declared.refusal.Refusal.TheVariants as refu
 ghost use Rattle.cli_refusals.specs.declared.hint.Hint.{Hint};
 ghost use Rattle.store.specs.Salvaging.{plain_left};
 
+use crate::asking_again::{AskedAgain, ask_again};
 use crate::ending::end_whole_or_partly;
 use crate::run;
 use crate::serving::serve;
-use crate::unopened::{Unopened, is_there, refused_file};
-use cli_refusals::{Hint, Refusal};
+use crate::unopened::is_there;
+use cli_refusals::{Hint, Hinted, Refusal};
 use cli_requests::{Mistake, StoreRequest, ask_for_help, is_of_store, refused_word, request_of};
 use cli_texts::{
     Audience, Ended, Output, heard, report_arguments, report_signed_number, report_wrong_arguments,
@@ -34,14 +35,15 @@ use std::fs::OpenFile;
 use std::io::{Empty, Read, Seek, Write};
 use std::rt::Files;
 use store::LeftOut;
-use text_import::RefusedPart;
+use values::Table;
 
-// What is said to be refused of the input, where a part of it is known.
-fn part_of(part: &Option<RefusedPart>) -> Option<Hint<'_>>
-    ensures { hinted_part result ≡ part.now }
+// What is said to be refused, where the command has hinted at it.
+fn hint_of(hinted: &Option<Hinted>) -> Option<Hint<'_>>
+    ensures { hinted_of result ≡ hinted.now }
 {
-    match part {
-        Some(part) => Some(Hint::Part(part)),
+    match hinted {
+        Some(Hinted::Part(part)) => Some(Hint::Part(part)),
+        Some(Hinted::Table(name)) => Some(Hint::Table(name)),
         None => None,
     }
 }
@@ -50,27 +52,14 @@ fn part_of(part: &Option<RefusedPart>) -> Option<Hint<'_>>
 fn word_of<'a>(
     alloc: Global,
     request: &StoreRequest<'a>,
+    table: Option<&'a Table>,
     done: &Result<(), Refusal>,
 ) -> Option<Hint<'a>>
-    ensures { hinted_part result ≡ None }
+    ensures { hinted_of result ≡ None }
 {
     match done {
         Ok(()) => None,
-        Err(refusal) => Some(Hint::Word(refused_word(alloc, request, refusal)?)),
-    }
-}
-
-// The system is asked once more where a person reads why.
-fn unopened_for<'a, F: OpenFile + LockFile + Drop, H: Files<File = F> + AllocGlobal>(
-    rt: &H,
-    request: &StoreRequest<'a>,
-    was_there: bool,
-    done: &Result<(), Refusal>,
-    audience: Audience,
-) -> Option<Unopened<'a>> {
-    match audience {
-        Audience::Program | Audience::Departed => None,
-        Audience::Terminal => refused_file(rt, request, was_there, done),
+        Err(refusal) => Some(Hint::Word(refused_word(alloc, request, table, refusal)?)),
     }
 }
 
@@ -78,7 +67,7 @@ fn unopened_for<'a, F: OpenFile + LockFile + Drop, H: Files<File = F> + AllocGlo
 fn end_of_request<E: Write>(
     alloc: Global,
     request: &StoreRequest<'_>,
-    file: &Option<Unopened<'_>>,
+    asked: &AskedAgain<'_>,
     done: Result<(), Refusal>,
     left_out: &[LeftOut],
     audience: Audience,
@@ -88,19 +77,19 @@ fn end_of_request<E: Write>(
     ensures silent { result.status ≡ Done → (errors.new ≡ errors.old) × IsTrue result.is_reported }
     ensures lines { result.status ≡ PartlyDone → IsTrue result.is_reported
         → Appends (E.contents errors.old) (E.contents errors.new) (left_out_text audience (plain_left left_out.now)) }
-    ensures line { (hint : Option Hint) × (hinted_part hint ≡ None)
+    ensures line { (hint : Option Hint) × (hinted_of hint ≡ None)
         × TellsRefusal (told audience hint) result (E.contents errors.old) (E.contents errors.new) }
 {
-    match file {
+    match &asked.file {
         Some(file) => end_whole_or_partly(done, left_out, Some(file.hint()), audience, errors),
         None => {
-            let word = word_of(alloc, request, &done);
+            let word = word_of(alloc, request, asked.table.as_ref(), &done);
             end_whole_or_partly(done, left_out, word, audience, errors)
         }
     }
 }
 
-// A request of a store. What is hinted to be refused is a part of the input, where one is known, and else a word of the command line.
+// A request of a store. What is hinted to be refused is a part of the input or a table, where one is known, and else a word of the command line.
 fn serve_and_report<
     F: Read + Write + Seek + OpenFile + LockFile + Drop,
     H: Files<File = F> + AllocGlobal,
@@ -122,18 +111,18 @@ fn serve_and_report<
     ensures unread { (takes_input_word (request_word request.now) ≡ true) ⊎ (input.new ≡ input.old) }
 {
     let was_there = audience == Audience::Terminal && is_there(rt, request);
-    let mut part = None;
+    let mut hinted = None;
     let mut left_out = Vec::new(rt.alloc());
-    let done = serve(rt, request, input, output, &mut part, &mut left_out);
+    let done = serve(rt, request, input, output, &mut hinted, &mut left_out);
     let audience = heard(audience, output);
-    match part_of(&part) {
+    match hint_of(&hinted) {
         Some(hint) => end_whole_or_partly(done, &left_out, Some(hint), audience, errors),
         None => {
-            let file = unopened_for(rt, request, was_there, &done, audience);
+            let asked = ask_again(rt, request, was_there, &done, audience);
             end_of_request(
                 rt.alloc(),
                 request,
-                &file,
+                &asked,
                 done,
                 &left_out,
                 audience,

@@ -1,12 +1,12 @@
--- What is said to be refused, on a terminal before what to do: a word of the command line, or a part of the input.
-use Rattle.std.specs.Prelude.{ℕ, ◌&&◌, ◌++◌, Bool, not, nat_le, codes, length, List, [], Option, Some, None, if◌then◌else◌}
+-- What is said to be refused, on a terminal before what to do: a word of the command line, a part of the input, or a table.
+use Rattle.std.specs.Prelude.{ℕ, ◌&&◌, ◌++◌, Bool, not, nat_le, codes, length, List, [], Option, Some, None, string_bytes, if◌then◌else◌}
 use Rattle.std.specs.Char.{is_control}
 use Rattle.std.specs.List.{list_any}
 use Rattle.std.specs.Option.{option_and_then}
 use Rattle.std.specs.Str.{is_utf8, chars}
 use Rattle.text_import.specs.Part.{PlainPart, field, line, part_of}
 use Rattle.cli_refusals.specs.declared.hint.Hint.{Hint}
-use Rattle.cli_refusals.specs.declared.hint.Hint.TheVariants.{Word, File, Part}
+use Rattle.cli_refusals.specs.declared.hint.Hint.TheVariants.{Word, File, Part, Table}
 use Rattle.cli_refusals.specs.declared.hint.TheConstants.{MOST_SHOWN}
 use Rattle.cli_refusals.specs.RefusedWord.{role_text}
 use Rattle.cli_refusals.specs.Unopened.{reason_text}
@@ -29,6 +29,11 @@ abbrev pub line_text : Option (List ℕ) → List ℕ
 line_text None = []
 line_text (Some text) = codes "The line `" ++ text ++ codes "` is refused. "
 
+-- of the name of a table
+abbrev pub table_text : Option (List ℕ) → List ℕ
+table_text None = []
+table_text (Some name) = codes "The table `" ++ name ++ codes "` is refused. "
+
 -- a line, and the field that is refused in it
 abbrev pub part_text : PlainPart → List ℕ
 part_text (field name text) = field_text (shown name) (shown text)
@@ -38,3 +43,4 @@ unfoldable pub hint_text : Hint → List ℕ
 hint_text (Word word) = codes "The " ++ role_text word.role ++ codes " `" ++ word.text.now ++ codes "` is refused. "
 hint_text (File file) = codes "The file `" ++ file.path.now ++ codes "` " ++ reason_text file.reason ++ codes ". "
 hint_text (Part part) = part_text (part_of part.now)
+hint_text (Table name) = table_text (shown (string_bytes name.now))

@@ -13,6 +13,15 @@ use text_import::RefusedPart;
 /// The most bytes that are shown of a string of the input.
 pub const MOST_SHOWN: usize = 100;
 
+/// What a command hints at, where it finds more than its refusal carries.
+#[derive(Drop)]
+pub enum Hinted {
+    /// The part of the input that is refused.
+    Part(RefusedPart),
+    /// The name of a table that can't be read.
+    Table(String),
+}
+
 /// What is said to be refused on a terminal.
 #[derive(Clone, Copy)]
 pub enum Hint<'a> {
@@ -22,6 +31,8 @@ pub enum Hint<'a> {
     File(UnopenedFile<'a>),
     /// A part of the input. Those of its strings are printed that a terminal may be shown.
     Part(&'a RefusedPart),
+    /// The name of a table, which is printed where a terminal may be shown it.
+    Table(&'a String),
 }
 
 // Control characters could do something to a terminal.
@@ -103,6 +114,26 @@ impl fmt::Display for LineShown<'_> {
     }
 }
 
+// What of the name of a table may be shown.
+#[derive(Drop)]
+struct TableShown<'a> {
+    name: Option<&'a str>,
+}
+
+impl fmt::Display for TableShown<'_> {
+    ghost use Rattle.std.specs.Prelude.{Some, option_map};
+    ghost use Rattle.cli_refusals.specs.Hint.{table_text};
+
+    ghost output = { λ table. Some (table_text (option_map (λ t. t.now) table.name)) };
+
+    fn fmt<W: fmt::Write>(&self, f: &mut fmt::Formatter<W>) -> fmt::Result {
+        match self.name {
+            None => Ok(()),
+            Some(name) => write!(f, "The table `{name}` is refused. "),
+        }
+    }
+}
+
 /// A sentence for each thing that is refused, and a space after it; or nothing, where none of it can be shown.
 impl fmt::Display for Hint<'_> {
     ghost use Rattle.std.specs.Prelude.{Some};
@@ -129,6 +160,12 @@ impl fmt::Display for Hint<'_> {
                     text: None,
                 };
                 write!(f, "{line}{field}")
+            }
+            Hint::Table(name) => {
+                let table = TableShown {
+                    name: shown(name.as_bytes()),
+                };
+                write!(f, "{table}")
             }
         }
     }

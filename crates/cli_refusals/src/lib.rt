@@ -1,5 +1,5 @@
-//! Why a command of the program was refused, as it is reported: its text, what to do about it, and the word, the file or the part of
-//! the input that is meant.
+//! Why a command of the program was refused, as it is reported: its text, what to do about it, and the word, the file, the part of
+//! the input or the table that is meant.
 //!
 //! A [`Refusal`] holds those of the layers below, which become one by `?`. Promised are its text (`specs/Refusals.antt`) and
 //! [`Refusal::remedy`], a sentence that stands on the page of all refusals ([`refusals_page`]) too.
@@ -17,7 +17,7 @@ mod refused_word;
 mod remedies;
 mod unopened;
 
-pub use hint::{Hint, MOST_SHOWN};
+pub use hint::{Hint, Hinted, MOST_SHOWN};
 pub use output::write_whole;
 pub use page::{REFUSALS, refusals_page};
 pub use refusal::Refusal;

@@ -12,8 +12,8 @@ pub enum Role {
     Field,
     /// A condition of a query.
     Condition,
-    /// The columns of a query.
-    Columns,
+    /// A column of a query.
+    Column,
 }
 
 impl fmt::Display for Role {
@@ -28,7 +28,7 @@ impl fmt::Display for Role {
             Role::Name => "name",
             Role::Field => "field",
             Role::Condition => "condition",
-            Role::Columns => "list of columns",
+            Role::Column => "column",
         })
     }
 }

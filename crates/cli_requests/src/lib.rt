@@ -9,7 +9,7 @@
 //!
 //! ```
 //! let request = request_of(alloc, &["arrowstore", "drop", "store", "t"])?; // `StoreCommand::Drop`, of the store at `store`
-//! let word = refused_word(alloc, &request, &Refusal::Store(tables::Refusal::NoTable)); // the name `t`
+//! let word = refused_word(alloc, &request, None, &Refusal::Store(tables::Refusal::NoTable)); // the name `t`
 //! ```
 #![tactic(auto)]
 

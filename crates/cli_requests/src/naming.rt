@@ -1,10 +1,11 @@
 // Which word of a command line a refusal is of.
 use crate::{QueryWords, StoreCommand, StoreRequest};
-use cli_refusals::{Refusal, Role, Word};
+use cli_refusals::{MOST_SHOWN, Refusal, Role, Word};
 use field_texts::ParseError;
-use query::{Condition, QueryError};
-use std::alloc::Global;
+use query::{Condition, Query, QueryError, choose};
+use std::alloc::{AllocError, Global};
 use tables::QueryRefusal;
+use values::Table;
 
 // The name of the table that has to be there.
 fn name_of<'a>(command: &StoreCommand<'a>) -> Option<&'a str> {
@@ -54,24 +55,127 @@ fn formless<'a>(alloc: Global, texts: &[&'a str]) -> Option<&'a str> {
     None
 }
 
-// A query does not say which of its texts it refuses, so a word is known where it is the only one that may be meant, or where it has no form.
+// Whether a table refuses a query for this reason.
+fn refuses(
+    alloc: Global,
+    table: &Table,
+    query: &Query,
+    reason: QueryRefusal,
+) -> Result<bool, AllocError> {
+    match choose(alloc, table, query) {
+        Ok(_) => Ok(false),
+        Err(QueryError::OutOfMemory) => Err(AllocError),
+        Err(error) => Ok(tables::Refusal::from(error) == tables::Refusal::Query(reason)),
+    }
+}
+
+fn refuses_column(alloc: Global, table: &Table, name: &str) -> Result<bool, AllocError> {
+    let query = Query {
+        columns: vec![in alloc; String::from_str(alloc, name)?]?,
+        conditions: Vec::new(alloc),
+        limit: None,
+    };
+    refuses(alloc, table, &query, QueryRefusal::UnknownColumn)
+}
+
+fn refuses_condition(
+    alloc: Global,
+    table: &Table,
+    text: &str,
+    reason: QueryRefusal,
+) -> Result<bool, AllocError> {
+    // It has the form of a condition, unless memory was refused before.
+    let Ok(condition) = Condition::parse(alloc, text) else {
+        return Err(AllocError);
+    };
+    let query = Query {
+        columns: Vec::new(alloc),
+        conditions: vec![in alloc; condition]?,
+        limit: None,
+    };
+    refuses(alloc, table, &query, reason)
+}
+
+// The first column of a list that a table refuses, or that stands in the list before.
+fn refused_column<'a>(
+    alloc: Global,
+    table: &Table,
+    list: &'a str,
+) -> Result<Option<&'a str>, AllocError> {
+    let mut before = Vec::new(alloc);
+    for name in list.split(',') {
+        if before.contains(&name) || refuses_column(alloc, table, name)? {
+            return Ok(Some(name));
+        }
+        before.push(name)?;
+    }
+    Ok(None)
+}
+
+// The first condition that a table refuses for this reason.
+fn refused_condition<'a>(
+    alloc: Global,
+    table: &Table,
+    texts: &[&'a str],
+    reason: QueryRefusal,
+) -> Result<Option<&'a str>, AllocError> {
+    for text in texts {
+        if refuses_condition(alloc, table, text, reason)? {
+            return Ok(Some(text));
+        }
+    }
+    Ok(None)
+}
+
+// The first column of a table whose name one before it has, where a terminal may be shown it.
+fn column_named_again(table: &Table) -> Option<&str> {
+    let fields = &table.schema().fields;
+    for (place, field) in fields.iter().enumerate() {
+        let name = field.name.as_str();
+        let is_again = fields[..place]
+            .iter()
+            .any(|other| other.name.as_str() == name);
+        if is_again && name.len() <= MOST_SHOWN {
+            return Some(name);
+        }
+    }
+    None
+}
+
+// What of a query a table refuses: the columns that are asked for are tested first, then the conditions, and last whether rows can be objects.
+fn word_on_table<'a>(
+    alloc: Global,
+    query: &QueryWords<'a>,
+    table: &'a Table,
+    reason: QueryRefusal,
+) -> Result<Option<Word<'a>>, AllocError> {
+    let is_unknown = reason == QueryRefusal::UnknownColumn;
+    let column = match query.columns {
+        Some(list) if is_unknown => refused_column(alloc, table, list)?,
+        _ => None,
+    };
+    if column.is_some() {
+        return Ok(named(Role::Column, column));
+    }
+    let condition = refused_condition(alloc, table, &query.conditions, reason)?;
+    if condition.is_some() || !is_unknown {
+        return Ok(named(Role::Condition, condition));
+    }
+    Ok(named(Role::Column, column_named_again(table)))
+}
+
+// A query does not say which of its texts it refuses: they are tried one by one, first whether they are conditions, which no table is asked for.
 fn word_of_query<'a>(
     alloc: Global,
     query: &QueryWords<'a>,
+    table: Option<&'a Table>,
     reason: QueryRefusal,
 ) -> Option<Word<'a>> {
-    let (role, text) = match (query.conditions.as_slice(), query.columns, reason) {
-        ([], Some(columns), QueryRefusal::UnknownColumn) => (Role::Columns, columns),
-        ([condition], None, QueryRefusal::UnknownColumn)
-        | ([condition], _, QueryRefusal::BadCondition | QueryRefusal::NotComparable) => {
-            (Role::Condition, *condition)
-        }
-        (conditions, _, QueryRefusal::BadCondition) => {
-            (Role::Condition, formless(alloc, conditions)?)
-        }
-        _ => return None,
-    };
-    Some(Word { role, text })
+    let text = formless(alloc, &query.conditions);
+    if text.is_some() {
+        return named(Role::Condition, text);
+    }
+    word_on_table(alloc, query, table?, reason).ok()?
 }
 
 fn named<'a>(role: Role, text: Option<&'a str>) -> Option<Word<'a>> {
@@ -81,6 +185,7 @@ fn named<'a>(role: Role, text: Option<&'a str>) -> Option<Word<'a>> {
 fn word_of_command<'a>(
     alloc: Global,
     command: &StoreCommand<'a>,
+    table: Option<&'a Table>,
     refusal: &Refusal,
 ) -> Option<Word<'a>> {
     match refusal {
@@ -92,13 +197,18 @@ fn word_of_command<'a>(
             named(Role::Name, new_name_of(command))
         }
         Refusal::Query(reason) | Refusal::Store(tables::Refusal::Query(reason)) => {
-            word_of_query(alloc, query_in(command)?, *reason)
+            word_of_query(alloc, query_in(command)?, table, *reason)
         }
         _ => None,
     }
 }
 
-fn word_of<'a>(alloc: Global, request: &StoreRequest<'a>, refusal: &Refusal) -> Option<Word<'a>> {
+fn word_of<'a>(
+    alloc: Global,
+    request: &StoreRequest<'a>,
+    table: Option<&'a Table>,
+    refusal: &Refusal,
+) -> Option<Word<'a>> {
     match (request, refusal) {
         (
             StoreRequest::Format { path, .. }
@@ -114,18 +224,22 @@ fn word_of<'a>(alloc: Global, request: &StoreRequest<'a>, refusal: &Refusal) -> 
         (StoreRequest::Salvage { name, .. }, Refusal::Store(tables::Refusal::NoTable)) => {
             named(Role::Name, Some(name))
         }
-        (StoreRequest::Command { command, .. }, _) => word_of_command(alloc, command, refusal),
+        (StoreRequest::Command { command, .. }, _) => {
+            word_of_command(alloc, command, table, refusal)
+        }
         _ => None,
     }
 }
 
-/// The word of a request that a refusal is of, where that is known. A word with control characters, which could do something to a terminal, is none.
+/// The word of a request that a refusal is of, where that is known: of a query only with a table of the schema of the one that it was refused for. A word
+/// with control characters, which could do something to a terminal, is none.
 pub fn refused_word<'a>(
     alloc: Global,
     request: &StoreRequest<'a>,
+    table: Option<&'a Table>,
     refusal: &Refusal,
 ) -> Option<Word<'a>> {
-    let word = word_of(alloc, request, refusal)?;
+    let word = word_of(alloc, request, table, refusal)?;
     if word.text.chars().any(char::is_control) {
         return None;
     }

@@ -1,7 +1,7 @@
 use Rattle.std.proofs.Common.{inr, refl}
 use Rattle.arrowstore.specs.declared.open_command.OpenCommand.TheVariants as opened
 use Rattle.arrowstore.specs.Serving.{channels, Serves}
-use Rattle.arrowstore.proofs.ServingLemmas.{serves_import, serves_append, serves_text, serves_as, both_written}
+use Rattle.arrowstore.proofs.ServingLemmas.{serves_import, serves_append, serves_text, serves_as}
 use Rattle.arrowstore.proofs.serving_open.serve_open.Goals as goal
 
 pub returns-in-Import-clause-serves : goal.returns-in-Import-clause-serves
@@ -74,7 +74,7 @@ returns-in-Check-clause-serves g c =
     let e = c.check_tables.ensures in
     let new = c.check_tables.new in
     serves_as g.R.Read.remaining g.W.Write.contents c.args.command opened.Check c.args.store.now new.store (channels c.args.input.now c.args.output.now c.args.hint.now)
-    (channels c.args.input.now new.output c.args.hint.now) c.check_tables.result c.in-Check.is (record { written = both_written c.check_tables.result _ _ e.written e.read; told = e.told; leaves = e.reads; unhinted = refl })
+    (channels c.args.input.now new.output new.hint) c.check_tables.result c.in-Check.is (record { written = e.written; read = e.read; told = e.told; reads = e.reads; hinted = e.hint })
 
 pub returns-in-Info-clause-serves : goal.returns-in-Info-clause-serves
 unfolding Serves

@@ -5,7 +5,7 @@ use Rattle.arrowstore.proofs.with_files.serve_and_report.Goals as goal
 
 pub returns-in-Some-clause-serves : goal.returns-in-Some-clause-serves
 returns-in-Some-clause-serves g c = let e = c.end_whole_or_partly.ensures in record {
-  part = c.serve-done.new.hint;
+  hinted = c.serve-done.new.hint;
   left = plain_left c.serve-done.new.left_out.items;
   result = c.serve-done.result;
   serves = rw c.new-left_out.ensures.items at c.serve-done.ensures.serves;
@@ -17,7 +17,7 @@ returns-in-Some-clause-serves g c = let e = c.end_whole_or_partly.ensures in rec
 
 pub returns-clause-serves : goal.returns-clause-serves
 returns-clause-serves g c = let e = c.end_of_request.ensures in record {
-  part = c.serve-done.new.hint;
+  hinted = c.serve-done.new.hint;
   left = plain_left c.serve-done.new.left_out.items;
   result = c.serve-done.result;
   serves = rw c.new-left_out.ensures.items at c.serve-done.ensures.serves;
