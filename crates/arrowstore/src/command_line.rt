@@ -113,7 +113,11 @@ fn program<'a>(alloc: Global, help: &'a str) -> Result<Command<'a>, AllocError>
 {
     let recode = Command::new(alloc, "recode")
         .about(abouts::RECODE)
-        .after_help("Example: arrowstore recode < readings.arrows > canonical.arrows");
+        .after_help(
+            "Example: arrowstore recode < readings.arrows > canonical.arrows
+
+Each table has one form, which export writes too, so equal tables are equal bytes.",
+        );
     Command::new(alloc, "arrowstore")
         .override_help(help.trim_end())
         .subcommand_required(true)

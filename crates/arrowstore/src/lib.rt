@@ -25,19 +25,9 @@ mod serving_open;
 mod unopened;
 mod with_files;
 
-pub use cli_commands::{
-    LARGEST_INPUT, append_input, append_text, apply_command, check_tables, compact_tables,
-    copy_tables, export_table, import_input, new_table, print_schema, print_selection,
-    print_tables, query_of, recode,
-};
-pub use cli_refusals::{FileReason, Hint, Hinted, REFUSALS, Refusal, Role, UnopenedFile, Word};
-pub use cli_requests::{QueryWords, StoreCommand};
-pub use cli_texts::{
-    Audience, Ended, Output, Status, VERSION, WatchedOutput, report_unreadable_arguments,
-};
+pub use cli_texts::{Audience, Ended, Output, WatchedOutput, report_unreadable_arguments};
 pub use open_command::{OpenCommand, stated};
 pub use running::run;
 pub use serving_device::serve_device;
 pub use serving_open::serve_open;
-pub use text_import::{RefusedPart, TextForm};
 pub use with_files::run_with_files;
