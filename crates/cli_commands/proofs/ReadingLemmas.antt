@@ -1,16 +1,17 @@
 -- Tables of a store that are read one after another.
-use Rattle.std.specs.Prelude.{get_or, slice_get, Result, Ok, Err, IfErr, OnOk, ◌||◌}
+use Rattle.std.specs.Prelude.{get_or, slice_get, Option, None, Result, Ok, Err, IfErr, OnOk, ◌||◌}
 use Rattle.std.specs.List.{AllByRecursion}
-use Rattle.std.proofs.Common.{◌≡◌, ◌<◌, ◌+◌, ◌∙◌, ℕ, Bool, true, List, Some, take, map, length, refl, ap, sym, subst}
+use Rattle.std.proofs.Common.{◌≡◌, ◌<◌, ◌+◌, ◌∙◌, ℕ, Bool, true, false, List, Some, take, map, length, refl, ap, sym, subst}
 use Rattle.std.proofs.Math.Bool.{or-false}
 use Rattle.std.proofs.lemmas.List.{take_more, get_or-map, length-map}
 use Rattle.std.proofs.lemmas.Option.{slice_get-get_or}
 use Rattle.facts.specs.laws.Lists.{all_more}
-use Rattle.sector_dev.specs.Disk.{Story, now, shown_image}
+use Rattle.sector_dev.specs.Disk.{Image, Story, now, shown_image}
 use Rattle.sector_dev.specs.laws.Time.{stays, read_on, now_read}
 use Rattle.sector_dev.specs.declared.device.SectorDevice.{Ghosts}
 use Rattle.cells.specs.Cell.{PlainTable}
-use Rattle.catalogue.specs.Edits.{entry_of}
+use Rattle.catalogue.specs.Edits.{entry_of, tables_of}
+use Rattle.catalogue.specs.Entries.{PlainCatalogue}
 use Rattle.catalogue.specs.View.{catalogue_of}
 use Rattle.tables.specs.declared.refusal.Refusal as tables
 use Rattle.tables.specs.declared.refusal.Refusal.TheVariants.{Write}
@@ -18,9 +19,11 @@ use Rattle.store.specs.declared.store.Store.{Store}
 use Rattle.store.specs.Fits.{device_of, is_halted, listed_in}
 use Rattle.store.specs.Calls.{PlainReply, done, refused, is_device_reply, counted}
 use Rattle.store.specs.Reading.{ReadsTable, RefusesRead, OnlyReadsStore}
+use Rattle.cli_refusals.specs.declared.hint.Hinted.{Hinted}
+use Rattle.cli_refusals.specs.declared.hint.Hinted.TheVariants.{Part, Table}
 use Rattle.cli_refusals.specs.declared.refusal.Refusal.{Refusal}
-use Rattle.cli_refusals.specs.declared.refusal.Refusal.TheVariants.{Io}
-use Rattle.cli_commands.specs.Reading.{OfStore, refusal_ended, store_ended, IsReadable}
+use Rattle.cli_refusals.specs.declared.refusal.Refusal.TheVariants.{Io, Store as StoreRefused}
+use Rattle.cli_commands.specs.Reading.{OfStore, refusal_ended, store_ended, IsReadable, FirstUnread, IsHintOf, HintsUnread, IfChecked}
 
 -- ---- lists
 
@@ -118,6 +121,30 @@ module _ {D : Type 0} {g : Ghosts D} (story : D → Story) where
       subst (λ (h : Bool). RefusesRead h true (shown_image (now (story (device_of old)))) (entry_of (listed_in old) t.0) refusal) same.halted
       (subst (λ (b : Bool). RefusesRead (is_halted new) b (shown_image (now (story (device_of old)))) (entry_of (listed_in old) t.0) refusal) told
       (rw (← same.disk, ← same.listed, ← named) found))
+
+-- ---- hints
+
+-- a hint at the table that is read at some place
+pub hints_unread : (hint : Option Hinted) (tells halted : Bool) (image : Image) (c : PlainCatalogue) (listed : List (List ℕ × ℕ)) (refusal : tables.Refusal) (place : ℕ) (table : List ℕ × ℕ) (name : List ℕ) → IsHintOf name hint
+    → name ≡ table.0 → slice_get listed place ≡ Some table → (tells ≡ true → (unread : FirstUnread halted image c listed refusal) × (unread.table ≡ table)) → HintsUnread hint tells halted image c listed refusal
+hints_unread None tells halted image c listed refusal place table name hints named at first = tt
+hints_unread (Some (Part part)) tells halted image c listed refusal place table name hints named at first = absurd hints
+hints_unread (Some (Table n)) tells halted image c listed refusal place (of, rows) name hints named at first = record {
+  place = place;
+  rows = rows;
+  at = at ∙ ap (λ (x : List ℕ). Some (x, rows)) (sym named ∙ sym hints);
+  first = λ told. ((first told).0, (first told).1 ∙ ap (λ (x : List ℕ). (x, rows)) (sym named ∙ sym hints));
+}
+
+pub nothing_hinted : (hint : Option Hinted) (tells halted : Bool) (image : Image) (c : PlainCatalogue) (r : Result (Unit {0}) Refusal) → hint ≡ None → IfChecked hint tells halted image c r
+nothing_hinted None tells halted image c r is = tt
+nothing_hinted (Some hinted) tells halted image c r is = absurd cc
+
+-- of the tables that are listed
+pub check_hints : (hint : Option Hinted) (tells halted : Bool) (image : Image) (c : PlainCatalogue) (listed : List (List ℕ × ℕ)) (refusal : tables.Refusal) → halted ≡ false → listed ≡ tables_of c
+    → HintsUnread hint tells halted image c listed refusal → IfChecked hint tells halted image c (Err (StoreRefused refusal))
+check_hints None tells halted image c listed refusal on is hints = tt
+check_hints (Some hinted) tells halted image c listed refusal on is hints = (on, subst (λ l. HintsUnread (Some hinted) tells halted image c l refusal) is hints)
 
 -- where the output failed there was something to write
 pub output_failed : (P : tables.Refusal → Type 0) (there : Type 0) (r : Result (Unit {0}) Refusal) → IfErr r (λ e. e ≡ Io) → there → IfErr r (OfStore P there)

@@ -21,6 +21,8 @@ use Rattle.text_import.specs.Form.{rows_of_text}
 use Rattle.text_import.specs.Part.{part_of, refused_part}
 use Rattle.text_import.specs.Refusals.{given, refused_by}
 use Rattle.text_import.specs.declared.part.RefusedPart.{RefusedPart}
+use Rattle.cli_refusals.specs.declared.hint.Hinted.{Hinted}
+use Rattle.cli_refusals.specs.declared.hint.Hinted.TheVariants.{Part, Table}
 use Rattle.text_import.specs.declared.refusal.TextError.{TextError}
 use Rattle.text_import.specs.declared.refusal.TextError.TheVariants as texts
 use Rattle.facts.specs.Outcomes.{Reports}
@@ -48,23 +50,25 @@ input_refused form found input s bytes (texts.Refused refused) is whole gives = 
 input_refused form found input s bytes texts.OutOfMemory is whole gives = tt
 
 -- a part that a call gave is the one that is refused, and where nothing is hinted there is nothing to show
-pub hints_at : (form : TextForm) (s : PlainSchema) (bytes : List ℕ) (refused : Refused) (part : Option RefusedPart) → option_map part_of part ≡ refused_part form s bytes refused.number
-    → HintsAt part form s bytes (Some refused)
-hints_at form s bytes refused None e = tt
-hints_at form s bytes refused (Some part) e = sym e
+pub hints_at : (form : TextForm) (s : PlainSchema) (bytes : List ℕ) (refused : Refused) (found : Option RefusedPart) (part : RefusedPart) → found ≡ Some part
+    → option_map part_of found ≡ refused_part form s bytes refused.number → HintsAt (Some (Part part)) form s bytes (Some refused)
+hints_at form s bytes refused None part is e = absurd cc
+hints_at form s bytes refused (Some found) part is e = sym e ∙ ap (option_map part_of) is
 
-pub no_hint : (hint : Option RefusedPart) (form : TextForm) (found : Option PlainEntry) (input : Option (List ℕ)) (result : Result (Unit {0}) Refusal) → hint ≡ None → IfHinted hint form found input result
+pub no_hint : (hint : Option Hinted) (form : TextForm) (found : Option PlainEntry) (input : Option (List ℕ)) (result : Result (Unit {0}) Refusal) → hint ≡ None → IfHinted hint form found input result
 no_hint None form found input result e = tt
-no_hint (Some part) form found input result e = absurd cc
+no_hint (Some hinted) form found input result e = absurd cc
 
 -- what is hinted of a text for the schema of the entry that is found
-pub input_hints : (form : TextForm) (found : Option PlainEntry) (input : Option (List ℕ)) (s : PlainSchema) (bytes : List ℕ) (error : TextError) (hint : Option RefusedPart)
+pub input_hints : (form : TextForm) (found : Option PlainEntry) (input : Option (List ℕ)) (s : PlainSchema) (bytes : List ℕ) (error : TextError) (hint : Option Hinted)
     → option_map (λ e. e.schema) found ≡ Some s → IsWholeInput input bytes → Reports (refused_by error) (rows_of_text form s bytes) → HintsAt hint form s bytes (refused_by error)
     → IfHinted hint form found input (Err (text_refusal error))
 input_hints form found input s bytes error None is whole gives hints = tt
-input_hints form None input s bytes error (Some part) is whole gives hints = absurd cc
-input_hints form (Some e) input s bytes texts.OutOfMemory (Some part) is whole gives hints = absurd hints
-input_hints form (Some e) input s bytes (texts.Refused refused) (Some part) is whole gives hints =
+input_hints form None input s bytes error (Some hinted) is whole gives hints = absurd cc
+input_hints form (Some e) input s bytes texts.OutOfMemory (Some (Part part)) is whole gives hints = absurd hints
+input_hints form (Some e) input s bytes texts.OutOfMemory (Some (Table name)) is whole gives hints = absurd hints
+input_hints form (Some e) input s bytes (texts.Refused refused) (Some (Table name)) is whole gives hints = absurd hints
+input_hints form (Some e) input s bytes (texts.Refused refused) (Some (Part part)) is whole gives hints =
     let schema : e.schema ≡ s = ap (λ o. unwrap_or o s) is in
     record {
       entry = e;

@@ -1,5 +1,5 @@
 -- What the program answers of commands that read the tables of a store.
-use Rattle.std.specs.Prelude.{◌≡◌, ◌⊎◌, ℕ, Bool, true, List, take, slice_get, Some, Result, Ok, Err}
+use Rattle.std.specs.Prelude.{◌≡◌, ◌⊎◌, ℕ, Bool, true, false, List, take, slice_get, Option, Some, None, string_bytes, Result, Ok, Err}
 use Rattle.std.specs.List.{AllByRecursion}
 use Rattle.sector_dev.specs.Disk.{Image}
 use Rattle.cells.specs.Cell.{PlainTable}
@@ -9,6 +9,8 @@ use Rattle.tables.specs.declared.refusal.Refusal as tables
 use Rattle.store.specs.Calls.{PlainReply, done, refused}
 use Rattle.store.specs.Listing.{RefusesTables}
 use Rattle.store.specs.Reading.{ReadsTable, RefusesRead}
+use Rattle.cli_refusals.specs.declared.hint.Hinted.{Hinted}
+use Rattle.cli_refusals.specs.declared.hint.Hinted.TheVariants.{Table}
 use Rattle.cli_refusals.specs.declared.refusal.Refusal.{Refusal}
 use Rattle.cli_refusals.specs.declared.refusal.Refusal.TheVariants.{Io, Store}
 
@@ -42,3 +44,29 @@ pub record FirstUnread (halted : Bool) (image : Image) (c : PlainCatalogue) (lis
 -- why not all tables of a store are found to be readable: they are not even listed, or one can't be read
 abbrev pub RefusesCheck : (halted : Bool) → Image → PlainCatalogue → tables.Refusal → Type 0
 RefusesCheck halted image c refusal = RefusesTables halted refusal ⊎ FirstUnread halted image c (tables_of c) refusal
+
+-- a hint at the table of this name, or none
+abbrev pub IsHintOf : (name : List ℕ) → Option Hinted → Type 0
+IsHintOf name None = Unit {0}
+IsHintOf name (Some (Table n)) = string_bytes n ≡ name
+IsHintOf name (Some hinted) = ⊥
+
+-- one of these tables has this name; where the device tells its story it is the first that can't be read
+pub record NamesUnread (name : List ℕ) (tells halted : Bool) (image : Image) (c : PlainCatalogue) (listed : List (List ℕ × ℕ)) (refusal : tables.Refusal)
+    : Type 0 where
+  pub place : ℕ
+  pub rows : ℕ
+  pub at : slice_get listed place ≡ Some (name, rows)
+  pub first : tells ≡ true → (unread : FirstUnread halted image c listed refusal) × (unread.table ≡ (name, rows))
+
+-- what is hinted of tables of which one can't be read, if anything: the first one
+abbrev pub HintsUnread : Option Hinted → (tells halted : Bool) → Image → PlainCatalogue → (listed : List (List ℕ × ℕ)) → tables.Refusal → Type 0
+HintsUnread None tells halted image c listed refusal = Unit {0}
+HintsUnread (Some (Table name)) tells halted image c listed refusal = NamesUnread (string_bytes name) tells halted image c listed refusal
+HintsUnread (Some hinted) tells halted image c listed refusal = ⊥
+
+-- nothing is hinted of a check but the first table that can't be read, where the tables are listed
+abbrev pub IfChecked : Option Hinted → (tells halted : Bool) → Image → PlainCatalogue → Result (Unit {0}) Refusal → Type 0
+IfChecked None tells halted image c result = Unit {0}
+IfChecked (Some hinted) tells halted image c (Err (Store refusal)) = (halted ≡ false) × HintsUnread (Some hinted) tells halted image c (tables_of c) refusal
+IfChecked (Some hinted) tells halted image c _ = ⊥

@@ -6,9 +6,10 @@ use Rattle.catalogue.specs.Entries.{PlainEntry}
 use Rattle.text_import.specs.declared.refusal.Refused.{Refused}
 use Rattle.text_import.specs.Form.{rows_of_text}
 use Rattle.text_import.specs.Part.{PlainPart, part_of, refused_part}
-use Rattle.text_import.specs.declared.part.RefusedPart.{RefusedPart}
 use Rattle.arrow_schema.specs.Column.{PlainSchema}
 use Rattle.tables.specs.declared.refusal.Refusal as tables
+use Rattle.cli_refusals.specs.declared.hint.Hinted.{Hinted}
+use Rattle.cli_refusals.specs.declared.hint.Hinted.TheVariants.{Part}
 use Rattle.cli_refusals.specs.declared.refusal.Refusal.{Refusal}
 use Rattle.cli_refusals.specs.declared.refusal.Refusal.TheVariants.{Text}
 use Rattle.text_import.specs.declared.form.TextForm.{TextForm}
@@ -43,10 +44,10 @@ IfOfText form found input (Text refused) = InputGives form found input (Err refu
 IfOfText form found input _ = Unit {0}
 
 -- what is hinted of a text that is refused, if anything: the part of the refused record that is
-abbrev pub HintsAt : Option RefusedPart → TextForm → PlainSchema → List ℕ → Option Refused → Type 0
+abbrev pub HintsAt : Option Hinted → TextForm → PlainSchema → List ℕ → Option Refused → Type 0
 HintsAt None form schema bytes refused = Unit {0}
-HintsAt (Some part) form schema bytes None = ⊥
-HintsAt (Some part) form schema bytes (Some refused) = refused_part form schema bytes refused.number ≡ Some (part_of part)
+HintsAt (Some (Part part)) form schema bytes (Some refused) = refused_part form schema bytes refused.number ≡ Some (part_of part)
+HintsAt (Some hinted) form schema bytes _ = ⊥
 
 -- all of an input is refused, as a text for the schema of the table that is found, and this is the part of the refused record that is
 pub record HintsPart (part : PlainPart) (form : TextForm) (found : Option PlainEntry) (input : Option (List ℕ)) (refused : Refused) : Type 0 where
@@ -58,7 +59,7 @@ pub record HintsPart (part : PlainPart) (form : TextForm) (found : Option PlainE
   pub names : refused_part form entry.schema bytes refused.number ≡ Some part
 
 -- nothing is hinted but of a refused text
-abbrev pub IfHinted : Option RefusedPart → TextForm → Option PlainEntry → Option (List ℕ) → Result (Unit {0}) Refusal → Type 0
+abbrev pub IfHinted : Option Hinted → TextForm → Option PlainEntry → Option (List ℕ) → Result (Unit {0}) Refusal → Type 0
 IfHinted None form found input result = Unit {0}
-IfHinted (Some part) form found input (Err (Text refused)) = HintsPart (part_of part) form found input refused
-IfHinted (Some part) form found input _ = ⊥
+IfHinted (Some (Part part)) form found input (Err (Text refused)) = HintsPart (part_of part) form found input refused
+IfHinted (Some hinted) form found input _ = ⊥

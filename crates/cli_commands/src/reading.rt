@@ -8,9 +8,9 @@ ghost use Rattle.catalogue.specs.Edits.{entry_of, tables_of};
 ghost use Rattle.ipc_canonical.specs.Canonical.{canonical};
 ghost use Rattle.store.specs.Fits.{device_of, is_halted, listed_in};
 ghost use Rattle.store.specs.Reading.{ReadsTable, RefusesRead, OnlyReadsStore, ended};
-ghost use Rattle.cli_commands.specs.Reading.{OfStore, store_ended, IsReadable, FirstUnread, RefusesCheck};
+ghost use Rattle.cli_commands.specs.Reading.{OfStore, store_ended, IsReadable, FirstUnread, RefusesCheck, IsHintOf, HintsUnread, IfChecked};
 
-use cli_refusals::{Refusal, write_whole};
+use cli_refusals::{Hinted, Refusal, write_whole};
 use sector_dev::SectorDevice;
 use std::alloc::Global;
 use std::io::Write;
@@ -44,11 +44,22 @@ pub fn export_table<D: SectorDevice, W: Write>(
     }
 }
 
-// Reads each of some tables, up to the first that can't be read.
+// A hint at a table; none where memory is refused for its name.
+fn hint_at(alloc: Global, name: &str) -> Option<Hinted>
+    ensures { IsHintOf name.now result }
+{
+    match String::from_str(alloc, name) {
+        Ok(name) => Some(Hinted::Table(name)),
+        Err(_) => None,
+    }
+}
+
+// Reads each of some tables, up to the first that can't be read. `hint` is then left with that one, if memory suffices, and else with none.
 fn read_each<D: SectorDevice>(
     alloc: Global,
     store: &mut Store<D>,
     tables: &[(String, u64)],
+    hint: &mut Option<Hinted>,
 ) -> Result<(), tables::Refusal>
     ensures read { OnOk result (D.tells ≡ true
         → AllByRecursion (IsReadable (is_halted store.old) (shown_image (now (D.story (device_of store.old)))) (listed_in store.old))
@@ -56,12 +67,19 @@ fn read_each<D: SectorDevice>(
     ensures told { IfErr result (λ refusal. D.tells ≡ true
         → FirstUnread (is_halted store.old) (shown_image (now (D.story (device_of store.old)))) (listed_in store.old)
         (map (λ t. (string_bytes t.0, t.1)) tables.now) refusal) }
+    ensures kept { OnOk result (hint.new ≡ hint.old) }
+    ensures hint { IfErr result (HintsUnread hint.new D.tells (is_halted store.old) (shown_image (now (D.story (device_of store.old)))) (listed_in store.old)
+        (map (λ t. (string_bytes t.0, t.1)) tables.now)) }
     ensures reads { OnlyReadsStore D.size D.story D.failed D.tells (ended result) store.old store.new }
 {
     for table in tables {
-        match store.read(alloc, table.0.as_str()) {
+        let name = table.0.as_str();
+        match store.read(alloc, name) {
             Ok(_) => {}
-            Err(refusal) => return Err(refusal),
+            Err(refusal) => {
+                *hint = hint_at(alloc, name);
+                return Err(refusal);
+            }
         }
     }
     Ok(())
@@ -69,14 +87,17 @@ fn read_each<D: SectorDevice>(
 
 /// Reads each table, in byte order of the names, and writes `ok` where all can be read.
 ///
-/// The first table that can't be read is reported as [`Store::read`] reports it, and none after it is read.
+/// The first table that can't be read is reported as [`Store::read`] reports it, and none after it is read. `hint` is left with its name, if memory
+/// suffices, and else with none.
 ///
 /// # Errors
 /// `Store` where the tables are not listed or one can't be read: then nothing is written. `Io` where a write fails: all tables can be read.
+#[tactic(auto, using(crate::proofs::ReadingLemmas::nothing_hinted))]
 pub fn check_tables<D: SectorDevice, W: Write>(
     alloc: Global,
     store: &mut Store<D>,
     output: &mut W,
+    hint: &mut Option<Hinted>,
 ) -> Result<(), Refusal>
     ensures written { OnOk result (Appends (W.contents output.old) (W.contents output.new) (codes "ok\n")) }
     ensures read { OnOk result (D.tells ≡ true
@@ -86,11 +107,14 @@ pub fn check_tables<D: SectorDevice, W: Write>(
         → RefusesCheck (is_halted store.old) (shown_image (now (D.story (device_of store.old)))) (listed_in store.old) refusal)
         (D.tells ≡ true → AllByRecursion (IsReadable (is_halted store.old) (shown_image (now (D.story (device_of store.old)))) (listed_in store.old))
         (tables_of (listed_in store.old)))) }
+    // What is hinted is the first table that can't be read; of another answer there is no hint.
+    ensures hint { IfChecked hint.new D.tells (is_halted store.old) (shown_image (now (D.story (device_of store.old)))) (listed_in store.old) result }
     // The store is only read.
     ensures reads { OnlyReadsStore D.size D.story D.failed D.tells (store_ended result) store.old store.new }
     ensures silent { IfErr result (λ refusal. refusal ≢ Refusal.Io → output.new ≡ output.old) }
 {
+    *hint = None;
     let tables = store.tables(alloc)?;
-    read_each(alloc, store, &tables)?;
+    read_each(alloc, store, &tables, hint)?;
     write_whole(output, b"ok\n")
 }

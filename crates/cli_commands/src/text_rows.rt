@@ -22,17 +22,17 @@ ghost use Rattle.cli_commands.specs.TextRows.{HandsRows, RefusesText, IfOfText, 
 use crate::apply_command;
 use crate::input::read_input;
 use arrow_schema::Schema;
-use cli_refusals::Refusal;
+use cli_refusals::{Hinted, Refusal};
 use sector_dev::SectorDevice;
 use std::alloc::Global;
 use std::io::{Read, Write};
 use store::Store;
 use tables::Command;
 use text_columns::{csv_table, jsonl_table};
-use text_import::{RefusedPart, TextError, TextForm, refused_part, rows_of_text};
+use text_import::{TextError, TextForm, refused_part, rows_of_text};
 use values::WeighedTable;
 
-// The part of the first refused record that is refused. Where memory is refused for it, no part is answered.
+// The part of the first refused record that is refused. Where memory is refused for it, none is answered.
 #[tactic(auto, using(crate::proofs::TextLemmas::hints_at))]
 fn refused_in(
     alloc: Global,
@@ -40,7 +40,7 @@ fn refused_in(
     schema: &Schema,
     text: &[u8],
     error: &TextError,
-) -> Option<RefusedPart>
+) -> Option<Hinted>
     ensures { HintsAt result form.now (schema_of schema.now) text.now (refused_by error.now) }
 {
     match error {
@@ -51,8 +51,8 @@ fn refused_in(
             text,
             refused.number,
         ) {
-            Ok(part) => part,
-            Err(_) => None,
+            Ok(Some(part)) => Some(Hinted::Part(part)),
+            Ok(None) | Err(_) => None,
         },
         TextError::OutOfMemory => None,
     }
@@ -100,7 +100,7 @@ fn take_command(
     schema: &Schema,
     text: Vec<u8>,
     name: String,
-    hint: &mut Option<RefusedPart>,
+    hint: &mut Option<Hinted>,
 ) -> Result<Command, TextError>
     requires { IsWithinLimits (schema_of schema.now) }
     ensures command { Gives refused_by command_of result (given (append_rows (string_bytes name)) (rows_of_text form.now (schema_of schema.now) text.items)) }
@@ -133,7 +133,7 @@ pub fn append_text<D: SectorDevice, R: Read, W: Write>(
     form: &TextForm<'_>,
     input: &mut R,
     output: &mut W,
-    hint: &mut Option<RefusedPart>,
+    hint: &mut Option<Hinted>,
 ) -> Result<(), Refusal>
     // What the store is given are the rows of the input, as they are defined.
     ensures goes { D.tells ≡ true → (base : Tables) (m : Machine) → StoreFits D.size D.story base m store.old

@@ -5,7 +5,7 @@ use Rattle.sector_dev.specs.Disk.{now, shown_image}
 use Rattle.catalogue.specs.Edits.{tables_of}
 use Rattle.store.specs.Fits.{device_of, is_halted, listed_in}
 use Rattle.cli_commands.specs.Reading.{IsReadable, FirstUnread}
-use Rattle.cli_commands.proofs.ReadingLemmas.{read_and_written, output_failed, all_mapped, where_done}
+use Rattle.cli_commands.proofs.ReadingLemmas.{read_and_written, output_failed, all_mapped, where_done, check_hints}
 use Rattle.cli_commands.proofs.reading.check_tables.Goals as goal
 
 pub returns-clause-told : goal.returns-clause-told
@@ -38,3 +38,10 @@ pub returns-in_err-read_each-clause-reads : goal.returns-in_err-read_each-clause
 returns-in_err-read_each-clause-reads g c =
     let p = err_from_is_err_and c.from_residual-in_err-read_each.result c.from_residual-in_err-read_each.ensures.1 in
     rw (p.1, p.2) c.in_err-read_each.ensures.reads
+
+pub returns-in_err-read_each-clause-hint : goal.returns-in_err-read_each-clause-hint
+returns-in_err-read_each-clause-hint g c =
+    let p = err_from_is_err_and c.from_residual-in_err-read_each.result c.from_residual-in_err-read_each.ensures.1 in
+    rw (p.1, p.2)
+    (check_hints _ _ _ _ _ _ c.in_err-read_each.field-0.0 c.in_ok-tables.ensures.listed.0 (ap (map (λ x. (string_bytes x.0, x.1))) c.deref.ensures.value ∙ c.in_ok-tables.ensures.listed.1)
+    c.in_err-read_each.ensures.hint)
