@@ -1,6 +1,6 @@
 -- What is answered of an export of any store, by what it is looked up as.
-use Rattle.std.specs.Prelude.{◌==◌, slice_get, if◌then◌else◌}
-use Rattle.std.proofs.Common.{◌≡◌, ◌<◌, ◌+◌, ℕ, zero, suc, Bool, true, false, List, Option, Some, None, length, refl, sym, subst, arith}
+use Rattle.std.specs.Prelude.{◌==◌, slice_get, option_map, is_some, if◌then◌else◌, IfOk}
+use Rattle.std.proofs.Common.{◌≡◌, ◌<◌, ◌+◌, ℕ, zero, suc, Bool, true, false, List, Option, Some, None, Result, Ok, length, refl, sym, subst, arith}
 use Rattle.std.proofs.lemmas.Bool.{eqb-true}
 use Rattle.std.proofs.lemmas.Option.{slice_get_within}
 use Rattle.sector_dev.specs.Disk.{Image}
@@ -8,12 +8,12 @@ use Rattle.sector_dev.specs.declared.device.SectorDevice.{Ghosts}
 use Rattle.ipc_write.specs.Written.{end_of_stream}
 use Rattle.catalogue.specs.declared.entry.Segment.{Segment}
 use Rattle.catalogue.specs.Entries.{PlainEntry}
-use Rattle.export_book.specs.Book.{PlainExport, PlainBook, is_full, MayGive}
+use Rattle.export_book.specs.Book.{PlainExport, PlainBook, is_full, MayGive, with_given}
 use Rattle.tables.specs.declared.refusal.Refusal.{Refusal}
 use Rattle.tables.specs.declared.refusal.Refusal.TheVariants as refusals
 use Rattle.store.specs.declared.exports.Snapshot.{Snapshot}
 use Rattle.store.specs.declared.store.Store.{Store}
-use Rattle.store.specs.Exporting.{RefusesExport, RefusesRoom, OpensExport, OpensAt, OfSegment, PieceIs, GivesPiece, RefusesSegment, RefusesNumber, RefusesPiece, RefusesClosing, ClosesExport, ClosesAt}
+use Rattle.store.specs.Exporting.{RefusesExport, RefusesRoom, OpensExport, OpensAt, OfSegment, PieceIs, GivesPiece, after_giving, RefusesSegment, RefusesNumber, RefusesPiece, RefusesClosing, ClosesExport, ClosesAt}
 use Rattle.store.specs.inner.Exporting.{IsSnapshot, FindsSnapshot}
 
 -- ---- opening
@@ -81,8 +81,25 @@ few_given tells image b (suc place) piece is = by_place (slice_get b.segments pl
     by_place (Some g) at is = let within = slice_get_within b.segments place g at in omega (arith, within)
     by_place None at is = by_end (place == length b.segments) refl is
 
-pub may_give : (tells : Bool) (image : Image) (o : Option PlainExport) (b : PlainExport) (piece : List ℕ) → o ≡ Some b → PieceIs tells image b b.given (Some piece) → MayGive o
+may_give : (tells : Bool) (image : Image) (o : Option PlainExport) (b : PlainExport) (piece : List ℕ) → o ≡ Some b → PieceIs tells image b b.given (Some piece) → MayGive o
 may_give tells image o b piece at is = subst MayGive (sym at) (few_given tells image b b.given piece is)
+
+-- the same of what may be a piece
+pub may_give_some : (V : Type 0) (items : V → List ℕ) (tells : Bool) (image : Image) (o : Option PlainExport) (b : PlainExport) (r : Result (Option V) Refusal) (piece : Option V) → o ≡ Some b → r ≡ Ok piece → is_some piece ≡ true
+    → IfOk r (λ p. PieceIs tells image b b.given (option_map items p)) → MayGive o
+may_give_some V items tells image o b r (Some x) at is some given = may_give tells image o b (items x) at (subst (λ (y : Result (Option V) Refusal). IfOk y (λ p. PieceIs tells image b b.given (option_map items p))) is given)
+may_give_some V items tells image o b r None at is some given = absurd (cc some)
+
+-- a piece that is given counts, and that there is none does not
+pub counted_some : (V : Type 0) (items : V → List ℕ) (new old : PlainBook) (id : ℕ) (r : Result (Option V) Refusal) (piece : Option V) → r ≡ Ok piece → is_some piece ≡ true → new ≡ with_given id old
+    → IfOk r (λ p. new ≡ after_giving (option_map items p) id old)
+counted_some V items new old id r (Some x) is some counted = subst (λ (y : Result (Option V) Refusal). IfOk y (λ p. new ≡ after_giving (option_map items p) id old)) (sym is) counted
+counted_some V items new old id r None is some counted = absurd (cc some)
+
+pub counted_none : (V : Type 0) (items : V → List ℕ) (book : PlainBook) (id : ℕ) (r : Result (Option V) Refusal) (piece : Option V) → r ≡ Ok piece → is_some piece ≡ false
+    → IfOk r (λ p. book ≡ after_giving (option_map items p) id book)
+counted_none V items book id r (Some x) is none = absurd (cc none)
+counted_none V items book id r None is none = subst (λ (y : Result (Option V) Refusal). IfOk y (λ p. book ≡ after_giving (option_map items p) id book)) (sym is) refl
 
 -- ---- closing
 

@@ -6,6 +6,7 @@ ghost use Rattle.commit.specs.Agreeing.{commits_agree};
 ghost use Rattle.store.specs.Reading.{OnlyReadsDevice, ended};
 
 use crate::Store;
+use crate::reading::halts;
 use sector_dev::SectorDevice;
 use tables::Refusal;
 
@@ -41,12 +42,8 @@ impl<D: SectorDevice> Store<D> {
         if self.halted {
             return Err(Refusal::Halted);
         }
-        match agreement_on(&mut self.device) {
-            Ok(said) => Ok(said),
-            Err(_) => {
-                self.halted = true;
-                Err(Refusal::Device)
-            }
-        }
+        let said = agreement_on(&mut self.device);
+        self.halted = halts(&said);
+        said
     }
 }

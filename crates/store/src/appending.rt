@@ -20,7 +20,7 @@ ghost use Rattle.store.specs.inner.Tests.{Tests, decision_of};
 use crate::Store;
 use crate::change::{Change, Edit, NewSegments, SegmentRows};
 use crate::new_rows::{NewRows, pass_new};
-use crate::reading::{gather_entry, is_failure};
+use crate::reading::{gather_entry, halts};
 use catalogue::TableEntry;
 use cells::MAX_TABLE_WEIGHT;
 use ipc_encode::pieces_are_tables;
@@ -129,13 +129,11 @@ impl<D: SectorDevice> Store<D> {
     {
         let opened = &self.opened;
         match opened.catalogue.list.get(&name) {
-            Some(entry) => match append_to_entry(alloc, &mut self.device, entry, name, new) {
-                Ok(change) => Ok(change),
-                Err(refusal) => {
-                    self.halted = is_failure(refusal);
-                    Err(refusal)
-                }
-            },
+            Some(entry) => {
+                let change = append_to_entry(alloc, &mut self.device, entry, name, new);
+                self.halted = halts(&change);
+                change
+            }
             None => {
                 // By a call: the drop of each kind, written out, is long.
                 drop(new);

@@ -14,7 +14,7 @@ use crate::change::Change;
 use crate::laws::laws_below;
 use crate::moving::decide_move;
 use crate::pairs::first_pair;
-use crate::reading::is_failure;
+use crate::reading::halts;
 use catalogue::TableEntry;
 use ipc_encode::pieces_are_tables;
 use sector_dev::SectorDevice;
@@ -92,13 +92,9 @@ impl<D: SectorDevice> Store<D> {
     {
         let opened = &self.opened;
         let entries = opened.catalogue.list.entries();
-        match decide_step(alloc, &mut self.device, &opened.map, entries) {
-            Ok(step) => Ok(step),
-            Err(refusal) => {
-                self.halted = is_failure(refusal);
-                Err(refusal)
-            }
-        }
+        let step = decide_step(alloc, &mut self.device, &opened.map, entries);
+        self.halted = halts(&step);
+        step
     }
 
     /// One step of a compaction. The first two neighbouring segments, tables in byte order of their names, whose rows the cut keeps in one piece become one

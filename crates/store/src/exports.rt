@@ -18,7 +18,7 @@ ghost use Rattle.store.specs.inner.Exporting.{IsSnapshot};
 
 use crate::Store;
 use crate::laws::table_laws;
-use crate::reading::{is_failure, read_segment};
+use crate::reading::{halts, read_segment};
 use arrow_schema::Schema;
 use catalogue::{Segment, TableEntry};
 use export_book::OpenExport;
@@ -264,17 +264,16 @@ impl<D: SectorDevice> Store<D> {
             return Err(Refusal::Halted);
         }
         match self.book.get(id) {
-            Some(export) => match next_piece(alloc, &mut self.device, export) {
-                Ok(Some(piece)) => {
-                    self.book.give(id);
-                    Ok(Some(piece))
+            Some(export) => {
+                let piece = next_piece(alloc, &mut self.device, export);
+                self.halted = halts(&piece);
+                if let Ok(given) = &piece {
+                    if given.is_some() {
+                        self.book.give(id);
+                    }
                 }
-                Ok(None) => Ok(None),
-                Err(refusal) => {
-                    self.halted = is_failure(refusal);
-                    Err(refusal)
-                }
-            },
+                piece
+            }
             None => Err(Refusal::NoExport),
         }
     }

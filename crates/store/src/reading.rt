@@ -15,7 +15,7 @@ ghost use Rattle.commit.specs.Standing.{is_size, is_on_device, all_on_device};
 ghost use Rattle.store.specs.Held.{is_undamaged, rows_in_bytes, segment_rows, joined_rows, rows_held};
 ghost use Rattle.store.specs.Reading.{IsCopy, LacksBytes, HasRead, LacksRows, HaveRead, IsRead, Unreads, OnlyReadsDevice, ended};
 ghost use Rattle.values.specs.Table.{IsTable};
-ghost use Rattle.store.specs.Calls.{is_failure};
+ghost use Rattle.store.specs.Calls.{is_failure, is_device_reply};
 ghost use Rattle.store.specs.inner.TableBuilder.{table_so_far};
 ghost use Rattle.store.specs.inner.Reading.{UnreadsSegment, runs_in};
 
@@ -290,11 +290,11 @@ pub(crate) fn read_entry<D: SectorDevice>(
     }
 }
 
-// Whether the device failed.
-pub(crate) fn is_failure(refusal: Refusal) -> bool
-    ensures { result ≡ is_failure refusal }
+// Whether a reading that ended so halts the store: its device failed.
+pub(crate) fn halts<T>(read: &Result<T, Refusal>) -> bool
+    ensures { result ≡ is_device_reply (ended read.now) }
 {
-    matches!(refusal, Refusal::Device)
+    matches!(read, Err(Refusal::Device))
 }
 
 impl<D: SectorDevice> Store<D> {
@@ -320,13 +320,11 @@ impl<D: SectorDevice> Store<D> {
         }
         let opened = &self.opened;
         match opened.catalogue.list.get(name) {
-            Some(entry) => match read_entry(alloc, &mut self.device, entry) {
-                Ok(table) => Ok(table),
-                Err(refusal) => {
-                    self.halted = is_failure(refusal);
-                    Err(refusal)
-                }
-            },
+            Some(entry) => {
+                let table = read_entry(alloc, &mut self.device, entry);
+                self.halted = halts(&table);
+                table
+            }
             None => Err(Refusal::NoTable),
         }
     }

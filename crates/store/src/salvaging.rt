@@ -15,7 +15,7 @@ ghost use Rattle.store.specs.inner.Salvaging.{is_of_segment, FailsWriting, Finds
 
 use crate::Store;
 use crate::exports::segment_piece;
-use crate::reading::is_failure;
+use crate::reading::halts;
 use arrow_schema::Schema;
 use catalogue::{Segment, TableEntry};
 use ipc_write::{write_end, write_schema};
@@ -234,13 +234,11 @@ impl<D: SectorDevice> Store<D> {
         }
         let opened = &self.opened;
         match opened.catalogue.list.get(name) {
-            Some(entry) => match salvage_entry(alloc, &mut self.device, entry, writer) {
-                Ok(left_out) => Ok(left_out),
-                Err(refusal) => {
-                    self.halted = is_failure(refusal);
-                    Err(refusal)
-                }
-            },
+            Some(entry) => {
+                let left_out = salvage_entry(alloc, &mut self.device, entry, writer);
+                self.halted = halts(&left_out);
+                left_out
+            }
             None => Err(Refusal::NoTable),
         }
     }

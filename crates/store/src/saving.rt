@@ -24,7 +24,7 @@ ghost use Rattle.store.specs.inner.Tests.{decision_of};
 use crate::Store;
 use crate::change::Change;
 use crate::deciding::{put_table, test_create};
-use crate::reading::{is_failure, read_entry};
+use crate::reading::{halts, read_entry};
 use crate::table_builder::TableBuilder;
 use arrow_schema::Schema;
 use catalogue::{Catalogue, TableEntry, counts_after_changes};
@@ -153,13 +153,9 @@ impl<D: SectorDevice> Store<D> {
         let list = &self.opened.catalogue.list;
         match list.get(&from) {
             Some(entry) => {
-                match save_from_entry(alloc, &mut self.device, list, entry, to, &query) {
-                    Ok(change) => Ok(change),
-                    Err(refusal) => {
-                        self.halted = is_failure(refusal);
-                        Err(refusal)
-                    }
-                }
+                let change = save_from_entry(alloc, &mut self.device, list, entry, to, &query);
+                self.halted = halts(&change);
+                change
             }
             None => Err(Refusal::NoTable),
         }

@@ -15,7 +15,7 @@ ghost use Rattle.store.specs.inner.Upgrading.{LacksCopy};
 use crate::Store;
 use crate::change::{Change, Edit};
 use crate::laws::table_laws;
-use crate::reading::{gather_entry, is_failure, read_bytes};
+use crate::reading::{gather_entry, halts, read_bytes};
 use catalogue::{Segment, TableEntry};
 use commit::FormatVersion;
 use sector_dev::SectorDevice;
@@ -141,13 +141,9 @@ impl<D: SectorDevice> Store<D> {
     {
         let opened = &self.opened;
         let entries = opened.catalogue.list.entries();
-        match all_digests(alloc, &mut self.device, entries) {
-            Ok(digests) => Ok(digests),
-            Err(refusal) => {
-                self.halted = is_failure(refusal);
-                Err(refusal)
-            }
-        }
+        let digests = all_digests(alloc, &mut self.device, entries);
+        self.halted = halts(&digests);
+        digests
     }
 
     /// Makes a store of version 1 one of version 2: reads all tables, gives each segment the SHA-256 of its bytes, and publishes a catalogue that says

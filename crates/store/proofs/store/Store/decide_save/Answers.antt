@@ -1,5 +1,5 @@
 use Rattle.std.specs.Prelude.{◌||◌}
-use Rattle.std.proofs.Common.{◌≡◌, Bool, Some, None, Ok, Err, refl, sym, ap, ◌∙◌, string_bytes, ℕ, true, subst}
+use Rattle.std.proofs.Common.{◌≡◌, Bool, Some, None, refl, sym, ap, ◌∙◌, string_bytes, ℕ, true, subst}
 use Rattle.sector_dev.specs.Disk.{now, shown_image}
 use Rattle.segments.specs.laws.Usages.{or_false}
 use Rattle.catalogue.specs.Edits.{entry_of}
@@ -9,43 +9,32 @@ use Rattle.commit.specs.laws.Frame.{fault_none}
 use Rattle.query.specs.View.{query_in}
 use Rattle.tables.specs.declared.refusal.Refusal.TheVariants.{NoTable}
 use Rattle.store.specs.Exported.{AreExportable}
-use Rattle.store.specs.Calls.{is_failure, refused}
-use Rattle.store.specs.Changes.{change_of}
+use Rattle.store.specs.Calls.{is_device_reply, refused}
 use Rattle.store.specs.Fits.{book_of, listed_in}
+use Rattle.store.specs.Reading.{ended}
+use Rattle.store.specs.inner.Tests.{decision_of}
 use Rattle.commit.specs.Standing.{is_size, is_on_device, runs_fault}
 use Rattle.store.proofs.AtNames.{save_at, save_nowhere}
 use Rattle.store.proofs.ReadTables.{runs_on_device, reads_quiet}
 use Rattle.store.proofs.store.Store.decide_save.Goals as goal
 
-pub save_from_entry-requires-clause-placed : goal.save_from_entry-requires-clause-placed
-save_from_entry-requires-clause-placed g c =
+pub save_from_entry-change-requires-clause-placed : goal.save_from_entry-change-requires-clause-placed
+save_from_entry-change-requires-clause-placed g c =
     let D = g.D.SectorDevice in
     let store = c.args.self.now in
     let found : entry_of (listed_in store) (string_bytes c.args.from) ≡ Some (plain_entry c.in-Some.entry.now) = ap (entry_of (listed_in store)) (sym c.deref.ensures) ∙ sym c.in-Some.ensures.entry in
     runs_on_device (D.size store.device) (listed_in store) (string_bytes c.args.from) (plain_entry c.in-Some.entry.now)
     (fault_none (D.size store.device) store.opened.commit.catalogue.run (runs_of (listed_in store)) store.fit).0 found
 
-pub save_from_entry-requires-clause-sound : goal.save_from_entry-requires-clause-sound
-save_from_entry-requires-clause-sound g c =
+pub save_from_entry-change-requires-clause-sound : goal.save_from_entry-change-requires-clause-sound
+save_from_entry-change-requires-clause-sound g c =
     let store = c.args.self.now in
     let found : entry_of (listed_in store) (string_bytes c.args.from) ≡ Some (plain_entry c.in-Some.entry.now) = ap (entry_of (listed_in store)) (sym c.deref.ensures) ∙ sym c.in-Some.ensures.entry in
     found_passes is_entry (listed_in store) (string_bytes c.args.from) (plain_entry c.in-Some.entry.now) c.in-Some.ensures.kept.entries found
 
-pub returns-in-Ok-clause-reads : goal.returns-in-Ok-clause-reads
-returns-in-Ok-clause-reads g c =
-    record { device = c.in-Ok.ensures.reads; kept = refl; book = refl; halts = sym (or_false c.args.self.now.halted) }
-
-pub returns-in-Ok-clause-answers : goal.returns-in-Ok-clause-answers
-returns-in-Ok-clause-answers g c =
-    let D = g.D.SectorDevice in
-    let store = c.args.self.now in
-    let image = shown_image (now (D.story store.device)) in
-    let found : entry_of (listed_in store) (string_bytes c.args.from) ≡ Some (plain_entry c.in-Some.entry.now) = ap (entry_of (listed_in store)) (sym c.deref.ensures) ∙ sym c.in-Some.ensures.entry in
-    save_at D.tells image (listed_in store) (string_bytes c.args.from) (string_bytes c.args.to) (query_in c.args.query) (plain_entry c.in-Some.entry.now) (Ok (change_of c.in-Ok.change)) found c.in-Ok.ensures.answers
-
 pub returns-in-Some-clause-reads : goal.returns-in-Some-clause-reads
 returns-in-Some-clause-reads g c =
-    record { device = c.in-Err.ensures.reads; kept = refl; book = refl; halts = c.is_failure-self.ensures ∙ sym (ap (λ (b : Bool). b || is_failure c.in-Err.refusal) c.requires.on) }
+    record { device = c.save_from_entry-change.ensures.reads; kept = refl; book = refl; halts = c.halts-self.ensures ∙ sym (ap (λ (b : Bool). b || is_device_reply (ended c.save_from_entry-change.result)) c.requires.on) }
 
 pub returns-in-Some-clause-answers : goal.returns-in-Some-clause-answers
 returns-in-Some-clause-answers g c =
@@ -53,7 +42,7 @@ returns-in-Some-clause-answers g c =
     let store = c.args.self.now in
     let image = shown_image (now (D.story store.device)) in
     let found : entry_of (listed_in store) (string_bytes c.args.from) ≡ Some (plain_entry c.in-Some.entry.now) = ap (entry_of (listed_in store)) (sym c.deref.ensures) ∙ sym c.in-Some.ensures.entry in
-    save_at D.tells image (listed_in store) (string_bytes c.args.from) (string_bytes c.args.to) (query_in c.args.query) (plain_entry c.in-Some.entry.now) (Err c.in-Err.refusal) found c.in-Err.ensures.answers
+    save_at D.tells image (listed_in store) (string_bytes c.args.from) (string_bytes c.args.to) (query_in c.args.query) (plain_entry c.in-Some.entry.now) (decision_of c.save_from_entry-change.result) found c.save_from_entry-change.ensures.answers
 
 pub returns-clause-reads : goal.returns-clause-reads
 returns-clause-reads g c =
@@ -73,21 +62,7 @@ returns-clause-answers g c =
 pub invariant_of-self : goal.invariant_of-self
 invariant_of-self g c =
     let s = c.args.self.now in
-    let sized = c.in-Ok.ensures.reads.same in
-    record {
-      in_limits = subst (λ (n : ℕ). is_size n ≡ true) (sym sized) s.in_limits;
-      same = s.same ∙ sym sized;
-      own = s.own ∙ sym sized;
-      fit = subst (λ (n : ℕ). runs_fault n s.opened.commit.catalogue.run (runs_of (listed_in s)) ≡ None) (sym sized) s.fit;
-      placed = subst (λ (n : ℕ). is_on_device n s.opened.commit.catalogue.run ≡ true) (sym sized) s.placed;
-      uses = s.uses;
-      exported = subst (λ (n : ℕ). AreExportable n (book_of s).exports) (sym sized) s.exported;
-    }
-
-pub invariant_of-self-in-Err : goal.invariant_of-self-in-Err
-invariant_of-self-in-Err g c =
-    let s = c.args.self.now in
-    let sized = c.in-Err.ensures.reads.same in
+    let sized = c.save_from_entry-change.ensures.reads.same in
     record {
       in_limits = subst (λ (n : ℕ). is_size n ≡ true) (sym sized) s.in_limits;
       same = s.same ∙ sym sized;

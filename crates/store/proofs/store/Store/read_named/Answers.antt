@@ -1,5 +1,6 @@
 use Rattle.std.specs.Prelude.{◌||◌}
 use Rattle.std.proofs.Common.{◌≡◌, Bool, Some, refl, sym, ap, ℕ, true, None, subst, ◌∙◌}
+use Rattle.std.proofs.lemmas.Result.{IfOk-weaker, IfErr-weaker}
 use Rattle.sector_dev.specs.Disk.{now, shown_image}
 use Rattle.segments.specs.laws.Usages.{or_false}
 use Rattle.values.specs.TableView.{table_of}
@@ -9,23 +10,24 @@ use Rattle.catalogue.specs.laws.Changed.{found_passes}
 use Rattle.commit.specs.laws.Frame.{fault_none}
 use Rattle.tables.specs.declared.refusal.Refusal.TheVariants.{Halted, NoTable}
 use Rattle.store.specs.Exported.{AreExportable}
-use Rattle.store.specs.Calls.{is_failure, refused}
+use Rattle.store.specs.Calls.{is_device_reply, refused}
 use Rattle.store.specs.Fits.{book_of, listed_in}
+use Rattle.store.specs.Reading.{ended}
 use Rattle.commit.specs.Standing.{is_size, is_on_device, runs_fault}
 use Rattle.store.proofs.AtNames.{read_at, read_nowhere, read_halted, unread_at}
 use Rattle.store.proofs.ReadTables.{runs_on_device, reads_quiet}
 use Rattle.store.proofs.store.Store.read_named.Goals as goal
 
-pub read_entry-requires-clause-placed : goal.read_entry-requires-clause-placed
-read_entry-requires-clause-placed g c =
+pub read_entry-table-requires-clause-placed : goal.read_entry-table-requires-clause-placed
+read_entry-table-requires-clause-placed g c =
     let D = g.D.SectorDevice in
     let store = c.args.self.now in
     let found : entry_of (listed_in store) c.args.name.now ≡ Some (plain_entry c.in-Some.entry.now) = sym c.in-Some.ensures.entry in
     runs_on_device (D.size store.device) (listed_in store) c.args.name.now (plain_entry c.in-Some.entry.now)
     (fault_none (D.size store.device) store.opened.commit.catalogue.run (runs_of (listed_in store)) store.fit).0 found
 
-pub read_entry-requires-clause-sound : goal.read_entry-requires-clause-sound
-read_entry-requires-clause-sound g c =
+pub read_entry-table-requires-clause-sound : goal.read_entry-table-requires-clause-sound
+read_entry-table-requires-clause-sound g c =
     let store = c.args.self.now in
     found_passes is_entry (listed_in store) c.args.name.now (plain_entry c.in-Some.entry.now) c.in-Some.ensures.kept.entries (sym c.in-Some.ensures.entry)
 
@@ -41,27 +43,25 @@ returns-then-self-clause-told g c =
     let image = shown_image (now (D.story store.device)) in
     read_halted store.halted D.tells image (entry_of (listed_in store) c.args.name.now) c.if-self.true
 
-pub returns-in-Ok-clause-reads : goal.returns-in-Ok-clause-reads
-returns-in-Ok-clause-reads g c =
-    record { device = c.in-Ok.ensures.reads; kept = refl; book = refl; halts = sym (or_false c.args.self.now.halted) }
+pub returns-in-Some-clause-reads : goal.returns-in-Some-clause-reads
+returns-in-Some-clause-reads g c =
+    record { device = c.read_entry-table.ensures.reads; kept = refl; book = refl; halts = c.halts-self.ensures ∙ sym (ap (λ (b : Bool). b || is_device_reply (ended c.read_entry-table.result)) c.if-self.false) }
 
-pub returns-in-Ok-clause-found : goal.returns-in-Ok-clause-found
-returns-in-Ok-clause-found g c =
+pub returns-in-Some-clause-found : goal.returns-in-Some-clause-found
+returns-in-Some-clause-found g c =
     let D = g.D.SectorDevice in
     let store = c.args.self.now in
     let image = shown_image (now (D.story store.device)) in
-    read_at store.halted D.tells image (entry_of (listed_in store) c.args.name.now) (plain_entry c.in-Some.entry.now) (table_of c.in-Ok.table) c.if-self.false (sym c.in-Some.ensures.entry) c.in-Ok.ensures.table
+    IfOk-weaker c.read_entry-table.result _ _
+    (λ table is. read_at store.halted D.tells image (entry_of (listed_in store) c.args.name.now) (plain_entry c.in-Some.entry.now) (table_of table) c.if-self.false (sym c.in-Some.ensures.entry) is) c.read_entry-table.ensures.table
 
-pub returns-in-Err-clause-reads : goal.returns-in-Err-clause-reads
-returns-in-Err-clause-reads g c =
-    record { device = c.in-Err.ensures.reads; kept = refl; book = refl; halts = c.is_failure-self.ensures ∙ sym (ap (λ (b : Bool). b || is_failure c.in-Err.refusal) c.if-self.false) }
-
-pub returns-in-Err-clause-told : goal.returns-in-Err-clause-told
-returns-in-Err-clause-told g c =
+pub returns-in-Some-clause-told : goal.returns-in-Some-clause-told
+returns-in-Some-clause-told g c =
     let D = g.D.SectorDevice in
     let store = c.args.self.now in
     let image = shown_image (now (D.story store.device)) in
-    unread_at store.halted D.tells image (entry_of (listed_in store) c.args.name.now) (plain_entry c.in-Some.entry.now) c.in-Err.refusal c.if-self.false (sym c.in-Some.ensures.entry) c.in-Err.ensures.unread
+    IfErr-weaker c.read_entry-table.result _ _
+    (λ e is. unread_at store.halted D.tells image (entry_of (listed_in store) c.args.name.now) (plain_entry c.in-Some.entry.now) e c.if-self.false (sym c.in-Some.ensures.entry) is) c.read_entry-table.ensures.unread
 
 pub returns-in-None-clause-reads : goal.returns-in-None-clause-reads
 returns-in-None-clause-reads g c =
@@ -80,7 +80,7 @@ returns-in-None-clause-told g c =
 pub invariant_of-self : goal.invariant_of-self
 invariant_of-self g c =
     let s = c.args.self.now in
-    let sized = c.in-Ok.ensures.reads.same in
+    let sized = c.read_entry-table.ensures.reads.same in
     record {
       in_limits = subst (λ (n : ℕ). is_size n ≡ true) (sym sized) s.in_limits;
       same = s.same ∙ sym sized;

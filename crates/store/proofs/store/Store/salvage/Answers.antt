@@ -1,5 +1,6 @@
 use Rattle.std.specs.Prelude.{◌||◌}
 use Rattle.std.proofs.Common.{◌≡◌, Bool, Some, refl, sym, ap, ℕ, true, None, subst, ◌∙◌}
+use Rattle.std.proofs.lemmas.Result.{IfOk-weaker, IfErr-weaker}
 use Rattle.sector_dev.specs.Disk.{now, shown_image}
 use Rattle.segments.specs.laws.Usages.{or_false}
 use Rattle.catalogue.specs.Entries.{is_entry, plain_entry, runs_of}
@@ -8,24 +9,25 @@ use Rattle.catalogue.specs.laws.Changed.{found_passes}
 use Rattle.commit.specs.laws.Frame.{fault_none}
 use Rattle.tables.specs.declared.refusal.Refusal.TheVariants.{Halted, NoTable}
 use Rattle.store.specs.Exported.{AreExportable}
-use Rattle.store.specs.Calls.{is_failure, refused}
+use Rattle.store.specs.Calls.{is_device_reply, refused}
 use Rattle.store.specs.Fits.{book_of, listed_in}
+use Rattle.store.specs.Reading.{ended}
 use Rattle.store.specs.Salvaging.{plain_left}
 use Rattle.commit.specs.Standing.{is_size, is_on_device, runs_fault}
 use Rattle.store.proofs.Salvaged.{salvages_at, refuses_at, refuses_nowhere, refuses_halted}
 use Rattle.store.proofs.ReadTables.{runs_on_device, reads_quiet}
 use Rattle.store.proofs.store.Store.salvage.Goals as goal
 
-pub salvage_entry-requires-clause-placed : goal.salvage_entry-requires-clause-placed
-salvage_entry-requires-clause-placed g c =
+pub salvage_entry-left_out-requires-clause-placed : goal.salvage_entry-left_out-requires-clause-placed
+salvage_entry-left_out-requires-clause-placed g c =
     let D = g.D.SectorDevice in
     let store = c.args.self.now in
     let found : entry_of (listed_in store) c.args.name.now ≡ Some (plain_entry c.in-Some.entry.now) = sym c.in-Some.ensures.entry in
     runs_on_device (D.size store.device) (listed_in store) c.args.name.now (plain_entry c.in-Some.entry.now)
     (fault_none (D.size store.device) store.opened.commit.catalogue.run (runs_of (listed_in store)) store.fit).0 found
 
-pub salvage_entry-requires-clause-sound : goal.salvage_entry-requires-clause-sound
-salvage_entry-requires-clause-sound g c =
+pub salvage_entry-left_out-requires-clause-sound : goal.salvage_entry-left_out-requires-clause-sound
+salvage_entry-left_out-requires-clause-sound g c =
     let store = c.args.self.now in
     found_passes is_entry (listed_in store) c.args.name.now (plain_entry c.in-Some.entry.now) c.in-Some.ensures.kept.entries (sym c.in-Some.ensures.entry)
 
@@ -39,25 +41,22 @@ returns-then-self-clause-told g c =
     let store = c.args.self.now in
     refuses_halted store.halted (entry_of (listed_in store) c.args.name.now) c.if-self.true
 
-pub returns-in-Ok-clause-reads : goal.returns-in-Ok-clause-reads
-returns-in-Ok-clause-reads g c =
-    record { device = c.in-Ok.ensures.reads; kept = refl; book = refl; halts = sym (or_false c.args.self.now.halted) }
+pub returns-in-Some-clause-reads : goal.returns-in-Some-clause-reads
+returns-in-Some-clause-reads g c =
+    record { device = c.salvage_entry-left_out.ensures.reads; kept = refl; book = refl; halts = c.halts-self.ensures ∙ sym (ap (λ (b : Bool). b || is_device_reply (ended c.salvage_entry-left_out.result)) c.if-self.false) }
 
-pub returns-in-Ok-clause-salvaged : goal.returns-in-Ok-clause-salvaged
-returns-in-Ok-clause-salvaged g c =
+pub returns-in-Some-clause-salvaged : goal.returns-in-Some-clause-salvaged
+returns-in-Some-clause-salvaged g c =
     let D = g.D.SectorDevice in
     let store = c.args.self.now in
-    salvages_at store.halted (entry_of (listed_in store) c.args.name.now) D.tells (shown_image (now (D.story store.device))) (plain_entry c.in-Some.entry.now) _ _ (plain_left c.in-Ok.left_out.items)
-    c.if-self.false (sym c.in-Some.ensures.entry) c.in-Ok.ensures.salvaged
+    IfOk-weaker c.salvage_entry-left_out.result _ _
+    (λ left is. salvages_at store.halted (entry_of (listed_in store) c.args.name.now) D.tells (shown_image (now (D.story store.device))) (plain_entry c.in-Some.entry.now) _ _ (plain_left left.items)
+    c.if-self.false (sym c.in-Some.ensures.entry) is) c.salvage_entry-left_out.ensures.salvaged
 
-pub returns-in-Err-clause-reads : goal.returns-in-Err-clause-reads
-returns-in-Err-clause-reads g c =
-    record { device = c.in-Err.ensures.reads; kept = refl; book = refl; halts = c.is_failure-self.ensures ∙ sym (ap (λ (b : Bool). b || is_failure c.in-Err.refusal) c.if-self.false) }
-
-pub returns-in-Err-clause-told : goal.returns-in-Err-clause-told
-returns-in-Err-clause-told g c =
+pub returns-in-Some-clause-told : goal.returns-in-Some-clause-told
+returns-in-Some-clause-told g c =
     let store = c.args.self.now in
-    refuses_at store.halted (entry_of (listed_in store) c.args.name.now) (plain_entry c.in-Some.entry.now) c.in-Err.refusal c.if-self.false (sym c.in-Some.ensures.entry) c.in-Err.ensures.fails
+    IfErr-weaker c.salvage_entry-left_out.result _ _ (λ e is. refuses_at store.halted (entry_of (listed_in store) c.args.name.now) (plain_entry c.in-Some.entry.now) e c.if-self.false (sym c.in-Some.ensures.entry) is) c.salvage_entry-left_out.ensures.fails
 
 pub returns-in-None-clause-reads : goal.returns-in-None-clause-reads
 returns-in-None-clause-reads g c =
@@ -74,7 +73,7 @@ returns-in-None-clause-told g c =
 pub invariant_of-self : goal.invariant_of-self
 invariant_of-self g c =
     let s = c.args.self.now in
-    let sized = c.in-Ok.ensures.reads.same in
+    let sized = c.salvage_entry-left_out.ensures.reads.same in
     record {
       in_limits = subst (λ (n : ℕ). is_size n ≡ true) (sym sized) s.in_limits;
       same = s.same ∙ sym sized;
