@@ -41,8 +41,10 @@ fn queried_table<
 >(rt: &H, request: &StoreRequest<'_>, done: &Result<(), Refusal>) -> Option<Table> {
     let (path, name) = refused_query(request, done)?;
     let store = open_to_read(rt, path).ok()?;
-    let schema = store.schema(rt.alloc(), name).ok()?;
-    Table::new(rt.alloc(), schema, Vec::new(rt.alloc())).ok()
+    match store.schema(rt.alloc(), name) {
+        Ok(schema) => Table::new(rt.alloc(), schema, Vec::new(rt.alloc())).ok(),
+        Err(_) => None,
+    }
 }
 
 /// Asks again where a person reads why a request ended so. `was_there` is what `is_there` gave before it was served.
