@@ -10,7 +10,7 @@ use std::io::{Read, Seek, Write};
 use std::rt::Files;
 use values::Table;
 
-/// What came of it: the file that was not opened or made, or a table without rows, of the schema of the one that a query was refused for.
+/// What was found: the file that was not opened or made, and why; or a table without rows, of the schema of the one that a query was refused for.
 #[derive(Drop)]
 pub(crate) struct AskedAgain<'a> {
     pub(crate) file: Option<Unopened<'a>>,
@@ -34,7 +34,7 @@ fn refused_query<'a>(
     }
 }
 
-// No table of a store that is not opened again, as another program may have locked it by now.
+// None where the store is not opened again: another program may have locked it by now.
 fn queried_table<
     F: Read + Write + Seek + OpenFile + LockFile + Drop,
     H: Files<File = F> + AllocGlobal,

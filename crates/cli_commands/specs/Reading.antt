@@ -65,7 +65,7 @@ HintsUnread None tells halted image c listed refusal = Unit {0}
 HintsUnread (Some (Table name)) tells halted image c listed refusal = NamesUnread (string_bytes name) tells halted image c listed refusal
 HintsUnread (Some hinted) tells halted image c listed refusal = ⊥
 
--- nothing is hinted of a check but the first table that can't be read, where the tables are listed
+-- nothing is hinted of a check but the first table that can't be read, and nothing of a halted store
 abbrev pub IfChecked : Option Hinted → (tells halted : Bool) → Image → PlainCatalogue → Result (Unit {0}) Refusal → Type 0
 IfChecked None tells halted image c result = Unit {0}
 IfChecked (Some hinted) tells halted image c (Err (Store refusal)) = (halted ≡ false) × HintsUnread (Some hinted) tells halted image c (tables_of c) refusal

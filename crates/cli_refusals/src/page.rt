@@ -21,12 +21,12 @@ pub const REFUSALS: [&str; 81] = [
 A refusal is one line on standard error: `refused`, a code, a name, and what it carries, as
 `refused S8 NoRoom 13`. On a terminal a second line says what to do, with the sentence that stands here,
 and names the word of the command line that is refused, the file with the reason that the system gives,
-or the field of the input with its text, where that is known and can be shown. The exit status is 1
-then; it is 0 where all is done, and 2 where the command line is wrong. A refused command has changed no
-table, but for S9 and G1, as said there. It has written no output, but for G1, and `salvage` for S9 and
-OutOfMemory too: that writes one segment after another. Where `salvage` leaves out segments that can't
-be read, it is not refused: it names each with its rows, as `left out segment 2 with 4096 rows`, and
-ends with status 1.
+the field of the input with its text, or the table that `check` can't read, where that is known and can
+be shown. The exit status is 1 then; it is 0 where all is done, and 2 where the command line is wrong. A
+refused command has changed no table, but for S9 and G1, as said there. It has written no output, but
+for G1, and `salvage` for S9 and OutOfMemory too: that writes one segment after another. Where `salvage`
+leaves out segments that can't be read, it is not refused: it names each with its rows, as
+`left out segment 2 with 4096 rows`, and ends with status 1.
 
 ## F: the input is no stream that is read
 
@@ -107,8 +107,8 @@ imported or appended. A fault without a remedy of its own lies with the program 
   ",
     SEE_TO_FILES,
     "
-- G2 BadSize: the number of sectors that was given, or the length of the file, is none of a store, which has
-  16 to 4,194,304 sectors of 512 bytes, and not a byte more or less. Such a file is no store, or was cut
+- G2 BadSize: a store has 16 to 4,194,304 sectors of 512 bytes, and its file not a byte more or less. The
+  number that was given, or the length of the file, is another one. Such a file is no store, or was cut
   short or made longer, or a `copy` into it was broken off.
   ",
     SIZE_OF_A_STORE,
@@ -138,8 +138,8 @@ imported or appended. A fault without a remedy of its own lies with the program 
   ",
     EARLIER_COPY,
     "
-- C4 Device: the file could not be read or synced while it was opened; or `format` could not read, write
-  or sync the file that it made, which is then removed. Nothing is lost by it.
+- C4 Device: the file could not be read or synced while it was opened; or `format` or `copy` could not
+  read, write or sync the file that it made, which is then removed. Nothing is lost by it.
   ",
     TRY_AGAIN,
     "
@@ -252,7 +252,7 @@ appended. A refusal without a remedy of its own lies with that record.
 - S12 Query REASON: the query of `query --save` is refused, for this reason (Q).
 - S13 SegmentUnread N: the segment N of the table, counted from 0, can't be read: its bytes were changed.
   `check` reads all tables, in byte order of their names, and is refused so at the first that can't be
-  read: an `export` of each shows which it is.
+  read: on a terminal it names that table, elsewhere an `export` of each shows which it is.
   ",
     IMPORT_AGAIN,
     "

@@ -51,7 +51,7 @@ pub const LINES_OF_A_SCRIPT: &str =
     "Write each line as `create NAME FIELD ..`, `import NAME FILE`, `append NAME FILE`, `rename FROM TO`, `drop NAME`, `compact`, `upgrade` or `reopen`.";
 
 pub const FILE_OF_A_STORE: &str =
-    "Give the file of a store; where `format` was interrupted, delete the file and format again.";
+    "Give the file of a store; where `format` or `copy` was interrupted, delete its new file and do it again.";
 
 pub const EARLIER_COPY: &str =
     "Take a copy of the file from before; to `replay` give 16 to 4,194,304 sectors.";

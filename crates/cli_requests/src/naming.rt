@@ -231,8 +231,8 @@ fn word_of<'a>(
     }
 }
 
-/// The word of a request that a refusal is of, where that is known: of a query only with a table of the schema of the one that it was refused for. A word
-/// with control characters, which could do something to a terminal, is none.
+/// The word of a request that a refusal is of, where that is known: of a query a condition without form, or else what `table` refuses, which has the schema
+/// of the table that the query was refused for. A word with control characters, which could do something to a terminal, is none.
 pub fn refused_word<'a>(
     alloc: Global,
     request: &StoreRequest<'a>,

@@ -95,7 +95,7 @@ out, with a line on standard error, and the status is then 1. The store is only 
         example: "Example: arrowstore info store --json
 
 A sector has 512 bytes. The used ones are those of the two commits, of the catalogue
-and of the tables. None is kept here: only a program over the library keeps sectors,
+and of the tables. Kept ones are 0 here: only a program over the library keeps sectors,
 for its readers. The epoch grows by one with each change, of which a step of compact is
 one. Segments are the pieces in which tables lie. Where commits_agree is false,
 something else than this program has changed a commit, and the last command may be
@@ -120,7 +120,10 @@ a disk has changed its bytes. Programs that know version 1 alone do not read it.
     Usage {
         name: "copy",
         about: abouts::COPY,
-        example: "Example: arrowstore copy store larger 65536",
+        example: "Example: arrowstore copy store larger 65536
+
+Where it is stopped before its end, no command opens the new file as a store: delete it,
+and copy again.",
     },
     Usage {
         name: "replay",
