@@ -31,7 +31,7 @@ pub enum SchemaError {
     Pairs,
     /// More bytes of text than `MAX_TEXT_BYTES`.
     Bytes,
-    /// A width or a size past `NUMBER_END`.
+    /// A width or a size that is not below `NUMBER_END`.
     Number,
     /// A dictionary whose values are lists or structs.
     Dictionary,

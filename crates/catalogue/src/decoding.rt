@@ -213,7 +213,7 @@ fn entries_at(
 /// The catalogue whose text of this form these bytes are.
 ///
 /// # Errors
-/// `NoText` where they are the text of none.
+/// `NoText` where they are the text of none; `OutOfMemory` where memory was refused.
 #[tactic(auto, unfolding(crate::specs::Reading::catalogue_at))]
 pub fn decode(alloc: Global, form: SegmentForm, bytes: &[u8]) -> Result<Catalogue, DecodeError>
     ensures exact { Gives catalogue_of result (catalogue_at form bytes.now) }
@@ -229,7 +229,7 @@ pub fn decode(alloc: Global, form: SegmentForm, bytes: &[u8]) -> Result<Catalogu
 /// The schema and the segments, at most so many, that a page of this text and form says.
 ///
 /// # Errors
-/// `NoText` where they are the text of no such page.
+/// `NoText` where they are the text of no such page; `OutOfMemory` where memory was refused.
 #[tactic(auto, unfolding(crate::specs::Reading::page_at))]
 pub fn decode_page(
     alloc: Global,

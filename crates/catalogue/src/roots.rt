@@ -62,7 +62,7 @@ fn are_in_order(entries: &[RootEntry<'_>]) -> bool
 /// The root whose text these bytes are: the name of each table, and where its page lies.
 ///
 /// # Errors
-/// `NoText` where they are the text of none.
+/// `NoText` where they are the text of none; `OutOfMemory` where memory was refused.
 #[tactic(auto, unfolding(crate::specs::Reading::root_at))]
 pub fn decode_root(alloc: Global, bytes: &[u8]) -> Result<Vec<RootEntry<'_>>, DecodeError>
     ensures exact { Gives (λ x. map plain_root x.items) result (root_at bytes.now) }

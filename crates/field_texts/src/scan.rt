@@ -146,7 +146,7 @@ fn size_of(text: &str, delimiter: char, limited: bool) -> Option<(u32, &str)>
     fits.then_some((number, rest))
 }
 
-// The timezone of a timestamp: none where no parenthesis enclosures.
+// The timezone of a timestamp, and what follows it: an empty one where no parenthesis opens.
 #[tactic(auto, unfolding(crate::specs::inner::Scan::timezone_at, crate::specs::inner::Scan::timezone_within))]
 fn timezone_of(text: &str) -> Option<(&str, &str)>
     ensures { Reads (λ p. (p.0.now, p.1.now)) result (timezone_at text.now) }

@@ -52,7 +52,7 @@ fn can_any_fill(fields: &[Field], in_list: bool) -> bool
     false
 }
 
-/// Whether a row by itself can fill a dictionary of a schema. All others have at most one value in a row.
+/// Whether a row by itself can fill a dictionary of a schema. Any other has at most one value of a row, or no limit.
 pub(crate) fn can_row_fill(schema: &Schema) -> bool
     ensures { result ≡ can_row_fill (columns_of (schema_of schema.now).columns) }
 {

@@ -1,5 +1,5 @@
 -- What one who opens finds depends on the commit sectors and on the runs in use alone.
-use Rattle.std.specs.Prelude.{◌≡◌, ◌≤◌, ◌<◌, ◌+◌, ◌%◌, ◌==◌, ◌&&◌, ℕ, Bool, true, false, nat_le, if◌then◌else◌, List, [], ◌∷◌, Option, Some, None, Result, Ok, Err, refl}
+use Rattle.std.specs.Prelude.{if◌then◌else◌, ◌≡◌, ◌≤◌, ◌<◌, ◌+◌, ◌%◌, ◌==◌, ◌&&◌, ℕ, Bool, true, false, nat_le, List, [], ◌∷◌, Option, Some, None, Result, Ok, Err, refl}
 use Rattle.std.proofs.Common.{inl, inr, ⊎_elim, sym, ap, ◌∙◌, subst, arith}
 use Rattle.std.proofs.lemmas.Bool.{and_parts, eq-eqb}
 use Rattle.std.proofs.lemmas.Bool.Decides.{nat_tests}
@@ -12,7 +12,7 @@ use Rattle.segments.specs.declared.run.Run.{Run}
 use Rattle.segments.specs.Pieces.{PlainPiece}
 use Rattle.commit.specs.declared.sector.Commit.{Commit}
 use Rattle.commit.specs.declared.cause.Cause.{Cause}
-use Rattle.commit.specs.declared.cause.Cause.TheVariants.{DeviceSize, CatalogueRange, CatalogueUnreadable, RunRange, RunOverlap}
+use Rattle.commit.specs.declared.cause.Cause.TheVariants.{DeviceSize, CatalogueRange, RunRange, RunOverlap}
 use Rattle.commit.specs.Ruling.{newer, ruling, Rests}
 use Rattle.commit.specs.declared.sector.FormatVersion.{FormatVersion}
 use Rattle.commit.specs.Formatting.{HoldsNoCommit, IsEmptyStore, first_commit, empty_text}
@@ -44,14 +44,6 @@ has_text size image k text h = λ i. if h.device i then (if h.extent i then read
 -- each answer of the tests of a text
 pub text_found : (size : ℕ) (image : Image) (k : Commit) (text : List ℕ) → k.device_sectors ≡ size → is_extent size 4 k.catalogue ≡ true → bytes_at image k.catalogue.run.start k.catalogue.bytes ≡ Some text → text_at size image k ≡ Ok text
 text_found size image k text device extent read = has_text size image k text (record { device = eq-eqb k.device_sectors size device; extent = extent; read = read })
-
-pub text_lost : (size : ℕ) (image : Image) (k : Commit) → k.device_sectors ≡ size → is_extent size 4 k.catalogue ≡ true → bytes_at image k.catalogue.run.start k.catalogue.bytes ≡ None → text_at size image k ≡ Err CatalogueUnreadable
-unfolding text_at
-text_lost size image k device extent read = λ i. if eq-eqb k.device_sectors size device i then (if extent i then readable (read i) else Err CatalogueRange) else Err DeviceSize
-
-pub text_outside : (size : ℕ) (image : Image) (k : Commit) → k.device_sectors ≡ size → is_extent size 4 k.catalogue ≡ false → text_at size image k ≡ Err CatalogueRange
-unfolding text_at
-text_outside size image k device extent = λ i. if eq-eqb k.device_sectors size device i then (if extent i then readable (bytes_at image k.catalogue.run.start k.catalogue.bytes) else Err CatalogueRange) else Err DeviceSize
 
 -- where the device has the commit's size it is what lies in the extent
 pub text_there : (size : ℕ) (image : Image) (k : Commit) → k.device_sectors ≡ size → text_at size image k ≡ extent_at size image 4 k.catalogue

@@ -1,5 +1,5 @@
 -- What was read of pages says what they hold, and is read again.
-use Rattle.std.specs.Prelude.{◌≡◌, ◌≤◌, ◌<◌, ◌+◌, ◌-◌, ◌&&◌, ◌==◌, ℕ, Bool, true, false, nat_le, List, [], ◌∷◌, ◌++◌, length, Option, Some, None, Result, Ok, Err, if◌then◌else◌, refl}
+use Rattle.std.specs.Prelude.{if◌then◌else◌, ◌≡◌, ◌≤◌, ◌<◌, ◌+◌, ◌-◌, ◌&&◌, ◌==◌, ℕ, Bool, true, false, nat_le, List, [], ◌∷◌, ◌++◌, length, Option, Some, None, Result, Ok, Err, refl}
 use Rattle.std.specs.List.{list_all, AllByRecursion}
 use Rattle.std.proofs.Common.{sym, ap, ◌∙◌, subst, arith}
 use Rattle.std.proofs.lemmas.Bool.{and_parts, and_from, leb-true, le-leb, eqb-true, cond-true}
@@ -79,18 +79,10 @@ page_most form m n bytes b is few =
     let x = body_is form m bytes b is in
     is_body form n bytes b (record { rest = x.rest; body = x.body; none = x.none; limits = x.limits; sound = x.sound; few = few })
 
-pub page_within : (form : SegmentForm) (m : ℕ) (bytes : List ℕ) (b : Body) → page_at form m bytes ≡ Some b → length b.1 ≤ m
-page_within form m bytes b is = (body_is form m bytes b is).few
-
 pub page_in_most : (form : SegmentForm) (size : ℕ) (image : Image) (m n : ℕ) (p : Extent) (b : Body) → page_in form size image m p ≡ Ok b → length b.1 ≤ n → page_in form size image n p ≡ Ok b
 page_in_most form size image m n p b is few =
     let x = bound_ok (extent_at size image 8 p) (λ bytes. or_no_text (page_at form m bytes)) b is in
     then_ok (extent_at size image 8 p) (λ bytes. or_no_text (page_at form n bytes)) x.0 (Ok b) x.1 (ap or_no_text (page_most form m n x.0 b (text_there (page_at form m x.0) b x.2) few))
-
-pub page_in_within : (form : SegmentForm) (size : ℕ) (image : Image) (m : ℕ) (p : Extent) (b : Body) → page_in form size image m p ≡ Ok b → length b.1 ≤ m
-page_in_within form size image m p b is =
-    let x = bound_ok (extent_at size image 8 p) (λ bytes. or_no_text (page_at form m bytes)) b is in
-    page_within form m x.0 b (text_there (page_at form m x.0) b x.2)
 
 -- ---- pages that were read hold what was read
 

@@ -1,11 +1,10 @@
 -- Pages make no difference to the sizes of texts, and so none to how a catalogue is kept.
-use Rattle.std.specs.Prelude.{◌≡◌, ◌+◌, ℕ, Bool, true, false, nat_le, List, [], ◌∷◌, map, sum_by, Option, Some, None, if◌then◌else◌, refl}
+use Rattle.std.specs.Prelude.{if◌then◌else◌, ◌≡◌, ℕ, Bool, true, false, List, [], ◌∷◌, map, sum_by, Option, Some, None, refl}
 use Rattle.std.proofs.Common.{sym, ap, ◌∙◌, subst, arith}
 use Rattle.std.proofs.lemmas.List.Sums.{sum_by-cons}
 use Rattle.segments.specs.declared.run.Run.{Run}
 use Rattle.segments.specs.declared.extent.Extent.{Extent}
 use Rattle.catalogue.specs.Entries.{PlainEntry, PlainCatalogue, bare}
-use Rattle.catalogue.specs.Text.{entry_size, list_size}
 use Rattle.pages.specs.Paging.{is_whole, in_page, in_first, tail_of, with_pages, settled}
 
 -- a value that doesn't look at the page
@@ -39,9 +38,3 @@ module _ (f : PlainEntry → ℕ) (free : IsPagefree f) where
       by_kind : (t : Bool) → is_whole c ≡ t → sum_by f (settled c runs) ≡ sum_by f c
       by_kind true is = ap (λ (t : Bool). sum_by f (if t then map bare c else with_pages c runs)) is ∙ bare_sum c
       by_kind false is = ap (λ (t : Bool). sum_by f (if t then map bare c else with_pages c runs)) is ∙ pages_sum c runs
-
-pub settled_size : (c : PlainCatalogue) (runs : List Run) → list_size (settled c runs) ≡ list_size c
-settled_size c runs = ap (λ (n : ℕ). 4 + n) (settled_sum entry_size (λ e o. refl) c runs)
-
-pub settled_whole : (c : PlainCatalogue) (runs : List Run) → is_whole (settled c runs) ≡ is_whole c
-settled_whole c runs = ap (λ (n : ℕ). nat_le n 512) (settled_size c runs)

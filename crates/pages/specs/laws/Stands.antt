@@ -1,5 +1,5 @@
 -- A catalogue that is kept in pages is a catalogue, and its root one of its tables.
-use Rattle.std.specs.Prelude.{◌≡◌, ◌+◌, ℕ, Bool, true, false, List, [], ◌∷◌, ◌++◌, length, map, sum_by, Option, Some, None, if◌then◌else◌, refl}
+use Rattle.std.specs.Prelude.{◌≡◌, ◌+◌, ℕ, Bool, true, List, [], ◌∷◌, ◌++◌, length, sum_by, Option, Some, None, refl}
 use Rattle.std.specs.List.{list_all}
 use Rattle.std.proofs.Common.{ap, ◌∙◌, subst, arith}
 use Rattle.std.proofs.lemmas.Bool.{and_parts, and_from}
@@ -7,12 +7,11 @@ use Rattle.std.proofs.lemmas.List.{length-map}
 use Rattle.std.proofs.lemmas.List.Sums.{sum_by-cons}
 use Rattle.segments.specs.declared.run.Run.{Run}
 use Rattle.segments.specs.declared.extent.Extent.{Extent}
-use Rattle.catalogue.specs.Entries.{PlainEntry, PlainCatalogue, PlainRoot, is_name, is_filled, is_page, is_entry, names_of, ascends, is_root_entry, root_names, is_catalogue, IsRoot, bare}
+use Rattle.catalogue.specs.Entries.{PlainEntry, PlainCatalogue, PlainRoot, is_name, is_filled, is_page, is_entry, names_of, ascends, is_root_entry, root_names, is_catalogue, IsRoot}
 use Rattle.catalogue.specs.Text.{table_size, root_size}
 use Rattle.catalogue.specs.laws.Kept.{entry_is, entry_stands, passes_catalogue, catalogue_is}
-use Rattle.catalogue.specs.laws.Bare.{bare_stands}
 use Rattle.catalogue.specs.laws.Sums.{one, number, segments_in}
-use Rattle.pages.specs.Paging.{is_whole, pageless, in_page, with_pages, AreFilled, AreRunsOf, ArePageRuns, settled, root_of, root_bytes}
+use Rattle.pages.specs.Paging.{pageless, in_page, with_pages, AreFilled, settled, root_of, root_bytes}
 use Rattle.pages.specs.laws.Paged.{by_pages}
 use Rattle.pages.specs.laws.Sizes.{pages_sum}
 
@@ -95,10 +94,3 @@ module _ (c : PlainCatalogue) (runs : List Run) (filled : AreFilled (pageless c)
       c runs filled)
 
 -- ---- settled
-
-pub settled_stands : (c : PlainCatalogue) (runs : List Run) → is_catalogue c ≡ true → ArePageRuns c runs → is_catalogue (settled c runs) ≡ true
-settled_stands c runs kept are = by_whole (is_whole c) are
-  where
-    by_whole : (t : Bool) → AreRunsOf t c runs → is_catalogue (if t then map bare c else with_pages c runs) ≡ true
-    by_whole true none = bare_stands c kept
-    by_whole false filled = pages_stand c runs filled kept

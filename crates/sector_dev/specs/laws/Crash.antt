@@ -1,5 +1,5 @@
 -- Laws of what a crash leaves after a write or a sync.
-use Rattle.std.specs.Prelude.{◌≡◌, ◌≢◌, ◌⊎◌, ◌==◌, if◌then◌else◌, ℕ, Bool, true, false, List, [], ◌∷◌, Option, Some, None, IfSome, refl}
+use Rattle.std.specs.Prelude.{if◌then◌else◌, ◌≡◌, ◌≢◌, ◌⊎◌, ◌==◌, ℕ, Bool, true, false, List, [], ◌∷◌, Option, Some, None, IfSome, refl}
 use Rattle.std.proofs.Common.{inl, inr, ap, sym, subst, arith}
 use Rattle.std.proofs.lemmas.Bool.Decides.{nat_tests}
 use Rattle.sector_dev.specs.Disk.{Disk, Sector, Image, put, flushed, with_content, LeftByWrites, MayHold, MayLeave, synced_image, shown_image, ShowsImage, blank, IsContent, AreContents, HoldsContents, IsWhole}
@@ -50,11 +50,6 @@ leaves_flushed d image n may = holds_synced (record { synced = (d.at n).shown; p
 -- the one image after a sync
 pub only_flushed : (d : Disk) (image : Image) → MayLeave (flushed d) image → image ≡ shown_image d
 only_flushed d image may = λ i n. leaves_flushed d image n may i
-
--- what is synced may be left
-pub may_leave_synced : (d : Disk) → MayLeave d (synced_image d)
-unfolding MayLeave
-may_leave_synced d n = inl refl
 
 -- a disk on which nothing was ever told shows what a crash may leave
 pub blank_shows : ShowsImage blank

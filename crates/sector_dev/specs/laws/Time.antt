@@ -44,10 +44,6 @@ pub passed : (P : Disk → Type 0) (old new : Story) → P (now old) → Passes 
 passed P old new p (inl same) = record { fresh = []; joined = same; each = tt }
 passed P old new p (inr is) = two P old new (now old) (now old) is p p
 
-pub now_passed : (old new : Story) → Passes old new → now new ≡ now old
-now_passed old new (inl same) = ap now same
-now_passed old new (inr is) = ap now is
-
 -- a call that changed nothing is a call that only reads
 pub only_read : (old new : Story) → Passes old new → OnlyReads old new
 only_read old new p = passed (λ d. d ≡ now old) old new refl p
