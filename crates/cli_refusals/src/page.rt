@@ -139,7 +139,8 @@ imported or appended. A fault without a remedy of its own lies with the program 
     EARLIER_COPY,
     "
 - C4 Device: the file could not be read or synced while it was opened; or `format` or `copy` could not
-  read, write or sync the file that it made, which is then removed. Nothing is lost by it.
+  read, write or sync the file that it made, which is then removed. Nothing is lost by it. Of a file with
+  a sector that the disk can't read, `dd bs=512 iflag=direct conv=noerror,sync` makes a copy that has zeros there.
   ",
     TRY_AGAIN,
     "
@@ -243,7 +244,8 @@ appended. A refusal without a remedy of its own lies with that record.
   ",
     MORE_ROOM,
     "
-- S9 Device: the file could not be read, written or synced. The command is done whole or not at all.
+- S9 Device: the file could not be read, written or synced. The command is done whole or not at all. Of a
+  sector that the disk can't read C4 says more.
   ",
     LOOK_AGAIN,
     "
