@@ -1,10 +1,9 @@
 -- What is said to be refused, on a terminal before what to do: a word of the command line, a part of the input, or a table.
-use Rattle.std.specs.Prelude.{ℕ, ◌&&◌, ◌++◌, Bool, not, nat_le, codes, length, List, [], Option, Some, None, string_bytes, if◌then◌else◌}
+use Rattle.std.specs.Prelude.{ℕ, ◌==◌, ◌&&◌, ◌++◌, decimal, Bool, not, nat_le, codes, length, List, [], Option, Some, None, string_bytes, if◌then◌else◌}
 use Rattle.std.specs.Char.{is_control}
 use Rattle.std.specs.List.{list_any}
-use Rattle.std.specs.Option.{option_and_then}
 use Rattle.std.specs.Str.{is_utf8, chars}
-use Rattle.text_import.specs.Part.{PlainPart, field, line, part_of}
+use Rattle.text_import.specs.Part.{PlainPart, header_name, header_count, record_count, field, line, PlainLinePart, column_cell, other_count, unknown_name, part_of}
 use Rattle.cli_refusals.specs.declared.hint.Hint.{Hint}
 use Rattle.cli_refusals.specs.declared.hint.Hint.TheVariants.{Word, File, Part, Table}
 use Rattle.cli_refusals.specs.declared.hint.TheConstants.{MOST_SHOWN}
@@ -29,15 +28,44 @@ abbrev pub line_text : Option (List ℕ) → List ℕ
 line_text None = []
 line_text (Some text) = codes "The line `" ++ text ++ codes "` is refused. "
 
+-- of a name of a header, and the one that is wanted
+abbrev pub header_text : (found wanted : Option (List ℕ)) → List ℕ
+header_text found None = []
+header_text None (Some wanted) = codes "The header has another name where the table has `" ++ wanted ++ codes "`. "
+header_text (Some found) (Some wanted) = codes "The header names `" ++ found ++ codes "` where the table has `" ++ wanted ++ codes "`. "
+
+-- of a name in an object
+abbrev pub name_text : Option (List ℕ) → List ℕ
+name_text None = []
+name_text (Some name) = codes "The name `" ++ name ++ codes "` is no column. "
+
+-- so many things, by the noun for one of them
+abbrev pub counted : ℕ → List ℕ → List ℕ
+counted n noun = decimal n ++ codes " " ++ noun ++ (if n == 1 then [] else codes "s")
+
+-- of a header or a record, how many parts it has
+abbrev pub counts_text : (whole part : List ℕ) → (parts columns : ℕ) → List ℕ
+counts_text whole part parts columns =
+    codes "The " ++ whole ++ codes " has " ++ counted parts part ++ codes ", and the table " ++ counted columns (codes "column") ++ codes ". "
+
 -- of the name of a table
 abbrev pub table_text : Option (List ℕ) → List ℕ
 table_text None = []
 table_text (Some name) = codes "The table `" ++ name ++ codes "` is refused. "
 
--- a line, and the field that is refused in it
-abbrev pub part_text : PlainPart → List ℕ
+-- what is refused in a line
+abbrev pub line_part_text : Option PlainLinePart → List ℕ
+line_part_text None = []
+line_part_text (Some (column_cell name)) = field_text (shown name) None
+line_part_text (Some (other_count items columns)) = counts_text (codes "record") (codes "field") items columns
+line_part_text (Some (unknown_name name)) = name_text (shown name)
+
+unfoldable pub part_text : PlainPart → List ℕ
+part_text (header_name found wanted) = header_text (shown found) (shown wanted)
+part_text (header_count names columns) = counts_text (codes "header") (codes "name") names columns
+part_text (record_count fields columns) = counts_text (codes "record") (codes "field") fields columns
 part_text (field name text) = field_text (shown name) (shown text)
-part_text (line name text) = line_text (shown text) ++ field_text (option_and_then shown name) None
+part_text (line part text) = line_text (shown text) ++ line_part_text part
 
 unfoldable pub hint_text : Hint → List ℕ
 hint_text (Word word) = codes "The " ++ role_text word.role ++ codes " `" ++ word.text.now ++ codes "` is refused. "

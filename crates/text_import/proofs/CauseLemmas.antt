@@ -1,25 +1,31 @@
--- The part of the first record that is refused is why it is.
-use Rattle.std.proofs.Common.{◌≡◌, ℕ, ◌+◌, ◌-◌, suc, Bool, true, false, List, [], ◌∷◌, refl, sym, ap, arith}
-use Rattle.std.specs.Prelude.{◌==◌, length, Option, Some, None, option_map, slice_get, if◌then◌else◌, Result, Ok, Err}
-use Rattle.std.specs.Option.{option_and_then}
+-- The part of a text that is refused is why it is.
+use Rattle.std.proofs.Common.{◌≡◌, ℕ, ◌+◌, ◌-◌, suc, Bool, true, false, List, [], ◌∷◌, refl, sym, ap, ◌∙◌, arith}
+use Rattle.std.specs.Prelude.{◌==◌, not, bytes_eq, is_some, length, Option, Some, None, IfSome, option_map, slice_get, if◌then◌else◌, Result, Ok, Err}
+use Rattle.std.specs.Option.{option_and_then, option_or}
 use Rattle.std.specs.List.{list_any}
-use Rattle.std.proofs.lemmas.Bool.{ne_eqb}
-use Rattle.arrow_schema.specs.Column.{Column, PlainSchema}
+use Rattle.std.proofs.lemmas.Bool.{ne_eqb, eqb-true, eqb-false}
+use Rattle.std.proofs.lemmas.Bool.Decides.{not_from_Decides}
+use Rattle.std.proofs.lemmas.Slice.Eq.{bytes_eq-Decides}
+use Rattle.serde_json.specs.Data.{Data, Items, no_items, item, Members}
+use Rattle.serde_json.specs.Data as json
+use Rattle.arrow_schema.specs.Column.{Column, Columns, columns_of, PlainSchema}
 use Rattle.arrow_schema.specs.Parts.{name_of_column}
-use Rattle.cells.specs.Cell.{Cell}
+use Rattle.cells.specs.Cell.{Cell, Cells, and_cell, cell_list}
 use Rattle.text_import.specs.declared.form.TextForm.{TextForm}
 use Rattle.text_import.specs.declared.form.TextForm.TheVariants.{Csv, JsonLines}
 use Rattle.text_import.specs.declared.refusal.Refusal.{Refusal}
-use Rattle.text_import.specs.declared.refusal.Refusal.TheVariants.{Header, Nested, Width}
+use Rattle.text_import.specs.declared.refusal.Refusal.TheVariants.{Header, Nested, Width, AmbiguousNames, UnknownName}
 use Rattle.text_import.specs.declared.refusal.Refused.{Refused}
 use Rattle.text_import.specs.Refusals.{and_then, given, numbered}
 use Rattle.text_import.specs.Rows.{accepted, rows_from}
 use Rattle.text_import.specs.Flat.{field_cell}
 use Rattle.text_import.specs.Records.{field_cells, record_row, are_names, whole, rows_behind_header, is_nested_column, csv_rows_of, records_of}
-use Rattle.text_import.specs.Objects.{line_row, lines_of, jsonl_rows_of}
+use Rattle.text_import.specs.Objects.{item_count, column_count, cell_in, cells_by_place, cells_by_name, has_name, names_of, keys_of, repeats, has_unknown, value_row, line_value, line_row, lines_of, jsonl_rows_of}
 use Rattle.text_import.specs.Form.{rows_of_text}
-use Rattle.text_import.specs.Part.{PlainPart, field, line, is_refused, refused_field, refused_in_record, refused_in_line, refused_part}
-use Rattle.text_import.specs.Cause.{IsFieldCause, IsLineCause, IsCause}
+use Rattle.text_import.specs.Part.{PlainPart, header_name, header_count, record_count, field, line, PlainLinePart, column_cell, other_count, unknown_name, other_name, refused_names, header_of, refused_header, is_refused, refused_field, refused_in_record, refused_by_place, refused_by_name, first_unknown, refused_in_value, refused_in_read, refused_in_line, refused_part}
+use Rattle.text_import.specs.Cause.{IsOtherName, IsOtherCount, IsRefusedField, IsRecordCause, IsCsvCause, IsRefusedCell, IsLinePartCause, IsLineCause, IsCause}
+use Rattle.text_import.specs.inner.Names.{member_of}
+use Rattle.text_import.proofs.PartLemmas.{any_unknown}
 
 -- the first of some records that is refused
 record FirstRefused {A : Type 0} (read : A → Result (List Cell) Refusal) (n : ℕ) (xs : List A) (r : Refused) : Type 0 where
@@ -48,92 +54,277 @@ first_refused read n (x ∷ xs) r h = by (read x) refl (rows_from read (n + 1) x
     by (Ok row) is (Ok rows) rest h more = absurd cc
 
 -- a column further on
-later : (null_text : List ℕ) (c : Column) (cs : List Column) (part : PlainPart) (e : Refusal) → IsFieldCause null_text cs part e → IsFieldCause null_text (c ∷ cs) part e
-later null_text c cs (field name text) e h = record { place = suc h.place; column = h.column; stands = h.stands; named = h.named; refused = h.refused }
-later null_text c cs (line name text) e h = h
+later : (null_text : List ℕ) (c : Column) (cs : List Column) (name text : List ℕ) (e : Refusal) → IsRefusedField null_text cs name text e → IsRefusedField null_text (c ∷ cs) name text e
+later null_text c cs name text e h = record { place = suc h.place; column = h.column; stands = h.stands; named = h.named; refused = h.refused }
+
+-- why a field is refused that is named
+abbrev FieldCause : List ℕ → List Column → List (List ℕ) → PlainPart → Type 0
+FieldCause null_text cs ts part = (name : List ℕ) × (text : List ℕ) × (part ≡ field name text)
+    × (e : Refusal) × (field_cells null_text cs ts ≡ Err e) × IsRefusedField null_text cs name text e
 
 -- where a field is named, its refusal is that of the record
-field_cause : (null_text : List ℕ) (cs : List Column) (ts : List (List ℕ)) (part : PlainPart) → refused_field null_text cs ts ≡ Some part
-    → (e : Refusal) × (field_cells null_text cs ts ≡ Err e) × IsFieldCause null_text cs part e
+field_cause : (null_text : List ℕ) (cs : List Column) (ts : List (List ℕ)) (part : PlainPart) → refused_field null_text cs ts ≡ Some part → FieldCause null_text cs ts part
 unfolding refused_field field_cells
 field_cause null_text [] ts part names = absurd cc
 field_cause null_text (c ∷ cs) [] part names = absurd cc
 field_cause null_text (c ∷ cs) (t ∷ ts) part names = by (field_cell null_text c t) refl names (field_cause null_text cs ts part)
   where
     by : (r : Result Cell Refusal) → field_cell null_text c t ≡ r → (if is_refused r then Some (field (name_of_column c) t) else refused_field null_text cs ts) ≡ Some part
-        → (refused_field null_text cs ts ≡ Some part → (e : Refusal) × (field_cells null_text cs ts ≡ Err e) × IsFieldCause null_text cs part e)
-        → (e : Refusal) × (and_then r (λ x. given (λ xs. x ∷ xs) (field_cells null_text cs ts)) ≡ Err e) × IsFieldCause null_text (c ∷ cs) part e
-    by (Err q) is names more =
-        let same : field (name_of_column c) t ≡ part = cc in
-        (q, refl, rw (← same) (record { place = 0; column = c; stands = refl; named = refl; refused = is }))
+        → (refused_field null_text cs ts ≡ Some part → FieldCause null_text cs ts part)
+        → (name : List ℕ) × (text : List ℕ) × (part ≡ field name text)
+        × (e : Refusal) × (and_then r (λ x. given (λ xs. x ∷ xs) (field_cells null_text cs ts)) ≡ Err e) × IsRefusedField null_text (c ∷ cs) name text e
+    by (Err q) is names more = (name_of_column c, t, cc, q, refl, record { place = 0; column = c; stands = refl; named = refl; refused = is })
     by (Ok x) is names more =
-        let (e, cells, cause) = more names in
-        (e, rw cells refl, later null_text c cs part e cause)
+        let (name, text, same, e, cells, cause) = more names in
+        (name, text, same, e, rw cells refl, later null_text c cs name text e cause)
+
+-- the numbers that are named differ
+counts_differ : (cs : List Column) (n columns : ℕ) → (n == columns) ≡ false → columns ≡ length cs → IsOtherCount cs n columns
+counts_differ cs n columns other all = record { all = all; differs = eqb-false n columns other }
 
 record_cause : (s : PlainSchema) (null_text : List ℕ) (ts : List (List ℕ)) (part : PlainPart) (e : Refusal) → refused_in_record null_text s.columns ts ≡ Some part → record_row s null_text ts ≡ Err e
-    → IsFieldCause null_text s.columns part e
-record_cause s null_text ts part e names refuses = by (length ts == length s.columns) names refuses
+    → IsRecordCause null_text s.columns part e
+record_cause s null_text ts part e names refuses = by (length ts == length s.columns) refl names refuses
   where
-    of_cells : (e2 : Refusal) → field_cells null_text s.columns ts ≡ Err e2 → IsFieldCause null_text s.columns part e2 → and_then (field_cells null_text s.columns ts) (accepted s) ≡ Err e → IsFieldCause null_text s.columns part e
-    of_cells e2 cells cause h =
+    of_cells : FieldCause null_text s.columns ts part → and_then (field_cells null_text s.columns ts) (accepted s) ≡ Err e → IsRecordCause null_text s.columns part e
+    of_cells (name, text, same, e2, cells, cause) h =
         let told = rw cells at h in
-        let same : e2 ≡ e = cc in
-        rw (← same) cause
+        let one : e2 ≡ e = cc in
+        rw (same, ← one) cause
 
-    by : (b : Bool) → (if b then refused_field null_text s.columns ts else None) ≡ Some part → and_then (if b then field_cells null_text s.columns ts else Err Width) (accepted s) ≡ Err e → IsFieldCause null_text s.columns part e
-    by true names h = (let (e2, cells, cause) = field_cause null_text s.columns ts part names in of_cells e2 cells cause h)
-    by false names h = absurd cc
+    by : (b : Bool) → (length ts == length s.columns) ≡ b → (if b then refused_field null_text s.columns ts else Some (record_count (length ts) (length s.columns))) ≡ Some part
+        → and_then (if b then field_cells null_text s.columns ts else Err Width) (accepted s) ≡ Err e → IsRecordCause null_text s.columns part e
+    by true is names h = of_cells (field_cause null_text s.columns ts part names) h
+    by false is names h =
+        let same : part ≡ record_count (length ts) (length s.columns) = cc in
+        let one : e ≡ Width = cc in
+        rw same (one, counts_differ s.columns (length ts) (length s.columns) is refl)
 
--- no part is named of a refusal of no record
-unnumbered : (n : ℕ) (o : Option PlainPart) (part : PlainPart) → n ≡ 0 → (if n == 0 then None else o) ≡ Some part → ⊥
-unnumbered n o part z names = (let none = rw z at names in cc)
+-- what is the cause of a record is that of its text
+of_record : (null_text : List ℕ) (cs : List Column) (t : List ℕ) (part : PlainPart) (e : Refusal) → IsRecordCause null_text cs part e → IsCsvCause null_text cs t part e
+of_record null_text cs t (header_name found wanted) e h = absurd h
+of_record null_text cs t (header_count names columns) e h = absurd h
+of_record null_text cs t (record_count fields columns) e h = h
+of_record null_text cs t (field name text) e h = h
+of_record null_text cs t (line part text) e h = absurd h
 
-numbered_here : (n place : ℕ) (f : ℕ → Option PlainPart) (part : PlainPart) → n ≡ 1 + place → (if n == 0 then None else f n) ≡ Some part → f (suc place) ≡ Some part
-numbered_here n place f part is names =
+-- a name that is named is another than that of the column at its place
+name_cause : (ts : List (List ℕ)) (cs : List Column) (part : PlainPart) → other_name ts cs ≡ Some part
+    → (found : List ℕ) × (wanted : List ℕ) × (part ≡ header_name found wanted) × IsOtherName ts cs found wanted
+unfolding other_name
+name_cause [] cs part names = absurd cc
+name_cause (t ∷ ts) [] part names = absurd cc
+name_cause (t ∷ ts) (c ∷ cs) part names = by (bytes_eq t (name_of_column c)) refl names (name_cause ts cs part)
+  where
+    by : (b : Bool) → bytes_eq t (name_of_column c) ≡ b → (if b then other_name ts cs else Some (header_name t (name_of_column c))) ≡ Some part
+        → (other_name ts cs ≡ Some part → (found : List ℕ) × (wanted : List ℕ) × (part ≡ header_name found wanted) × IsOtherName ts cs found wanted)
+        → (found : List ℕ) × (wanted : List ℕ) × (part ≡ header_name found wanted) × IsOtherName (t ∷ ts) (c ∷ cs) found wanted
+    by false is names more =
+        (t, name_of_column c, cc, record { place = 0; column = c; has = refl; stands = refl; named = refl; differs = not_from_Decides (bytes_eq t (name_of_column c)) (bytes_eq-Decides t (name_of_column c)) is })
+    by true is names more =
+        let (found, wanted, same, cause) = more names in
+        (found, wanted, same, record { place = suc cause.place; column = cause.column; has = cause.has; stands = cause.stands; named = cause.named; differs = cause.differs })
+
+header_cause : (null_text : List ℕ) (cs : List Column) (t : List ℕ) (part : PlainPart) → refused_names cs (header_of t) ≡ Some part → IsCsvCause null_text cs t part Header
+header_cause null_text cs t part names = by (other_name ts cs) refl names
+  where
+    ts : List (List ℕ)
+    ts = header_of t
+
+    counted : (b : Bool) → (length ts == length cs) ≡ b → (if b then None else Some (header_count (length ts) (length cs))) ≡ Some part → IsCsvCause null_text cs t part Header
+    counted true is names = absurd cc
+    counted false is names =
+        let same : part ≡ header_count (length ts) (length cs) = cc in
+        rw same (refl, refl, counts_differ cs (length ts) (length cs) is refl)
+
+    by : (o : Option PlainPart) → other_name ts cs ≡ o → option_or o (if length ts == length cs then None else Some (header_count (length ts) (length cs))) ≡ Some part
+        → IsCsvCause null_text cs t part Header
+    by None is names = counted (length ts == length cs) refl names
+    by (Some p) is names =
+        let (found, wanted, same, cause) = name_cause ts cs p is in
+        let here : p ≡ part = cc in
+        rw (← here, same) (refl, cause)
+
+numbered_here : {A : Type 0} (n place : ℕ) (whole : Option A) (f : ℕ → Option A) (part : A) → n ≡ 1 + place → (if n == 0 then whole else f n) ≡ Some part → f (suc place) ≡ Some part
+numbered_here n place whole f part is names =
     let some : n ≡ 0 → ⊥ = omega arith in
     let one : n ≡ suc place = omega arith in
     rw one at (rw (ne_eqb n 0 some) at names)
 
 csv_cause : (s : PlainSchema) (null_text t : List ℕ) (r : Refused) (part : PlainPart) → csv_rows_of s null_text t ≡ Err r
-    → (if r.number == 0 then None else option_and_then (refused_in_record null_text s.columns) (slice_get (records_of t) r.number)) ≡ Some part → IsFieldCause null_text s.columns part r.refusal
+    → (if r.number == 0 then refused_header s.columns t else option_and_then (refused_in_record null_text s.columns) (slice_get (records_of t) r.number)) ≡ Some part
+    → IsCsvCause null_text s.columns t part r.refusal
 unfolding rows_behind_header
-csv_cause s null_text t r part h names = by (list_any is_nested_column s.columns) (records_of t) h names
+csv_cause s null_text t r part h names = by (list_any is_nested_column s.columns) refl h
   where
-    of_none : (e : Refusal) (o : Option PlainPart) → whole e ≡ r → (if r.number == 0 then None else o) ≡ Some part → IsFieldCause null_text s.columns part r.refusal
-    of_none e o same names = absurd (unnumbered r.number o part (ap (λ (q : Refused). q.number) (sym same)) names)
+    -- of no record
+    whole_names : (e : Refusal) → whole e ≡ r → refused_header s.columns t ≡ Some part
+    whole_names e same =
+        let none : r.number ≡ 0 = ap (λ (q : Refused). q.number) (sym same) in
+        rw none at names
 
-    of_rows : (header : List (List ℕ)) (rs : List (List (List ℕ))) → rows_from (record_row s null_text) 1 rs ≡ Err r
-        → (if r.number == 0 then None else option_and_then (refused_in_record null_text s.columns) (slice_get (header ∷ rs) r.number)) ≡ Some part → IsFieldCause null_text s.columns part r.refusal
-    of_rows header rs h names =
+    of_header : list_any is_nested_column s.columns ≡ false → whole Header ≡ r → IsCsvCause null_text s.columns t part r.refusal
+    of_header flat same =
+        let found = rw flat at (whole_names Header same) in
+        rw (← same) (header_cause null_text s.columns t part found)
+
+    of_rows : (header : List (List ℕ)) (rs : List (List (List ℕ))) → records_of t ≡ header ∷ rs → rows_from (record_row s null_text) 1 rs ≡ Err r → IsCsvCause null_text s.columns t part r.refusal
+    of_rows header rs all h =
         let found = first_refused (record_row s null_text) 1 rs r h in
-        let here = numbered_here r.number found.place (λ n. option_and_then (refused_in_record null_text s.columns) (slice_get (header ∷ rs) n)) part found.number names in
-        record_cause s null_text found.item part r.refusal (rw found.stands at here) found.refuses
+        let here = numbered_here r.number found.place (refused_header s.columns t) (λ n. option_and_then (refused_in_record null_text s.columns) (slice_get (records_of t) n)) part found.number names in
+        let behind : slice_get (records_of t) (suc found.place) ≡ Some found.item = rw all found.stands in
+        of_record null_text s.columns t part r.refusal (record_cause s null_text found.item part r.refusal (rw behind at here) found.refuses)
 
-    named : (b : Bool) (header : List (List ℕ)) (rs : List (List (List ℕ))) → (if b then rows_from (record_row s null_text) 1 rs else Err (whole Header)) ≡ Err r
-        → (if r.number == 0 then None else option_and_then (refused_in_record null_text s.columns) (slice_get (header ∷ rs) r.number)) ≡ Some part → IsFieldCause null_text s.columns part r.refusal
-    named true header rs h names = of_rows header rs h names
-    named false header rs h names = (let same : whole Header ≡ r = cc in of_none Header _ same names)
+    named : (b : Bool) (header : List (List ℕ)) (rs : List (List (List ℕ))) → records_of t ≡ header ∷ rs → list_any is_nested_column s.columns ≡ false
+        → (if b then rows_from (record_row s null_text) 1 rs else Err (whole Header)) ≡ Err r → IsCsvCause null_text s.columns t part r.refusal
+    named true header rs all flat h = of_rows header rs all h
+    named false header rs all flat h = of_header flat cc
 
-    behind : (rs : List (List (List ℕ))) → rows_behind_header s null_text rs ≡ Err r
-        → (if r.number == 0 then None else option_and_then (refused_in_record null_text s.columns) (slice_get rs r.number)) ≡ Some part → IsFieldCause null_text s.columns part r.refusal
-    behind [] h names = (let same : whole Header ≡ r = cc in of_none Header _ same names)
-    behind (header ∷ rs) h names = named (are_names header s.columns) header rs h names
+    behind : (rs : List (List (List ℕ))) → records_of t ≡ rs → list_any is_nested_column s.columns ≡ false → rows_behind_header s null_text rs ≡ Err r → IsCsvCause null_text s.columns t part r.refusal
+    behind [] all flat h = of_header flat cc
+    behind (header ∷ rs) all flat h = named (are_names header s.columns) header rs all flat h
 
-    by : (b : Bool) (rs : List (List (List ℕ))) → (if b then Err (whole Nested) else rows_behind_header s null_text rs) ≡ Err r
-        → (if r.number == 0 then None else option_and_then (refused_in_record null_text s.columns) (slice_get rs r.number)) ≡ Some part → IsFieldCause null_text s.columns part r.refusal
-    by true rs h names = (let same : whole Nested ≡ r = cc in of_none Nested _ same names)
-    by false rs h names = behind rs h names
+    by : (b : Bool) → list_any is_nested_column s.columns ≡ b → (if b then Err (whole Nested) else rows_behind_header s null_text (records_of t)) ≡ Err r → IsCsvCause null_text s.columns t part r.refusal
+    by true nested h = (let none = rw nested at (whole_names Nested cc) in absurd cc)
+    by false flat h = behind (records_of t) refl flat h
+
+-- counts of columns
+columns_counted : (cs : List Column) → column_count (columns_of cs) ≡ length cs
+columns_counted [] = refl
+columns_counted (c ∷ cs) = (let e = columns_counted cs in omega arith)
+
+-- of an array with an item for each column
+item_cause : (cs : List Column) (ds : Items) (name : List ℕ) → item_count ds ≡ length cs → refused_by_place (columns_of cs) ds ≡ Some name
+    → (e : Refusal) × (cells_by_place (columns_of cs) ds ≡ Err e) × IsRefusedCell cs (json.array ds) name e
+unfolding refused_by_place cells_by_place
+item_cause [] ds name size names = absurd cc
+item_cause (c ∷ cs) no_items name size names = absurd (omega arith)
+item_cause (c ∷ cs) (item d ds) name size names = by (cell_in c d) refl names (item_cause cs ds name (omega arith))
+  where
+    by : (r : Result Cell Refusal) → cell_in c d ≡ r → (if is_refused r then Some (name_of_column c) else refused_by_place (columns_of cs) ds) ≡ Some name
+        → (refused_by_place (columns_of cs) ds ≡ Some name → (e : Refusal) × (cells_by_place (columns_of cs) ds ≡ Err e) × IsRefusedCell cs (json.array ds) name e)
+        → (e : Refusal) × (and_then r (λ x. given (and_cell x) (cells_by_place (columns_of cs) ds)) ≡ Err e) × IsRefusedCell (c ∷ cs) (json.array (item d ds)) name e
+    by (Err q) is names more = (q, refl, record { place = 0; column = c; stands = refl; named = cc; refused = is })
+    by (Ok x) is names more =
+        let (e, cells, cause) = more names in
+        (e, rw cells refl, record { place = suc cause.place; column = cause.column; stands = cause.stands; named = cause.named; refused = cause.refused })
+
+-- of an object
+member_cause : (cs : List Column) (ms : Members) (name : List ℕ) → refused_by_name (columns_of cs) ms ≡ Some name
+    → (e : Refusal) × (cells_by_name (columns_of cs) ms ≡ Err e) × IsRefusedCell cs (json.object ms) name e
+unfolding refused_by_name cells_by_name
+member_cause [] ms name names = absurd cc
+member_cause (c ∷ cs) ms name names = by (member_of c ms) refl names (member_cause cs ms name)
+  where
+    by : (r : Result Cell Refusal) → member_of c ms ≡ r → (if is_refused r then Some (name_of_column c) else refused_by_name (columns_of cs) ms) ≡ Some name
+        → (refused_by_name (columns_of cs) ms ≡ Some name → (e : Refusal) × (cells_by_name (columns_of cs) ms ≡ Err e) × IsRefusedCell cs (json.object ms) name e)
+        → (e : Refusal) × (and_then r (λ x. given (and_cell x) (cells_by_name (columns_of cs) ms)) ≡ Err e) × IsRefusedCell (c ∷ cs) (json.object ms) name e
+    by (Err q) is names more =
+        let same : name_of_column c ≡ name = cc in
+        (q, refl, record { place = 0; column = c; stands = refl; named = same; refused = rw (← same) is })
+    by (Ok x) is names more =
+        let (e, cells, cause) = more names in
+        (e, rw cells refl, record { place = suc cause.place; column = cause.column; stands = cause.stands; named = cause.named; refused = cause.refused })
+
+-- what is made of cells that are refused
+refusal_kept : (s : PlainSchema) (r : Result Cells Refusal) (e q : Refusal) → r ≡ Err q → and_then (given cell_list r) (accepted s) ≡ Err e → q ≡ e
+refusal_kept s r e q is h = (let told = rw is at h in cc)
+
+unknown_is : (names keys : List (List ℕ)) (name : List ℕ) → first_unknown names keys ≡ Some name → has_name names name ≡ false
+unknown_is names [] name is = absurd cc
+unknown_is names (k ∷ keys) name is = by (has_name names k) refl is (unknown_is names keys name)
+  where
+    by : (b : Bool) → has_name names k ≡ b → (if not b then Some k else first_unknown names keys) ≡ Some name → (first_unknown names keys ≡ Some name → has_name names name ≡ false)
+        → has_name names name ≡ false
+    by true known is more = more is
+    by false unknown is more = (let same : k ≡ name = cc in rw (← same) unknown)
+
+-- the part of the value of a line that is named is why no row is made of it
+value_cause : (s : PlainSchema) (value : Data) (part : PlainLinePart) (e : Refusal) → refused_in_value (columns_of s.columns) value ≡ Some part → value_row s value ≡ Err e
+    → IsLinePartCause s.columns value part e
+value_cause s json.null part e names h = absurd cc
+value_cause s (json.boolean b) part e names h = absurd cc
+value_cause s (json.number n) part e names h = absurd cc
+value_cause s (json.string t) part e names h = absurd cc
+value_cause s (json.array ds) part e names h = by (item_count ds == column_count cs) refl names h
+  where
+    cs : Columns
+    cs = columns_of s.columns
+
+    cell : item_count ds ≡ column_count cs → (o : Option (List ℕ)) → refused_by_place cs ds ≡ o → option_map column_cell o ≡ Some part
+        → and_then (given cell_list (cells_by_place cs ds)) (accepted s) ≡ Err e → IsLinePartCause s.columns (json.array ds) part e
+    cell size None is names h = absurd cc
+    cell size (Some name) is names h =
+        let (q, cells, cause) = item_cause s.columns ds name (size ∙ columns_counted s.columns) is in
+        let one : q ≡ e = refusal_kept s (cells_by_place cs ds) e q cells h in
+        let same : part ≡ column_cell name = cc in
+        rw (same, ← one) cause
+
+    by : (b : Bool) → (item_count ds == column_count cs) ≡ b → (if b then option_map column_cell (refused_by_place cs ds) else Some (other_count (item_count ds) (column_count cs))) ≡ Some part
+        → and_then (given cell_list (if b then cells_by_place cs ds else Err Width)) (accepted s) ≡ Err e → IsLinePartCause s.columns (json.array ds) part e
+    by true is names h = cell (eqb-true (item_count ds) (column_count cs) is) (refused_by_place cs ds) refl names h
+    by false is names h =
+        let same : part ≡ other_count (item_count ds) (column_count cs) = cc in
+        let one : e ≡ Width = cc in
+        rw same (one, counts_differ s.columns (item_count ds) (column_count cs) is (columns_counted s.columns))
+value_cause s (json.object ms) part e names h = by (repeats (names_of cs)) names h
+  where
+    cs : Columns
+    cs = columns_of s.columns
+
+    cell : (o : Option (List ℕ)) → refused_by_name cs ms ≡ o → option_map column_cell o ≡ Some part → and_then (given cell_list (cells_by_name cs ms)) (accepted s) ≡ Err e
+        → IsLinePartCause s.columns (json.object ms) part e
+    cell None is names h = absurd cc
+    cell (Some name) is names h =
+        let (q, cells, cause) = member_cause s.columns ms name is in
+        let one : q ≡ e = refusal_kept s (cells_by_name cs ms) e q cells h in
+        let same : part ≡ column_cell name = cc in
+        rw (same, ← one) cause
+
+    key : (o : Option (List ℕ)) → first_unknown (names_of cs) (keys_of ms) ≡ o → option_or (option_map unknown_name o) (option_map column_cell (refused_by_name cs ms)) ≡ Some part
+        → and_then (given cell_list (if has_unknown (names_of cs) (keys_of ms) then Err UnknownName else cells_by_name cs ms)) (accepted s) ≡ Err e
+        → IsLinePartCause s.columns (json.object ms) part e
+    key None is names h =
+        let all : has_unknown (names_of cs) (keys_of ms) ≡ false = sym (any_unknown (names_of cs) (keys_of ms)) ∙ ap is_some is in
+        cell (refused_by_name cs ms) refl names (rw all at h)
+    key (Some name) is names h =
+        let some : has_unknown (names_of cs) (keys_of ms) ≡ true = sym (any_unknown (names_of cs) (keys_of ms)) ∙ ap is_some is in
+        let told = rw some at h in
+        let one : e ≡ UnknownName = cc in
+        let same : part ≡ unknown_name name = cc in
+        rw same (one, unknown_is (names_of cs) (keys_of ms) name is)
+
+    by : (b : Bool)
+        → (if b then None else option_or (option_map unknown_name (first_unknown (names_of cs) (keys_of ms))) (option_map column_cell (refused_by_name cs ms))) ≡ Some part
+        → and_then (given cell_list (if b then Err AmbiguousNames else if has_unknown (names_of cs) (keys_of ms) then Err UnknownName else cells_by_name cs ms)) (accepted s) ≡ Err e
+        → IsLinePartCause s.columns (json.object ms) part e
+    by true names h = absurd cc
+    by false names h = key (first_unknown (names_of cs) (keys_of ms)) refl names h
+
+line_cause : (s : PlainSchema) (t : List ℕ) (e : Refusal) → line_row s t ≡ Err e → IsLineCause s (refused_in_line s t) e
+line_cause s t e h = (h, by (line_value t) refl h)
+  where
+    named : (value : Data) → line_value t ≡ Ok value → value_row s value ≡ Err e → (o : Option PlainLinePart) → refused_in_value (columns_of s.columns) value ≡ o
+        → IfSome o (λ p. (v : Data) × (line_value t ≡ Ok v) × IsLinePartCause s.columns v p e)
+    named value reads h None is = tt
+    named value reads h (Some p) is = (value, reads, value_cause s value p e is h)
+
+    by : (r : Result Data Refusal) → line_value t ≡ r → and_then r (value_row s) ≡ Err e
+        → IfSome (refused_in_read (columns_of s.columns) r) (λ p. (v : Data) × (line_value t ≡ Ok v) × IsLinePartCause s.columns v p e)
+    by (Err q) is h = tt
+    by (Ok value) is h = named value is h (refused_in_value (columns_of s.columns) value) refl
 
 jsonl_cause : (s : PlainSchema) (t : List ℕ) (r : Refused) (part : PlainPart) → jsonl_rows_of s t ≡ Err r
     → (if r.number == 0 then None else option_map (refused_in_line s) (slice_get (lines_of t) (r.number - 1))) ≡ Some part → IsLineCause s part r.refusal
 jsonl_cause s t r part h names =
     let found = first_refused (line_row s) 1 (lines_of t) r h in
-    let here = numbered_here r.number found.place (λ n. option_map (refused_in_line s) (slice_get (lines_of t) (n - 1))) part found.number names in
+    let here = numbered_here r.number found.place None (λ n. option_map (refused_in_line s) (slice_get (lines_of t) (n - 1))) part found.number names in
     let back : suc found.place - 1 ≡ found.place = omega arith in
     let told = rw (back, found.stands) at here in
     let same : refused_in_line s found.item ≡ part = cc in
-    rw (← same) found.refuses
+    rw (← same) (line_cause s found.item r.refusal found.refuses)
 
-pub parts_are_causes : (form : TextForm) (s : PlainSchema) (t : List ℕ) (r : Refused) (part : PlainPart) → rows_of_text form s t ≡ Err r → refused_part form s t r.number ≡ Some part → IsCause form s part r.refusal
+pub parts_are_causes : (form : TextForm) (s : PlainSchema) (t : List ℕ) (r : Refused) (part : PlainPart) → rows_of_text form s t ≡ Err r → refused_part form s t r.number ≡ Some part
+    → IsCause form s t part r.refusal
 parts_are_causes (Csv null_text) s t r part h names = csv_cause s null_text.now t r part h names
 parts_are_causes JsonLines s t r part h names = jsonl_cause s t r part h names

@@ -1,11 +1,13 @@
 -- Which part of a record is refused, field by field; and the record at a place of a text.
 use Rattle.std.proofs.Common.{◌≡◌, ℕ, ◌+◌, ◌-◌, ◌≤◌, ◌<◌, zero, suc, Bool, true, false, List, [], ◌∷◌, length, drop, refl, ap, ◌∙◌, arith, length-drop}
-use Rattle.std.specs.Prelude.{not, filter, get_or, map, Some, None, slice_get, if◌then◌else◌, Ok, Err}
+use Rattle.std.specs.List.{list_any}
+use Rattle.std.specs.Prelude.{◌==◌, ◌||◌, not, bytes_eq, filter, get_or, is_some, map, Option, Some, None, option_map, slice_get, if◌then◌else◌}
 use Rattle.std.proofs.lemmas.Bool.{ne_eqb, eq-eqb}
 use Rattle.std.specs.Borrow.{Bor}
-use Rattle.std.proofs.lemmas.List.{drop_more}
+use Rattle.std.proofs.lemmas.List.{drop_more, length-map}
 use Rattle.std.proofs.lemmas.Option.{slice_get_past}
 use Rattle.facts.specs.Texts.{text_list}
+use Rattle.csv.specs.Records.{field_at}
 use Rattle.serde_json.specs.Data.{Items, Members}
 use Rattle.serde_json.specs.View.{view, items_view}
 use Rattle.serde_json.specs.declared.value.Value.{Value}
@@ -14,12 +16,57 @@ use Rattle.arrow_schema.specs.View.{column_of}
 use Rattle.arrow_schema.specs.declared.types.Field.{Field}
 use Rattle.arrow_schema.specs.Parts.{name_of_column}
 use Rattle.text_import.specs.Flat.{field_cell}
-use Rattle.text_import.specs.Objects.{cell_in, is_blank, names_of, keys_of, repeats, has_unknown}
-use Rattle.text_import.specs.Part.{field, is_refused, refused_field, refused_by_place, refused_by_name, refused_in_items, refused_in_members}
-use Rattle.text_import.specs.inner.Names.{member_of, tested}
-use Rattle.text_import.specs.declared.refusal.Refusal.{Refusal}
-use Rattle.text_import.specs.declared.refusal.Refusal.TheVariants.{AmbiguousNames, UnknownName}
+use Rattle.text_import.specs.Records.{is_nested_column, records_of}
+use Rattle.text_import.specs.Objects.{cell_in, is_blank, has_name, names_of, keys_of, repeats, has_unknown}
+use Rattle.text_import.specs.Part.{header_name, header_count, field, column_cell, other_count, unknown_name, other_name, refused_header, is_refused, refused_field, refused_by_place, refused_by_name, refused_in_items, first_unknown, refused_in_members}
+use Rattle.text_import.specs.inner.Names.{member_of}
 use Rattle.text_import.proofs.ObjectLemmas.{item_count_is, column_count_is}
+use Rattle.text_import.proofs.RecordLemmas.{field_here, field_past}
+
+-- whether a key is no name, by the first that is none
+pub any_unknown : (names keys : List (List ℕ)) → is_some (first_unknown names keys) ≡ has_unknown names keys
+any_unknown names [] = refl
+any_unknown names (k ∷ keys) = by (has_name names k) (any_unknown names keys)
+  where
+    by : (b : Bool) → is_some (first_unknown names keys) ≡ has_unknown names keys → is_some (if not b then Some k else first_unknown names keys) ≡ (not b || has_unknown names keys)
+    by true e = e
+    by false e = refl
+
+pub unknown_found : (names keys : List (List ℕ)) (found : Option (Bor (List ℕ))) → option_map (λ t. t.now) found ≡ first_unknown names keys → is_some found ≡ has_unknown names keys
+unknown_found names keys found is = is_mapped found ∙ ap is_some is ∙ any_unknown names keys
+  where
+    is_mapped : (o : Option (Bor (List ℕ))) → is_some o ≡ is_some (option_map (λ (t : Bor (List ℕ)). t.now) o)
+    is_mapped None = refl
+    is_mapped (Some t) = refl
+
+-- a name of a header that is another, one that is not, the end of the header and that of the columns
+pub name_differs : (ts : List (List ℕ)) (i : ℕ) (c : Column) (cs : List Column) (t : List ℕ) → field_at ts i ≡ Some t → bytes_eq t (name_of_column c) ≡ false
+    → other_name (drop i ts) (c ∷ cs) ≡ Some (header_name t (name_of_column c))
+unfolding other_name
+name_differs ts i c cs t is e = rw (field_here ts i t is, e) refl
+
+pub name_agrees : (ts : List (List ℕ)) (i : ℕ) (c : Column) (cs : List Column) (t : List ℕ) → field_at ts i ≡ Some t → bytes_eq t (name_of_column c) ≡ true
+    → other_name (drop i ts) (c ∷ cs) ≡ other_name (drop (suc i) ts) cs
+unfolding other_name
+name_agrees ts i c cs t is e = rw (field_here ts i t is, e) refl
+
+pub no_name : (ts : List (List ℕ)) (i : ℕ) (cs : List Column) → field_at ts i ≡ None → other_name (drop i ts) cs ≡ None
+unfolding other_name
+no_name ts i cs is = rw (field_past ts i is) refl
+
+pub no_column_left : (ts : List (List ℕ)) → other_name ts [] ≡ None
+unfolding other_name
+no_column_left [] = refl
+no_column_left (t ∷ ts) = refl
+
+no_header_names : (cs : List Column) → other_name [] cs ≡ None
+unfolding other_name
+no_header_names cs = refl
+
+-- a text without records
+pub headless : (fs : List Field) (t : List ℕ) → list_any is_nested_column (map column_of fs) ≡ false → slice_get (records_of t) 0 ≡ None
+    → refused_header (map column_of fs) t ≡ (if 0 == length fs then None else Some (header_count 0 (length fs)))
+headless fs t flat none = rw (flat, none, no_header_names (map column_of fs), length-map fs column_of) refl
 
 -- a field that is refused, one that is not, and the end
 pub field_named : (null_text : List ℕ) (c : Column) (cs : List Column) (t : List ℕ) (ts : List (List ℕ)) → is_refused (field_cell null_text c t) ≡ true
@@ -62,31 +109,30 @@ pub no_member : (ms : Members) → refused_by_name no_column ms ≡ None
 unfolding refused_by_name
 no_member ms = refl
 
--- of another number of items than columns no column is named
-pub counted_no : (fs : List Field) (vs : List Value) → (length vs ≡ length fs → ⊥) → refused_in_items (columns_of (map column_of fs)) (items_view vs) ≡ None
+-- the number of items
+pub counted_no : (fs : List Field) (vs : List Value) → (length vs ≡ length fs → ⊥)
+    → refused_in_items (columns_of (map column_of fs)) (items_view vs) ≡ Some (other_count (length vs) (length fs))
 counted_no fs vs h = rw (item_count_is vs, column_count_is fs, ne_eqb (length vs) (length fs) h) refl
 
-pub counted_yes : (fs : List Field) (vs : List Value) → length vs ≡ length fs → refused_in_items (columns_of (map column_of fs)) (items_view vs) ≡ refused_by_place (columns_of (map column_of fs)) (items_view vs)
+pub counted_yes : (fs : List Field) (vs : List Value) → length vs ≡ length fs
+    → refused_in_items (columns_of (map column_of fs)) (items_view vs) ≡ option_map column_cell (refused_by_place (columns_of (map column_of fs)) (items_view vs))
 counted_yes fs vs h = rw (item_count_is vs, column_count_is fs, eq-eqb (length vs) (length fs) h) refl
 
--- the test of names
-pub names_refused : (cs : Columns) (ms : Members) (r : Refusal) → tested (names_of cs) ms ≡ Err r → refused_in_members cs ms ≡ None
-names_refused cs ms r e = by (repeats (names_of cs)) (has_unknown (names_of cs) (keys_of ms)) e
-  where
-    by : (a b : Bool) → (if a then Err AmbiguousNames else if b then Err UnknownName else Ok ms) ≡ Err r → (if a then None else if b then None else refused_by_name cs ms) ≡ None
-    by true b e = refl
-    by false true e = refl
-    by false false e = absurd cc
+pub ruleset counted_rules = (counted_no, counted_yes)
 
-pub names_passed : (cs : Columns) (ms same : Members) → tested (names_of cs) ms ≡ Ok same → refused_in_members cs ms ≡ refused_by_name cs ms
-names_passed cs ms same e = by (repeats (names_of cs)) (has_unknown (names_of cs) (keys_of ms)) e
-  where
-    by : (a b : Bool) → (if a then Err AmbiguousNames else if b then Err UnknownName else Ok ms) ≡ Ok same → (if a then None else if b then None else refused_by_name cs ms) ≡ refused_by_name cs ms
-    by true b e = absurd cc
-    by false true e = absurd cc
-    by false false e = refl
+-- the tests of names
+pub names_repeated : (cs : Columns) (ms : Members) → repeats (names_of cs) ≡ true → refused_in_members cs ms ≡ None
+names_repeated cs ms e = rw e refl
 
-pub ruleset named_rules = (names_refused, names_passed)
+pub name_unknown : (cs : Columns) (ms : Members) (name : List ℕ) → repeats (names_of cs) ≡ false → first_unknown (names_of cs) (keys_of ms) ≡ Some name
+    → refused_in_members cs ms ≡ Some (unknown_name name)
+name_unknown cs ms name e is = rw (e, is) refl
+
+pub names_known : (cs : Columns) (ms : Members) → repeats (names_of cs) ≡ false → first_unknown (names_of cs) (keys_of ms) ≡ None
+    → refused_in_members cs ms ≡ option_map column_cell (refused_by_name cs ms)
+names_known cs ms e is = rw (e, is) refl
+
+pub ruleset named_rules = (names_repeated, name_unknown, names_known)
 
 -- the item at a place, from what stands there
 pub at_here : {X : Type 0} (xs : List X) (i : ℕ) (x : X) (ys : List X) → drop i xs ≡ x ∷ ys → slice_get xs i ≡ Some x

@@ -1,13 +1,31 @@
--- Why the record of a part is refused.
-use Rattle.std.specs.Prelude.{◌≡◌, ℕ, List, Some, Err, slice_get}
-use Rattle.arrow_schema.specs.Column.{Column, PlainSchema}
-use Rattle.arrow_schema.specs.Parts.{name_of_column}
+-- Why the part of a text is refused.
+use Rattle.std.specs.Prelude.{◌≡◌, ◌≢◌, ℕ, false, List, length, Option, Some, None, IfSome, Ok, Err, slice_get}
+use Rattle.serde_json.specs.Data.{Data}
+use Rattle.serde_json.specs.Data as json
+use Rattle.serde_json.specs.Find.{get_item, get_member}
+use Rattle.arrow_schema.specs.Column.{Column, columns_of, PlainSchema}
+use Rattle.arrow_schema.specs.Parts.{name_of_column, is_nullable_column}
 use Rattle.text_import.specs.declared.form.TextForm.{TextForm}
 use Rattle.text_import.specs.declared.form.TextForm.TheVariants.{Csv, JsonLines}
 use Rattle.text_import.specs.declared.refusal.Refusal.{Refusal}
+use Rattle.text_import.specs.declared.refusal.Refusal.TheVariants.{Header, Width, UnknownName}
 use Rattle.text_import.specs.Flat.{field_cell}
-use Rattle.text_import.specs.Objects.{line_row}
-use Rattle.text_import.specs.Part.{PlainPart, field, line}
+use Rattle.text_import.specs.Objects.{cell_in, member_in, has_name, names_of, line_value, line_row}
+use Rattle.text_import.specs.Part.{PlainPart, header_name, header_count, record_count, field, line, PlainLinePart, column_cell, other_count, unknown_name, header_of}
+
+-- a header and the columns have these names at one place, and they differ
+pub record IsOtherName (header : List (List ℕ)) (cs : List Column) (found wanted : List ℕ) : Type 0 where
+  pub place : ℕ
+  pub column : Column
+  pub has : slice_get header place ≡ Some found
+  pub stands : slice_get cs place ≡ Some column
+  pub named : name_of_column column ≡ wanted
+  pub differs : found ≢ wanted
+
+-- there are so many columns, and another number of what is counted
+pub record IsOtherCount (cs : List Column) (counted columns : ℕ) : Type 0 where
+  pub all : columns ≡ length cs
+  pub differs : counted ≢ columns
 
 -- a text is refused so for a column of this name
 pub record IsRefusedField (null_text : List ℕ) (cs : List Column) (name text : List ℕ) (e : Refusal) : Type 0 where
@@ -17,15 +35,46 @@ pub record IsRefusedField (null_text : List ℕ) (cs : List Column) (name text :
   pub named : name_of_column column ≡ name
   pub refused : field_cell null_text column text ≡ Err e
 
-abbrev pub IsFieldCause : List ℕ → List Column → PlainPart → Refusal → Type 0
-IsFieldCause null_text cs (field name text) e = IsRefusedField null_text cs name text e
-IsFieldCause null_text cs (line name text) e = ⊥
+-- of a record
+abbrev pub IsRecordCause : List ℕ → List Column → PlainPart → Refusal → Type 0
+IsRecordCause null_text cs (record_count fields columns) e = (e ≡ Width) × IsOtherCount cs fields columns
+IsRecordCause null_text cs (field name text) e = IsRefusedField null_text cs name text e
+IsRecordCause null_text cs part e = ⊥
 
+-- of a text of CSV
+abbrev pub IsCsvCause : List ℕ → List Column → List ℕ → PlainPart → Refusal → Type 0
+IsCsvCause null_text cs t (header_name found wanted) e = (e ≡ Header) × IsOtherName (header_of t) cs found wanted
+IsCsvCause null_text cs t (header_count names columns) e = (e ≡ Header) × (names ≡ length (header_of t)) × IsOtherCount cs names columns
+IsCsvCause null_text cs t part e = IsRecordCause null_text cs part e
+
+-- what the value of a line has for a column: an array at its place, an object under its name
+abbrev pub value_at : (place : ℕ) (name : List ℕ) → Data → Option Data
+value_at place name (json.array ds) = get_item place ds
+value_at place name (json.object ms) = get_member name ms
+value_at place name _ = None
+
+-- what a line has for a column of this name, or that it has nothing, is refused so
+pub record IsRefusedCell (cs : List Column) (value : Data) (name : List ℕ) (e : Refusal) : Type 0 where
+  pub place : ℕ
+  pub column : Column
+  pub stands : slice_get cs place ≡ Some column
+  pub named : name_of_column column ≡ name
+  pub refused : member_in (is_nullable_column column) (cell_in column) (value_at place name value) ≡ Err e
+
+-- of a part of a line, by the value of the line
+abbrev pub IsLinePartCause : List Column → Data → PlainLinePart → Refusal → Type 0
+IsLinePartCause cs value (column_cell name) e = IsRefusedCell cs value name e
+IsLinePartCause cs value (other_count items columns) e = (e ≡ Width) × IsOtherCount cs items columns
+IsLinePartCause cs value (unknown_name name) e = (e ≡ UnknownName) × (has_name (names_of (columns_of cs)) name ≡ false)
+
+-- of a line, which is refused for this very reason
 abbrev pub IsLineCause : PlainSchema → PlainPart → Refusal → Type 0
-IsLineCause s (field name text) e = ⊥
-IsLineCause s (line name text) e = line_row s text ≡ Err e
+IsLineCause s (line part text) e =
+    (line_row s text ≡ Err e) × IfSome part (λ p. (value : Data) × (line_value text ≡ Ok value) × IsLinePartCause s.columns value p e)
+IsLineCause s part e = ⊥
 
--- of CSV the text of the field, and of JSON Lines the line, is refused for this very reason
-abbrev pub IsCause : TextForm → PlainSchema → PlainPart → Refusal → Type 0
-IsCause (Csv null_text) s part e = IsFieldCause null_text.now s.columns part e
-IsCause JsonLines s part e = IsLineCause s part e
+-- a part is refused for this very reason: in CSV a name or the number of names of the header, the number of fields of the record, or the text of the field; in
+-- JSON Lines the line, and where a part of it is named, that part
+abbrev pub IsCause : TextForm → PlainSchema → List ℕ → PlainPart → Refusal → Type 0
+IsCause (Csv null_text) s t part e = IsCsvCause null_text.now s.columns t part e
+IsCause JsonLines s t part e = IsLineCause s part e

@@ -19,8 +19,10 @@ pub fn rows_of_texts_are_rows()
     ensures jsonl { (s : PlainSchema) (text : List ℕ) (rows : List (List Cell)) → jsonl_rows_of s text ≡ Ok rows → AllPass (is_row s) rows }
 {}
 
-/// The part of the first refused record is why it is refused: the text of a field is, for a column of its name, or the line.
+/// The part of a refused text is why it is refused: the header has another name than the table at one place, or another number of names; the record has
+/// another number of fields, or the text of a field is refused for a column of its name; or the line is refused, and where another number of items or a name
+/// that is no column is said of it, that is why.
 pub fn refused_parts_are_causes()
     ensures { (form : TextForm) (s : PlainSchema) (text : List ℕ) (r : Refused) (part : PlainPart) → rows_of_text form s text ≡ Err r
-        → refused_part form s text r.number ≡ Some part → IsCause form s part r.refusal }
+        → refused_part form s text r.number ≡ Some part → IsCause form s text part r.refusal }
 {}

@@ -2,7 +2,7 @@
 //!
 //! [`csv_rows`] and [`jsonl_rows`] (or [`rows_of_text`], of either form) answer the rows of a text, or the first refusal with the number of its
 //! record. The crate `csv` decides which records a text has, and `serde_json` which values its lines have; what becomes of them, cell by cell, is
-//! stated in `specs/` and promised exactly, for every text. [`refused_part`] answers which field or line of a refused record it is.
+//! stated in `specs/` and promised exactly, for every text. [`refused_part`] answers which part of a text is refused.
 //!
 //! ```
 //! let fields = field_texts::parse_fields(alloc, &["a:int32?", "s:utf8"])?;
@@ -29,7 +29,7 @@ pub use form::{TextForm, rows_of_text};
 pub use jsonl::{is_blank, jsonl_rows, split_lines};
 pub use laws::{refused_parts_are_causes, rows_of_texts_are_rows};
 pub use objects::distinct_names;
-pub use part::{RefusedPart, refused_part};
+pub use part::{LinePart, RefusedPart, refused_part};
 pub use records::{csv_records, csv_rows, field_text, numbered_row, read_next};
 pub use refusal::{Refusal, Refused, TextError};
 pub use texts::text_of;

@@ -15,7 +15,8 @@ ghost use Rattle.text_import.specs.Refusals.{given, refusal_of};
 ghost use Rattle.facts.specs.Outcomes.{Gives};
 ghost use Rattle.text_import.specs.Objects.{boolean_in, number_in, text_in, bytes_in, list_in, each_item, fixed_list_in, cell_in, kind_in, cells_by_place, cells_by_name, cells_in, absent, sized, column_count, has_name, names_of, keys_of, repeats, has_unknown, value_row};
 ghost use Rattle.facts.specs.Texts.{text_list};
-ghost use Rattle.text_import.specs.inner.Names.{member_of, tested};
+ghost use Rattle.text_import.specs.Part.{first_unknown};
+ghost use Rattle.text_import.specs.inner.Names.{IsText, member_of, tested};
 
 use crate::flat::{hex_cell, number_cell, own_text};
 use crate::refusal::{CellError, Refusal};
@@ -132,7 +133,7 @@ fn has_name(fields: &[Field], name: &str) -> bool
 }
 
 // Whether two fields share a name.
-fn repeat_names(fields: &[Field]) -> bool
+pub(crate) fn repeat_names(fields: &[Field]) -> bool
     ensures { result ≡ repeats (names_of (columns_of (map column_of fields.now))) }
 {
     for (i, field) in fields.iter().enumerate() {
@@ -143,16 +144,25 @@ fn repeat_names(fields: &[Field]) -> bool
     false
 }
 
+// The first key that is the name of no field.
+pub(crate) fn first_unknown<'a>(fields: &[Field], members: &'a Map<String, Json>) -> Option<&'a str>
+    ensures { IsText (first_unknown (names_of (columns_of (map column_of fields.now))) (keys_of (members_view members.now.entries))) result }
+{
+    for key in members.keys() {
+        let name = key.as_str();
+        if !has_name(fields, name) {
+            return Some(name);
+        }
+    }
+    None
+}
+
 // Whether a key is the name of no field.
+#[tactic(auto, using(crate::proofs::PartLemmas::unknown_found))]
 fn has_other_name(fields: &[Field], members: &Map<String, Json>) -> bool
     ensures { result ≡ has_unknown (names_of (columns_of (map column_of fields.now))) (keys_of (members_view members.now.entries)) }
 {
-    for key in members.keys() {
-        if !has_name(fields, key.as_str()) {
-            return true;
-        }
-    }
-    false
+    first_unknown(fields, members).is_some()
 }
 
 fn test_few_names(fields: &[Field], members: &Map<String, Json>) -> Result<(), CellError>
@@ -189,11 +199,7 @@ fn test_many_names<'a>(
 }
 
 // Why the members of an object are not those of the fields.
-pub(crate) fn test_names(
-    alloc: Global,
-    fields: &[Field],
-    members: &Map<String, Json>,
-) -> Result<(), CellError>
+fn test_names(alloc: Global, fields: &[Field], members: &Map<String, Json>) -> Result<(), CellError>
     ensures { Gives refusal_of (λ _. members_view members.now.entries) result
         (tested (names_of (columns_of (map column_of fields.now))) (members_view members.now.entries)) }
 {

@@ -1,5 +1,5 @@
-// Which part of a record is refused.
-ghost use Rattle.std.specs.Prelude.{◌≡◌, length, map, option_map, Result, IfOk, slice_get, string_bytes};
+// Which part of a text is refused.
+ghost use Rattle.std.specs.Prelude.{◌≡◌, ◌<◌, ◌==◌, length, map, option_map, None, Some, Result, IfOk, slice_get, if◌then◌else◌};
 ghost use Rattle.std.specs.Option.{option_and_then};
 ghost use Rattle.csv.specs.Records.{fields_of};
 ghost use Rattle.serde_json.specs.View.{view, items_view, members_view};
@@ -12,7 +12,7 @@ ghost use Rattle.facts.specs.Outcomes.{Gives};
 ghost use Rattle.text_import.specs.Refusals.{refusal_of};
 ghost use Rattle.text_import.specs.Records.{records_of};
 ghost use Rattle.text_import.specs.Objects.{lines_of, line_value};
-ghost use Rattle.text_import.specs.Part.{part_of, is_refused, refused_field, refused_in_record, refused_by_place, refused_by_name, refused_in_items, refused_in_members, refused_in_value, refused_in_read, refused_in_line, refused_part};
+ghost use Rattle.text_import.specs.Part.{part_of, line_part_of, other_name, refused_names, refused_header, is_refused, refused_field, refused_in_record, refused_by_place, refused_by_name, refused_in_items, refused_in_members, refused_in_value, refused_in_read, refused_in_line, numbered_part, refused_part};
 ghost use Rattle.text_import.specs.Part as plain;
 ghost use Rattle.text_import.specs.declared.refusal.Refusal.{Refusal};
 ghost use Rattle.text_import.specs.inner.Names.{IsText};
@@ -20,23 +20,126 @@ ghost use Rattle.text_import.specs.inner.Names.{IsText};
 use crate::TextForm;
 use crate::flat::field_cell;
 use crate::jsonl::{line_at, line_value};
-use crate::objects::{cell_in, member_in, test_names};
-use crate::records::{field_text, record_at};
+use crate::objects::{cell_in, first_unknown, member_in, repeat_names};
+use crate::records::{field_text, has_nested, record_at};
 use crate::refusal::CellError;
-use crate::texts::name_of;
+use crate::texts::{is_name_of, name_of};
 use arrow_schema::{Field, Schema};
 use cells::Value;
 use csv::ByteRecord;
 use serde_json::{Map, Value as Json};
 use std::alloc::{AllocError, Global};
 
-/// The part of a record that is refused.
+/// What is refused in a line of JSON Lines.
+#[derive(Drop)]
+pub enum LinePart {
+    /// The cell of the field of this name.
+    Cell { name: String },
+    /// An array that has another number of items than the table has columns.
+    Count { items: usize, columns: usize },
+    /// A name that is no column.
+    Name { name: String },
+}
+
+/// The part of a text that is refused.
 #[derive(Drop)]
 pub enum RefusedPart {
+    /// A name of a CSV header, and the name of the column at its place, which is another.
+    HeaderName {
+        found: Vec<u8>,
+        wanted: String,
+    },
+    /// A CSV header that has another number of names than the table has columns.
+    HeaderCount {
+        names: usize,
+        columns: usize,
+    },
+    /// A CSV record that has another number of fields than the table has columns.
+    RecordCount {
+        fields: usize,
+        columns: usize,
+    },
     /// A field of a CSV record, and its text.
-    Field { name: String, text: Vec<u8> },
-    /// A line of JSON Lines, and the name of the field whose cell is refused in it, where one is by itself.
-    Line { name: Option<String>, text: Vec<u8> },
+    Field {
+        name: String,
+        text: Vec<u8>,
+    },
+    /// A line of JSON Lines, and what is refused in it, where that is a part of it.
+    Line {
+        part: Option<LinePart>,
+        text: Vec<u8>,
+    },
+}
+
+fn name_part(alloc: Global, found: &[u8], field: &Field) -> Result<RefusedPart, AllocError>
+    ensures { IfOk result (λ part. part_of part ≡ plain.header_name found.now (name_of_column (column_of field.now))) }
+{
+    let found = Vec::from_slice(alloc, found)?;
+    let wanted = String::from_str(alloc, name_of(field))?;
+    Ok(RefusedPart::HeaderName { found, wanted })
+}
+
+// The first name of a header that is another than that of its field.
+fn other_name(
+    alloc: Global,
+    fields: &[Field],
+    header: &ByteRecord,
+) -> Result<Option<RefusedPart>, AllocError>
+    ensures { IfOk result (λ part. option_map part_of part ≡ other_name (fields_of header.now) (map column_of fields.now)) }
+{
+    for (i, field) in fields.iter().enumerate() {
+        match header.get(i) {
+            None => return Ok(None),
+            Some(name) => {
+                if !is_name_of(field, name) {
+                    return Ok(Some(name_part(alloc, name, field)?));
+                }
+            }
+        }
+    }
+    Ok(None)
+}
+
+fn header_count(names: usize, columns: usize) -> Option<RefusedPart>
+    ensures { option_map part_of result ≡ (if names == columns then None else Some (plain.header_count names columns)) }
+{
+    if names == columns {
+        None
+    } else {
+        Some(RefusedPart::HeaderCount { names, columns })
+    }
+}
+
+fn refused_names(
+    alloc: Global,
+    fields: &[Field],
+    header: &ByteRecord,
+) -> Result<Option<RefusedPart>, AllocError>
+    ensures { IfOk result (λ part. option_map part_of part ≡ refused_names (map column_of fields.now) (fields_of header.now)) }
+{
+    match other_name(alloc, fields, header)? {
+        Some(part) => Ok(Some(part)),
+        None => Ok(header_count(header.len(), fields.len())),
+    }
+}
+
+// Of a CSV text, the part of its header.
+fn refused_header(
+    alloc: Global,
+    fields: &[Field],
+    text: &[u8],
+) -> Result<Option<RefusedPart>, AllocError>
+    ensures { IfOk result (λ part. option_map part_of part ≡ refused_header (map column_of fields.now) text.now) }
+{
+    if has_nested(fields) {
+        return Ok(None);
+    }
+    let mut header = ByteRecord::new(alloc);
+    if record_at(alloc, text, &mut header, 0)? {
+        refused_names(alloc, fields, &header)
+    } else {
+        Ok(header_count(0, fields.len()))
+    }
 }
 
 // Whether a cell that was read is refused.
@@ -86,7 +189,10 @@ fn refused_in_record(
     ensures { IfOk result (λ part. option_map part_of part ≡ refused_in_record null_text.now (map column_of fields.now) (fields_of row.now)) }
 {
     if row.len() != fields.len() {
-        return Ok(None);
+        return Ok(Some(RefusedPart::RecordCount {
+            fields: row.len(),
+            columns: fields.len(),
+        }));
     }
     refused_field(alloc, fields, null_text, row)
 }
@@ -143,42 +249,60 @@ fn refused_by_name<'a>(
     Ok(None)
 }
 
-// The same of an array that may have another number of items.
-fn refused_in_items<'a>(
+fn cell_part(alloc: Global, name: Option<&str>) -> Result<Option<LinePart>, AllocError>
+    ensures { IfOk result (λ part. option_map line_part_of part ≡ option_map plain.column_cell (option_map (λ t. t.now) name.entry)) }
+{
+    match name {
+        None => Ok(None),
+        Some(name) => Ok(Some(LinePart::Cell {
+            name: String::from_str(alloc, name)?,
+        })),
+    }
+}
+
+#[tactic(auto, using(crate::proofs::PartLemmas::counted_rules))]
+fn refused_in_items(
     alloc: Global,
-    fields: &'a [Field],
+    fields: &[Field],
     values: &[Json],
-) -> Result<Option<&'a str>, AllocError>
-    ensures { IfOk result (IsText (refused_in_items (columns_of (map column_of fields.now)) (items_view values.now))) }
+) -> Result<Option<LinePart>, AllocError>
+    ensures { IfOk result (λ part. option_map line_part_of part ≡ refused_in_items (columns_of (map column_of fields.now)) (items_view values.now)) }
 {
     if values.len() != fields.len() {
+        return Ok(Some(LinePart::Count {
+            items: values.len(),
+            columns: fields.len(),
+        }));
+    }
+    cell_part(alloc, refused_by_place(alloc, fields, values)?)
+}
+
+#[tactic(auto, using(crate::proofs::PartLemmas::named_rules))]
+fn refused_in_members(
+    alloc: Global,
+    fields: &[Field],
+    members: &Map<String, Json>,
+) -> Result<Option<LinePart>, AllocError>
+    ensures { IfOk result (λ part. option_map line_part_of part
+        ≡ refused_in_members (columns_of (map column_of fields.now)) (members_view members.now.entries)) }
+{
+    if repeat_names(fields) {
         return Ok(None);
     }
-    refused_by_place(alloc, fields, values)
-}
-
-// The same of an object that may have other names.
-#[tactic(auto, using(crate::proofs::PartLemmas::named_rules))]
-fn refused_in_members<'a>(
-    alloc: Global,
-    fields: &'a [Field],
-    members: &Map<String, Json>,
-) -> Result<Option<&'a str>, AllocError>
-    ensures { IfOk result (IsText (refused_in_members (columns_of (map column_of fields.now)) (members_view members.now.entries))) }
-{
-    match test_names(alloc, fields, members) {
-        Ok(()) => refused_by_name(alloc, fields, members),
-        Err(CellError::Refused(_)) => Ok(None),
-        Err(CellError::OutOfMemory) => Err(AllocError),
+    if let Some(name) = first_unknown(fields, members) {
+        return Ok(Some(LinePart::Name {
+            name: String::from_str(alloc, name)?,
+        }));
     }
+    cell_part(alloc, refused_by_name(alloc, fields, members)?)
 }
 
-fn refused_in_value<'a>(
+fn refused_in_value(
     alloc: Global,
-    fields: &'a [Field],
+    fields: &[Field],
     value: &Json,
-) -> Result<Option<&'a str>, AllocError>
-    ensures { IfOk result (IsText (refused_in_value (columns_of (map column_of fields.now)) (view value.now))) }
+) -> Result<Option<LinePart>, AllocError>
+    ensures { IfOk result (λ part. option_map line_part_of part ≡ refused_in_value (columns_of (map column_of fields.now)) (view value.now)) }
 {
     match value {
         Json::Array(values) => refused_in_items(alloc, fields, values),
@@ -187,12 +311,12 @@ fn refused_in_value<'a>(
     }
 }
 
-fn refused_in_read<'a>(
+fn refused_in_read(
     alloc: Global,
-    fields: &'a [Field],
+    fields: &[Field],
     line: &[u8],
-) -> Result<Option<&'a str>, AllocError>
-    ensures { IfOk result (IsText (refused_in_read (columns_of (map column_of fields.now)) (line_value line.now))) }
+) -> Result<Option<LinePart>, AllocError>
+    ensures { IfOk result (λ part. option_map line_part_of part ≡ refused_in_read (columns_of (map column_of fields.now)) (line_value line.now)) }
 {
     match line_value(alloc, line) {
         Ok(value) => refused_in_value(alloc, fields, &value),
@@ -201,21 +325,12 @@ fn refused_in_read<'a>(
     }
 }
 
-fn owned_name(alloc: Global, name: Option<&str>) -> Result<Option<String>, AllocError>
-    ensures { IfOk result (λ owned. option_map string_bytes owned ≡ option_map (λ t. t.now) name.entry) }
-{
-    match name {
-        None => Ok(None),
-        Some(name) => Ok(Some(String::from_str(alloc, name)?)),
-    }
-}
-
 fn refused_in_line(alloc: Global, schema: &Schema, line: &[u8]) -> Result<RefusedPart, AllocError>
     ensures { IfOk result (λ part. part_of part ≡ refused_in_line (schema_of schema.now) line.now) }
 {
-    let name = owned_name(alloc, refused_in_read(alloc, &schema.fields, line)?)?;
+    let part = refused_in_read(alloc, &schema.fields, line)?;
     let text = Vec::from_slice(alloc, line)?;
-    Ok(RefusedPart::Line { name, text })
+    Ok(RefusedPart::Line { part, text })
 }
 
 // Of a text of JSON Lines, the part of the line at a place, where the first stands at 0.
@@ -233,10 +348,29 @@ fn part_of_line(
     }
 }
 
-/// The part of a record that is refused, of the number that a refusal of these rows reports.
+// The part of the record of a number, which is not 0.
+fn numbered_part(
+    alloc: Global,
+    form: &TextForm<'_>,
+    schema: &Schema,
+    text: &[u8],
+    number: u64,
+) -> Result<Option<RefusedPart>, AllocError>
+    requires { 0 < number }
+    ensures { IfOk result (λ part. option_map part_of part ≡ numbered_part form.now (schema_of schema.now) text.now number) }
+{
+    match form {
+        TextForm::Csv { null_text } => part_of_record(alloc, schema, null_text, text, number),
+        TextForm::JsonLines => part_of_line(alloc, schema, text, number - 1),
+    }
+}
+
+/// The part of a text that is refused, of the number that a refusal of these rows reports.
 ///
-/// Of CSV it is the first field whose text is refused for its column; none where all of them are cells, or there is another
-/// number of fields. Of JSON Lines it is the line, with the first field whose cell is refused where it has one for each.
+/// Of CSV, where the number is 0, it is the first name of the header that is another than that of the column at its place, or how many names the header
+/// has, where the names that both have agree; none where the table has lists or structs. Else it is how many fields the record has, where there is another
+/// number of columns, or the first field whose text is refused for its column; none where all of them are cells. Of JSON Lines it is the line, with what is
+/// refused in it: the number of its items, its first name that is no column, or the first field whose cell is refused.
 ///
 /// # Errors
 /// `AllocError` where memory was refused.
@@ -249,11 +383,11 @@ pub fn refused_part(
 ) -> Result<Option<RefusedPart>, AllocError>
     ensures { IfOk result (λ part. option_map part_of part ≡ refused_part form.now (schema_of schema.now) text.now number) }
 {
-    if number == 0 {
-        return Ok(None);
+    if number > 0 {
+        return numbered_part(alloc, form, schema, text, number);
     }
     match form {
-        TextForm::Csv { null_text } => part_of_record(alloc, schema, null_text, text, number),
-        TextForm::JsonLines => part_of_line(alloc, schema, text, number - 1),
+        TextForm::Csv { null_text: _ } => refused_header(alloc, &schema.fields, text),
+        TextForm::JsonLines => Ok(None),
     }
 }

@@ -20,7 +20,7 @@ ghost use Rattle.text_import.specs.Stands.{HasLeft, Stands, Reads, TakesNext, is
 use crate::flat::field_cell;
 use crate::refusal::{CellError, Refusal, Refused, TextError};
 use crate::rows::{accepted, numbered};
-use crate::texts::name_of;
+use crate::texts::is_name_of;
 use arrow_schema::{Field, Schema};
 use cells::{Row, Value, has_limits};
 use csv::{ByteRecord, Reader, ReaderBuilder};
@@ -74,7 +74,7 @@ fn is_nested(field: &Field) -> bool
     field.data_type.is_nested()
 }
 
-fn has_nested(fields: &[Field]) -> bool
+pub(crate) fn has_nested(fields: &[Field]) -> bool
     ensures { result ≡ list_any is_nested_column (map column_of fields.now) }
 {
     for field in fields {
@@ -90,7 +90,7 @@ fn is_field(row: &ByteRecord, i: usize, field: &Field) -> bool
 {
     match row.get(i) {
         None => false,
-        Some(text) => text == name_of(field).as_bytes(),
+        Some(text) => is_name_of(field, text),
     }
 }
 

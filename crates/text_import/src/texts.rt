@@ -1,5 +1,5 @@
 // Texts, and the names of fields.
-ghost use Rattle.std.specs.Prelude.{◌≡◌, ◌<◌, ◌↔◌, option_map, slice_index, EachIndex, IsTrue};
+ghost use Rattle.std.specs.Prelude.{◌≡◌, ◌<◌, ◌↔◌, bytes_eq, option_map, slice_index, EachIndex, IsTrue};
 ghost use Rattle.arrow_schema.specs.View.{column_of};
 ghost use Rattle.arrow_schema.specs.Parts.{name_of_column};
 ghost use Rattle.text_import.specs.inner.Names.{text_where_utf8};
@@ -30,4 +30,10 @@ pub(crate) fn name_of(field: &Field) -> &str
     ensures { result.now ≡ name_of_column (column_of field.now) }
 {
     field.name.as_str()
+}
+
+pub(crate) fn is_name_of(field: &Field, text: &[u8]) -> bool
+    ensures { result ≡ bytes_eq text.now (name_of_column (column_of field.now)) }
+{
+    text == name_of(field).as_bytes()
 }
