@@ -43,13 +43,13 @@ abbrev pub IfOfText : TextForm → Option PlainEntry → Option (List ℕ) → R
 IfOfText form found input (Text refused) = InputGives form found input (Err refused)
 IfOfText form found input _ = Unit {0}
 
--- what is hinted of a text that is refused, if anything: the part of the refused record that is
+-- what is hinted of a text that is refused, if anything: the part of it that is
 abbrev pub HintsAt : Option Hinted → TextForm → PlainSchema → List ℕ → Option Refused → Type 0
 HintsAt None form schema bytes refused = Unit {0}
 HintsAt (Some (Part part)) form schema bytes (Some refused) = refused_part form schema bytes refused.number ≡ Some (part_of part)
 HintsAt (Some hinted) form schema bytes _ = ⊥
 
--- all of an input is refused, as a text for the schema of the table that is found, and this is the part of the refused record that is
+-- all of an input is refused, as a text for the schema of the table that is found, and this is the part of it that is
 pub record HintsPart (part : PlainPart) (form : TextForm) (found : Option PlainEntry) (input : Option (List ℕ)) (refused : Refused) : Type 0 where
   pub entry : PlainEntry
   pub is_there : found ≡ Some entry

@@ -32,7 +32,7 @@ use text_columns::{csv_table, jsonl_table};
 use text_import::{TextError, TextForm, refused_part, rows_of_text};
 use values::WeighedTable;
 
-// The part of the first refused record that is refused. Where memory is refused for it, none is answered.
+// The part of a refused text that is refused. Where memory is refused for it, none is answered.
 #[tactic(auto, using(crate::proofs::TextLemmas::hints_at))]
 fn refused_in(
     alloc: Global,
@@ -118,8 +118,8 @@ fn take_command(
 
 /// Appends the rows that all of the input has, as a text for the table's schema, and writes `ok`.
 ///
-/// That there is no such table is reported before anything is read. Where a record of the text is refused, `hint` is left with the part of it
-/// that is, if memory suffices, and else with none.
+/// That there is no such table is reported before anything is read. Where the text is refused, `hint` is left with the part of it that is, if
+/// memory suffices, and else with none.
 ///
 /// # Errors
 /// `Text` where the text is refused, after all of it was read; `TooManyBytes` where it is longer than `LARGEST_INPUT`; `OutOfMemory`; `Store` where
@@ -147,7 +147,7 @@ pub fn append_text<D: SectorDevice, R: Read, W: Write>(
         × (store.new ≡ store.old) × (output.new ≡ output.old)) result }
     // A record that is refused is the first one that is none.
     ensures refused { IfErr result (IfOfText form.now (entry_of (listed_in store.old) name.now) (R.remaining input.old)) }
-    // What is hinted is the part of that record that is refused, as it is defined; of another answer there is no hint.
+    // What is hinted is the part of the text that is refused, as it is defined; of another answer there is no hint.
     ensures hint { IfHinted hint.new form.now (entry_of (listed_in store.old) name.now) (R.remaining input.old) result }
     ensures written { OnOk result (Appends (W.contents output.old) (W.contents output.new) (codes "ok\n")) }
     ensures silent { IfErr result (λ refusal. refusal ≢ Refusal.Io → output.new ≡ output.old) }
