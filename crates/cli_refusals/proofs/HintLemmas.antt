@@ -7,7 +7,7 @@ use Rattle.std.specs.Str.{is_utf8, chars}
 use Rattle.std.proofs.lemmas.Bool.{lt-leb, le-leb, false_from_ne_true}
 use Rattle.std.proofs.lemmas.Str.{IsUtf8-from_is_utf8, is_utf8-from_IsUtf8}
 use Rattle.cli_refusals.specs.Hint.{shown}
-use Rattle.cli_refusals.specs.declared.hint.TheConstants.{MOST_SHOWN}
+use Rattle.cli_refusals.specs.declared.shown.TheConstants.{MOST_SHOWN}
 
 -- where one of the three tests fails, and where all pass
 by_tests : (t : List ℕ) (short utf8 control : Bool) → nat_le (length t) MOST_SHOWN ≡ short → is_utf8 t ≡ utf8 → list_any is_control (chars t) ≡ control

@@ -6,7 +6,7 @@ use Rattle.std.specs.Str.{is_utf8, chars}
 use Rattle.text_import.specs.Part.{PlainPart, header_name, header_count, record_count, field, line, PlainLinePart, column_cell, other_count, unknown_name, part_of}
 use Rattle.cli_refusals.specs.declared.hint.Hint.{Hint}
 use Rattle.cli_refusals.specs.declared.hint.Hint.TheVariants.{Word, File, Part, Table}
-use Rattle.cli_refusals.specs.declared.hint.TheConstants.{MOST_SHOWN}
+use Rattle.cli_refusals.specs.declared.shown.TheConstants.{MOST_SHOWN}
 use Rattle.cli_refusals.specs.RefusedWord.{role_text}
 use Rattle.cli_refusals.specs.Unopened.{reason_text}
 

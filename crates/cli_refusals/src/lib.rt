@@ -12,14 +12,17 @@
 mod hint;
 mod output;
 mod page;
+mod part_shown;
 mod refusal;
 mod refused_word;
 mod remedies;
+mod shown;
 mod unopened;
 
-pub use hint::{Hint, Hinted, MOST_SHOWN};
+pub use hint::{Hint, Hinted};
 pub use output::write_whole;
 pub use page::{REFUSALS, refusals_page};
 pub use refusal::Refusal;
 pub use refused_word::{Role, Word};
+pub use shown::MOST_SHOWN;
 pub use unopened::{FileReason, UnopenedFile};

@@ -1,0 +1,250 @@
+// What is said of the part of an input that is refused.
+use crate::shown::shown;
+use std::fmt;
+use text_import::{LinePart, RefusedPart};
+
+// What of a field may be shown.
+#[derive(Drop)]
+struct FieldShown<'a> {
+    name: Option<&'a str>,
+    text: Option<&'a str>,
+}
+
+impl fmt::Display for FieldShown<'_> {
+    ghost use Rattle.std.specs.Prelude.{Some, option_map};
+    ghost use Rattle.cli_refusals.specs.Hint.{field_text};
+
+    ghost output = { λ field. Some (field_text (option_map (λ t. t.now) field.name) (option_map (λ t. t.now) field.text)) };
+
+    fn fmt<W: fmt::Write>(&self, f: &mut fmt::Formatter<W>) -> fmt::Result {
+        match (self.name, self.text) {
+            (None, _) => Ok(()),
+            (Some(name), None) => write!(f, "The field `{name}` is refused. "),
+            (Some(name), Some(text)) => {
+                write!(f, "The text `{text}` of field `{name}` is refused. ")
+            }
+        }
+    }
+}
+
+/// What of a line may be shown.
+#[derive(Drop)]
+pub(crate) struct LineShown<'a> {
+    pub(crate) text: Option<&'a str>,
+}
+
+impl fmt::Display for LineShown<'_> {
+    ghost use Rattle.std.specs.Prelude.{Some, option_map};
+    ghost use Rattle.cli_refusals.specs.Hint.{line_text};
+
+    ghost output = { λ line. Some (line_text (option_map (λ t. t.now) line.text)) };
+
+    fn fmt<W: fmt::Write>(&self, f: &mut fmt::Formatter<W>) -> fmt::Result {
+        match self.text {
+            None => Ok(()),
+            Some(text) => write!(f, "The line `{text}` is refused. "),
+        }
+    }
+}
+
+// What of a name of a header and of the one that is wanted may be shown.
+#[derive(Drop)]
+struct NamesShown<'a> {
+    found: Option<&'a str>,
+    wanted: Option<&'a str>,
+}
+
+impl fmt::Display for NamesShown<'_> {
+    ghost use Rattle.std.specs.Prelude.{Some, option_map};
+    ghost use Rattle.cli_refusals.specs.Hint.{header_text};
+
+    ghost output = { λ names. Some (header_text (option_map (λ t. t.now) names.found) (option_map (λ t. t.now) names.wanted)) };
+
+    fn fmt<W: fmt::Write>(&self, f: &mut fmt::Formatter<W>) -> fmt::Result {
+        match (self.found, self.wanted) {
+            (_, None) => Ok(()),
+            (None, Some(wanted)) => {
+                write!(
+                    f,
+                    "The header has another name where the table has `{wanted}`. "
+                )
+            }
+            (Some(found), Some(wanted)) => {
+                write!(
+                    f,
+                    "The header names `{found}` where the table has `{wanted}`. "
+                )
+            }
+        }
+    }
+}
+
+// What of a name in an object may be shown.
+#[derive(Drop)]
+struct NameShown<'a> {
+    name: Option<&'a str>,
+}
+
+impl fmt::Display for NameShown<'_> {
+    ghost use Rattle.std.specs.Prelude.{Some, option_map};
+    ghost use Rattle.cli_refusals.specs.Hint.{name_text};
+
+    ghost output = { λ shown. Some (name_text (option_map (λ t. t.now) shown.name)) };
+
+    fn fmt<W: fmt::Write>(&self, f: &mut fmt::Formatter<W>) -> fmt::Result {
+        match self.name {
+            None => Ok(()),
+            Some(name) => write!(f, "The name `{name}` is no column. "),
+        }
+    }
+}
+
+// So many things, by the noun for one of them.
+#[derive(Drop)]
+struct Counted {
+    count: usize,
+    noun: &'static str,
+}
+
+impl fmt::Display for Counted {
+    ghost use Rattle.std.specs.Prelude.{Some};
+    ghost use Rattle.cli_refusals.specs.Hint.{counted};
+
+    ghost output = { λ number. Some (counted number.count number.noun.now) };
+
+    fn fmt<W: fmt::Write>(&self, f: &mut fmt::Formatter<W>) -> fmt::Result {
+        let plural = if self.count == 1 { "" } else { "s" };
+        write!(f, "{} {}{}", self.count, self.noun, plural)
+    }
+}
+
+// How many parts a header or a record has, and how many columns the table.
+#[derive(Drop)]
+struct Counts {
+    whole: &'static str,
+    part: &'static str,
+    parts: usize,
+    columns: usize,
+}
+
+impl fmt::Display for Counts {
+    ghost use Rattle.std.specs.Prelude.{Some};
+    ghost use Rattle.cli_refusals.specs.Hint.{counts_text};
+
+    ghost output = { λ counts. Some (counts_text counts.whole.now counts.part.now counts.parts counts.columns) };
+
+    fn fmt<W: fmt::Write>(&self, f: &mut fmt::Formatter<W>) -> fmt::Result {
+        let parts = Counted {
+            count: self.parts,
+            noun: self.part,
+        };
+        let columns = Counted {
+            count: self.columns,
+            noun: "column",
+        };
+        write!(
+            f,
+            "The {} has {parts}, and the table {columns}. ",
+            self.whole
+        )
+    }
+}
+
+// What of a part of a line may be shown.
+#[derive(Drop)]
+struct LinePartShown<'a> {
+    part: &'a Option<LinePart>,
+}
+
+impl fmt::Display for LinePartShown<'_> {
+    ghost use Rattle.std.specs.Prelude.{Some, option_map};
+    ghost use Rattle.text_import.specs.Part.{line_part_of};
+    ghost use Rattle.cli_refusals.specs.Hint.{line_part_text};
+
+    ghost output = { λ line. Some (line_part_text (option_map line_part_of line.part.now)) };
+
+    fn fmt<W: fmt::Write>(&self, f: &mut fmt::Formatter<W>) -> fmt::Result {
+        match self.part {
+            None => Ok(()),
+            Some(LinePart::Cell { name }) => {
+                let field = FieldShown {
+                    name: shown(name.as_bytes()),
+                    text: None,
+                };
+                write!(f, "{field}")
+            }
+            Some(LinePart::Count { items, columns }) => {
+                let counts = Counts {
+                    whole: "record",
+                    part: "field",
+                    parts: *items,
+                    columns: *columns,
+                };
+                write!(f, "{counts}")
+            }
+            Some(LinePart::Name { name }) => {
+                let name = NameShown {
+                    name: shown(name.as_bytes()),
+                };
+                write!(f, "{name}")
+            }
+        }
+    }
+}
+
+/// What of a part of the input may be shown.
+#[derive(Drop)]
+pub(crate) struct PartShown<'a> {
+    pub(crate) part: &'a RefusedPart,
+}
+
+impl fmt::Display for PartShown<'_> {
+    ghost use Rattle.std.specs.Prelude.{Some};
+    ghost use Rattle.text_import.specs.Part.{part_of};
+    ghost use Rattle.cli_refusals.specs.Hint.{part_text};
+
+    ghost output = { λ shown. Some (part_text (part_of shown.part.now)) };
+
+    #[tactic(auto, unfolding(crate::specs::Hint::part_text))]
+    fn fmt<W: fmt::Write>(&self, f: &mut fmt::Formatter<W>) -> fmt::Result {
+        match self.part {
+            RefusedPart::HeaderName { found, wanted } => {
+                let names = NamesShown {
+                    found: shown(found),
+                    wanted: shown(wanted.as_bytes()),
+                };
+                write!(f, "{names}")
+            }
+            RefusedPart::HeaderCount { names, columns } => {
+                let counts = Counts {
+                    whole: "header",
+                    part: "name",
+                    parts: *names,
+                    columns: *columns,
+                };
+                write!(f, "{counts}")
+            }
+            RefusedPart::RecordCount { fields, columns } => {
+                let counts = Counts {
+                    whole: "record",
+                    part: "field",
+                    parts: *fields,
+                    columns: *columns,
+                };
+                write!(f, "{counts}")
+            }
+            RefusedPart::Field { name, text } => {
+                let field = FieldShown {
+                    name: shown(name.as_bytes()),
+                    text: shown(text),
+                };
+                write!(f, "{field}")
+            }
+            RefusedPart::Line { part, text } => {
+                let line = LineShown { text: shown(text) };
+                let part = LinePartShown { part };
+                write!(f, "{line}{part}")
+            }
+        }
+    }
+}
