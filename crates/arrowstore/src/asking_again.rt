@@ -1,30 +1,34 @@
-// What is asked once more of the system and of a store, where a person reads why a request was refused.
+// What is asked once more of the system, of a store and of a script, where a person reads why a request was refused.
 use crate::copying_files::open_to_read;
+use crate::script_again::line_of_script;
 use crate::unopened::{Unopened, refused_file};
 use cli_refusals::Refusal;
 use cli_requests::{StoreCommand, StoreRequest};
 use cli_texts::Audience;
-use sector_dev::LockFile;
+use sector_dev::{LockFile, SectorDevice};
+use std::alloc::Global;
 use std::fs::OpenFile;
 use std::io::{Read, Seek, Write};
 use std::rt::Files;
+use store::Store;
 use values::Table;
 
-/// What was found: the file that was not opened or made, and why; or a table without rows, of the schema of the one that a query was refused for.
+/// What was found.
 #[derive(Drop)]
-pub(crate) struct AskedAgain<'a> {
-    pub(crate) file: Option<Unopened<'a>>,
-    pub(crate) table: Option<Table>,
+pub(crate) enum AskedAgain {
+    Nothing,
+    /// The file that was not opened, read or made, and why.
+    File(Unopened),
+    /// A table without rows, of the schema of the one that a query was refused for.
+    Queried(Table),
+    /// The name of a table that can't be read.
+    Unread(String),
+    /// The line of a script that is refused.
+    Line(Vec<u8>),
 }
 
-// The file of the store and the name of the table of a query that was refused.
-fn refused_query<'a>(
-    request: &StoreRequest<'a>,
-    done: &Result<(), Refusal>,
-) -> Option<(&'a str, &'a str)> {
-    let Err(Refusal::Query(_) | Refusal::Store(tables::Refusal::Query(_))) = done else {
-        return None;
-    };
+// The file of the store and the name of the table that is queried.
+fn query_of<'a>(request: &StoreRequest<'a>) -> Option<(&'a str, &'a str)> {
     match request {
         StoreRequest::Command {
             path,
@@ -38,8 +42,8 @@ fn refused_query<'a>(
 fn queried_table<
     F: Read + Write + Seek + OpenFile + LockFile + Drop,
     H: Files<File = F> + AllocGlobal,
->(rt: &H, request: &StoreRequest<'_>, done: &Result<(), Refusal>) -> Option<Table> {
-    let (path, name) = refused_query(request, done)?;
+>(rt: &H, request: &StoreRequest<'_>) -> Option<Table> {
+    let (path, name) = query_of(request)?;
     let store = open_to_read(rt, path).ok()?;
     match store.schema(rt.alloc(), name) {
         Ok(schema) => Table::new(rt.alloc(), schema, Vec::new(rt.alloc())).ok(),
@@ -47,26 +51,99 @@ fn queried_table<
     }
 }
 
+// The file of a store whose tables a request reads without their names. A check hints at its table itself.
+fn read_whole<'a>(request: &StoreRequest<'a>) -> Option<&'a str> {
+    match request {
+        StoreRequest::Copy { path, .. }
+        | StoreRequest::Command {
+            path,
+            command: StoreCommand::Compact | StoreCommand::Upgrade,
+        } => Some(path),
+        _ => None,
+    }
+}
+
+fn is_of_segment(refusal: &tables::Refusal) -> bool {
+    matches!(
+        refusal,
+        tables::Refusal::SegmentUnread(_) | tables::Refusal::SegmentDamaged(_)
+    )
+}
+
+// The first table that can't be read for this reason, and where there is none the first that can't be read.
+fn first_unread<D: SectorDevice>(
+    alloc: Global,
+    store: &mut Store<D>,
+    refusal: tables::Refusal,
+) -> Option<String> {
+    let tables = store.tables(alloc).ok()?;
+    let mut first = None;
+    for table in &tables {
+        let name = table.0.as_str();
+        match store.read(alloc, name) {
+            Ok(_) => {}
+            Err(found) if found == refusal => return String::from_str(alloc, name).ok(),
+            Err(found) if is_of_segment(&found) => first = first.or(Some(name)),
+            Err(_) => return None,
+        }
+    }
+    String::from_str(alloc, first?).ok()
+}
+
+fn unread_table<
+    F: Read + Write + Seek + OpenFile + LockFile + Drop,
+    H: Files<File = F> + AllocGlobal,
+>(rt: &H, request: &StoreRequest<'_>, refusal: tables::Refusal) -> Option<String> {
+    let path = read_whole(request)?;
+    let mut store = open_to_read(rt, path).ok()?;
+    first_unread(rt.alloc(), &mut store, refusal)
+}
+
+fn found_of<F: Read + Write + Seek + OpenFile + LockFile + Drop, H: Files<File = F> + AllocGlobal>(
+    rt: &H,
+    request: &StoreRequest<'_>,
+    was_there: bool,
+    refusal: &Refusal,
+) -> Option<AskedAgain> {
+    match refusal {
+        Refusal::Io | Refusal::BadSize => {
+            let file = refused_file(rt, request, was_there, refusal)?;
+            Some(AskedAgain::File(file))
+        }
+        Refusal::BadScript(number) => {
+            let line = line_of_script(rt, request, *number)?;
+            Some(AskedAgain::Line(line))
+        }
+        Refusal::Query(_) | Refusal::Store(tables::Refusal::Query(_)) => {
+            let table = queried_table(rt, request)?;
+            Some(AskedAgain::Queried(table))
+        }
+        Refusal::Store(refusal) if is_of_segment(refusal) => {
+            let name = unread_table(rt, request, *refusal)?;
+            Some(AskedAgain::Unread(name))
+        }
+        _ => None,
+    }
+}
+
 /// Asks again where a person reads why a request ended so. `was_there` is what `is_there` gave before it was served.
 pub(crate) fn ask_again<
-    'a,
     F: Read + Write + Seek + OpenFile + LockFile + Drop,
     H: Files<File = F> + AllocGlobal,
 >(
     rt: &H,
-    request: &StoreRequest<'a>,
+    request: &StoreRequest<'_>,
     was_there: bool,
     done: &Result<(), Refusal>,
     audience: Audience,
-) -> AskedAgain<'a> {
-    match audience {
-        Audience::Program | Audience::Departed => AskedAgain {
-            file: None,
-            table: None,
-        },
-        Audience::Terminal => AskedAgain {
-            file: refused_file(rt, request, was_there, done),
-            table: queried_table(rt, request, done),
-        },
+) -> AskedAgain {
+    match (audience, done) {
+        (Audience::Terminal, Err(refusal)) => {
+            match found_of(rt, request, was_there, refusal) {
+                Some(found) => found,
+                None => AskedAgain::Nothing,
+            }
+        }
+        _ => AskedAgain::Nothing,
     }
 }

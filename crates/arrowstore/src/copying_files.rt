@@ -3,7 +3,7 @@ ghost use Rattle.std.specs.Prelude.{◌≡◌, ◌≢◌, ◌≤◌, Ok, IfOk, I
 ghost use Rattle.sector_dev.specs.declared.file.TheConstants.{MOST_SECTORS};
 ghost use Rattle.arrowstore.specs.OnFiles.{IsOpenedFile, OpensStore, FailsToOpen, CopiesInto, FailsToCopy, CopiesStore};
 
-use crate::serving::{format_new, or_removed, take_places_of_streams};
+use crate::serving::{device_to_read, format_new, or_removed, take_places_of_streams};
 use cli_commands::copy_tables;
 use cli_refusals::{Refusal, write_whole};
 use sector_dev::{FileDevice, LockFile, SectorDevice};
@@ -21,7 +21,7 @@ pub(crate) fn open_to_read<
     ensures opened { IfOk result (OpensStore ⟦<FileDevice<F> as SectorDevice>⟧ IsOpenedFile) }
     ensures refused { IfErr result (FailsToOpen ⟦<FileDevice<F> as SectorDevice>⟧ IsOpenedFile) }
 {
-    let device = FileDevice::open_to_read(rt, path)?;
+    let device = device_to_read(rt, path)?;
     match Store::open(rt.alloc(), device) {
         Ok(store) => Ok(store),
         Err((refusal, _back)) => Err(Refusal::Opening(refusal)),

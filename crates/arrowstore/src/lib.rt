@@ -19,6 +19,7 @@ mod open_command;
 mod replaying;
 mod running;
 mod salvaging_files;
+mod script_again;
 mod serving;
 mod serving_device;
 mod serving_open;

@@ -18,8 +18,9 @@ use cli_requests::{StoreCommand, StoreRequest};
 use commit::FormatVersion;
 use sector_dev::{FileDevice, FileError, LockFile, ModelDevice, SectorDevice};
 use std::alloc::Global;
-use std::fs::{self, OpenFile};
+use std::fs::{self, FileType, OpenFile};
 use std::io::{Empty, Read, Seek, Write};
+use std::os::unix::fs::FileTypeExt;
 use std::rt::Files;
 use store::{LeftOut, Store};
 
@@ -50,6 +51,33 @@ pub(crate) fn take_places_of_streams<
     Ok((fs::open(rt, "/")?, fs::open(rt, "/")?, fs::open(rt, "/")?))
 }
 
+/// Whether what is of this kind has sectors: a file, or a disk.
+pub(crate) fn has_sectors(kind: &FileType) -> bool {
+    kind.is_file() || kind.is_block_device()
+}
+
+// Whether something stands at a path that has none.
+fn has_no_sectors_at<H: Files>(rt: &H, path: &str) -> bool {
+    match fs::metadata(rt, path) {
+        Ok(found) => !has_sectors(&found.file_type()),
+        Err(_) => false,
+    }
+}
+
+/// The device that a file is, to be read. A named pipe is not opened: it would be waited for.
+pub(crate) fn device_to_read<
+    F: Read + Write + Seek + OpenFile + LockFile + Drop,
+    H: Files<File = F> + AllocGlobal,
+>(rt: &H, path: &str) -> Result<FileDevice<F>, FileError>
+    ensures opened { IfOk result (λ device. IsOpenedFile device) }
+{
+    if has_no_sectors_at(rt, path) {
+        Err(FileError::BadSize)
+    } else {
+        FileDevice::open_to_read(rt, path)
+    }
+}
+
 // The device that a file is. One that is only read is not opened for writing.
 fn device_of<F: Read + Write + Seek + OpenFile + LockFile + Drop, H: Files<File = F> + AllocGlobal>(
     rt: &H,
@@ -59,7 +87,7 @@ fn device_of<F: Read + Write + Seek + OpenFile + LockFile + Drop, H: Files<File 
     ensures opened { IfOk result (λ device. IsOpenedFile device) }
 {
     if only_reads {
-        FileDevice::open_to_read(rt, path)
+        device_to_read(rt, path)
     } else {
         FileDevice::open(rt, path)
     }

@@ -1,7 +1,9 @@
-// Why the system did not open or make a file: it is asked once more, and its reason is reported.
+// Why a file was not opened or made: the system is asked once more, and its reason is reported.
 ghost use Rattle.std.specs.Prelude.{◌≡◌, None, Some};
 ghost use Rattle.arrowstore.specs.OnFiles.{hinted_of};
 
+use crate::script_again::not_read_of_script;
+use crate::serving::has_sectors;
 use cli_refusals::{FileReason, Hint, Refusal, UnopenedFile};
 use cli_requests::StoreRequest;
 use sector_dev::LockFile;
@@ -14,25 +16,28 @@ use std::rt::Files;
 enum Reason {
     Locked,
     Exists,
+    Folder,
+    NotRegular,
     System(String),
 }
 
 /// A file that was not opened or made, and why.
 #[derive(Drop)]
-pub(crate) struct Unopened<'a> {
-    path: &'a str,
+pub(crate) struct Unopened {
+    path: String,
     reason: Reason,
 }
 
-impl<'a> Unopened<'a> {
+impl Unopened {
     // A path with control characters, which could do something to a terminal, is not reported.
-    fn new(path: &'a str, reason: Option<Reason>) -> Option<Unopened<'a>> {
+    fn new(alloc: Global, path: &str, reason: Option<Reason>) -> Option<Unopened> {
+        let reason = reason?;
         if path.chars().any(char::is_control) {
             return None;
         }
         Some(Unopened {
-            path,
-            reason: reason?,
+            path: String::from_str(alloc, path).ok()?,
+            reason,
         })
     }
 
@@ -43,10 +48,12 @@ impl<'a> Unopened<'a> {
         let reason = match &self.reason {
             Reason::Locked => FileReason::Locked,
             Reason::Exists => FileReason::Exists,
+            Reason::Folder => FileReason::Folder,
+            Reason::NotRegular => FileReason::NotRegular,
             Reason::System(text) => FileReason::System(text.as_str()),
         };
         Hint::File(UnopenedFile {
-            path: self.path,
+            path: self.path.as_str(),
             reason,
         })
     }
@@ -111,29 +118,54 @@ fn reason_of_making<F: OpenFile + LockFile + Drop, H: Files<File = F> + AllocGlo
     }
 }
 
-fn not_opened<'a, F: OpenFile + LockFile + Drop, H: Files<File = F> + AllocGlobal>(
-    rt: &H,
-    path: &'a str,
-    only_reads: bool,
-) -> Option<Unopened<'a>> {
-    Unopened::new(path, reason_of_opening(rt, path, only_reads))
-}
-
-// A script, which is read without a lock.
-fn not_read<'a, H: Files + AllocGlobal>(rt: &H, path: &'a str) -> Option<Unopened<'a>> {
-    let error = fs::open(rt, path).err()?;
-    Unopened::new(path, system_reason(rt.alloc(), &error))
-}
-
-fn not_made<'a, F: OpenFile + LockFile + Drop, H: Files<File = F> + AllocGlobal>(
-    rt: &H,
-    path: &'a str,
-    was_there: bool,
-) -> Option<Unopened<'a>> {
-    if was_there {
-        return Unopened::new(path, Some(Reason::Exists));
+// What stands at a path where it is neither a file whose bytes stay nor a disk.
+fn reason_of_kind<H: Files>(rt: &H, path: &str) -> Option<Reason> {
+    let found = fs::metadata(rt, path).ok()?;
+    let kind = found.file_type();
+    if kind.is_dir() {
+        Some(Reason::Folder)
+    } else if has_sectors(&kind) {
+        None
+    } else {
+        Some(Reason::NotRegular)
     }
-    Unopened::new(path, reason_of_making(rt, path))
+}
+
+// A named pipe is not opened: it would be waited for.
+fn not_opened<F: OpenFile + LockFile + Drop, H: Files<File = F> + AllocGlobal>(
+    rt: &H,
+    path: &str,
+    only_reads: bool,
+) -> Option<Unopened> {
+    let reason = match reason_of_kind(rt, path) {
+        Some(reason) => Some(reason),
+        None => reason_of_opening(rt, path, only_reads),
+    };
+    Unopened::new(rt.alloc(), path, reason)
+}
+
+/// A script or a file of one, which is read without a lock. A named pipe may be either; it is not opened, since it would be waited for.
+pub(crate) fn not_read<H: Files + AllocGlobal>(rt: &H, path: &str) -> Option<Unopened> {
+    let reason = match reason_of_kind(rt, path) {
+        Some(Reason::NotRegular) => None,
+        Some(reason) => Some(reason),
+        None => {
+            let error = fs::open(rt, path).err()?;
+            system_reason(rt.alloc(), &error)
+        }
+    };
+    Unopened::new(rt.alloc(), path, reason)
+}
+
+fn not_made<F: OpenFile + LockFile + Drop, H: Files<File = F> + AllocGlobal>(
+    rt: &H,
+    path: &str,
+    was_there: bool,
+) -> Option<Unopened> {
+    if was_there {
+        return Unopened::new(rt.alloc(), path, Some(Reason::Exists));
+    }
+    Unopened::new(rt.alloc(), path, reason_of_making(rt, path))
 }
 
 /// Whether something stands at the path of the file that a request makes.
@@ -148,17 +180,12 @@ pub(crate) fn is_there<H: Files + AllocGlobal>(rt: &H, request: &StoreRequest<'_
     }
 }
 
-/// The file that a request which ended so did not open or make, where the system says why. `was_there` is what [`is_there`] gave before the request
-/// was served.
-pub(crate) fn refused_file<'a, F: OpenFile + LockFile + Drop, H: Files<File = F> + AllocGlobal>(
+// The file that a request did not open, read or make, where the system says why.
+fn failed_file<F: OpenFile + LockFile + Drop, H: Files<File = F> + AllocGlobal>(
     rt: &H,
-    request: &StoreRequest<'a>,
+    request: &StoreRequest<'_>,
     was_there: bool,
-    done: &Result<(), Refusal>,
-) -> Option<Unopened<'a>> {
-    let Err(Refusal::Io) = done else {
-        return None;
-    };
+) -> Option<Unopened> {
     match request {
         StoreRequest::Format { path, .. } => not_made(rt, path, was_there),
         StoreRequest::Copy { path, new, .. } => match not_opened(rt, path, true) {
@@ -166,7 +193,40 @@ pub(crate) fn refused_file<'a, F: OpenFile + LockFile + Drop, H: Files<File = F>
             None => not_made(rt, new, was_there),
         },
         StoreRequest::Salvage { path, .. } => not_opened(rt, path, true),
-        StoreRequest::Replay(words) => not_read(rt, words.script),
+        StoreRequest::Replay(words) => match not_read(rt, words.script) {
+            Some(file) => Some(file),
+            None => not_read_of_script(rt, words.script),
+        },
         StoreRequest::Command { path, command } => not_opened(rt, path, command.only_reads()),
+    }
+}
+
+// The file of a store of which a request was refused for its size, where it is no file that has one.
+fn file_without_size<H: Files + AllocGlobal>(
+    rt: &H,
+    request: &StoreRequest<'_>,
+) -> Option<Unopened> {
+    match request {
+        StoreRequest::Copy { path, .. }
+        | StoreRequest::Salvage { path, .. }
+        | StoreRequest::Command { path, .. } => {
+            Unopened::new(rt.alloc(), path, reason_of_kind(rt, path))
+        }
+        StoreRequest::Format { .. } | StoreRequest::Replay(_) => None,
+    }
+}
+
+/// The file that a request which was refused so did not open, read or make, where it is known why. `was_there` is what [`is_there`] gave before the
+/// request was served.
+pub(crate) fn refused_file<F: OpenFile + LockFile + Drop, H: Files<File = F> + AllocGlobal>(
+    rt: &H,
+    request: &StoreRequest<'_>,
+    was_there: bool,
+    refusal: &Refusal,
+) -> Option<Unopened> {
+    match refusal {
+        Refusal::Io => failed_file(rt, request, was_there),
+        Refusal::BadSize => file_without_size(rt, request),
+        _ => None,
     }
 }

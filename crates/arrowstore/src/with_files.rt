@@ -63,11 +63,29 @@ fn word_of<'a>(
     }
 }
 
-// Reports how a request ended. What is hinted is the file that was not opened or made, or a word of the command line that is refused.
+// What is said to be refused: what was found by asking again, or a word of the command line.
+fn found_hint<'a>(
+    alloc: Global,
+    request: &StoreRequest<'a>,
+    asked: &'a AskedAgain,
+    done: &Result<(), Refusal>,
+) -> Option<Hint<'a>>
+    ensures { hinted_of result ≡ None }
+{
+    match asked {
+        AskedAgain::File(file) => Some(file.hint()),
+        AskedAgain::Unread(name) => Some(Hint::UnreadTable(name.as_str())),
+        AskedAgain::Line(text) => Some(Hint::ScriptLine(text.as_slice())),
+        AskedAgain::Queried(table) => word_of(alloc, request, Some(table), done),
+        AskedAgain::Nothing => word_of(alloc, request, None, done),
+    }
+}
+
+// Reports how a request ended.
 fn end_of_request<E: Write>(
     alloc: Global,
     request: &StoreRequest<'_>,
-    asked: &AskedAgain<'_>,
+    asked: &AskedAgain,
     done: Result<(), Refusal>,
     left_out: &[LeftOut],
     audience: Audience,
@@ -80,16 +98,12 @@ fn end_of_request<E: Write>(
     ensures line { (hint : Option Hint) × (hinted_of hint ≡ None)
         × TellsRefusal (told audience hint) result (E.contents errors.old) (E.contents errors.new) }
 {
-    match &asked.file {
-        Some(file) => end_whole_or_partly(done, left_out, Some(file.hint()), audience, errors),
-        None => {
-            let word = word_of(alloc, request, asked.table.as_ref(), &done);
-            end_whole_or_partly(done, left_out, word, audience, errors)
-        }
-    }
+    let hint = found_hint(alloc, request, asked, &done);
+    end_whole_or_partly(done, left_out, hint, audience, errors)
 }
 
-// A request of a store. What is hinted to be refused is a part of the input or a table, where one is known, and else a word of the command line.
+// A request of a store. What is said to be refused is the part of the input or the table that the command has hinted at, where it has, and else what is
+// found by asking again.
 fn serve_and_report<
     F: Read + Write + Seek + OpenFile + LockFile + Drop,
     H: Files<File = F> + AllocGlobal,

@@ -1,11 +1,11 @@
--- What is said to be refused, on a terminal before what to do: a word of the command line, a part of the input, or a table.
+-- What is said to be refused, on a terminal before what to do: a word of the command line, a file, a part of the input, a table, or a line of a script.
 use Rattle.std.specs.Prelude.{ℕ, ◌==◌, ◌&&◌, ◌++◌, decimal, Bool, not, nat_le, codes, length, List, [], Option, Some, None, string_bytes, if◌then◌else◌}
 use Rattle.std.specs.Char.{is_control}
 use Rattle.std.specs.List.{list_any}
 use Rattle.std.specs.Str.{is_utf8, chars}
 use Rattle.text_import.specs.Part.{PlainPart, header_name, header_count, record_count, field, line, PlainLinePart, column_cell, other_count, unknown_name, part_of}
 use Rattle.cli_refusals.specs.declared.hint.Hint.{Hint}
-use Rattle.cli_refusals.specs.declared.hint.Hint.TheVariants.{Word, File, Part, Table}
+use Rattle.cli_refusals.specs.declared.hint.Hint.TheVariants.{Word, File, Part, Table, UnreadTable, ScriptLine}
 use Rattle.cli_refusals.specs.declared.shown.TheConstants.{MOST_SHOWN}
 use Rattle.cli_refusals.specs.RefusedWord.{role_text}
 use Rattle.cli_refusals.specs.Unopened.{reason_text}
@@ -72,3 +72,5 @@ hint_text (Word word) = codes "The " ++ role_text word.role ++ codes " `" ++ wor
 hint_text (File file) = codes "The file `" ++ file.path.now ++ codes "` " ++ reason_text file.reason ++ codes ". "
 hint_text (Part part) = part_text (part_of part.now)
 hint_text (Table name) = table_text (shown (string_bytes name.now))
+hint_text (UnreadTable name) = table_text (shown name.now)
+hint_text (ScriptLine text) = line_text (shown text.now)

@@ -1,4 +1,4 @@
--- What is reported of a file that the system does not open or make.
+-- What is reported of a file that is not opened or made.
 use Rattle.std.specs.Prelude.{ℕ, ◌++◌, List, codes}
 use Rattle.cli_refusals.specs.declared.unopened.FileReason.{FileReason}
 use Rattle.cli_refusals.specs.declared.unopened.FileReason.TheVariants as reasons
@@ -6,4 +6,6 @@ use Rattle.cli_refusals.specs.declared.unopened.FileReason.TheVariants as reason
 abbrev pub reason_text : FileReason → List ℕ
 reason_text reasons.Locked = codes "is locked by another program"
 reason_text reasons.Exists = codes "exists already"
+reason_text reasons.Folder = codes "is a folder"
+reason_text reasons.NotRegular = codes "is not a regular file"
 reason_text (reasons.System text) = codes "cannot be opened: " ++ text.now

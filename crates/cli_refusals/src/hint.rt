@@ -1,5 +1,5 @@
 // What is said to be refused, where more of it is known than the refusal carries.
-use crate::part_shown::PartShown;
+use crate::part_shown::{LineShown, PartShown};
 use crate::shown::shown;
 use crate::{UnopenedFile, Word};
 use std::fmt;
@@ -19,12 +19,16 @@ pub enum Hinted {
 pub enum Hint<'a> {
     /// A word of the command line.
     Word(Word<'a>),
-    /// A file that the command line names, with what the system says of it.
+    /// A file that the command line or a script names, and why it is not opened or made.
     File(UnopenedFile<'a>),
     /// A part of the input. Those of its strings are printed that a terminal may be shown.
     Part(&'a RefusedPart),
-    /// The name of a table, which is printed where a terminal may be shown it.
+    /// The name of a table that a command hints at, which is printed where a terminal may be shown it.
     Table(&'a String),
+    /// The same of a table that was found not to be readable after the command.
+    UnreadTable(&'a str),
+    /// A line of a script, which is printed where a terminal may be shown it.
+    ScriptLine(&'a [u8]),
 }
 
 // What of the name of a table may be shown.
@@ -68,6 +72,16 @@ impl fmt::Display for Hint<'_> {
                     name: shown(name.as_bytes()),
                 };
                 write!(f, "{table}")
+            }
+            Hint::UnreadTable(name) => {
+                let table = TableShown {
+                    name: shown(name.as_bytes()),
+                };
+                write!(f, "{table}")
+            }
+            Hint::ScriptLine(text) => {
+                let line = LineShown { text: shown(text) };
+                write!(f, "{line}")
             }
         }
     }

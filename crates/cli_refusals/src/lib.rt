@@ -1,5 +1,5 @@
 //! Why a command of the program was refused, as it is reported: its text, what to do about it, and the word, the file, the part of
-//! the input or the table that is meant.
+//! the input, the table or the line of a script that is meant.
 //!
 //! A [`Refusal`] holds those of the layers below, which become one by `?`. Promised are its text (`specs/Refusals.antt`) and
 //! [`Refusal::remedy`], a sentence that stands on the page of all refusals ([`refusals_page`]) too.

@@ -20,10 +20,10 @@ pub const REFUSALS: [&str; 81] = [
 
 A refusal is one line on standard error: `refused`, a code, a name, and what it carries, as
 `refused S8 NoRoom 13`. On a terminal a second line says what to do, with the sentence that stands here,
-and names the word of the command line that is refused, the file with the reason that the system gives,
-the part of a text (a name of its header beside the one that is wanted, how many fields a record has, a
-field with its text, a line, a name that is no column), or the table that `check` can't read, where that
-is known and can be shown. The exit status is 1 then; it is 0 where all is done, and 2 where the command
+and names the word of the command line that is refused, the file with the reason, the part of a text (a
+name of its header beside the one that is wanted, how many fields a record has, a field with its text, a
+line, a name that is no column), the line of a script, or the table that can't be read, where that is
+known and can be shown. The exit status is 1 then; it is 0 where all is done, and 2 where the command
 line is wrong. A refused command has changed no table, but for S9 and G1, as said there. It has written
 no output, but for G1, and `salvage` for S9 and OutOfMemory too: that writes one segment after another.
 Where `salvage` leaves out segments that can't be read, it is not refused: it names each with its rows,
@@ -110,7 +110,8 @@ imported or appended. A fault without a remedy of its own lies with the program 
     "
 - G2 BadSize: a store has 16 to 4,194,304 sectors of 512 bytes, and its file not a byte more or less. The
   number that was given, or the length of the file, is another one. Such a file is no store, or was cut
-  short or made longer, or a `copy` into it was broken off.
+  short or made longer, or a `copy` into it was broken off. A folder, a named pipe and a device that is no
+  disk are refused so where they are to be read as a store.
   ",
     SIZE_OF_A_STORE,
     "
@@ -255,7 +256,8 @@ appended. A refusal without a remedy of its own lies with that record.
 - S12 Query REASON: the query of `query --save` is refused, for this reason (Q).
 - S13 SegmentUnread N: the segment N of the table, counted from 0, can't be read: its bytes were changed.
   `check` reads all tables, in byte order of their names, and is refused so at the first that can't be
-  read: on a terminal it names that table, elsewhere an `export` of each shows which it is.
+  read. On a terminal that table is named, also where `copy`, `compact` or `upgrade` can't read it;
+  elsewhere an `export` of each shows which it is.
   ",
     IMPORT_AGAIN,
     "

@@ -1,13 +1,17 @@
-// A file of a store that the system does not open or make.
+// A file that is not opened or made.
 use std::fmt;
 
-/// Why it does not.
+/// Why it is not.
 #[derive(Clone, Copy)]
 pub enum FileReason<'a> {
     /// Another program has it locked.
     Locked,
     /// Something stands at the path of a file that was to be made.
     Exists,
+    /// It is a folder.
+    Folder,
+    /// It is a named pipe, or another thing that has no bytes which stay.
+    NotRegular,
     /// What the system says of it.
     System(&'a str),
 }
@@ -22,12 +26,14 @@ impl fmt::Display for FileReason<'_> {
         match self {
             FileReason::Locked => f.write_str("is locked by another program"),
             FileReason::Exists => f.write_str("exists already"),
+            FileReason::Folder => f.write_str("is a folder"),
+            FileReason::NotRegular => f.write_str("is not a regular file"),
             FileReason::System(text) => write!(f, "cannot be opened: {text}"),
         }
     }
 }
 
-/// A file that a word of the command line names, and why it is not opened or made.
+/// A file that the command line or a script names, and why it is not opened or made.
 #[derive(Clone, Copy)]
 pub struct UnopenedFile<'a> {
     pub path: &'a str,

@@ -11,22 +11,20 @@ returns-in_err-device-clause-refused g c =
 
 pub returns-in-Ok-clause-opened : goal.returns-in-Ok-clause-opened
 returns-in-Ok-clause-opened g c =
-    let f = c.in_ok-device.ensures in
     let e = c.in-Ok.ensures in
     record {
       device = c.in_ok-device.device;
-      opened = record { over = f.length; none_failed = f.failed; none_buffered = f.empty };
+      opened = c.in_ok-device.ensures.opened;
       stands = record { in_limits = e.in_limits; size = e.size; count = e.count; on = e.on; found = e.found; opens = e.opened };
     }
 
 pub returns-in-Err-clause-refused : goal.returns-in-Err-clause-refused
 unfolding RefusesOpening
 returns-in-Err-clause-refused g c =
-    let f = c.in_ok-device.ensures in
     let e = c.in-Err.ensures in
     inr (
       c.in_ok-device.device,
-      record { over = f.length; none_failed = f.failed; none_buffered = f.empty },
+      c.in_ok-device.ensures.opened,
       (
         c.in-Err._back,
         record {

@@ -1,11 +1,6 @@
 use Rattle.arrowstore.proofs.FileLemmas.{opened_file}
 use Rattle.arrowstore.proofs.serving.device_of.Goals as goal
 
-pub returns-then-only_reads : goal.returns-then-only_reads
-returns-then-only_reads g c =
-    let e = c.open_to_read.ensures in
-    record { opened = opened_file c.open_to_read.result e.length e.failed e.empty }
-
 pub returns-else-only_reads : goal.returns-else-only_reads
 returns-else-only_reads g c =
     let e = c.open.ensures in
