@@ -1,11 +1,12 @@
--- What is said to be refused, on a terminal before what to do: a word of the command line, a file, a part of the input, a table, or a line of a script.
+-- What is said to be refused, on a terminal before what to do: a word of the command line, a file, a part of the input, a field of a stream, a table, or a
+-- line of a script.
 use Rattle.std.specs.Prelude.{ℕ, ◌==◌, ◌&&◌, ◌++◌, decimal, Bool, not, nat_le, codes, length, List, [], Option, Some, None, string_bytes, if◌then◌else◌}
 use Rattle.std.specs.Char.{is_control}
 use Rattle.std.specs.List.{list_any}
 use Rattle.std.specs.Str.{is_utf8, chars}
 use Rattle.text_import.specs.Part.{PlainPart, header_name, header_count, record_count, field, line, PlainLinePart, column_cell, other_count, unknown_name, part_of}
 use Rattle.cli_refusals.specs.declared.hint.Hint.{Hint}
-use Rattle.cli_refusals.specs.declared.hint.Hint.TheVariants.{Word, File, Part, Table, UnreadTable, ScriptLine}
+use Rattle.cli_refusals.specs.declared.hint.Hint.TheVariants.{Word, File, Part, Table, UnreadTable, ScriptLine, Field, OtherField, FieldCount}
 use Rattle.cli_refusals.specs.declared.shown.TheConstants.{MOST_SHOWN}
 use Rattle.cli_refusals.specs.RefusedWord.{role_text}
 use Rattle.cli_refusals.specs.Unopened.{reason_text}
@@ -22,6 +23,12 @@ abbrev pub field_text : (name text : Option (List ℕ)) → List ℕ
 field_text None text = []
 field_text (Some name) None = codes "The field `" ++ name ++ codes "` is refused. "
 field_text (Some name) (Some text) = codes "The text `" ++ text ++ codes "` of field `" ++ name ++ codes "` is refused. "
+
+-- of a field of a stream, its name and its text, and the text of the field that the table has in its place
+abbrev pub other_field_text : (name found wanted : Option (List ℕ)) → List ℕ
+other_field_text name found None = field_text name None
+other_field_text name None (Some wanted) = codes "The input has another field where the table has `" ++ wanted ++ codes "`. "
+other_field_text name (Some found) (Some wanted) = codes "The input has `" ++ found ++ codes "` where the table has `" ++ wanted ++ codes "`. "
 
 -- of a line
 abbrev pub line_text : Option (List ℕ) → List ℕ
@@ -43,7 +50,7 @@ name_text (Some name) = codes "The name `" ++ name ++ codes "` is no column. "
 abbrev pub counted : ℕ → List ℕ → List ℕ
 counted n noun = decimal n ++ codes " " ++ noun ++ (if n == 1 then [] else codes "s")
 
--- of a header or a record, how many parts it has
+-- of a header, a record or a stream, how many parts it has
 abbrev pub counts_text : (whole part : List ℕ) → (parts columns : ℕ) → List ℕ
 counts_text whole part parts columns =
     codes "The " ++ whole ++ codes " has " ++ counted parts part ++ codes ", and the table " ++ counted columns (codes "column") ++ codes ". "
@@ -74,3 +81,6 @@ hint_text (Part part) = part_text (part_of part.now)
 hint_text (Table name) = table_text (shown (string_bytes name.now))
 hint_text (UnreadTable name) = table_text (shown name.now)
 hint_text (ScriptLine text) = line_text (shown text.now)
+hint_text (Field name) = field_text (shown name.now) None
+hint_text (OtherField name found wanted) = other_field_text (shown name.now) (shown found.now) (shown wanted.now)
+hint_text (FieldCount fields columns) = counts_text (codes "input") (codes "field") fields columns

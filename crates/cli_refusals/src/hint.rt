@@ -1,5 +1,5 @@
 // What is said to be refused, where more of it is known than the refusal carries.
-use crate::part_shown::{LineShown, PartShown};
+use crate::part_shown::{Counts, FieldShown, LineShown, OtherFieldShown, PartShown};
 use crate::shown::shown;
 use crate::{UnopenedFile, Word};
 use std::fmt;
@@ -29,6 +29,20 @@ pub enum Hint<'a> {
     UnreadTable(&'a str),
     /// A line of a script, which is printed where a terminal may be shown it.
     ScriptLine(&'a [u8]),
+    /// The name of a field of a stream, which is printed where a terminal may be shown it.
+    Field(&'a [u8]),
+    /// The name and the text of a field of a stream, and the text of the field that the table has in its place. Those are printed that a terminal may be
+    /// shown.
+    OtherField {
+        name: &'a str,
+        found: &'a str,
+        wanted: &'a str,
+    },
+    /// How many fields a stream has, and how many columns the table.
+    FieldCount {
+        fields: usize,
+        columns: usize,
+    },
 }
 
 // What of the name of a table may be shown.
@@ -82,6 +96,34 @@ impl fmt::Display for Hint<'_> {
             Hint::ScriptLine(text) => {
                 let line = LineShown { text: shown(text) };
                 write!(f, "{line}")
+            }
+            Hint::Field(name) => {
+                let field = FieldShown {
+                    name: shown(name),
+                    text: None,
+                };
+                write!(f, "{field}")
+            }
+            Hint::OtherField {
+                name,
+                found,
+                wanted,
+            } => {
+                let field = OtherFieldShown {
+                    name: shown(name.as_bytes()),
+                    found: shown(found.as_bytes()),
+                    wanted: shown(wanted.as_bytes()),
+                };
+                write!(f, "{field}")
+            }
+            Hint::FieldCount { fields, columns } => {
+                let counts = Counts {
+                    whole: "input",
+                    part: "field",
+                    parts: *fields,
+                    columns: *columns,
+                };
+                write!(f, "{counts}")
             }
         }
     }

@@ -3,11 +3,11 @@ use crate::shown::shown;
 use std::fmt;
 use text_import::{LinePart, RefusedPart};
 
-// What of a field may be shown.
+/// What of a field may be shown.
 #[derive(Drop)]
-struct FieldShown<'a> {
-    name: Option<&'a str>,
-    text: Option<&'a str>,
+pub(crate) struct FieldShown<'a> {
+    pub(crate) name: Option<&'a str>,
+    pub(crate) text: Option<&'a str>,
 }
 
 impl fmt::Display for FieldShown<'_> {
@@ -22,6 +22,45 @@ impl fmt::Display for FieldShown<'_> {
             (Some(name), None) => write!(f, "The field `{name}` is refused. "),
             (Some(name), Some(text)) => {
                 write!(f, "The text `{text}` of field `{name}` is refused. ")
+            }
+        }
+    }
+}
+
+/// What may be shown of a field of a stream, and of the one that the table has in its place.
+#[derive(Drop)]
+pub(crate) struct OtherFieldShown<'a> {
+    pub(crate) name: Option<&'a str>,
+    pub(crate) found: Option<&'a str>,
+    pub(crate) wanted: Option<&'a str>,
+}
+
+impl fmt::Display for OtherFieldShown<'_> {
+    ghost use Rattle.std.specs.Prelude.{Some, option_map};
+    ghost use Rattle.cli_refusals.specs.Hint.{other_field_text};
+
+    ghost output = { λ field. Some (other_field_text (option_map (λ t. t.now) field.name) (option_map (λ t. t.now) field.found) (option_map (λ t. t.now) field.wanted)) };
+
+    fn fmt<W: fmt::Write>(&self, f: &mut fmt::Formatter<W>) -> fmt::Result {
+        match (self.found, self.wanted) {
+            (_, None) => {
+                let field = FieldShown {
+                    name: self.name,
+                    text: None,
+                };
+                write!(f, "{field}")
+            }
+            (None, Some(wanted)) => {
+                write!(
+                    f,
+                    "The input has another field where the table has `{wanted}`. "
+                )
+            }
+            (Some(found), Some(wanted)) => {
+                write!(
+                    f,
+                    "The input has `{found}` where the table has `{wanted}`. "
+                )
             }
         }
     }
@@ -118,13 +157,13 @@ impl fmt::Display for Counted {
     }
 }
 
-// How many parts a header or a record has, and how many columns the table.
+/// How many parts a header, a record or a stream has, and how many columns the table.
 #[derive(Drop)]
-struct Counts {
-    whole: &'static str,
-    part: &'static str,
-    parts: usize,
-    columns: usize,
+pub(crate) struct Counts {
+    pub(crate) whole: &'static str,
+    pub(crate) part: &'static str,
+    pub(crate) parts: usize,
+    pub(crate) columns: usize,
 }
 
 impl fmt::Display for Counts {
