@@ -1,5 +1,6 @@
-// What is asked once more of the system, of a store and of a script, where a person reads why a request was refused.
+// What is asked once more of the system, of a store, of a script and of what is kept of the input, where a person reads why a request was refused.
 use crate::copying_files::open_to_read;
+use crate::input_again::{FoundField, field_of_no_table, field_with_fault};
 use crate::script_again::line_of_script;
 use crate::unopened::{Unopened, refused_file};
 use cli_refusals::Refusal;
@@ -25,6 +26,8 @@ pub(crate) enum AskedAgain {
     Unread(String),
     /// The line of a script that is refused.
     Line(Vec<u8>),
+    /// What is said of a field of the input.
+    Field(FoundField),
 }
 
 // The file of the store and the name of the table that is queried.
@@ -103,6 +106,7 @@ fn found_of<F: Read + Write + Seek + OpenFile + LockFile + Drop, H: Files<File =
     rt: &H,
     request: &StoreRequest<'_>,
     was_there: bool,
+    start: &[u8],
     refusal: &Refusal,
 ) -> Option<AskedAgain> {
     match refusal {
@@ -122,11 +126,19 @@ fn found_of<F: Read + Write + Seek + OpenFile + LockFile + Drop, H: Files<File =
             let name = unread_table(rt, request, *refusal)?;
             Some(AskedAgain::Unread(name))
         }
+        Refusal::Store(tables::Refusal::Import(fault)) => {
+            let field = field_with_fault(rt.alloc(), start, *fault)?;
+            Some(AskedAgain::Field(field))
+        }
+        Refusal::Store(tables::Refusal::SchemaMismatch) => {
+            let field = field_of_no_table(rt, request, start)?;
+            Some(AskedAgain::Field(field))
+        }
         _ => None,
     }
 }
 
-/// Asks again where a person reads why a request ended so. `was_there` is what `is_there` gave before it was served.
+/// Asks again where a person reads why a request ended so. `was_there` is what `is_there` gave before it was served, and `start` what is kept of the input.
 pub(crate) fn ask_again<
     F: Read + Write + Seek + OpenFile + LockFile + Drop,
     H: Files<File = F> + AllocGlobal,
@@ -134,12 +146,13 @@ pub(crate) fn ask_again<
     rt: &H,
     request: &StoreRequest<'_>,
     was_there: bool,
+    start: &[u8],
     done: &Result<(), Refusal>,
     audience: Audience,
 ) -> AskedAgain {
     match (audience, done) {
         (Audience::Terminal, Err(refusal)) => {
-            match found_of(rt, request, was_there, refusal) {
+            match found_of(rt, request, was_there, start, refusal) {
                 Some(found) => found,
                 None => AskedAgain::Nothing,
             }

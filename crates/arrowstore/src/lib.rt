@@ -15,6 +15,8 @@ mod asking_again;
 mod command_line;
 mod copying_files;
 mod ending;
+mod input_again;
+mod kept_start;
 mod open_command;
 mod replaying;
 mod running;
@@ -27,6 +29,7 @@ mod unopened;
 mod with_files;
 
 pub use cli_texts::{Audience, Ended, Output, WatchedOutput, report_unreadable_arguments};
+pub use kept_start::{Input, KeptStart, MOST_KEPT};
 pub use open_command::{OpenCommand, stated};
 pub use running::run;
 pub use serving_device::serve_device;

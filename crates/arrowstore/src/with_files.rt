@@ -20,6 +20,7 @@ ghost use Rattle.store.specs.Salvaging.{plain_left};
 
 use crate::asking_again::{AskedAgain, ask_again};
 use crate::ending::end_whole_or_partly;
+use crate::kept_start::Input;
 use crate::run;
 use crate::serving::serve;
 use crate::unopened::is_there;
@@ -76,6 +77,7 @@ fn found_hint<'a>(
         AskedAgain::File(file) => Some(file.hint()),
         AskedAgain::Unread(name) => Some(Hint::UnreadTable(name.as_str())),
         AskedAgain::Line(text) => Some(Hint::ScriptLine(text.as_slice())),
+        AskedAgain::Field(field) => Some(field.hint()),
         AskedAgain::Queried(table) => word_of(alloc, request, Some(table), done),
         AskedAgain::Nothing => word_of(alloc, request, None, done),
     }
@@ -107,7 +109,7 @@ fn end_of_request<E: Write>(
 fn serve_and_report<
     F: Read + Write + Seek + OpenFile + LockFile + Drop,
     H: Files<File = F> + AllocGlobal,
-    R: Read,
+    R: Read + Input,
     W: Write + Output,
     E: Write,
 >(
@@ -132,7 +134,7 @@ fn serve_and_report<
     match hint_of(&hinted) {
         Some(hint) => end_whole_or_partly(done, &left_out, Some(hint), audience, errors),
         None => {
-            let asked = ask_again(rt, request, was_there, &done, audience);
+            let asked = ask_again(rt, request, was_there, input.start(), &done, audience);
             end_of_request(
                 rt.alloc(),
                 request,
@@ -171,7 +173,7 @@ fn run_on_store<
     F: Read + Write + Seek + OpenFile + LockFile + Drop,
     H: Files<File = F> + AllocGlobal,
     S: AsStr,
-    R: Read,
+    R: Read + Input,
     W: Write + Output,
     E: Write,
 >(
@@ -211,7 +213,7 @@ pub fn run_with_files<
     F: Read + Write + Seek + OpenFile + LockFile + Drop,
     H: Files<File = F> + AllocGlobal,
     S: AsStr,
-    R: Read,
+    R: Read + Input,
     W: Write + Output,
     E: Write,
 >(

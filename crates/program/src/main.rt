@@ -7,7 +7,7 @@
 
 mod progress;
 
-use arrowstore::{Audience, WatchedOutput, report_unreadable_arguments, run_with_files};
+use arrowstore::{Audience, KeptStart, WatchedOutput, report_unreadable_arguments, run_with_files};
 use progress::{ProgressFiles, ProgressLine, ProgressReader, ProgressWriter};
 use std::process::ExitCode;
 use std::{env, io};
@@ -21,7 +21,11 @@ fn main(rt: HostRuntime) -> ExitCode {
         Ok(arguments) => run_with_files(
             &ProgressFiles::new(&rt, line.as_ref()),
             arguments.as_slice(),
-            &mut ProgressReader::new(rt.reader(), line.as_ref()),
+            &mut KeptStart::new(
+                rt.alloc(),
+                ProgressReader::new(rt.reader(), line.as_ref()),
+                audience,
+            ),
             &mut WatchedOutput::new(ProgressWriter::new(rt.stdout(), line.as_ref())),
             &mut errors,
             audience,
