@@ -54,7 +54,7 @@ fn queried_table<
     }
 }
 
-// The file of a store whose tables a request reads without their names. A check hints at its table itself.
+// The file of a store of which a request reads tables, or segments of them, that it does not name. A check hints at its table itself.
 fn read_whole<'a>(request: &StoreRequest<'a>) -> Option<&'a str> {
     match request {
         StoreRequest::Copy { path, .. }
@@ -73,24 +73,23 @@ fn is_of_segment(refusal: &tables::Refusal) -> bool {
     )
 }
 
-// The first table that can't be read for this reason, and where there is none the first that can't be read.
+// The first table that can't be read for this reason.
 fn first_unread<D: SectorDevice>(
     alloc: Global,
     store: &mut Store<D>,
     refusal: tables::Refusal,
 ) -> Option<String> {
     let tables = store.tables(alloc).ok()?;
-    let mut first = None;
     for table in &tables {
         let name = table.0.as_str();
         match store.read(alloc, name) {
             Ok(_) => {}
             Err(found) if found == refusal => return String::from_str(alloc, name).ok(),
-            Err(found) if is_of_segment(&found) => first = first.or(Some(name)),
+            Err(found) if is_of_segment(&found) => {}
             Err(_) => return None,
         }
     }
-    String::from_str(alloc, first?).ok()
+    None
 }
 
 fn unread_table<

@@ -85,7 +85,7 @@ fn has_fault(alloc: Global, field: RawField<'_>, fault: Fault) -> Option<bool> {
     }
 }
 
-/// The first field of a stream for which it has this fault.
+/// The first field of a stream for which the stream has this fault.
 pub(crate) fn field_with_fault(alloc: Global, start: &[u8], fault: Fault) -> Option<FoundField> {
     let schema = raw_schema_at(alloc, start)?;
     for field in schema.fields {
@@ -122,17 +122,19 @@ fn other_field(alloc: Global, found: &Field, wanted: &Field) -> Option<FoundFiel
     })
 }
 
-// The first field of a schema that is another one than a table has in its place.
+// The first field of a schema that is another one than a table has in its place, or how many there are. Another program may have made the table anew
+// since the refusal: then there may be nothing to say.
 fn first_other(alloc: Global, input: &Schema, table: &Schema) -> Option<FoundField> {
     for (found, wanted) in input.fields.iter().zip(&table.fields) {
         if !are_alike(alloc, found, wanted)? {
             return other_field(alloc, found, wanted);
         }
     }
-    Some(FoundField::Count {
-        fields: input.width(),
-        columns: table.width(),
-    })
+    let (fields, columns) = (input.width(), table.width());
+    if fields == columns {
+        return None;
+    }
+    Some(FoundField::Count { fields, columns })
 }
 
 // The file of the store and the name of the table that a stream is appended to.

@@ -8,7 +8,7 @@ use std::io::{self, Read};
 /// The most bytes that are kept of an input. The schema of a stream stands at its beginning.
 pub const MOST_KEPT: usize = 65_536;
 
-/// An input of which the first bytes are known when it was read.
+/// An input of which the first bytes are known after it was read.
 pub trait Input {
     /// The first bytes that were read, as far as they are kept.
     fn start(&self) -> &[u8];

@@ -24,20 +24,29 @@ fn file_of<'a>(line: &ScriptLine<'a>) -> Option<&'a str> {
     }
 }
 
-/// The first file that the lines of the script at a path name and that is not read. A long path, which could hide the rest of the line, is not reported.
+// Whether a file is there and is opened. Of what is no file, as a named pipe, nobody knows whether it was read.
+fn is_opened<H: Files>(rt: &H, path: &str) -> bool {
+    match fs::metadata(rt, path) {
+        Ok(found) => found.is_file() && fs::open(rt, path).is_ok(),
+        Err(_) => false,
+    }
+}
+
+/// The first file that the lines of the script at a path name and that is not opened, where it is known why. A long path, which could hide the rest of the
+/// line, is not reported.
 pub(crate) fn not_read_of_script<H: Files + AllocGlobal>(rt: &H, path: &str) -> Option<Unopened> {
     let script = read_again(rt, path)?;
     let lines = parse_script(rt.alloc(), &script).ok()?;
     for line in &lines {
-        if let Some(file) = file_of(line) {
-            let unopened = not_read(rt, file);
-            if unopened.is_some() {
+        match file_of(line) {
+            Some(file) if !is_opened(rt, file) => {
                 return if file.len() <= MOST_SHOWN {
-                    unopened
+                    not_read(rt, file)
                 } else {
                     None
                 };
             }
+            _ => {}
         }
     }
     None

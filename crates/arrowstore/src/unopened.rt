@@ -180,7 +180,7 @@ pub(crate) fn is_there<H: Files + AllocGlobal>(rt: &H, request: &StoreRequest<'_
     }
 }
 
-// The file that a request did not open, read or make, where the system says why.
+// The file that a request did not open, read or make, where it is known why.
 fn failed_file<F: OpenFile + LockFile + Drop, H: Files<File = F> + AllocGlobal>(
     rt: &H,
     request: &StoreRequest<'_>,

@@ -105,7 +105,7 @@ fn end_of_request<E: Write>(
 }
 
 // A request of a store. What is said to be refused is the part of the input or the table that the command has hinted at, where it has, and else what is
-// found by asking again.
+// found by asking again, or a word of the command line.
 fn serve_and_report<
     F: Read + Write + Seek + OpenFile + LockFile + Drop,
     H: Files<File = F> + AllocGlobal,
