@@ -12,13 +12,12 @@ ghost use Rattle.columns.specs.Offsets.{width_of};
 ghost use Rattle.columns.specs.Tests.{are_few_offsets, has_short_validity};
 ghost use Rattle.columns.specs.View.{view_array};
 
-use crate::number_bytes::offset_at;
 use crate::run_slots::are_all_valid;
 use crate::unset_slots::next_unset;
 use crate::widths::{offsets_width, value_width};
 use arrow_schema::DataType;
 use byteorder::{ByteOrder, LittleEndian};
-use columns::{ArrayView, OffsetWidth, SlotRun};
+use columns::{ArrayView, OffsetWidth, SlotRun, offset_at};
 
 fn are_zeros(bytes: &[u8]) -> bool
     ensures { result ≡ are_zeros bytes.now }

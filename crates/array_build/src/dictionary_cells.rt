@@ -3,15 +3,15 @@ ghost use Rattle.std.specs.Prelude.{◌≡◌, ◌≤◌, ◌+◌, ◌++◌, ◌
 ghost use Rattle.std.specs.List.{flat_map};
 ghost use Rattle.arrow_schema.specs.View.{bits_of};
 ghost use Rattle.array_build.specs.inner.Codes.{IsNumber, sized_code};
-ghost use Rattle.byteorder.specs.Endian.{little_bytes};
 ghost use Rattle.cells.specs.Dictionary.{entries_of, with_entry};
 ghost use Rattle.cells.specs.Entry.{entry_cell};
 ghost use Rattle.columns.specs.Built.{entry_index, index_bytes, place_or_zero};
 ghost use Rattle.values.specs.Borrowed.{borrowed_cell};
 
 use crate::number_bytes::put_number;
-use arrow_schema::{BitWidth, IntegerType};
+use arrow_schema::IntegerType;
 use cells::{Entry, note};
+use columns::push_index;
 use indexmap::IndexSet;
 use std::alloc::{AllocError, Global};
 use values::ValueRef;
@@ -85,18 +85,6 @@ fn entry_index(entries: &IndexSet<Entry<'_>>, cell: ValueRef<'_>) -> usize
             None => 0,
             Some(index) => index,
         },
-    }
-}
-
-fn push_index(indices: &mut Vec<u8>, width: BitWidth, index: u64) -> Result<(), AllocError>
-    ensures { OnOk result (indices.new.items ≡ indices.old.items ++ little_bytes (bits_of width / 8) index) }
-{
-    let bytes = index.to_le_bytes();
-    match width {
-        BitWidth::Eight => indices.extend_from_slice(&bytes[..1]),
-        BitWidth::Sixteen => indices.extend_from_slice(&bytes[..2]),
-        BitWidth::ThirtyTwo => indices.extend_from_slice(&bytes[..4]),
-        BitWidth::SixtyFour => indices.extend_from_slice(&bytes),
     }
 }
 

@@ -1,7 +1,6 @@
 // Little-endian numbers, written over what stands there.
-ghost use Rattle.std.specs.Prelude.{◌≡◌, ◌≤◌, ◌+◌, ◌++◌, ◌*◌, drop, length, take};
+ghost use Rattle.std.specs.Prelude.{◌≡◌, ◌≤◌, ◌+◌, ◌++◌, drop, length, take};
 ghost use Rattle.byteorder.specs.Endian.{little_bytes};
-ghost use Rattle.columns.specs.CellAt.{number_at};
 ghost use Rattle.columns.specs.Offsets.{width_of};
 
 use byteorder::{ByteOrder, LittleEndian};
@@ -27,18 +26,6 @@ pub(crate) fn put_offset(offsets: &mut [u8], width: OffsetWidth, place: usize, o
     match width {
         OffsetWidth::Four => put_number::<4>(offsets, 4 * place, offset),
         OffsetWidth::Eight => put_number::<8>(offsets, 8 * place, offset),
-    }
-}
-
-/// The offset at a place.
-#[inline]
-pub(crate) fn offset_at(offsets: &[u8], width: OffsetWidth, i: usize) -> u64
-    requires { (i + 1) * width_of width ≤ length offsets.now }
-    ensures { result ≡ number_at (width_of width) offsets.now i }
-{
-    match width {
-        OffsetWidth::Four => u64::from(LittleEndian::read_u32(&offsets[i * 4..])),
-        OffsetWidth::Eight => LittleEndian::read_u64(&offsets[i * 8..]),
     }
 }
 

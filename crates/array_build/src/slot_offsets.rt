@@ -11,10 +11,10 @@ ghost use Rattle.columns.specs.Offsets.{width_of};
 ghost use Rattle.columns.specs.Tests.{are_few_offsets, are_unordered};
 ghost use Rattle.columns.specs.View.{view_array};
 
-use crate::number_bytes::{offset_at, put_offset};
+use crate::number_bytes::put_offset;
 use crate::widths::offset_size;
 use bitmap::get;
-use columns::{ArrayView, OffsetWidth};
+use columns::{ArrayView, OffsetWidth, offset_at};
 use std::alloc::AllocError;
 
 // Writes the offsets at which the spans of slots begin, the first at `start`, over as many; and answers where the last ends.

@@ -1,24 +1,12 @@
 // Slots of texts or binaries, with the buffers that each slot is read from.
-ghost use Rattle.std.specs.Prelude.{◌≡◌, ◌<◌, ◌≤◌, ◌+◌, ◌-◌, ◌*◌, ◌&&◌, ℕ, false, length, if◌then◌else◌};
+ghost use Rattle.std.specs.Prelude.{◌≡◌, ◌<◌, ◌≤◌, ◌+◌, ◌-◌, ℕ, false, if◌then◌else◌};
 ghost use Rattle.columns.specs.Array.{offsets_in, slots_in, validity_in};
 ghost use Rattle.columns.specs.CellAt.{is_valid, number_at, span_size};
 ghost use Rattle.columns.specs.Offsets.{width_of};
 ghost use Rattle.columns.specs.Tests.{are_few_offsets, has_short_validity};
 ghost use Rattle.columns.specs.View.{view_array};
 
-use byteorder::{ByteOrder, LittleEndian};
-use columns::{ArrayView, OffsetWidth};
-
-#[inline]
-fn offset_at(offsets: &[u8], width: OffsetWidth, i: usize) -> u64
-    requires { (i + 1) * width_of width ≤ length offsets.now }
-    ensures { result ≡ number_at (width_of width) offsets.now i }
-{
-    match width {
-        OffsetWidth::Four => u64::from(LittleEndian::read_u32(&offsets[i * 4..])),
-        OffsetWidth::Eight => LittleEndian::read_u64(&offsets[i * 8..]),
-    }
-}
+use columns::{ArrayView, OffsetWidth, offset_at};
 
 /// Which slots of an array are valid. Its validity bitmap is found once, and not again for each slot.
 #[derive(Clone, Copy)]

@@ -204,8 +204,11 @@ pub(crate) fn put_entry_runs(runs: &mut Vec<Run>, entry: &TableEntry) -> Result<
     put_runs(runs, entry.segments())
 }
 
-// Appends the runs of these segments.
-pub(crate) fn put_runs(runs: &mut Vec<Run>, segments: &[Segment]) -> Result<(), AllocError>
+/// Appends the runs of segments.
+///
+/// # Errors
+/// `AllocError` where memory was refused: then some of the runs may be appended.
+pub fn put_runs(runs: &mut Vec<Run>, segments: &[Segment]) -> Result<(), AllocError>
     ensures { OnOk result (runs.new.items ≡ runs.old.items ++ map (λ (s : Segment). s.place.run) segments.now) }
 {
     for segment in segments {

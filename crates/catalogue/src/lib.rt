@@ -29,6 +29,7 @@ mod testing;
 
 pub use catalogue::Catalogue;
 pub use decoding::{DecodeError, decode, decode_page};
+pub use edits::put_runs;
 pub use encoding::{encode, encode_page, page_size};
 pub use entry::{RootEntry, Segment, SegmentForm, TableEntry};
 pub use laws::{

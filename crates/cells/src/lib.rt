@@ -28,7 +28,7 @@ pub use entry::{Entry, entry_of, note};
 pub use fit::fits;
 pub use holding::entry_limit;
 pub use laws::{entries_are_the_distinct_values, one_entry_is_one_value};
-pub use limited::has_limits;
+pub use limited::{has_limit, has_limits};
 pub use limits::{MAX_PIECE_ROWS, MAX_PIECE_WEIGHT, MAX_ROW_WEIGHT, MAX_TABLE_WEIGHT, TOO_HEAVY};
 pub use row::Row;
 pub use value::Value;

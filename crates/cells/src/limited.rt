@@ -7,7 +7,8 @@ ghost use Rattle.cells.specs.Dictionary.{has_limit, is_limited, is_kind_limited,
 use crate::holding::entry_limit;
 use arrow_schema::{DataType, DictSpec, Field, Schema};
 
-fn has_limit(dictionary: Option<DictSpec>) -> bool
+/// Whether the indices of a dictionary, where there is one, can name only some entries.
+pub fn has_limit(dictionary: Option<DictSpec>) -> bool
     ensures { result ≡ has_limit (option_map index_of dictionary) }
 {
     match dictionary {

@@ -10,7 +10,7 @@ ghost use Rattle.columns.specs.Offsets.{width_of};
 ghost use Rattle.columns.specs.View.{view_array};
 
 use crate::array::PlacedArray;
-use crate::numbers::{OffsetWidth, date_integer, offset_at};
+use crate::numbers::{OffsetWidth, date_integer, slot_offset};
 use crate::view::ArrayView;
 use arrow_schema::{DataType, Field};
 use byteorder::{ByteOrder, LittleEndian};
@@ -152,7 +152,7 @@ fn are_unordered(width: OffsetWidth, most: usize, view: ArrayView<'_>) -> bool
     if any_falls(width, offsets, slots) {
         return true;
     }
-    let last = offset_at(width, offsets, slots, slots);
+    let last = slot_offset(width, offsets, slots, slots);
     is_negative(width, last) || most < last
 }
 

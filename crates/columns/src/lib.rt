@@ -40,7 +40,10 @@ pub use laws::{
     rows_can_be_built, worked_cases, written_arrays_have_their_shape, written_arrays_pass,
     written_slots_pass,
 };
-pub use numbers::{OffsetWidth, date_integer, least_negative, push_offset, timestamp_integer};
+pub use numbers::{
+    OffsetWidth, date_integer, least_negative, offset_at, push_index, push_offset,
+    timestamp_integer,
+};
 pub use read::{row, value};
 pub use slot_runs::SlotRun;
 pub use span::{Span, bytes_at};

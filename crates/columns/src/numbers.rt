@@ -69,7 +69,7 @@ pub fn push_offset(offsets: &mut Vec<u8>, width: OffsetWidth, offset: u64) -> Re
 }
 
 // An offset, of which there is one more than slots.
-pub(crate) fn offset_at(width: OffsetWidth, offsets: &[u8], slots: usize, i: usize) -> usize
+pub(crate) fn slot_offset(width: OffsetWidth, offsets: &[u8], slots: usize, i: usize) -> usize
     requires long { nat_lt (length offsets.now) ((slots + 1) * width_of width) ≡ false }
     requires within { i ≤ slots }
     requires few { slots + 1 < 18446744073709551616 }
@@ -77,6 +77,35 @@ pub(crate) fn offset_at(width: OffsetWidth, offsets: &[u8], slots: usize, i: usi
 {
     let rest = from_place(offsets, width.bytes(), slots + 1, i);
     first_number(width, rest) as usize
+}
+
+/// The offset at a place, in bytes or items: an unsigned number, as in an array whose offsets rise from 0 or more.
+#[inline]
+pub fn offset_at(offsets: &[u8], width: OffsetWidth, i: usize) -> u64
+    requires { (i + 1) * width_of width ≤ length offsets.now }
+    ensures { result ≡ number_at (width_of width) offsets.now i }
+{
+    match width {
+        OffsetWidth::Four => u64::from(LittleEndian::read_u32(&offsets[i * 4..])),
+        OffsetWidth::Eight => LittleEndian::read_u64(&offsets[i * 8..]),
+    }
+}
+
+/// Appends an index of a dictionary.
+///
+/// # Errors
+/// `AllocError` where memory was refused: nothing is appended.
+pub fn push_index(indices: &mut Vec<u8>, width: BitWidth, index: u64) -> Result<(), AllocError>
+    ensures ok { OnOk result (indices.new.items ≡ indices.old.items ++ little_bytes (bits_of width / 8) index) }
+    ensures err { OnErr result (indices.new.items ≡ indices.old.items) }
+{
+    let bytes = index.to_le_bytes();
+    match width {
+        BitWidth::Eight => indices.extend_from_slice(&bytes[..1]),
+        BitWidth::Sixteen => indices.extend_from_slice(&bytes[..2]),
+        BitWidth::ThirtyTwo => indices.extend_from_slice(&bytes[..4]),
+        BitWidth::SixtyFour => indices.extend_from_slice(&bytes),
+    }
 }
 
 fn first_signed(width: BitWidth, bytes: &[u8]) -> i128

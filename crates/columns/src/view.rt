@@ -9,7 +9,7 @@ ghost use Rattle.columns.specs.View.{view_array, option_array, IsNoArray, array_
 
 use crate::array::{Dictionary, DictionaryPart, PlacedArray, PlacedLayout};
 use crate::dictionary::KnownArrays;
-use crate::numbers::{OffsetWidth, offset_at};
+use crate::numbers::{OffsetWidth, slot_offset};
 use crate::span::{Span, bytes_at};
 
 /// An array with the bytes that it stands in, and the dictionaries.
@@ -149,8 +149,8 @@ impl<'a> ArrayView<'a> {
             - span_start (width_of width) (view_array self.entry) from }
     {
         let offsets = self.offsets();
-        let start = offset_at(width, offsets, self.slots(), from);
-        let end = offset_at(width, offsets, self.slots(), from + count);
+        let start = slot_offset(width, offsets, self.slots(), from);
+        let end = slot_offset(width, offsets, self.slots(), from + count);
         Span {
             start,
             len: end.saturating_sub(start),

@@ -40,7 +40,8 @@ pub struct Commit {
 const LETTERS: [u8; 8] = *b"ARWSTOR1";
 
 impl FormatVersion {
-    fn number(self) -> u32
+    /// The number of the version, as it stands in a commit sector.
+    pub fn number(self) -> u32
         ensures { result ≡ version_number self }
     {
         match self {

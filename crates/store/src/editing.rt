@@ -17,11 +17,10 @@ ghost use Rattle.store.specs.Changes.{edit_of, new_entry, page_over, page_instea
 ghost use Rattle.store.specs.Carrying.{unplaced};
 ghost use Rattle.store.specs.inner.Prepared.{in_runs, CanGive};
 ghost use Rattle.store.specs.laws.Edited.{segments_at};
-ghost use Rattle.store.specs.laws.ExchangedRuns.{run_of};
 
 use crate::change::Edit;
 use arrow_schema::Schema;
-use catalogue::{Catalogue, MAX_SEGMENT_ROWS, Segment, TableEntry};
+use catalogue::{Catalogue, MAX_SEGMENT_ROWS, Segment, TableEntry, put_runs};
 use cells::MAX_PIECE_ROWS;
 use commit::FormatVersion;
 use ipc_write::write_schema;
@@ -133,15 +132,6 @@ pub(crate) fn edited(
         Edit::Digest { digests } => changed.set_digests(digests)?,
     }
     Ok(changed)
-}
-
-fn put_runs(runs: &mut Vec<Run>, segments: &[Segment]) -> Result<(), AllocError>
-    ensures { OnOk result (runs.new.items ≡ runs.old.items ++ map run_of segments.now) }
-{
-    for segment in segments {
-        runs.push(segment.place.run)?;
-    }
-    Ok(())
 }
 
 // n segments of a table, from a place on.

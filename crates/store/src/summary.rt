@@ -1,12 +1,11 @@
 // A store in numbers.
 ghost use Rattle.std.specs.Prelude.{◌≡◌, ◌≤◌, ◌<◌, ◌+◌, ◌^◌, ◌∷◌, true, None, sum_by, IfOk, IfErr};
 ghost use Rattle.segments.specs.Usages.{IsUsedIn};
-ghost use Rattle.commit.specs.Sector.{version_number};
 ghost use Rattle.commit.specs.Standing.{is_size, is_on_device, runs_fault};
 ghost use Rattle.store.specs.Summary.{CountsKept, IsLargest};
 
 use crate::Store;
-use commit::{FormatVersion, occupy_runs};
+use commit::occupy_runs;
 use sector_dev::SectorDevice;
 use segments::{FreeMap, Run};
 use std::alloc::Global;
@@ -30,15 +29,6 @@ pub struct Summary {
     pub largest_free_run: u64,
     pub tables: u64,
     pub segments: u64,
-}
-
-fn version_number(version: FormatVersion) -> u32
-    ensures { result ≡ version_number version }
-{
-    match version {
-        FormatVersion::One => 1,
-        FormatVersion::Two => 2,
-    }
 }
 
 fn sectors_of(runs: &[Run]) -> u64
@@ -125,7 +115,7 @@ impl<D: SectorDevice> Store<D> {
         let used = 2 + text.count + sectors_of(&runs);
         let kept = sectors_kept(alloc, sectors, text, &runs, &self.book.runs(alloc)?)?;
         Ok(Summary {
-            format_version: version_number(opened.commit.version),
+            format_version: opened.commit.version.number(),
             epoch: opened.commit.epoch,
             sectors,
             used,

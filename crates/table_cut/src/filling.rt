@@ -1,21 +1,12 @@
 // Which schemas have a dictionary that a row by itself can fill: one with a limit that stands below a list.
-ghost use Rattle.std.specs.Prelude.{◌≡◌, map, option_map};
+ghost use Rattle.std.specs.Prelude.{◌≡◌, map};
 ghost use Rattle.arrow_schema.specs.Column.{columns_of};
-ghost use Rattle.arrow_schema.specs.View.{kind_of, column_of, index_of, schema_of};
+ghost use Rattle.arrow_schema.specs.View.{kind_of, column_of, schema_of};
 ghost use Rattle.cells.specs.Dictionary.{has_limit};
 ghost use Rattle.table_cut.specs.inner.Filling.{can_fill, can_kind_fill, can_any_fill, can_row_fill};
 
-use arrow_schema::{DataType, DictSpec, Field, Schema};
-use cells::entry_limit;
-
-fn has_limit(dictionary: Option<DictSpec>) -> bool
-    ensures { result ≡ has_limit (option_map index_of dictionary) }
-{
-    match dictionary {
-        None => false,
-        Some(dictionary) => entry_limit(dictionary.index).is_some(),
-    }
-}
+use arrow_schema::{DataType, Field, Schema};
+use cells::has_limit;
 
 #[tactic(auto, unfolding(crate::specs::inner::Filling::can_fill))]
 #[cycle(filling)]

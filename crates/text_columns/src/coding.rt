@@ -1,13 +1,12 @@
 // Columns with a dictionary: each value is looked up among the entries that were seen, and its index is written.
 ghost use Rattle.std.specs.Prelude.{◌≡◌, ◌+◌, ◌++◌, ◌/◌, ◌∷◌, [], true, position, bytes_eq, IfOk, IfSome, OnOk};
-ghost use Rattle.arrow_schema.specs.View.{bits_of};
-ghost use Rattle.byteorder.specs.Endian.{little_bytes};
 ghost use Rattle.cells.specs.Dictionary.{entry_limit, is_within};
 ghost use Rattle.text_columns.specs.inner.Kept.{Codes, Places, TakesField, TakesNullCell, index_type, key_list};
 
 use crate::column_values::Values;
-use arrow_schema::{BitWidth, IntegerType};
+use arrow_schema::IntegerType;
 use cells::entry_limit;
+use columns::push_index;
 use indexmap::IndexSet;
 use std::alloc::AllocError;
 
@@ -19,18 +18,6 @@ pub(crate) struct Coding {
     pub(crate) indices: Vec<u8>,
     pub(crate) keys: IndexSet<Vec<u8>>,
     pub(crate) one: Values,
-}
-
-fn push_index(indices: &mut Vec<u8>, width: BitWidth, index: u64) -> Result<(), AllocError>
-    ensures { OnOk result (indices.new.items ≡ indices.old.items ++ little_bytes (bits_of width / 8) index) }
-{
-    let bytes = index.to_le_bytes();
-    match width {
-        BitWidth::Eight => indices.extend_from_slice(&bytes[..1]),
-        BitWidth::Sixteen => indices.extend_from_slice(&bytes[..2]),
-        BitWidth::ThirtyTwo => indices.extend_from_slice(&bytes[..4]),
-        BitWidth::SixtyFour => indices.extend_from_slice(&bytes),
-    }
 }
 
 // Whether indices of a type can name one more entry than these.

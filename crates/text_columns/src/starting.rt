@@ -1,8 +1,7 @@
 // The buffers of the columns of a schema, before there is a row.
-ghost use Rattle.std.specs.Prelude.{◌≡◌, ◌+◌, ◌++◌, true, false, sum_by, None, Some, [], ◌∷◌, map, option_map, IfOk, IfSome};
-ghost use Rattle.byteorder.specs.Endian.{little_bytes};
+ghost use Rattle.std.specs.Prelude.{◌≡◌, ◌+◌, true, false, sum_by, None, Some, [], map, IfOk, IfSome};
 ghost use Rattle.arrow_schema.specs.Parts.{index_of_column};
-ghost use Rattle.arrow_schema.specs.View.{column_of, index_of, kind_of};
+ghost use Rattle.arrow_schema.specs.View.{column_of, kind_of};
 ghost use Rattle.cells.specs.Dictionary.{has_limit};
 ghost use Rattle.text_columns.specs.inner.Kept.{AreUnlimited, HoldContents, KeepAll, Keeps, StartsBinaries, StartsFixedLists, StartsLists, StartsStructs, StartsTexts, Takes, null_heavy_of};
 
@@ -12,7 +11,7 @@ use crate::column_values::Values;
 use crate::flat::FlatBuilder;
 use crate::members::names_of;
 use arrow_schema::{DataType, DictSpec, Field};
-use cells::entry_limit;
+use cells::has_limit;
 use columns::{OffsetWidth, date_integer, push_offset, timestamp_integer};
 use indexmap::IndexSet;
 use std::alloc::{AllocError, Global};
@@ -103,23 +102,13 @@ fn no_coded_cells(
     })))
 }
 
-// Whether a dictionary has a limit.
-fn has_limit(dictionary: &Option<DictSpec>) -> bool
-    ensures { result ≡ has_limit (option_map index_of dictionary.now) }
-{
-    match dictionary {
-        Some(spec) => entry_limit(spec.index).is_some(),
-        None => false,
-    }
-}
-
 // The buffers of a column below another, where no row fills its dictionary.
 #[cycle(starting)]
 fn no_items(alloc: Global, item: &Field) -> Result<Option<ColumnBuilder>, AllocError>
     ensures { IfOk result (λ started. IfSome started (λ items.
         (has_limit (index_of_column (column_of item.now)) ≡ false) × Keeps (column_of item.now) [] items)) }
 {
-    if has_limit(&item.dictionary) {
+    if has_limit(item.dictionary) {
         return Ok(None);
     }
     no_cells(alloc, item)
@@ -183,7 +172,7 @@ fn has_limits(fields: &[Field]) -> bool
     ensures { result ≡ false → AreUnlimited (map column_of fields.now) }
 {
     for field in fields {
-        if has_limit(&field.dictionary) {
+        if has_limit(field.dictionary) {
             return true;
         }
     }

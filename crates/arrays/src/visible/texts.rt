@@ -12,8 +12,7 @@ ghost use Rattle.columns.specs.View.{view_array};
 ghost use Rattle.arrays.specs.inner.VisibleSpans.{any_slot, is_no_plain_text, text_width};
 
 use arrow_schema::{DataType, Field};
-use byteorder::{ByteOrder, LittleEndian};
-use columns::{ArrayView, OffsetWidth, bytes_at};
+use columns::{ArrayView, OffsetWidth, bytes_at, offset_at};
 use ipc_message::is_utf8;
 
 fn is_text_at(width: OffsetWidth, view: ArrayView<'_>, i: usize) -> bool
@@ -34,16 +33,6 @@ fn has_other_bytes(width: OffsetWidth, view: ArrayView<'_>, i: usize) -> bool
     view.is_valid(i) && !is_text_at(width, view, i)
 }
 
-fn offset_at(offsets: &[u8], width: OffsetWidth, i: usize) -> usize
-    requires { (i + 1) * width_of width ≤ length offsets.now }
-    ensures { result ≡ number_at (width_of width) offsets.now i }
-{
-    match width {
-        OffsetWidth::Four => LittleEndian::read_u32(&offsets[i * 4..]) as usize,
-        OffsetWidth::Eight => LittleEndian::read_u64(&offsets[i * 8..]) as usize,
-    }
-}
-
 // At each of some offsets a character of a text begins, which itself begins at `start`.
 fn are_boundaries(
     text: &str,
@@ -57,7 +46,7 @@ fn are_boundaries(
     ensures { result ≡ true → (i : ℕ) → from ≤ i → i < to → IsCharBoundary text.now (number_at (width_of width) offsets.now i - start) }
 {
     for i in from..to {
-        if !text.is_char_boundary(offset_at(offsets, width, i).saturating_sub(start)) {
+        if !text.is_char_boundary((offset_at(offsets, width, i) as usize).saturating_sub(start)) {
             return false;
         }
     }

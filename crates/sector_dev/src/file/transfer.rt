@@ -158,8 +158,9 @@ impl<F: Read + Write + Seek + OpenFile + Drop> FileDevice<F> {
     {
         match done {
             Ok(()) => Ok(()),
-            Err(_) => {
+            Err(e) => {
                 self.failed = self.failed.saturating_add(1);
+                self.last_error = Some(e);
                 Err(DevError::Failed)
             }
         }

@@ -22,7 +22,7 @@ loop-cell-preserved c =
     let item = drop-item c.args.cells.now c.loop-cell.cell-index c.cell-item.result c.loop-cell-test.true c.cell-item.is in
     let kept = sym (ap (λ (cells : List ValueRef). made ++ flat_map bytes (map borrowed_cell cells)) item) ∙ c.loop-cell.invariant in
     turned made (bytes (borrowed_cell c.cell-item.result)) (flat_map bytes (map borrowed_cell others)) _ _
-    (c.in_ok-push_index.ensures ∙ ap (λ (n : ℕ). made ++ little_bytes (bits_of c.args.index.width / 8) n) c.entry_index-place.ensures) kept
+    (c.in_ok-push_index.ensures.ok ∙ ap (λ (n : ℕ). made ++ little_bytes (bits_of c.args.index.width / 8) n) c.entry_index-place.ensures) kept
 
 pub returns : goal.returns
 returns c =

@@ -15,4 +15,4 @@ returns-in-Some c =
     let d = c.in-Some.coding in
     let new : Coding = record { index = d.index; indices = c.push_index.new.indices; keys = d.keys; one = d.one } in
     subst (λ (o : Option Coding). OnOk c.push_index.result (TakesNullCell c.args.values.now o c.args.values.now (Some new))) (sym c.in-Some.is)
-    (coded_null_step c.args.values.now d c.push_index.new.indices c.push_index.result c.push_index.ensures)
+    (coded_null_step c.args.values.now d c.push_index.new.indices c.push_index.result c.push_index.ensures.ok)

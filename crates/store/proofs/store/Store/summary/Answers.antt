@@ -36,7 +36,7 @@ returns g c =
     let same = ap (sum_by (λ (r : Run). r.count)) (c.deref.ensures.value ∙ sym c.deref-2.ensures.value) in (
       c.if-self.false,
       record {
-        format_version = c.version_number.ensures;
+        format_version = c.number.ensures;
         epoch = refl;
         sectors = c.sectors-sectors.ensures;
         used = used_are text (runs_of (listed_in store)) c.deref.result.now c.sectors_of.result c.sectors_of.ensures are;
