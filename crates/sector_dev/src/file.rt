@@ -41,8 +41,6 @@ pub struct FileDevice<F: Read + Write + Seek + OpenFile + Drop> {
     file: F,
     sectors: u64,
     failed: u64,
-    // why the last of the calls that failed did
-    last_error: Option<io::Error>,
     // buffered writes: written, and not yet in the file
     writes: Buffer,
     // read from the file before it was asked for; dropped as soon as the file is written

@@ -10,15 +10,8 @@ ghost use Rattle.sector_dev.specs.Written.{buffered, IsEmpty, Empties, Buffers, 
 use super::FileDevice;
 use crate::{DevError, SectorDevice};
 use std::fs::OpenFile;
-use std::io::{self, Read, Seek, Write};
+use std::io::{Read, Seek, Write};
 use std::slice;
-
-impl<F: Read + Write + Seek + OpenFile + Drop> FileDevice<F> {
-    /// Why the last of the calls that failed did; none where no call has failed.
-    pub fn last_error(&self) -> Option<io::Error> {
-        self.last_error
-    }
-}
 
 impl<F: Read + Write + Seek + OpenFile + Drop> SectorDevice for FileDevice<F> {
     ghost size = { λ f. f.sectors };

@@ -198,7 +198,6 @@ impl<F: Read + Write + Seek + OpenFile + Drop> FileDevice<F> {
             file,
             sectors,
             failed: 0,
-            last_error: None,
             writes: Buffer::empty(alloc),
             ahead: Buffer::empty(alloc),
         }

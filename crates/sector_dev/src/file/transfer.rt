@@ -158,9 +158,8 @@ impl<F: Read + Write + Seek + OpenFile + Drop> FileDevice<F> {
     {
         match done {
             Ok(()) => Ok(()),
-            Err(e) => {
+            Err(_) => {
                 self.failed = self.failed.saturating_add(1);
-                self.last_error = Some(e);
                 Err(DevError::Failed)
             }
         }
