@@ -1,8 +1,12 @@
-// What is asked once more of the system, of a store, of a script and of what is kept of the input, where a person reads why a request was refused.
+// What is asked once more of the system, of a store, of a script and of what is kept of the input, where a person reads why a request was refused, and no
+// read or write is known to have failed.
+use crate::Failures;
 use crate::copying_files::open_to_read;
+use crate::failed_file::KeptFile;
+use crate::failing::{is_of_failure, told_failure};
 use crate::input_again::{FoundField, field_of_no_table, field_with_fault};
 use crate::script_again::line_of_script;
-use crate::unopened::{Unopened, refused_file};
+use crate::unopened::refused_file;
 use cli_refusals::Refusal;
 use cli_requests::{StoreCommand, StoreRequest};
 use cli_texts::Audience;
@@ -18,8 +22,12 @@ use values::Table;
 #[derive(Drop)]
 pub(crate) enum AskedAgain {
     Nothing,
-    /// The file that was not opened, read or made, and why.
-    File(Unopened),
+    /// The file that was not opened, made, read or written, and why.
+    File(KeptFile),
+    /// Why the input was not read.
+    Input(String),
+    /// Why the output was not written.
+    Output(String),
     /// A table without rows, of the schema of the one that a query was refused for.
     Queried(Table),
     /// The name of a table that can't be read.
@@ -28,6 +36,17 @@ pub(crate) enum AskedAgain {
     Line(Vec<u8>),
     /// What is said of a field of the input.
     Field(FoundField),
+}
+
+/// What is known of a request that was served, beside how it ended.
+#[derive(Clone, Copy)]
+pub(crate) struct Served<'a> {
+    /// What `is_there` gave before it was served.
+    pub(crate) was_there: bool,
+    /// What is kept of the input.
+    pub(crate) start: &'a [u8],
+    /// How the last read or write failed.
+    pub(crate) failures: &'a Failures,
 }
 
 // The file of the store and the name of the table that is queried.
@@ -104,13 +123,17 @@ fn unread_table<
 fn found_of<F: Read + Write + Seek + OpenFile + LockFile + Drop, H: Files<File = F> + AllocGlobal>(
     rt: &H,
     request: &StoreRequest<'_>,
-    was_there: bool,
-    start: &[u8],
+    served: Served<'_>,
     refusal: &Refusal,
 ) -> Option<AskedAgain> {
+    if is_of_failure(refusal) {
+        if let Some(failure) = served.failures.take() {
+            return told_failure(rt.alloc(), request, &failure);
+        }
+    }
     match refusal {
         Refusal::Io | Refusal::BadSize => {
-            let file = refused_file(rt, request, was_there, refusal)?;
+            let file = refused_file(rt, request, served.was_there, refusal)?;
             Some(AskedAgain::File(file))
         }
         Refusal::BadScript(number) => {
@@ -126,32 +149,31 @@ fn found_of<F: Read + Write + Seek + OpenFile + LockFile + Drop, H: Files<File =
             Some(AskedAgain::Unread(name))
         }
         Refusal::Store(tables::Refusal::Import(fault)) => {
-            let field = field_with_fault(rt.alloc(), start, *fault)?;
+            let field = field_with_fault(rt.alloc(), served.start, *fault)?;
             Some(AskedAgain::Field(field))
         }
         Refusal::Store(tables::Refusal::SchemaMismatch) => {
-            let field = field_of_no_table(rt, request, start)?;
+            let field = field_of_no_table(rt, request, served.start)?;
             Some(AskedAgain::Field(field))
         }
         _ => None,
     }
 }
 
-/// Asks again where a person reads why a request ended so. `was_there` is what `is_there` gave before it was served, and `start` what is kept of the input.
+/// Asks again where a person reads why a request ended so.
 pub(crate) fn ask_again<
     F: Read + Write + Seek + OpenFile + LockFile + Drop,
     H: Files<File = F> + AllocGlobal,
 >(
     rt: &H,
     request: &StoreRequest<'_>,
-    was_there: bool,
-    start: &[u8],
+    served: Served<'_>,
     done: &Result<(), Refusal>,
     audience: Audience,
 ) -> AskedAgain {
     match (audience, done) {
         (Audience::Terminal, Err(refusal)) => {
-            match found_of(rt, request, was_there, start, refusal) {
+            match found_of(rt, request, served, refusal) {
                 Some(found) => found,
                 None => AskedAgain::Nothing,
             }

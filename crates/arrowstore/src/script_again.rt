@@ -1,5 +1,6 @@
 // A script that was refused is read once more, where a person reads why.
-use crate::unopened::{Unopened, not_read};
+use crate::failed_file::KeptFile;
+use crate::unopened::not_read;
 use cli_refusals::MOST_SHOWN;
 use cli_replay::{ScriptLine, parse_script};
 use cli_requests::StoreRequest;
@@ -34,7 +35,7 @@ fn is_opened<H: Files>(rt: &H, path: &str) -> bool {
 
 /// The first file that the lines of the script at a path name and that is not opened, where it is known why. A long path, which could hide the rest of the
 /// line, is not reported.
-pub(crate) fn not_read_of_script<H: Files + AllocGlobal>(rt: &H, path: &str) -> Option<Unopened> {
+pub(crate) fn not_read_of_script<H: Files + AllocGlobal>(rt: &H, path: &str) -> Option<KeptFile> {
     let script = read_again(rt, path)?;
     let lines = parse_script(rt.alloc(), &script).ok()?;
     for line in &lines {

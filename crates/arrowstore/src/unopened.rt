@@ -1,10 +1,8 @@
 // Why a file was not opened or made: the system is asked once more, and its reason is reported.
-ghost use Rattle.std.specs.Prelude.{◌≡◌, None, Some};
-ghost use Rattle.arrowstore.specs.OnFiles.{hinted_of};
-
+use crate::failed_file::{KeptFile, Reason, system_text};
 use crate::script_again::not_read_of_script;
-use crate::serving::has_sectors;
-use cli_refusals::{FileReason, Hint, Refusal, UnopenedFile};
+use crate::serving::{has_no_sectors_at, has_sectors};
+use cli_refusals::Refusal;
 use cli_requests::StoreRequest;
 use sector_dev::LockFile;
 use std::alloc::Global;
@@ -12,65 +10,8 @@ use std::fs::{self, File, OpenFile, OpenOptions};
 use std::io::{self, ErrorKind};
 use std::rt::Files;
 
-#[derive(Drop)]
-enum Reason {
-    Locked,
-    Exists,
-    Folder,
-    NotRegular,
-    System(String),
-}
-
-/// A file that was not opened or made, and why.
-#[derive(Drop)]
-pub(crate) struct Unopened {
-    path: String,
-    reason: Reason,
-}
-
-impl Unopened {
-    // A path with control characters, which could do something to a terminal, is not reported.
-    fn new(alloc: Global, path: &str, reason: Option<Reason>) -> Option<Unopened> {
-        let reason = reason?;
-        if path.chars().any(char::is_control) {
-            return None;
-        }
-        Some(Unopened {
-            path: String::from_str(alloc, path).ok()?,
-            reason,
-        })
-    }
-
-    /// The hint that names the file and the reason.
-    pub(crate) fn hint(&self) -> Hint<'_>
-        ensures { hinted_of (Some result) ≡ None }
-    {
-        let reason = match &self.reason {
-            Reason::Locked => FileReason::Locked,
-            Reason::Exists => FileReason::Exists,
-            Reason::Folder => FileReason::Folder,
-            Reason::NotRegular => FileReason::NotRegular,
-            Reason::System(text) => FileReason::System(text.as_str()),
-        };
-        Hint::File(UnopenedFile {
-            path: self.path.as_str(),
-            reason,
-        })
-    }
-}
-
-// The system's text of an error, as `Permission denied (os error 13)`, without its number.
-fn without_number(text: &str) -> &str {
-    match text.split_once(" (") {
-        Some((words, _)) => words,
-        None => text,
-    }
-}
-
 fn system_reason(alloc: Global, error: &io::Error) -> Option<Reason> {
-    let text = format!(in alloc; "{error}").ok()?;
-    let words = String::from_str(alloc, without_number(text.as_str())).ok()?;
-    Some(Reason::System(words))
+    Some(Reason::Unopened(system_text(alloc, error)?))
 }
 
 fn reason_of_lock<F: LockFile>(alloc: Global, file: &F, only_reads: bool) -> Option<Reason> {
@@ -136,36 +77,32 @@ fn not_opened<F: OpenFile + LockFile + Drop, H: Files<File = F> + AllocGlobal>(
     rt: &H,
     path: &str,
     only_reads: bool,
-) -> Option<Unopened> {
+) -> Option<KeptFile> {
     let reason = match reason_of_kind(rt, path) {
         Some(reason) => Some(reason),
         None => reason_of_opening(rt, path, only_reads),
     };
-    Unopened::new(rt.alloc(), path, reason)
+    KeptFile::new(rt.alloc(), path, reason?)
 }
 
 /// A script or a file of one, which is read without a lock. A named pipe may be either; it is not opened, since it would be waited for.
-pub(crate) fn not_read<H: Files + AllocGlobal>(rt: &H, path: &str) -> Option<Unopened> {
-    let reason = match reason_of_kind(rt, path) {
-        Some(Reason::NotRegular) => None,
-        Some(reason) => Some(reason),
-        None => {
-            let error = fs::open(rt, path).err()?;
-            system_reason(rt.alloc(), &error)
-        }
-    };
-    Unopened::new(rt.alloc(), path, reason)
+pub(crate) fn not_read<H: Files + AllocGlobal>(rt: &H, path: &str) -> Option<KeptFile> {
+    if has_no_sectors_at(rt, path) {
+        return None;
+    }
+    let error = fs::open(rt, path).err()?;
+    KeptFile::new(rt.alloc(), path, system_reason(rt.alloc(), &error)?)
 }
 
 fn not_made<F: OpenFile + LockFile + Drop, H: Files<File = F> + AllocGlobal>(
     rt: &H,
     path: &str,
     was_there: bool,
-) -> Option<Unopened> {
+) -> Option<KeptFile> {
     if was_there {
-        return Unopened::new(rt.alloc(), path, Some(Reason::Exists));
+        return KeptFile::new(rt.alloc(), path, Reason::Exists);
     }
-    Unopened::new(rt.alloc(), path, reason_of_making(rt, path))
+    KeptFile::new(rt.alloc(), path, reason_of_making(rt, path)?)
 }
 
 /// Whether something stands at the path of the file that a request makes.
@@ -185,7 +122,7 @@ fn failed_file<F: OpenFile + LockFile + Drop, H: Files<File = F> + AllocGlobal>(
     rt: &H,
     request: &StoreRequest<'_>,
     was_there: bool,
-) -> Option<Unopened> {
+) -> Option<KeptFile> {
     match request {
         StoreRequest::Format { path, .. } => not_made(rt, path, was_there),
         StoreRequest::Copy { path, new, .. } => match not_opened(rt, path, true) {
@@ -205,12 +142,12 @@ fn failed_file<F: OpenFile + LockFile + Drop, H: Files<File = F> + AllocGlobal>(
 fn file_without_size<H: Files + AllocGlobal>(
     rt: &H,
     request: &StoreRequest<'_>,
-) -> Option<Unopened> {
+) -> Option<KeptFile> {
     match request {
         StoreRequest::Copy { path, .. }
         | StoreRequest::Salvage { path, .. }
         | StoreRequest::Command { path, .. } => {
-            Unopened::new(rt.alloc(), path, reason_of_kind(rt, path))
+            KeptFile::new(rt.alloc(), path, reason_of_kind(rt, path)?)
         }
         StoreRequest::Format { .. } | StoreRequest::Replay(_) => None,
     }
@@ -223,7 +160,7 @@ pub(crate) fn refused_file<F: OpenFile + LockFile + Drop, H: Files<File = F> + A
     request: &StoreRequest<'_>,
     was_there: bool,
     refusal: &Refusal,
-) -> Option<Unopened> {
+) -> Option<KeptFile> {
     match refusal {
         Refusal::Io => failed_file(rt, request, was_there),
         Refusal::BadSize => file_without_size(rt, request),

@@ -18,12 +18,12 @@ ghost use Rattle.cli_refusals.specs.declared.refusal.Refusal.TheVariants as refu
 ghost use Rattle.cli_refusals.specs.declared.hint.Hint.{Hint};
 ghost use Rattle.store.specs.Salvaging.{plain_left};
 
-use crate::asking_again::{AskedAgain, ask_again};
+use crate::asking_again::{AskedAgain, Served, ask_again};
 use crate::ending::end_whole_or_partly;
 use crate::kept_start::Input;
-use crate::run;
 use crate::serving::serve;
 use crate::unopened::is_there;
+use crate::{Failures, run};
 use cli_refusals::{Hint, Hinted, Refusal};
 use cli_requests::{Mistake, StoreRequest, ask_for_help, is_of_store, refused_word, request_of};
 use cli_texts::{
@@ -75,6 +75,8 @@ fn found_hint<'a>(
 {
     match asked {
         AskedAgain::File(file) => Some(file.hint()),
+        AskedAgain::Input(reason) => Some(Hint::Input(reason.as_str())),
+        AskedAgain::Output(reason) => Some(Hint::Output(reason.as_str())),
         AskedAgain::Unread(name) => Some(Hint::UnreadTable(name.as_str())),
         AskedAgain::Line(text) => Some(Hint::ScriptLine(text.as_slice())),
         AskedAgain::Field(field) => Some(field.hint()),
@@ -118,6 +120,7 @@ fn serve_and_report<
     input: &mut R,
     output: &mut W,
     errors: &mut E,
+    failures: &Failures,
     audience: Audience,
 ) -> Ended
     ensures serves { ServesTold ⟦<FileDevice<F> as SectorDevice>⟧ IsOpenedFile R.remaining W.contents
@@ -134,7 +137,12 @@ fn serve_and_report<
     match hint_of(&hinted) {
         Some(hint) => end_whole_or_partly(done, &left_out, Some(hint), audience, errors),
         None => {
-            let asked = ask_again(rt, request, was_there, input.start(), &done, audience);
+            let served = Served {
+                was_there,
+                start: input.start(),
+                failures,
+            };
+            let asked = ask_again(rt, request, served, &done, audience);
             end_of_request(
                 rt.alloc(),
                 request,
@@ -182,6 +190,7 @@ fn run_on_store<
     input: &mut R,
     output: &mut W,
     errors: &mut E,
+    failures: &Failures,
     audience: Audience,
 ) -> Ended
     requires { is_of_store (map S.text arguments.now) ≡ true }
@@ -192,7 +201,7 @@ fn run_on_store<
     ensures input { (takes_input (map S.text arguments.now) ≡ true) ⊎ (input.new ≡ input.old) }
 {
     match request_of(rt.alloc(), arguments) {
-        Ok(request) => serve_and_report(rt, &request, input, output, errors, audience),
+        Ok(request) => serve_and_report(rt, &request, input, output, errors, failures, audience),
         Err(Mistake::Words(error)) => {
             report_mistake(
                 rt.alloc(),
@@ -208,7 +217,7 @@ fn run_on_store<
 }
 
 /// Does what the arguments ask for, of which the first is the program's name, also on the files of stores, and reports
-/// on `errors` why not.
+/// on `errors` why not. Of the reads and writes that are noted in `failures`, a person is told which has failed.
 pub fn run_with_files<
     F: Read + Write + Seek + OpenFile + LockFile + Drop,
     H: Files<File = F> + AllocGlobal,
@@ -222,6 +231,7 @@ pub fn run_with_files<
     input: &mut R,
     output: &mut W,
     errors: &mut E,
+    failures: &Failures,
     audience: Audience,
 ) -> Ended
     // Done: the command was right, or help or a text of the program's own was asked for.
@@ -254,7 +264,7 @@ pub fn run_with_files<
         errors.new result hint }
 {
     if is_of_store(arguments) {
-        return run_on_store(rt, arguments, input, output, errors, audience);
+        return run_on_store(rt, arguments, input, output, errors, failures, audience);
     }
     run(rt.alloc(), arguments, input, output, errors, audience)
 }

@@ -1,22 +1,12 @@
--- What is said to be refused, on a terminal before what to do: a word of the command line, a file, a part of the input, a field of a stream, a table, or a
--- line of a script.
-use Rattle.std.specs.Prelude.{ℕ, ◌==◌, ◌&&◌, ◌++◌, decimal, Bool, not, nat_le, codes, length, List, [], Option, Some, None, string_bytes, if◌then◌else◌}
-use Rattle.std.specs.Char.{is_control}
-use Rattle.std.specs.List.{list_any}
-use Rattle.std.specs.Str.{is_utf8, chars}
+-- What is said to be refused, on a terminal before what to do: a word of the command line, a file, the input or the output, a part of the input, a field of a
+-- stream, a table, or a line of a script.
+use Rattle.std.specs.Prelude.{ℕ, ◌==◌, ◌++◌, decimal, codes, List, [], Option, Some, None, string_bytes, if◌then◌else◌}
 use Rattle.text_import.specs.Part.{PlainPart, header_name, header_count, record_count, field, line, PlainLinePart, column_cell, other_count, unknown_name, part_of}
 use Rattle.cli_refusals.specs.declared.hint.Hint.{Hint}
-use Rattle.cli_refusals.specs.declared.hint.Hint.TheVariants.{Word, File, Part, Table, UnreadTable, ScriptLine, Field, OtherField, FieldCount}
-use Rattle.cli_refusals.specs.declared.shown.TheConstants.{MOST_SHOWN}
+use Rattle.cli_refusals.specs.declared.hint.Hint.TheVariants.{Word, File, Input, Output, Part, Table, UnreadTable, ScriptLine, Field, OtherField, FieldCount}
 use Rattle.cli_refusals.specs.RefusedWord.{role_text}
-use Rattle.cli_refusals.specs.Unopened.{reason_text}
-
--- what a terminal may be shown of an input: no long text, and none that could do something to it
-abbrev pub is_shown : List ℕ → Bool
-is_shown t = nat_le (length t) MOST_SHOWN && is_utf8 t && not (list_any is_control (chars t))
-
-abbrev pub shown : List ℕ → Option (List ℕ)
-shown t = if is_shown t then Some t else None
+use Rattle.cli_refusals.specs.FailedFile.{reason_text}
+use Rattle.cli_refusals.specs.Shown.{shown}
 
 -- of the name of a field, and its text
 abbrev pub field_text : (name text : Option (List ℕ)) → List ℕ
@@ -77,6 +67,8 @@ part_text (line part text) = line_text (shown text) ++ line_part_text part
 unfoldable pub hint_text : Hint → List ℕ
 hint_text (Word word) = codes "The " ++ role_text word.role ++ codes " `" ++ word.text.now ++ codes "` is refused. "
 hint_text (File file) = codes "The file `" ++ file.path.now ++ codes "` " ++ reason_text file.reason ++ codes ". "
+hint_text (Input reason) = codes "The input cannot be read: " ++ reason.now ++ codes ". "
+hint_text (Output reason) = codes "The output cannot be written: " ++ reason.now ++ codes ". "
 hint_text (Part part) = part_text (part_of part.now)
 hint_text (Table name) = table_text (shown (string_bytes name.now))
 hint_text (UnreadTable name) = table_text (shown name.now)

@@ -2,5 +2,6 @@ pub mod Refusals
 pub mod Remedies
 pub mod Page
 pub mod RefusedWord
+pub mod Shown
 pub mod Hint
-pub mod Unopened
+pub mod FailedFile

@@ -1,7 +1,7 @@
 // What is said to be refused, where more of it is known than the refusal carries.
 use crate::part_shown::{Counts, FieldShown, LineShown, OtherFieldShown, PartShown};
 use crate::shown::shown;
-use crate::{UnopenedFile, Word};
+use crate::{FailedFile, Word};
 use std::fmt;
 use text_import::RefusedPart;
 
@@ -19,8 +19,12 @@ pub enum Hinted {
 pub enum Hint<'a> {
     /// A word of the command line.
     Word(Word<'a>),
-    /// A file that the command line or a script names, and why it is not opened or made.
-    File(UnopenedFile<'a>),
+    /// A file that the command line or a script names, and why it is not opened, made, read or written.
+    File(FailedFile<'a>),
+    /// What the system says of a read of the input that failed.
+    Input(&'a str),
+    /// What the system says of a write of the output that failed.
+    Output(&'a str),
     /// A part of the input. Those of its strings are printed that a terminal may be shown.
     Part(&'a RefusedPart),
     /// The name of a table that a command hints at, which is printed where a terminal may be shown it.
@@ -76,7 +80,9 @@ impl fmt::Display for Hint<'_> {
     fn fmt<W: fmt::Write>(&self, f: &mut fmt::Formatter<W>) -> fmt::Result {
         match self {
             Hint::Word(Word { role, text }) => write!(f, "The {role} `{text}` is refused. "),
-            Hint::File(UnopenedFile { path, reason }) => write!(f, "The file `{path}` {reason}. "),
+            Hint::File(FailedFile { path, reason }) => write!(f, "The file `{path}` {reason}. "),
+            Hint::Input(reason) => write!(f, "The input cannot be read: {reason}. "),
+            Hint::Output(reason) => write!(f, "The output cannot be written: {reason}. "),
             Hint::Part(part) => {
                 let part = PartShown { part };
                 write!(f, "{part}")

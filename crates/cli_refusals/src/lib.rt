@@ -1,5 +1,5 @@
-//! Why a command of the program was refused, as it is reported: its text, what to do about it, and the word, the file, the part of
-//! the input, the table or the line of a script that is meant.
+//! Why a command of the program was refused, as it is reported: its text, what to do about it, and the word, the file, the input or
+//! output, the part of the input, the table or the line of a script that is meant.
 //!
 //! A [`Refusal`] holds those of the layers below, which become one by `?`. Promised are its text (`specs/Refusals.antt`) and
 //! [`Refusal::remedy`], a sentence that stands on the page of all refusals ([`refusals_page`]) too.
@@ -9,6 +9,7 @@
 //! ```
 #![tactic(auto)]
 
+mod failed_file;
 mod hint;
 mod output;
 mod page;
@@ -17,12 +18,11 @@ mod refusal;
 mod refused_word;
 mod remedies;
 mod shown;
-mod unopened;
 
+pub use failed_file::{FailedFile, FileReason};
 pub use hint::{Hint, Hinted};
 pub use output::write_whole;
 pub use page::{REFUSALS, refusals_page};
 pub use refusal::Refusal;
 pub use refused_word::{Role, Word};
-pub use shown::MOST_SHOWN;
-pub use unopened::{FileReason, UnopenedFile};
+pub use shown::{MOST_SHOWN, has_unshown};

@@ -20,14 +20,15 @@ pub const REFUSALS: [&str; 81] = [
 
 A refusal is one line on standard error: `refused`, a code, a name, and what it carries, as
 `refused S8 NoRoom 13`. On a terminal a second line says what to do, with the sentence that stands here,
-and names the word of the command line that is refused, the file with the reason, the field of a stream,
-the part of a text (a name of its header beside the one that is wanted, how many fields a record has, a
-field with its text, a line, a name that is no column), the line of a script, or the table that can't be
-read, where that is known and can be shown. The exit status is 1 then; it is 0 where all is done, and 2
-where the command line is wrong. A refused command has changed no table, but for S9 and G1, as said
-there. It has written no output, but for G1, and `salvage` for S9 and OutOfMemory too: that writes one
-segment after another. Where `salvage` leaves out segments that can't be read, it is not refused: it
-names each with its rows, as `left out segment 2 with 4096 rows`, and ends with status 1.
+and names the word of the command line that is refused, the file, the input or the output with what the
+system says of it, the field of a stream, the part of a text (a name of its header beside the one that is
+wanted, how many fields a record has, a field with its text, a line, a name that is no column), the line
+of a script, or the table that can't be read, where that is known and can be shown. The exit status is 1
+then; it is 0 where all is done, and 2 where the command line is wrong. A refused command has changed no
+table, but for S9 and G1, as said there. It has written no output, but for G1, and `salvage` for S9 and
+OutOfMemory too: that writes one segment after another. Where `salvage` leaves out segments that can't be
+read, it is not refused: it names each with its rows, as `left out segment 2 with 4096 rows`, and ends
+with status 1.
 
 ## F: the input is no stream that is read
 

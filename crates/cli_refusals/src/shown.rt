@@ -1,18 +1,32 @@
-// What a terminal may be shown of an input.
+// What a terminal may be shown of an input and of a command line.
 ghost use Rattle.std.specs.Prelude.{◌≡◌, option_map};
 ghost use Rattle.std.specs.List.{list_any};
-ghost use Rattle.std.specs.Char.{is_control};
 ghost use Rattle.std.specs.Str.{chars};
-ghost use Rattle.cli_refusals.specs.Hint.{shown};
+ghost use Rattle.cli_refusals.specs.Shown.{is_unshown, shown};
+
+use ucd_category::GeneralCategory;
 
 /// The most bytes that are shown of a string of the input.
 pub const MOST_SHOWN: usize = 100;
 
-// Control characters could do something to a terminal.
-fn has_control(text: &str) -> bool
-    ensures { result ≡ list_any is_control (chars text.now) }
+// Such a character could do something to a terminal, turns the text after it round, or is not seen.
+fn is_unshown(c: char) -> bool
+    ensures { result ≡ is_unshown c }
 {
-    text.chars().any(|c| c.is_control())
+    matches!(
+        GeneralCategory::for_char(c),
+        GeneralCategory::Control
+            | GeneralCategory::Format
+            | GeneralCategory::LineSeparator
+            | GeneralCategory::ParagraphSeparator
+    )
+}
+
+/// Whether a text has a character that a terminal is not shown: one of the general categories Cc, Cf, Zl and Zp of Unicode.
+pub fn has_unshown(text: &str) -> bool
+    ensures { result ≡ list_any is_unshown (chars text.now) }
+{
+    text.chars().any(|c| is_unshown(c))
 }
 
 /// The string that bytes are, where a terminal may be shown it.
@@ -25,7 +39,7 @@ pub(crate) fn shown(bytes: &[u8]) -> Option<&str>
     }
     match str::from_utf8(bytes) {
         Ok(text) => {
-            if has_control(text) {
+            if has_unshown(text) {
                 return None;
             }
             Some(text)

@@ -1,6 +1,6 @@
 // Which word of a command line a refusal is of.
 use crate::{QueryWords, StoreCommand, StoreRequest};
-use cli_refusals::{MOST_SHOWN, Refusal, Role, Word};
+use cli_refusals::{MOST_SHOWN, Refusal, Role, Word, has_unshown};
 use field_texts::ParseError;
 use query::{Condition, Query, QueryError, choose};
 use std::alloc::{AllocError, Global};
@@ -232,7 +232,7 @@ fn word_of<'a>(
 }
 
 /// The word of a request that a refusal is of, where that is known: of a query a condition without form, or else what `table` refuses, which has the schema
-/// of the table that the query was refused for. A word with control characters, which could do something to a terminal, is none.
+/// of the table that the query was refused for. A word with a character that a terminal is not shown is none.
 pub fn refused_word<'a>(
     alloc: Global,
     request: &StoreRequest<'a>,
@@ -240,7 +240,7 @@ pub fn refused_word<'a>(
     refusal: &Refusal,
 ) -> Option<Word<'a>> {
     let word = word_of(alloc, request, table, refusal)?;
-    if word.text.chars().any(char::is_control) {
+    if has_unshown(word.text) {
         return None;
     }
     Some(word)

@@ -1,5 +1,6 @@
-// How much of a store's file was read and written.
+// How much of a store's file was read and written, and how that failed.
 use super::{LONG_WORK, ProgressLine, Stage};
+use arrowstore::{Failures, NotedFile};
 use sector_dev::LockFile;
 use std::alloc::{Allocator, Global};
 use std::fs::{Metadata, OpenFile, OpenOptions, Permissions};
@@ -10,19 +11,25 @@ use std::path::PathBuf;
 use std::rt::Files;
 use std::time::Clock;
 
-/// The files of `files`. While one is read or written, the line says how much that was.
+/// The files of `files`. While one is read or written, the line says how much that was, and where that fails it is noted in `failures`.
 #[derive(Drop)]
 pub struct ProgressFiles<'a, C: Clock, T, H> {
     files: &'a H,
     line: Option<&'a ProgressLine<'a, C, T>>,
+    failures: Option<&'a Failures>,
 }
 
 impl<'a, C: Clock, T, H> ProgressFiles<'a, C, T, H> {
     pub fn new(
         files: &'a H,
         line: Option<&'a ProgressLine<'a, C, T>>,
+        failures: Option<&'a Failures>,
     ) -> ProgressFiles<'a, C, T, H> {
-        ProgressFiles { files, line }
+        ProgressFiles {
+            files,
+            line,
+            failures,
+        }
     }
 }
 
@@ -35,18 +42,19 @@ impl<C: Clock, T, H: Alloc<A = Global>> Alloc for ProgressFiles<'_, C, T, H> {
 }
 
 // Each method hands on, also those that an impl may leave out: what the trait has in their place costs more to prove than a call.
-impl<'a, C: Clock, T: Write + Copy, H: Files> Files for ProgressFiles<'a, C, T, H> {
-    type File = ProgressFile<'a, C, T, H::File>;
+impl<'a, C: Clock, T: Write + Copy, H: Files + AllocGlobal> Files for ProgressFiles<'a, C, T, H> {
+    type File = NotedFile<'a, ProgressFile<'a, C, T, H::File>>;
 
     type Dir = H::Dir;
 
     fn open_file(&self, how: &OpenOptions, path: &str) -> io::Result<Self::File> {
-        Ok(ProgressFile {
+        let file = ProgressFile {
             file: self.files.open_file(how, path)?,
             line: self.line,
             bytes_read: 0,
             bytes_written: 0,
-        })
+        };
+        Ok(NotedFile::new(self.files.alloc(), file, path, self.failures))
     }
 
     fn open_dir(&self, path: &str) -> io::Result<H::Dir> {

@@ -1,4 +1,4 @@
-// A file that is not opened or made.
+// A file that is not opened, made, read or written.
 use std::fmt;
 
 /// Why it is not.
@@ -12,13 +12,17 @@ pub enum FileReason<'a> {
     Folder,
     /// It is a named pipe, or another thing that has no bytes which stay.
     NotRegular,
-    /// What the system says of it.
-    System(&'a str),
+    /// What the system says of opening or making it.
+    Unopened(&'a str),
+    /// What the system says of a read.
+    Unread(&'a str),
+    /// What the system says of a write, of a sync, or of giving it its length.
+    Unwritten(&'a str),
 }
 
 impl fmt::Display for FileReason<'_> {
     ghost use Rattle.std.specs.Prelude.{Some};
-    ghost use Rattle.cli_refusals.specs.Unopened.{reason_text};
+    ghost use Rattle.cli_refusals.specs.FailedFile.{reason_text};
 
     ghost output = { λ reason. Some (reason_text reason) };
 
@@ -28,14 +32,16 @@ impl fmt::Display for FileReason<'_> {
             FileReason::Exists => f.write_str("exists already"),
             FileReason::Folder => f.write_str("is a folder"),
             FileReason::NotRegular => f.write_str("is not a regular file"),
-            FileReason::System(text) => write!(f, "cannot be opened: {text}"),
+            FileReason::Unopened(text) => write!(f, "cannot be opened: {text}"),
+            FileReason::Unread(text) => write!(f, "cannot be read: {text}"),
+            FileReason::Unwritten(text) => write!(f, "cannot be written: {text}"),
         }
     }
 }
 
-/// A file that the command line or a script names, and why it is not opened or made.
+/// A file that the command line or a script names, and why it is not opened, made, read or written.
 #[derive(Clone, Copy)]
-pub struct UnopenedFile<'a> {
+pub struct FailedFile<'a> {
     pub path: &'a str,
     pub reason: FileReason<'a>,
 }

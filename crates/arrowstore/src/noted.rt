@@ -1,0 +1,249 @@
+// The input, the output and files of which it is noted how the last read or write failed.
+ghost use Rattle.std.specs.Prelude.{◌≡◌};
+
+use sector_dev::LockFile;
+use std::alloc::Global;
+use std::cell::Cell;
+use std::fs::{Metadata, OpenFile};
+use std::io::{self, Read, Seek, SeekFrom, Write};
+
+/// A read or a write that failed, with what the system says of it.
+#[derive(Drop)]
+pub enum Failure {
+    /// A read of the input.
+    Input(io::Error),
+    /// A write of the output.
+    Output(io::Error),
+    /// A call on the file that was opened at this path.
+    File {
+        path: String,
+        call: FileCall,
+        error: io::Error,
+    },
+}
+
+/// What is asked of a file.
+#[derive(Clone, Copy)]
+pub enum FileCall {
+    /// A read.
+    Read,
+    /// A write, a sync, or a change of its length.
+    Write,
+}
+
+/// How the last read or write failed, of those that are noted here.
+#[derive(Drop)]
+pub struct Failures {
+    last: Cell<Option<Failure>>,
+}
+
+impl Failures {
+    /// Nothing has failed.
+    pub fn new() -> Failures {
+        Failures {
+            last: Cell::new(None),
+        }
+    }
+
+    /// Takes out how the last read or write failed. None where it did not.
+    pub fn take(&self) -> Option<Failure> {
+        self.last.take()
+    }
+
+    // Notes how a read or a write ended.
+    fn note(&self, failure: Option<Failure>) {
+        self.last.set(failure);
+    }
+}
+
+/// An input of which is noted that a read failed.
+#[derive(Drop)]
+pub struct NotedInput<'a, R: Read> {
+    input: R,
+    failures: &'a Failures,
+}
+
+impl<'a, R: Read> NotedInput<'a, R> {
+    pub fn new(input: R, failures: &'a Failures) -> NotedInput<'a, R>
+        ensures { result.input ≡ input }
+    {
+        NotedInput { input, failures }
+    }
+}
+
+impl<R: Read> Read for NotedInput<'_, R> {
+    ghost remaining = { λ noted. R.remaining noted.input };
+
+    fn read(&mut self, buf: &mut [u8]) -> io::Result<usize> {
+        let read = self.input.read(buf);
+        self.failures.note(match &read {
+            Ok(_) => None,
+            Err(error) => Some(Failure::Input(*error)),
+        });
+        read
+    }
+}
+
+/// An output of which is noted that a write failed.
+#[derive(Drop)]
+pub struct NotedOutput<'a, W: Write> {
+    output: W,
+    failures: &'a Failures,
+}
+
+impl<'a, W: Write> NotedOutput<'a, W> {
+    pub fn new(output: W, failures: &'a Failures) -> NotedOutput<'a, W>
+        ensures { result.output ≡ output }
+    {
+        NotedOutput { output, failures }
+    }
+}
+
+impl<W: Write> Write for NotedOutput<'_, W> {
+    ghost contents = { λ noted. W.contents noted.output };
+
+    fn write(&mut self, buf: &[u8]) -> io::Result<usize> {
+        let written = self.output.write(buf);
+        self.failures.note(match &written {
+            Ok(_) => None,
+            Err(error) => Some(Failure::Output(*error)),
+        });
+        written
+    }
+
+    fn flush(&mut self) -> io::Result<()> {
+        let flushed = self.output.flush();
+        if let Err(error) = &flushed {
+            self.failures.note(Some(Failure::Output(*error)));
+        }
+        flushed
+    }
+}
+
+// Where the failures of a file are noted, and the path that it was opened at.
+#[derive(Drop)]
+struct FileNote<'a> {
+    failures: &'a Failures,
+    path: String,
+}
+
+impl FileNote<'_> {
+    // None where memory for the path is refused.
+    fn failure(&self, call: FileCall, error: io::Error) -> Option<Failure> {
+        Some(Failure::File {
+            path: self.path.clone().ok()?,
+            call,
+            error,
+        })
+    }
+
+    // Notes how a call ended.
+    fn note<T>(&self, call: FileCall, done: &io::Result<T>) {
+        self.failures.note(match done {
+            Ok(_) => None,
+            Err(error) => self.failure(call, *error),
+        });
+    }
+}
+
+/// A file of which is noted that a read or a write failed. Where memory for its path is refused, nothing is noted.
+#[derive(Drop)]
+pub struct NotedFile<'a, F> {
+    file: F,
+    note: Option<FileNote<'a>>,
+}
+
+impl<'a, F> NotedFile<'a, F> {
+    /// The file at a path. Without `failures` nothing is noted of it.
+    pub fn new(
+        alloc: Global,
+        file: F,
+        path: &str,
+        failures: Option<&'a Failures>,
+    ) -> NotedFile<'a, F>
+        ensures { result.file ≡ file }
+    {
+        let note = match failures {
+            Some(failures) => match String::from_str(alloc, path) {
+                Ok(path) => Some(FileNote { failures, path }),
+                Err(_) => None,
+            },
+            None => None,
+        };
+        NotedFile { file, note }
+    }
+
+    fn note<T>(&self, call: FileCall, done: &io::Result<T>) {
+        if let Some(note) = &self.note {
+            note.note(call, done);
+        }
+    }
+}
+
+impl<F: Read> Read for NotedFile<'_, F> {
+    ghost remaining = { λ noted. F.remaining noted.file };
+
+    fn read(&mut self, buf: &mut [u8]) -> io::Result<usize> {
+        let read = self.file.read(buf);
+        self.note(FileCall::Read, &read);
+        read
+    }
+}
+
+impl<F: Write> Write for NotedFile<'_, F> {
+    ghost contents = { λ noted. F.contents noted.file };
+
+    fn write(&mut self, buf: &[u8]) -> io::Result<usize> {
+        let written = self.file.write(buf);
+        self.note(FileCall::Write, &written);
+        written
+    }
+
+    fn flush(&mut self) -> io::Result<()> {
+        self.file.flush()
+    }
+}
+
+impl<F: Seek> Seek for NotedFile<'_, F> {
+    ghost stream_position = { λ noted. F.stream_position noted.file };
+
+    ghost stream_bytes = { λ noted. F.stream_bytes noted.file };
+
+    fn seek(&mut self, to: SeekFrom) -> io::Result<u64> {
+        self.file.seek(to)
+    }
+}
+
+impl<F: OpenFile> OpenFile for NotedFile<'_, F> {
+    fn metadata(&self) -> io::Result<Metadata> {
+        self.file.metadata()
+    }
+
+    fn set_len(&self, size: u64) -> io::Result<()> {
+        let done = self.file.set_len(size);
+        self.note(FileCall::Write, &done);
+        done
+    }
+
+    fn sync_all(&self) -> io::Result<()> {
+        let done = self.file.sync_all();
+        self.note(FileCall::Write, &done);
+        done
+    }
+
+    fn sync_data(&self) -> io::Result<()> {
+        let done = self.file.sync_data();
+        self.note(FileCall::Write, &done);
+        done
+    }
+}
+
+impl<F: LockFile> LockFile for NotedFile<'_, F> {
+    fn lock_to_write(&self) -> io::Result<()> {
+        self.file.lock_to_write()
+    }
+
+    fn lock_to_read(&self) -> io::Result<()> {
+        self.file.lock_to_read()
+    }
+}

@@ -1,0 +1,13 @@
+-- What is reported of a file that is not opened, made, read or written.
+use Rattle.std.specs.Prelude.{ℕ, ◌++◌, List, codes}
+use Rattle.cli_refusals.specs.declared.failed_file.FileReason.{FileReason}
+use Rattle.cli_refusals.specs.declared.failed_file.FileReason.TheVariants as reasons
+
+abbrev pub reason_text : FileReason → List ℕ
+reason_text reasons.Locked = codes "is locked by another program"
+reason_text reasons.Exists = codes "exists already"
+reason_text reasons.Folder = codes "is a folder"
+reason_text reasons.NotRegular = codes "is not a regular file"
+reason_text (reasons.Unopened text) = codes "cannot be opened: " ++ text.now
+reason_text (reasons.Unread text) = codes "cannot be read: " ++ text.now
+reason_text (reasons.Unwritten text) = codes "cannot be written: " ++ text.now

@@ -1,0 +1,27 @@
+-- What a terminal may be shown of an input and of a command line.
+use Rattle.std.specs.Prelude.{ℕ, ◌&&◌, Bool, true, false, not, nat_le, length, List, Option, Some, None, if◌then◌else◌}
+use Rattle.std.specs.List.{list_any}
+use Rattle.std.specs.Str.{is_utf8, chars}
+use Rattle.ucd_category.specs.GeneralCategory.{general_category}
+use Rattle.ucd_category.specs.declared.GeneralCategory.{GeneralCategory}
+use Rattle.ucd_category.specs.declared.GeneralCategory.TheVariants.{Control, Format, LineSeparator, ParagraphSeparator}
+use Rattle.cli_refusals.specs.declared.shown.TheConstants.{MOST_SHOWN}
+
+-- categories of which a character could do something to a terminal, turns the text after it round, or is not seen (The Unicode Standard, "General
+-- Category": Cc, Cf, Zl, Zp)
+abbrev pub is_unshown_category : GeneralCategory → Bool
+is_unshown_category Control = true
+is_unshown_category Format = true
+is_unshown_category LineSeparator = true
+is_unshown_category ParagraphSeparator = true
+is_unshown_category _ = false
+
+unfoldable pub is_unshown : ℕ → Bool
+is_unshown c = is_unshown_category (general_category c)
+
+-- no long text, and none with such a character
+abbrev pub is_shown : List ℕ → Bool
+is_shown t = nat_le (length t) MOST_SHOWN && is_utf8 t && not (list_any is_unshown (chars t))
+
+abbrev pub shown : List ℕ → Option (List ℕ)
+shown t = if is_shown t then Some t else None
