@@ -22,7 +22,7 @@ use values::Table;
 #[derive(Drop)]
 pub(crate) enum AskedAgain {
     Nothing,
-    /// The file that was not opened, made, read or written, and why.
+    /// The file that was not opened, made, read, written or synced, and why.
     File(KeptFile),
     /// Why the input was not read.
     Input(String),

@@ -1,4 +1,4 @@
-// A file that was not opened, made, read or written, and why.
+// A file that was not opened, made, read, written or synced, and why.
 ghost use Rattle.std.specs.Prelude.{◌≡◌, None, Some};
 ghost use Rattle.arrowstore.specs.OnFiles.{hinted_of};
 
@@ -16,6 +16,7 @@ pub(crate) enum Reason {
     Unopened(String),
     Unread(String),
     Unwritten(String),
+    Unsynced(String),
 }
 
 /// Such a file and the reason, kept until they are reported.
@@ -49,6 +50,7 @@ impl KeptFile {
             Reason::Unopened(text) => FileReason::Unopened(text.as_str()),
             Reason::Unread(text) => FileReason::Unread(text.as_str()),
             Reason::Unwritten(text) => FileReason::Unwritten(text.as_str()),
+            Reason::Unsynced(text) => FileReason::Unsynced(text.as_str()),
         };
         Hint::File(FailedFile {
             path: self.path.as_str(),

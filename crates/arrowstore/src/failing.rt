@@ -31,6 +31,7 @@ fn reason_of(alloc: Global, call: FileCall, error: &io::Error) -> Option<Reason>
     match call {
         FileCall::Read => Some(Reason::Unread(text)),
         FileCall::Write => Some(Reason::Unwritten(text)),
+        FileCall::Sync => Some(Reason::Unsynced(text)),
     }
 }
 

@@ -1,4 +1,4 @@
-// The input, the output and files of which it is noted how the last read or write failed.
+// The input, the output and files of which it is noted how the last read, write or sync failed.
 ghost use Rattle.std.specs.Prelude.{◌≡◌};
 
 use sector_dev::LockFile;
@@ -7,7 +7,7 @@ use std::cell::Cell;
 use std::fs::{Metadata, OpenFile};
 use std::io::{self, Read, Seek, SeekFrom, Write};
 
-/// A read or a write that failed, with what the system says of it.
+/// A read, a write or a sync that failed, with what the system says of it.
 #[derive(Drop)]
 pub enum Failure {
     /// A read of the input.
@@ -27,11 +27,13 @@ pub enum Failure {
 pub enum FileCall {
     /// A read.
     Read,
-    /// A write, a sync, or a change of its length.
+    /// A write, or a change of its length.
     Write,
+    /// To bring it to the disk.
+    Sync,
 }
 
-/// How the last read or write failed, of those that are noted here.
+/// How the last read, write or sync failed, of those that are noted here.
 #[derive(Drop)]
 pub struct Failures {
     last: Cell<Option<Failure>>,
@@ -45,12 +47,12 @@ impl Failures {
         }
     }
 
-    /// Takes out how the last read or write failed. None where it did not.
+    /// Takes out how the last of them failed. None where it did not.
     pub fn take(&self) -> Option<Failure> {
         self.last.take()
     }
 
-    // Notes how a read or a write ended.
+    // Notes how one ended.
     fn note(&self, failure: Option<Failure>) {
         self.last.set(failure);
     }
@@ -146,7 +148,7 @@ impl FileNote<'_> {
     }
 }
 
-/// A file of which is noted that a read or a write failed. Where memory for its path is refused, nothing is noted.
+/// A file of which is noted that a read, a write or a sync failed. Where memory for its path is refused, nothing is noted.
 #[derive(Drop)]
 pub struct NotedFile<'a, F> {
     file: F,
@@ -227,13 +229,13 @@ impl<F: OpenFile> OpenFile for NotedFile<'_, F> {
 
     fn sync_all(&self) -> io::Result<()> {
         let done = self.file.sync_all();
-        self.note(FileCall::Write, &done);
+        self.note(FileCall::Sync, &done);
         done
     }
 
     fn sync_data(&self) -> io::Result<()> {
         let done = self.file.sync_data();
-        self.note(FileCall::Write, &done);
+        self.note(FileCall::Sync, &done);
         done
     }
 }

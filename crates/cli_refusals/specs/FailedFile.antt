@@ -1,4 +1,4 @@
--- What is reported of a file that is not opened, made, read or written.
+-- What is reported of a file that is not opened, made, read, written or synced.
 use Rattle.std.specs.Prelude.{ℕ, ◌++◌, List, codes}
 use Rattle.cli_refusals.specs.declared.failed_file.FileReason.{FileReason}
 use Rattle.cli_refusals.specs.declared.failed_file.FileReason.TheVariants as reasons
@@ -11,3 +11,4 @@ reason_text reasons.NotRegular = codes "is not a regular file"
 reason_text (reasons.Unopened text) = codes "cannot be opened: " ++ text.now
 reason_text (reasons.Unread text) = codes "cannot be read: " ++ text.now
 reason_text (reasons.Unwritten text) = codes "cannot be written: " ++ text.now
+reason_text (reasons.Unsynced text) = codes "cannot be synced: " ++ text.now

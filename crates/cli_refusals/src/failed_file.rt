@@ -1,4 +1,4 @@
-// A file that is not opened, made, read or written.
+// A file that is not opened, made, read, written or synced.
 use std::fmt;
 
 /// Why it is not.
@@ -16,8 +16,10 @@ pub enum FileReason<'a> {
     Unopened(&'a str),
     /// What the system says of a read.
     Unread(&'a str),
-    /// What the system says of a write, of a sync, or of giving it its length.
+    /// What the system says of a write, or of giving it its length.
     Unwritten(&'a str),
+    /// What the system says of bringing it to the disk.
+    Unsynced(&'a str),
 }
 
 impl fmt::Display for FileReason<'_> {
@@ -35,11 +37,12 @@ impl fmt::Display for FileReason<'_> {
             FileReason::Unopened(text) => write!(f, "cannot be opened: {text}"),
             FileReason::Unread(text) => write!(f, "cannot be read: {text}"),
             FileReason::Unwritten(text) => write!(f, "cannot be written: {text}"),
+            FileReason::Unsynced(text) => write!(f, "cannot be synced: {text}"),
         }
     }
 }
 
-/// A file that the command line or a script names, and why it is not opened, made, read or written.
+/// A file that the command line or a script names, and why it is not opened, made, read, written or synced.
 #[derive(Clone, Copy)]
 pub struct FailedFile<'a> {
     pub path: &'a str,

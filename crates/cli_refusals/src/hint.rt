@@ -19,7 +19,7 @@ pub enum Hinted {
 pub enum Hint<'a> {
     /// A word of the command line.
     Word(Word<'a>),
-    /// A file that the command line or a script names, and why it is not opened, made, read or written.
+    /// A file that the command line or a script names, and why it is not opened, made, read, written or synced.
     File(FailedFile<'a>),
     /// What the system says of a read of the input that failed.
     Input(&'a str),
