@@ -9,15 +9,15 @@ use Rattle.cli_refusals.specs.declared.shown.TheConstants.{MOST_SHOWN}
 
 -- categories of which a character could do something to a terminal, turns the text after it round, or is not seen (The Unicode Standard, "General
 -- Category": Cc, Cf, Zl, Zp)
-abbrev pub is_unshown_category : GeneralCategory → Bool
-is_unshown_category Control = true
-is_unshown_category Format = true
-is_unshown_category LineSeparator = true
-is_unshown_category ParagraphSeparator = true
-is_unshown_category _ = false
+abbrev pub is_category_unshown : GeneralCategory → Bool
+is_category_unshown Control = true
+is_category_unshown Format = true
+is_category_unshown LineSeparator = true
+is_category_unshown ParagraphSeparator = true
+is_category_unshown _ = false
 
 unfoldable pub is_unshown : ℕ → Bool
-is_unshown c = is_unshown_category (general_category c)
+is_unshown c = is_category_unshown (general_category c)
 
 -- no long text, and none with such a character
 abbrev pub is_shown : List ℕ → Bool

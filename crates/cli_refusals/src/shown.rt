@@ -2,24 +2,31 @@
 ghost use Rattle.std.specs.Prelude.{◌≡◌, option_map};
 ghost use Rattle.std.specs.List.{list_any};
 ghost use Rattle.std.specs.Str.{chars};
-ghost use Rattle.cli_refusals.specs.Shown.{is_unshown, shown};
+ghost use Rattle.cli_refusals.specs.Shown.{is_category_unshown, is_unshown, shown};
 
 use ucd_category::GeneralCategory;
 
 /// The most bytes that are shown of a string of the input.
 pub const MOST_SHOWN: usize = 100;
 
-// Such a character could do something to a terminal, turns the text after it round, or is not seen.
-fn is_unshown(c: char) -> bool
-    ensures { result ≡ is_unshown c }
+// A character of such a category could do something to a terminal, turns the text after it round, or is not seen.
+fn is_category_unshown(category: GeneralCategory) -> bool
+    ensures { result ≡ is_category_unshown category }
 {
     matches!(
-        GeneralCategory::for_char(c),
+        category,
         GeneralCategory::Control
             | GeneralCategory::Format
             | GeneralCategory::LineSeparator
             | GeneralCategory::ParagraphSeparator
     )
+}
+
+#[tactic(auto, unfolding(crate::specs::Shown::is_unshown))]
+fn is_unshown(c: char) -> bool
+    ensures { result ≡ is_unshown c }
+{
+    is_category_unshown(GeneralCategory::for_char(c))
 }
 
 /// Whether a text has a character that a terminal is not shown: one of the general categories Cc, Cf, Zl and Zp of Unicode.
