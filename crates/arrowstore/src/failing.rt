@@ -14,7 +14,9 @@ pub(crate) fn is_of_failure(refusal: &Refusal) -> bool {
         refusal,
         Refusal::Io
             | Refusal::Opening(OpeningRefusal::Device)
-            | Refusal::Store(tables::Refusal::Device)
+            | Refusal::Store(
+                tables::Refusal::Device | tables::Refusal::Read | tables::Refusal::Write
+            )
     )
 }
 
