@@ -1,5 +1,5 @@
 // Little-endian numbers, written over what stands there.
-ghost use Rattle.std.specs.Prelude.{◌≡◌, ◌≤◌, ◌+◌, ◌++◌, drop, length, take};
+ghost use Rattle.std.specs.Prelude.{◌≡◌, ◌≤◌, ◌+◌, ◌++◌, ◌*◌, drop, length, take};
 ghost use Rattle.byteorder.specs.Endian.{little_bytes};
 ghost use Rattle.columns.specs.Offsets.{width_of};
 
