@@ -22,9 +22,10 @@ use crate::run_contents::{push_null_offsets, push_written_contents, slot_content
 use crate::run_slots::{count_slots, run_len};
 use crate::slot_masks::push_masked_slots;
 use crate::slot_offsets::push_masked_slot_offsets;
+use crate::unset_slots::run_to;
 use crate::widths::offset_size;
 use arrow_schema::DataType;
-use bitmap::{get, run_end};
+use bitmap::get;
 use columns::{ArrayView, OffsetWidth, SlotRun, push_offset};
 use std::alloc::{AllocError, Global};
 
@@ -127,7 +128,7 @@ fn push_slot_contents(
     let _slots = array.slots();
     let mut i = at;
     while i < to {
-        let end = run_end(mask, i, to);
+        let end = run_to(mask, i, to);
         push_span(
             contents,
             array,

@@ -78,7 +78,7 @@ pub(crate) fn push_slot_offsets(
     Ok(next)
 }
 
-// How much stands between an offset and the next, if a bit is set.
+// How much stands between an offset and the next, if a bit is set. Both are read in any case, which compiles to no jump.
 fn masked_size(offsets: &[u8], width: OffsetWidth, i: usize, mask: &[u8], at: usize) -> u64
     requires within { (i + 1 + 1) * width_of width ≤ length offsets.now }
     requires counted { i + 1 < 2 ^ 64 }
@@ -86,11 +86,8 @@ fn masked_size(offsets: &[u8], width: OffsetWidth, i: usize, mask: &[u8], at: us
     requires bit { at < 8 * length mask.now }
     ensures { result ≡ (if bit mask.now at then number_at (width_of width) offsets.now (i + 1) - number_at (width_of width) offsets.now i else 0) }
 {
-    if get(mask, at) {
-        offset_at(offsets, width, i + 1) - offset_at(offsets, width, i)
-    } else {
-        0
-    }
+    let size = offset_at(offsets, width, i + 1) - offset_at(offsets, width, i);
+    if get(mask, at) { size } else { 0 }
 }
 
 // Writes the offsets at which the spans of slots begin, by the bits of a mask from one on up to another, over as many; and answers where the last ends.

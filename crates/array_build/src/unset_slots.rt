@@ -2,7 +2,7 @@
 ghost use Rattle.std.specs.Prelude.{◌≡◌, ℕ, ◌≤◌, ◌<◌, ◌+◌, ◌*◌, ◌/◌, false, true, length};
 ghost use Rattle.bitmap.specs.Bits.{bit};
 
-use bitmap::alike_end;
+use bitmap::{alike_end, get};
 use byteorder::{ByteOrder, LittleEndian};
 
 // How many bits are set from one on, before the first that is not among those of 8 bytes, or 64 where there is none.
@@ -33,4 +33,20 @@ pub(crate) fn next_unset(bits: &[u8], from: usize, to: usize) -> usize
         }
     }
     alike_end(bits, true, from, to)
+}
+
+/// Where the run of equal bits ends that begins at bit `from`, or `to` where it is longer.
+#[inline]
+pub(crate) fn run_to(bits: &[u8], from: usize, to: usize) -> usize
+    requires within { to ≤ 8 * length bits.now }
+    requires some { from < to }
+    ensures begins { from < result }
+    ensures ends { result ≤ to }
+    ensures alike { (i : ℕ) → from ≤ i → i < result → bit bits.now i ≡ bit bits.now from }
+{
+    if get(bits, from) {
+        next_unset(bits, from, to)
+    } else {
+        alike_end(bits, false, from, to)
+    }
 }

@@ -28,18 +28,18 @@ loop-i-preserved c =
     let a : Array = view_array c.args.array in
     let w : ℕ = width_of c.args.width in
     let i : ℕ = c.loop-i.i in
-    let stop : ℕ = c.run_end-end.result in
+    let stop : ℕ = c.run_to-end.result in
     let p : ℕ = c.args.from + (i - c.args.at) in
     let made : List ℕ = c.loop-i.contents.items in
     let own : List ℕ = if bit c.args.mask.now i then span_contents w a p (stop - i) else [] in
     let rest : List ℕ = masked_spans w a (c.args.from + (stop - c.args.at)) (mask_bits c.args.mask.now stop (c.args.to - stop)) in
     let low = c.loop-i.invariant.begins in
-    let next = c.run_end-end.ensures.begins in
+    let next = c.run_to-end.ensures.begins in
     let added = c.in_ok-push_span.ensures ∙ ap (λ (b : Bool). made ++ (if b then span_contents w a p (stop - i) else [])) c.get.ensures in
-    let split = next_spans w a c.requires.ordered c.args.mask.now c.args.from c.args.at i stop c.args.to low (omega (arith, next)) c.run_end-end.ensures.ends c.requires.within c.run_end-end.ensures.alike in
+    let split = next_spans w a c.requires.ordered c.args.mask.now c.args.from c.args.at i stop c.args.to low (omega (arith, next)) c.run_to-end.ensures.ends c.requires.within c.run_to-end.ensures.alike in
     record {
       begins = omega (arith, low, next);
-      ends = c.run_end-end.ensures.ends;
+      ends = c.run_to-end.ensures.ends;
       contents = turned made own rest _ _ added (sym (ap (λ (xs : List ℕ). made ++ xs) split) ∙ c.loop-i.invariant.contents);
     }
 
