@@ -7,7 +7,7 @@ use Rattle.std.proofs.lemmas.List.{drop-drop, drop-take, drop_at, length-replica
 use Rattle.arrow_schema.specs.Column.{Kind}
 use Rattle.array_build.proofs.AsWritten.{null_slot, short_validity}
 use Rattle.array_build.proofs.RunValues.{enough, null_value, one, plain_cell}
-use Rattle.array_build.specs.Batch.{plain_column}
+use Rattle.batch_build.specs.Batch.{plain_column}
 use Rattle.array_build.specs.inner.Runs.{cleared, fixed_value, fixed_width}
 use Rattle.columns.specs.Array.{Array, slots_in, values_in}
 use Rattle.columns.specs.CellAt.{cells_from, is_valid}

@@ -10,17 +10,18 @@ use Rattle.std.proofs.lemmas.List.Folds.{list_all-append, list_all-map}
 use Rattle.byteorder.specs.Endian.{little_bytes}
 use Rattle.arrow_schema.specs.Column.{Kind}
 use Rattle.array_build.proofs.AsWritten.{valid_runs_written}
-use Rattle.array_build.proofs.MaskedItems.{all_alike, all_kept, masked_append, masked_twice}
+use Rattle.dictionary_codes.specs.laws.MaskedItems.{all_alike, all_kept, masked_append, masked_twice}
 use Rattle.array_build.proofs.MaskedParts.{all_joined, below_append, bits_append, bits_length, joined_below, masked_itself}
-use Rattle.array_build.proofs.Masks.{bitmap_long, bits_counted, bits_with, bits_without}
+use Rattle.dictionary_codes.specs.laws.Bitmaps.{bitmap_long, bits_counted, bits_with, bits_without}
 use Rattle.array_build.proofs.RunArrays.{contents_has, count_cells, count_run, has_values, runs_there}
 use Rattle.array_build.proofs.RunContents.{contents_room, offsets_with, one_offset, ordered, slot_contents, slot_size, span_more, span_none}
-use Rattle.array_build.proofs.RunSlots.{slots_counted}
+use Rattle.dictionary_codes.specs.laws.SlotCounts.{slots_counted}
 use Rattle.array_build.proofs.RunValues.{plain_cell}
-use Rattle.array_build.specs.Batch.{plain_column}
-use Rattle.array_build.specs.inner.Masked.{IsMask, are_below, bitmap_bits, mask_bits, masked, masked_cells, masked_slots, slots_mask}
+use Rattle.batch_build.specs.Batch.{plain_column}
+use Rattle.dictionary_codes.specs.Masks.{IsMask, bitmap_bits, mask_bits, masked, masked_cells, slots_mask, run_bits, runs_bits}
+use Rattle.array_build.specs.inner.Masked.{are_below, masked_slots}
 use Rattle.array_build.specs.inner.MaskedContents.{AreUnder, masked_sizes, masked_spans, run_under, runs_under, total}
-use Rattle.array_build.specs.inner.Runs.{AreAsWritten, cell_sizes, contents_width, kind_cells, run_bits, runs_bits, span_contents}
+use Rattle.array_build.specs.inner.Runs.{AreAsWritten, cell_sizes, contents_width, kind_cells, span_contents}
 use Rattle.bitmap.specs.Bits.{bit}
 use Rattle.cells.specs.Cell.{Cell, null}
 use Rattle.columns.specs.Array.{Array, contents_in, slots_in}

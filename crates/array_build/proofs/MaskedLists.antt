@@ -6,22 +6,23 @@ use Rattle.std.proofs.lemmas.Bool.{and_parts, and_from, leb-true}
 use Rattle.std.proofs.lemmas.List.Concat.{flat_map-append}
 use Rattle.std.proofs.lemmas.List.FromFn.{length-map-range_with_len}
 use Rattle.arrow_schema.specs.Column.{Column}
-use Rattle.array_build.proofs.Arrays.{lists_are}
+use Rattle.batch_build.specs.laws.Arrays.{lists_are}
 use Rattle.array_build.proofs.AsWritten.{valid_runs_written}
 use Rattle.array_build.proofs.MaskedContents.{IsNext, run_of_nulls_under}
 use Rattle.array_build.proofs.MaskedParts.{bits_length}
-use Rattle.array_build.proofs.Premises.{lists_fit}
-use Rattle.array_build.proofs.Repeated.{none_each}
+use Rattle.batch_build.specs.laws.Premises.{lists_fit}
+use Rattle.dictionary_codes.specs.laws.Repeated.{none_each}
 use Rattle.array_build.proofs.RunArrays.{has_values, masked_kind_slots}
 use Rattle.array_build.proofs.RunItems.{AreLists, list_tests, slots_items, valid_items}
-use Rattle.array_build.proofs.RunSlots.{slots_counted}
-use Rattle.array_build.specs.Batch.{PlainBatch, built_at, with_arrays}
-use Rattle.array_build.specs.inner.Masked.{are_below, mask_bits, masked, masked_kind, masked_slots}
+use Rattle.dictionary_codes.specs.laws.SlotCounts.{slots_counted}
+use Rattle.batch_build.specs.Batch.{PlainBatch, built_at, with_arrays}
+use Rattle.array_build.specs.inner.Masked.{are_below, masked_kind, masked_slots}
+use Rattle.dictionary_codes.specs.Masks.{mask_bits, masked, run_bits}
 use Rattle.array_build.specs.inner.MaskedContents.{masked_sizes, run_under, runs_under}
 use Rattle.array_build.specs.inner.MaskedLists.{AreValidUnder, lists_under}
-use Rattle.array_build.specs.inner.Nodes.{list_kind, with_buffer, with_slots}
+use Rattle.batch_build.specs.Nodes.{list_kind, with_buffer, with_slots}
 use Rattle.array_build.specs.inner.RunItems.{HasSlots, list_column, list_sizes, run_lists}
-use Rattle.array_build.specs.inner.Runs.{run_bits, with_run_slots}
+use Rattle.array_build.specs.inner.Runs.{with_run_slots}
 use Rattle.bitmap.specs.Bits.{bit}
 use Rattle.cells.specs.Cell.{Cell, null}
 use Rattle.cells.specs.Dictionary.{item_list}

@@ -5,7 +5,8 @@ use Rattle.std.proofs.Common.{◌≡◌, ℕ, ◌+◌, Bool, true, false, List, 
 use Rattle.std.proofs.lemmas.Bool.{and_from, and_parts}
 use Rattle.std.proofs.lemmas.List.{map-append}
 use Rattle.std.proofs.lemmas.List.FromFn.{length-map-range_with_len}
-use Rattle.array_build.specs.inner.Masked.{are_below, joined, mask_bits, masked}
+use Rattle.array_build.specs.inner.Masked.{are_below}
+use Rattle.dictionary_codes.specs.Masks.{joined, mask_bits, masked}
 use Rattle.bitmap.specs.Bits.{bit}
 use Rattle.cells.specs.Cell.{Cell, null, boolean, number, text, bytes, items, parts}
 use Rattle.cells.specs.Nulls.{is_there}

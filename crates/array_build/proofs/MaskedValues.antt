@@ -9,8 +9,8 @@ use Rattle.arrow_schema.specs.Column.{Kind, nulls, booleans, integers, dates, ti
 use Rattle.byteorder.specs.Numbers.{length-bytes_low_first}
 use Rattle.array_build.proofs.AsWritten.{null_slot}
 use Rattle.array_build.proofs.RunValues.{enough, null_value, plain_cell, room}
-use Rattle.array_build.specs.Batch.{plain_column}
-use Rattle.array_build.specs.inner.Masked.{masked}
+use Rattle.batch_build.specs.Batch.{plain_column}
+use Rattle.dictionary_codes.specs.Masks.{masked}
 use Rattle.array_build.specs.inner.Runs.{cleared, fixed_value, fixed_width, kind_cells}
 use Rattle.cells.specs.Cell.{Cell, null}
 use Rattle.cells.specs.Fit.{date_bits}

@@ -1,23 +1,23 @@
 -- Masks as validity bitmaps.
-use Rattle.std.specs.Prelude.{nat_le, nat_lt, ◌&&◌, ◌||◌, ◌==◌, replicate, slice_index_or, if◌then◌else◌}
+use Rattle.std.specs.Prelude.{nat_lt, ◌&&◌, ◌==◌, replicate, slice_index_or}
 use Rattle.std.specs.List.{list_all, range_with_len}
 use Rattle.std.specs.Int.{bit_at}
 use Rattle.std.specs.Simd.Lanes.{mask_l}
 use Rattle.std.proofs.Common.{◌≡◌, ℕ, zero, suc, ◌+◌, ◌*◌, ◌/◌, ◌%◌, ◌<◌, ◌≤◌, Bool, true, false, List, [], ◌∷◌, map, length, get_or, take, drop, refl, ap, ap₂, sym, ◌∙◌, arith}
 use Rattle.std.proofs.Math.Pow.{pow_mono}
-use Rattle.std.proofs.lemmas.Bool.{eq-eqb, eqb-false, le-leb, ne_eqb, or_left, or_right}
 use Rattle.std.proofs.lemmas.List.{ext_get_or, length-replicate, length-take}
 use Rattle.std.proofs.lemmas.List.FromFn.{length-map-range_with_len}
 use Rattle.std.proofs.lemmas.Nat.Bits.{bit_at-lt, same_from_bits_below}
 use Rattle.std.proofs.lemmas.Simd.{mask_l-lt}
-use Rattle.array_build.proofs.MaskedItems.{all_alike, all_are_alike, all_kept, joined_at, masked_length, others_all, some_joined}
-use Rattle.array_build.specs.inner.Masked.{bitmap_bits, joined, mask_bits, masked_slots, slots_mask}
-use Rattle.array_build.specs.inner.Runs.{bitmap_of, runs_bits}
+use Rattle.dictionary_codes.specs.laws.MaskedItems.{all_alike, all_are_alike, all_kept, joined_at, masked_length, others_all, some_joined}
+use Rattle.dictionary_codes.specs.Masks.{bitmap_bits, joined, mask_bits, slots_mask, bitmap_of, runs_bits}
+use Rattle.array_build.specs.inner.Masked.{masked_slots}
 use Rattle.bitmap.specs.Bits.{bit, both, bytes_of, packed, packed_in}
 use Rattle.bitmap.specs.laws.Packed.{length-packed_in}
 use Rattle.columns.specs.declared.slot_runs.SlotRun.{SlotRun}
 use Rattle.facts.specs.Bytes.{AreBytes}
 use Rattle.facts.specs.laws.Bytes.{cons-bytes}
+use Rattle.dictionary_codes.specs.laws.Bitmaps.{bitmap_packed, bitmap_none, packed_some, some_unset, bits_counted, bits_without, bits_with}
 
 -- there is a bit for each slot
 pub counted : (mask : List ℕ) (runs : List SlotRun) (slots : ℕ) → slots ≡ length (runs_bits runs) → slots ≡ length (masked_slots mask runs)
@@ -71,64 +71,7 @@ both_packed back a b bytes n small len same =
     (let here : 0 + i ≡ i = omega arith in joined_at (bit a) (bit b) 0 n i ∙ ap (λ (k : ℕ). nat_lt i n && (bit a k && bit b k)) here) in
     packed_is back bytes bits small (len ∙ ap bytes_of (sym count)) (λ i. same i ∙ sym (each i))
 
--- ---- the bitmap of bits
-
--- without a byte all are set
-pub none_unset : (bytes : List ℕ) (bits : List Bool) → bytes ≡ bitmap_of bits → length bytes ≡ 0 → list_all (λ b. b) bits ≡ true
-none_unset bytes bits is none = from (list_all (λ b. b) bits) bits refl (sym (ap length is) ∙ none)
-  where
-    from : (all : Bool) (bits : List Bool) → list_all (λ b. b) bits ≡ all → length (if all then [] else packed bits) ≡ 0 → all ≡ true
-    from true bits h none = refl
-    from false [] h none = cc
-    from false (b ∷ bits) h none = absurd (omega (arith, none, length-packed_in (bytes_of (length (b ∷ bits))) (b ∷ bits)))
-
-pub bitmap_packed : (bits : List Bool) → list_all (λ b. b) bits ≡ false → bitmap_of bits ≡ packed bits
-bitmap_packed bits some = rw some refl
-
-pub bitmap_none : (bits : List Bool) → list_all (λ b. b) bits ≡ true → bitmap_of bits ≡ []
-bitmap_none bits all = rw all refl
-
-not_all : (all : Bool) → (all ≡ true → ⊥) → all ≡ false
-not_all true h = absurd (h refl)
-not_all false h = refl
-
-packed_some : (bits : List Bool) → list_all (λ b. b) bits ≡ false → length (packed bits) ≡ 0 → ⊥
-packed_some [] h none = cc
-packed_some (b ∷ bits) h none = absurd (omega (arith, none, length-packed_in (bytes_of (length (b ∷ bits))) (b ∷ bits)))
-
-pub some_unset : (bytes : List ℕ) (bits : List Bool) → bytes ≡ bitmap_of bits → (length bytes ≡ 0 → ⊥) → list_all (λ b. b) bits ≡ false
-some_unset bytes bits is some = not_all (list_all (λ b. b) bits) (λ all. some (ap length (is ∙ bitmap_none bits all)))
-
--- it has a bit for each
-pub bitmap_long : (bytes : List ℕ) (bits : List Bool) → bytes ≡ bitmap_of bits → (length bytes ≡ 0 → ⊥) → length bits ≤ 8 * length bytes
-bitmap_long bytes bits is some =
-    let size : length bytes ≡ bytes_of (length bits) = ap length (is ∙ bitmap_packed bits (some_unset bytes bits is some)) ∙ length-packed_in (bytes_of (length bits)) bits in
-    omega (arith, size)
-
-pub bitmap_fits : (bytes : List ℕ) (bits : List Bool) → bytes ≡ bitmap_of bits → (length bytes == 0 || nat_le (length bits) (8 * length bytes)) ≡ true
-bitmap_fits bytes bits is = from (length bytes == 0) refl
-  where
-    from : (none : Bool) → (length bytes == 0) ≡ none → (length bytes == 0 || nat_le (length bits) (8 * length bytes)) ≡ true
-    from true h = or_left (length bytes == 0) _ h
-    from false h = or_right (length bytes == 0) _ (le-leb _ _ (bitmap_long bytes bits is (eqb-false _ 0 h)))
-
 -- ---- the bits of a bitmap
-
-pub bits_counted : (mask : List ℕ) (n : ℕ) → length (bitmap_bits mask n) ≡ n
-unfolding bitmap_bits
-bits_counted mask n = from (length mask == 0)
-  where
-    from : (none : Bool) → length (if none then replicate n true else mask_bits mask 0 n) ≡ n
-    from true = length-replicate n true
-    from false = length-map-range_with_len (bit mask) 0 n
-
-pub bits_without : (mask : List ℕ) (n : ℕ) → length mask ≡ 0 → bitmap_bits mask n ≡ replicate n true
-unfolding bitmap_bits
-bits_without mask n none = let e : (length mask == 0) ≡ true = eq-eqb _ _ none in rw e refl
-
-pub bits_with : (mask : List ℕ) (n : ℕ) → (length mask ≡ 0 → ⊥) → bitmap_bits mask n ≡ mask_bits mask 0 n
-unfolding bitmap_bits
-bits_with mask n some = let e : (length mask == 0) ≡ false = ne_eqb _ _ some in rw e refl
 
 read_back : (f : ℕ → Bool) (bits : List Bool) (from : ℕ) → ((i : ℕ) → f (from + i) ≡ get_or bits i false) → map f (range_with_len from (length bits)) ≡ bits
 read_back f [] from same = refl

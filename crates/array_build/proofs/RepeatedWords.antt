@@ -8,7 +8,8 @@ use Rattle.std.proofs.lemmas.List.FromFn.{length-map-range_with_len}
 use Rattle.std.proofs.lemmas.Simd.{mask_l-lt}
 use Rattle.bitmap.specs.Bits.{bit}
 use Rattle.array_build.proofs.RunFixedItems.{repeated_length}
-use Rattle.array_build.specs.inner.Masked.{mask_bits, repeated}
+use Rattle.dictionary_codes.specs.Masks.{mask_bits}
+use Rattle.array_build.specs.inner.Masked.{repeated}
 
 -- a power of two that a number of 64 bits holds
 pub power : (n : ℕ) → n < 64 → 1 * 2 ^ n % 2 ^ 64 ≡ 2 ^ n

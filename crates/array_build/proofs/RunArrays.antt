@@ -6,16 +6,17 @@ use Rattle.std.proofs.lemmas.List.{length-map, length-replicate, map-append}
 use Rattle.std.proofs.lemmas.List.Folds.{list_all-map}
 use Rattle.std.proofs.lemmas.List.FromFn.{length-map-range_with_len}
 use Rattle.arrow_schema.specs.Column.{Kind, nulls, booleans, integers, dates, timestamps, texts, large_texts, binaries, large_binaries, fixed_binaries, lists, large_lists, fixed_lists, structs}
-use Rattle.array_build.proofs.Arrays.{nulls_of, booleans_are, integers_are, dates_are, timestamps_are, fixed_binaries_are, texts_are, binaries_are}
+use Rattle.batch_build.specs.laws.Arrays.{nulls_of, booleans_are, integers_are, dates_are, timestamps_are, fixed_binaries_are, texts_are, binaries_are}
 use Rattle.array_build.proofs.AsWritten.{null_slot}
-use Rattle.array_build.proofs.MaskedItems.{alike_kept, masked_append, masked_map, masked_twice}
-use Rattle.array_build.proofs.Masks.{bits_counted}
-use Rattle.array_build.proofs.Repeated.{repeated_map, repeated_more}
-use Rattle.array_build.specs.Batch.{PlainBatch, built_at, plain_column, with_arrays}
-use Rattle.array_build.specs.inner.Masked.{joined, masked, masked_cells, masked_slots, slots_mask}
+use Rattle.dictionary_codes.specs.laws.MaskedItems.{alike_kept, masked_append, masked_map, masked_twice}
+use Rattle.dictionary_codes.specs.laws.Bitmaps.{bits_counted}
+use Rattle.dictionary_codes.specs.laws.Repeated.{repeated_map, repeated_more}
+use Rattle.batch_build.specs.Batch.{PlainBatch, built_at, plain_column, with_arrays}
+use Rattle.dictionary_codes.specs.Masks.{joined, masked, masked_cells, slots_mask, bitmap_of, run_bits, runs_bits}
+use Rattle.array_build.specs.inner.Masked.{masked_slots}
 use Rattle.array_build.specs.inner.MaskedContents.{with_contents}
-use Rattle.array_build.specs.inner.Nodes.{with_node, with_buffer, with_slots}
-use Rattle.array_build.specs.inner.Runs.{bitmap_of, contents_width, fixed_value, fixed_width, kind_cells, run_bits, run_values, runs_bits, runs_values, with_run_slots}
+use Rattle.batch_build.specs.Nodes.{with_node, with_buffer, with_slots}
+use Rattle.array_build.specs.inner.Runs.{contents_width, fixed_value, fixed_width, kind_cells, run_values, runs_values, with_run_slots}
 use Rattle.columns.specs.Runs.{run_cells}
 use Rattle.columns.specs.declared.slot_runs.SlotRun.{SlotRun}
 use Rattle.columns.specs.declared.slot_runs.SlotRun.TheVariants.{Slots, Nulls}

@@ -4,7 +4,7 @@ use Rattle.std.specs.List.{range_with_len}
 use Rattle.std.proofs.Common.{◌≡◌, ℕ, ◌+◌, ◌-◌, ◌*◌, ◌≤◌, true, false, map, length, ap, ◌∙◌, arith}
 use Rattle.std.proofs.lemmas.Bool.{and_parts, leb-true, ltb-false, not-true}
 use Rattle.arrow_schema.specs.Column.{booleans}
-use Rattle.array_build.specs.Batch.{plain_column}
+use Rattle.batch_build.specs.Batch.{plain_column}
 use Rattle.array_build.specs.inner.Runs.{run_values}
 use Rattle.columns.specs.Runs.{is_run_sound}
 use Rattle.columns.specs.declared.slot_runs.SlotRun.{SlotRun}

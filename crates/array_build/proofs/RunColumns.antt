@@ -10,11 +10,11 @@ use Rattle.arrow_schema.specs.View.{column_of, kind_of, index_of, pair_of}
 use Rattle.arrow_schema.specs.declared.types.DictSpec.{DictSpec}
 use Rattle.arrow_schema.specs.declared.types.Field.{Field}
 use Rattle.arrow_schema.specs.laws.Parts.{field_parts}
-use Rattle.array_build.proofs.Fields.{plain_can_be_built, plain_field}
-use Rattle.array_build.specs.Batch.{PlainBatch, built_at, built_below, plain_column, with_arrays}
-use Rattle.array_build.specs.inner.Masked.{masked, masked_cells, slots_mask}
+use Rattle.batch_build.specs.laws.Fields.{plain_can_be_built, plain_field}
+use Rattle.batch_build.specs.Batch.{PlainBatch, built_at, built_below, plain_column, with_arrays}
+use Rattle.dictionary_codes.specs.Masks.{masked, masked_cells, slots_mask}
 use Rattle.array_build.specs.inner.Runs.{built_columns, kind_cells}
-use Rattle.array_build.specs.laws.Joined.{more_arrays, no_arrays}
+use Rattle.batch_build.specs.laws.Joined.{more_arrays, no_arrays}
 use Rattle.columns.specs.Runs.{HaveRuns, are_columns_sound, are_runs_sound, can_build_columns, has_validity, is_run_sound, run_cells, runs_cells}
 use Rattle.columns.specs.laws.ReadableRuns.{sound_have_validity}
 use Rattle.columns.specs.declared.slot_runs.SlotRun.{SlotRun}

@@ -9,9 +9,9 @@ use Rattle.std.proofs.Math.Seq.{take-add}
 use Rattle.byteorder.specs.Endian.{little_bytes}
 use Rattle.arrow_schema.specs.Column.{Kind, nulls, booleans, integers, dates, timestamps, texts, large_texts, binaries, large_binaries, fixed_binaries, lists, large_lists, fixed_lists, structs}
 use Rattle.array_build.proofs.AsWritten.{has_offsets, no_byte_below, null_slot}
-use Rattle.array_build.proofs.Premises.{texts_fit, binaries_fit}
-use Rattle.array_build.proofs.Repeated.{none_each}
-use Rattle.array_build.specs.Batch.{plain_column}
+use Rattle.batch_build.specs.laws.Premises.{texts_fit, binaries_fit}
+use Rattle.dictionary_codes.specs.laws.Repeated.{none_each}
+use Rattle.batch_build.specs.Batch.{plain_column}
 use Rattle.array_build.specs.inner.Runs.{cell_sizes, contents_width, is_as_written, is_run_as_written, kind_cells, offsets_width, slot_sizes, span_contents}
 use Rattle.columns.specs.Runs.{is_run_sound, run_cells}
 use Rattle.columns.specs.declared.slot_runs.SlotRun.{SlotRun}

@@ -9,16 +9,17 @@ use Rattle.std.proofs.lemmas.List.Concat.{flat_map-append}
 use Rattle.std.proofs.lemmas.List.Folds.{list_all-append}
 use Rattle.std.proofs.lemmas.List.FromFn.{length-map-range_with_len}
 use Rattle.arrow_schema.specs.Column.{Column, fixed_lists}
-use Rattle.array_build.proofs.Arrays.{fixed_lists_are}
-use Rattle.array_build.proofs.MaskedItems.{alike_kept, all_alike, all_kept, masked_append, masked_length, masked_map, masked_twice, none_kept}
-use Rattle.array_build.proofs.MaskedRuns.{bits_append, cells_counted}
-use Rattle.array_build.proofs.Masks.{bits_counted}
-use Rattle.array_build.proofs.Repeated.{repeated_each, repeated_map}
+use Rattle.batch_build.specs.laws.Arrays.{fixed_lists_are}
+use Rattle.dictionary_codes.specs.laws.MaskedItems.{alike_kept, all_alike, all_kept, masked_append, masked_length, masked_map, masked_twice, none_kept}
+use Rattle.dictionary_codes.specs.laws.MaskedRuns.{bits_append, cells_counted}
+use Rattle.dictionary_codes.specs.laws.Bitmaps.{bits_counted}
+use Rattle.dictionary_codes.specs.laws.Repeated.{repeated_each, repeated_map}
 use Rattle.array_build.proofs.RunArrays.{masked_kind_slots}
-use Rattle.array_build.specs.Batch.{PlainBatch, built_at, with_arrays}
-use Rattle.array_build.specs.inner.Masked.{IsMask, bitmap_bits, mask_bits, masked, masked_by, masked_cells, masked_slots, repeated, slots_mask}
+use Rattle.batch_build.specs.Batch.{PlainBatch, built_at, with_arrays}
+use Rattle.dictionary_codes.specs.Masks.{IsMask, bitmap_bits, mask_bits, masked, masked_by, masked_cells, slots_mask, bitmap_of, run_bits, runs_bits}
+use Rattle.array_build.specs.inner.Masked.{masked_slots, repeated}
 use Rattle.array_build.specs.inner.RunItems.{AreFixedItems, HasSlots, fixed_below, fixed_column}
-use Rattle.array_build.specs.inner.Runs.{bitmap_of, kind_cells, run_bits, runs_bits, with_run_slots}
+use Rattle.array_build.specs.inner.Runs.{kind_cells, with_run_slots}
 use Rattle.columns.specs.Runs.{run_cells, runs_cells, is_run_sound}
 use Rattle.columns.specs.declared.slot_runs.SlotRun.{SlotRun}
 use Rattle.columns.specs.declared.slot_runs.SlotRun.TheVariants.{Slots, Nulls}

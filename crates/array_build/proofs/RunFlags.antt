@@ -2,7 +2,7 @@
 use Rattle.std.specs.Prelude.{replicate}
 use Rattle.std.specs.List.{range_with_len}
 use Rattle.std.proofs.Common.{◌≡◌, ℕ, ◌+◌, ◌-◌, ◌<◌, suc, Bool, List, [], ◌∷◌, ◌++◌, map, ap, ◌∙◌, arith}
-use Rattle.array_build.proofs.Turns.{turned}
+use Rattle.batch_build.specs.laws.Turns.{turned}
 
 alike_next : (flag : Bool) (count i : ℕ) → i < count → flag ∷ replicate (count - (i + 1)) flag ≡ replicate (count - i) flag
 alike_next flag count i lt = let e : suc (count - (i + 1)) ≡ count - i = omega arith in ap (λ (n : ℕ). replicate n flag) e

@@ -7,15 +7,16 @@ use Rattle.std.proofs.lemmas.List.Concat.{flat_map-append}
 use Rattle.std.proofs.lemmas.List.Folds.{list_all-append}
 use Rattle.std.proofs.lemmas.List.FromFn.{length-map-range_with_len}
 use Rattle.arrow_schema.specs.Column.{Column, lists, large_lists}
-use Rattle.array_build.proofs.Arrays.{lists_are}
+use Rattle.batch_build.specs.laws.Arrays.{lists_are}
 use Rattle.array_build.proofs.AsWritten.{no_byte_below, null_slot}
-use Rattle.array_build.proofs.Premises.{lists_fit}
-use Rattle.array_build.proofs.Repeated.{none_each}
+use Rattle.batch_build.specs.laws.Premises.{lists_fit}
+use Rattle.dictionary_codes.specs.laws.Repeated.{none_each}
 use Rattle.array_build.proofs.RunArrays.{kind_slots}
-use Rattle.array_build.specs.Batch.{PlainBatch, built_at, with_arrays}
-use Rattle.array_build.specs.inner.Nodes.{list_kind, with_buffer, with_slots}
+use Rattle.batch_build.specs.Batch.{PlainBatch, built_at, with_arrays}
+use Rattle.batch_build.specs.Nodes.{list_kind, with_buffer, with_slots}
 use Rattle.array_build.specs.inner.RunItems.{AreItems, HasSlots, list_column, list_sizes, run_lists}
-use Rattle.array_build.specs.inner.Runs.{is_as_written, is_run_as_written, kind_cells, offsets_width, runs_bits, slot_sizes, span_of, with_run_slots}
+use Rattle.array_build.specs.inner.Runs.{is_as_written, is_run_as_written, kind_cells, offsets_width, slot_sizes, span_of, with_run_slots}
+use Rattle.dictionary_codes.specs.Masks.{runs_bits}
 use Rattle.columns.specs.Runs.{run_cells, runs_cells, is_run_sound, are_runs_sound}
 use Rattle.columns.specs.declared.slot_runs.SlotRun.{SlotRun}
 use Rattle.columns.specs.declared.slot_runs.SlotRun.TheVariants.{Slots, Nulls}

@@ -7,18 +7,19 @@ use Rattle.std.proofs.lemmas.List.{drop_all, length-replicate, map-append}
 use Rattle.std.proofs.lemmas.List.FromFn.{length-map-range_with_len}
 use Rattle.std.proofs.lemmas.List.Folds.{list_all-append}
 use Rattle.facts.specs.laws.Lists.{flat_map-push}
-use Rattle.array_build.proofs.Arrays.{structs_are}
-use Rattle.array_build.proofs.MaskedItems.{alike_kept, masked_append, masked_map, masked_twice}
-use Rattle.array_build.proofs.MaskedRuns.{cells_counted}
-use Rattle.array_build.proofs.Masks.{bits_counted}
-use Rattle.array_build.proofs.Premises.{parts_can_be_built}
-use Rattle.array_build.proofs.Repeated.{repeated_map, repeated_more}
+use Rattle.batch_build.specs.laws.Arrays.{structs_are}
+use Rattle.dictionary_codes.specs.laws.MaskedItems.{alike_kept, masked_append, masked_map, masked_twice}
+use Rattle.dictionary_codes.specs.laws.MaskedRuns.{cells_counted}
+use Rattle.dictionary_codes.specs.laws.Bitmaps.{bits_counted}
+use Rattle.batch_build.specs.laws.Premises.{parts_can_be_built}
+use Rattle.dictionary_codes.specs.laws.Repeated.{repeated_map, repeated_more}
 use Rattle.array_build.proofs.RunArrays.{masked_kind_slots}
-use Rattle.array_build.specs.Batch.{PlainBatch, built_at, built_below, plain_column, with_arrays}
-use Rattle.array_build.specs.inner.Masked.{IsMask, bitmap_bits, masked, masked_by, masked_cells, masked_parts, masked_slots, slots_mask}
+use Rattle.batch_build.specs.Batch.{PlainBatch, built_at, built_below, plain_column, with_arrays}
+use Rattle.dictionary_codes.specs.Masks.{IsMask, bitmap_bits, masked, masked_by, masked_cells, slots_mask, bitmap_of, run_bits, runs_bits}
+use Rattle.array_build.specs.inner.Masked.{masked_parts, masked_slots}
 use Rattle.array_build.specs.inner.RunParts.{arrays_from, children_behind, child_at, parts_behind, part_cells_behind, has_sound_part, IsPartOf, IsPart, IsPartIn}
-use Rattle.array_build.specs.inner.Runs.{bitmap_of, kind_cells, run_bits, runs_bits, with_run_slots}
-use Rattle.array_build.specs.laws.Joined.{no_arrays, more_arrays}
+use Rattle.array_build.specs.inner.Runs.{kind_cells, with_run_slots}
+use Rattle.batch_build.specs.laws.Joined.{no_arrays, more_arrays}
 use Rattle.columns.specs.Runs.{run_cells, runs_cells, is_run_sound, are_runs_sound}
 use Rattle.columns.specs.declared.slot_runs.SlotRun.{SlotRun}
 use Rattle.columns.specs.declared.slot_runs.SlotRun.TheVariants.{Slots, Nulls}

@@ -3,18 +3,9 @@ use Rattle.std.specs.Prelude.{not, ◌==◌, replicate}
 use Rattle.std.specs.List.{list_all, range_with_len}
 use Rattle.std.proofs.Common.{◌≡◌, ℕ, zero, suc, ◌+◌, ◌≤◌, ◌<◌, Bool, true, false, List, ◌∷◌, map, length, inl, inr, refl, ap, ap₂, sym, ◌∙◌, arith}
 use Rattle.std.proofs.lemmas.Bool.{cases_lt, eq-eqb, ne_eqb, and_right}
-use Rattle.std.proofs.lemmas.List.FromFn.{length-map-range_with_len}
-use Rattle.array_build.specs.inner.Runs.{run_bits}
-use Rattle.columns.specs.declared.slot_runs.SlotRun.{SlotRun}
-use Rattle.columns.specs.declared.slot_runs.SlotRun.TheVariants.{Slots}
 use Rattle.bitmap.specs.Bits.{bit}
 use Rattle.columns.specs.Array.{Array, validity_in}
 use Rattle.columns.specs.CellAt.{is_valid}
-use Rattle.columns.specs.View.{view_array}
-use Rattle.columns.specs.declared.view.ArrayView.{ArrayView}
-
-pub slots_counted : (v : ArrayView) (from n : ℕ) (run : SlotRun) → run ≡ Slots v from n → length (run_bits run) ≡ n
-slots_counted v from n run is = ap (λ (r : SlotRun). length (run_bits r)) is ∙ length-map-range_with_len (is_valid (view_array v)) from n
 
 -- ---- tests of some numbers in a row
 

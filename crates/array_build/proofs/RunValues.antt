@@ -8,8 +8,8 @@ use Rattle.std.proofs.Math.Seq.{take-add}
 use Rattle.arrow_schema.specs.Column.{Kind, nulls, booleans, integers, dates, timestamps, texts, large_texts, binaries, large_binaries, fixed_binaries, lists, large_lists, fixed_lists, structs}
 use Rattle.array_build.proofs.AsWritten.{null_slot, zeros_are, zeros_below}
 use Rattle.array_build.proofs.Numbers.{integer_again}
-use Rattle.array_build.proofs.Repeated.{repeated_each}
-use Rattle.array_build.specs.Batch.{plain_column}
+use Rattle.dictionary_codes.specs.laws.Repeated.{repeated_each}
+use Rattle.batch_build.specs.Batch.{plain_column}
 use Rattle.array_build.specs.inner.Runs.{fixed_value, fixed_width, is_as_written, is_run_as_written}
 use Rattle.columns.specs.Runs.{is_run_sound, run_cells}
 use Rattle.columns.specs.declared.slot_runs.SlotRun.{SlotRun}

@@ -1,3 +1,1 @@
-pub mod Batch
-pub mod laws
 pub mod inner

@@ -1,16 +1,6 @@
-pub mod Coded
-pub mod Codes
-pub mod Known
 pub mod Masked
 pub mod MaskedContents
 pub mod MaskedLists
-pub mod Named
-pub mod Nodes
-pub mod RunCells
 pub mod RunItems
 pub mod RunParts
 pub mod Runs
-pub mod Same
-pub mod Seen
-pub mod Stamped
-pub mod Stored

@@ -1,6 +1,6 @@
 // Runs that stand as they are written, also where there are nulls among their slots.
 ghost use Rattle.std.specs.Prelude.{◌≡◌, ℕ, ◌≤◌, ◌<◌, ◌+◌, ◌-◌, ◌*◌, ◌^◌, ◌==◌, ◌||◌, false, true, None, length};
-ghost use Rattle.array_build.specs.Batch.{plain_column};
+ghost use Rattle.batch_build.specs.Batch.{plain_column};
 ghost use Rattle.array_build.specs.inner.Runs.{are_runs_as_written, are_zeros, is_run_as_written};
 ghost use Rattle.columns.specs.Runs.{are_runs_sound, is_run_sound};
 ghost use Rattle.columns.specs.declared.slot_runs.SlotRun.TheVariants.{Slots};

@@ -2,9 +2,10 @@
 ghost use Rattle.std.specs.Prelude.{◌≡◌, true, OnOk, IfOk, List, Some, None, is_some, length, map};
 ghost use Rattle.arrow_schema.specs.Column.{columns_of, fixed_lists, structs};
 ghost use Rattle.arrow_schema.specs.View.{kind_of, column_of};
-ghost use Rattle.array_build.specs.Batch.{batch_in, batch_of, built_at, built_below, plain_column, with_arrays};
-ghost use Rattle.array_build.specs.inner.Nodes.{list_kind};
-ghost use Rattle.array_build.specs.inner.Masked.{AddsMasked, IsMask, masked_cells, masked_kind, masked_parts};
+ghost use Rattle.batch_build.specs.Batch.{batch_in, batch_of, built_at, built_below, plain_column, with_arrays};
+ghost use Rattle.batch_build.specs.Nodes.{list_kind};
+ghost use Rattle.array_build.specs.inner.Masked.{AddsMasked, masked_kind, masked_parts};
+ghost use Rattle.dictionary_codes.specs.Masks.{IsMask, masked_cells};
 ghost use Rattle.array_build.specs.inner.RunItems.{fixed_column, list_column};
 ghost use Rattle.array_build.specs.inner.Runs.{AddsRuns, AreAsWritten, are_runs_as_written, built_columns, contents_width, fixed_width, offsets_width};
 ghost use Rattle.columns.specs.Runs.{HaveRuns, are_columns_sound, are_runs_sound, can_build_columns, runs_cells};
@@ -12,21 +13,20 @@ ghost use Rattle.cells.specs.Cell.{Cell};
 ghost use Rattle.columns.specs.Buildable.{can_build, can_build_parts};
 
 use crate::as_written::are_as_written;
-use crate::batch::{BuiltBatch, empty_batch, push_buffer};
-use crate::building::build_values;
-use crate::coded_cells::{push_dictionary, push_run_indices};
 use crate::flat_runs::{build_run_bits, build_run_contents, build_run_nulls, build_run_values};
-use crate::known_entries::KnownEntries;
 use crate::masked_contents::build_masked_contents;
 use crate::masked_lists::push_masked_lists;
 use crate::run_fixed_items::{fixed_item_runs, item_mask};
+use crate::run_indices::push_run_indices;
 use crate::run_items::{item_runs, run_list_offsets};
 use crate::run_parts::field_runs;
-use crate::run_slots::{count_slots, push_run_slots};
+use crate::run_slots::push_run_slots;
 use crate::slot_masks::push_masked_slots;
 use crate::widths::{contents_width, offsets_width, value_width};
 use arrow_schema::{DataType, DictSpec, Field};
+use batch_build::{BuiltBatch, build_values, empty_batch, push_buffer, push_dictionary};
 use columns::{OffsetWidth, SlotRun};
+use dictionary_codes::{KnownEntries, count_slots};
 use std::alloc::{AllocError, Global};
 
 // Adds the indices of a column with a dictionary under a mask, and its entries.

@@ -1,21 +1,23 @@
 // Arrays of types that have no fields below them, from runs under a mask or such as stand as they are written.
 ghost use Rattle.std.specs.Prelude.{◌≡◌, true, OnOk, Some, None};
-ghost use Rattle.array_build.specs.inner.Masked.{AddsMasked, IsMask};
+ghost use Rattle.array_build.specs.inner.Masked.{AddsMasked};
+ghost use Rattle.dictionary_codes.specs.Masks.{IsMask};
 ghost use Rattle.arrow_schema.specs.Column.{nulls, booleans};
 ghost use Rattle.arrow_schema.specs.View.{kind_of};
-ghost use Rattle.array_build.specs.Batch.{plain_column};
+ghost use Rattle.batch_build.specs.Batch.{plain_column};
 ghost use Rattle.array_build.specs.inner.Runs.{AddsRuns, AreAsWritten, contents_width, fixed_width};
 ghost use Rattle.columns.specs.Offsets.{width_of};
 ghost use Rattle.columns.specs.Runs.{are_runs_sound};
 
-use crate::batch::{BuiltBatch, push_any_buffer, push_buffer, push_node};
 use crate::run_bits::run_booleans;
 use crate::run_contents::push_written_contents;
-use crate::run_slots::{count_slots, push_run_slots};
+use crate::run_slots::push_run_slots;
 use crate::run_values::masked_values;
 use crate::slot_masks::{push_masked_slots, push_slots_under};
 use arrow_schema::DataType;
+use batch_build::{BuiltBatch, push_any_buffer, push_buffer, push_node};
 use columns::{OffsetWidth, SlotRun};
+use dictionary_codes::count_slots;
 use std::alloc::{AllocError, Global};
 
 // Nulls have a node alone.

@@ -1,10 +1,11 @@
 // Texts and binaries under a mask: a slot whose bit is not set has no bytes, whatever stands there.
 ghost use Rattle.std.specs.Prelude.{◌≡◌, ◌≤◌, ◌<◌, ◌+◌, ◌-◌, ◌*◌, ◌^◌, ◌++◌, ℕ, List, [], false, true, OnOk, IfOk, Some, None, length, if◌then◌else◌};
 ghost use Rattle.std.specs.List.{flat_map};
-ghost use Rattle.array_build.specs.Batch.{batch_in, plain_column};
-ghost use Rattle.array_build.specs.inner.Masked.{AddsMasked, IsMask, are_below, mask_bits, masked_kind};
+ghost use Rattle.batch_build.specs.Batch.{batch_in, plain_column};
+ghost use Rattle.array_build.specs.inner.Masked.{AddsMasked, are_below, masked_kind};
+ghost use Rattle.dictionary_codes.specs.Masks.{IsMask, mask_bits, run_bits};
 ghost use Rattle.array_build.specs.inner.MaskedContents.{AreUnder, masked_sizes, masked_spans, run_under, runs_under, with_contents};
-ghost use Rattle.array_build.specs.inner.Runs.{AreOffsetsAdded, cell_sizes, contents_width, run_bits, span_contents};
+ghost use Rattle.array_build.specs.inner.Runs.{AreOffsetsAdded, cell_sizes, contents_width, span_contents};
 ghost use Rattle.arrow_schema.specs.View.{kind_of};
 ghost use Rattle.bitmap.specs.Bits.{bit};
 ghost use Rattle.columns.specs.Array.{slots_in, contents_in};
@@ -16,17 +17,16 @@ ghost use Rattle.columns.specs.Runs.{are_runs_sound, is_run_sound};
 ghost use Rattle.columns.specs.Tests.{are_few_offsets, are_unordered};
 ghost use Rattle.columns.specs.View.{view_array};
 
-use crate::batch::{BuiltBatch, push_buffer};
 use crate::number_bytes::last_offset;
 use crate::run_contents::{push_null_offsets, push_written_contents, slot_contents};
-use crate::run_slots::{count_slots, run_len};
 use crate::slot_masks::push_masked_slots;
 use crate::slot_offsets::push_masked_slot_offsets;
 use crate::unset_slots::run_to;
-use crate::widths::offset_size;
 use arrow_schema::DataType;
+use batch_build::{BuiltBatch, offset_size, push_buffer};
 use bitmap::get;
 use columns::{ArrayView, OffsetWidth, SlotRun, push_offset};
+use dictionary_codes::{count_slots, run_len};
 use std::alloc::{AllocError, Global};
 
 // The offsets at which the bytes of a run begin, by the bits of a mask from one on; and where its last end.

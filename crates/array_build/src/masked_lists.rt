@@ -1,13 +1,14 @@
 // Lists under a mask: a slot whose bit is not set has no items, whatever stands there. Items that stand in a row are one run.
 ghost use Rattle.std.specs.Prelude.{◌≡◌, ◌≤◌, ◌<◌, ◌+◌, ◌-◌, ◌*◌, ◌^◌, ◌++◌, [], true, OnOk, IfOk, length, get_or, if◌then◌else◌};
 ghost use Rattle.std.specs.List.{flat_map, list_all, range_with_len};
-ghost use Rattle.array_build.specs.Batch.{batch_in};
-ghost use Rattle.array_build.specs.inner.Masked.{IsMask, are_below, mask_bits, masked_kind, masked_slots};
+ghost use Rattle.batch_build.specs.Batch.{batch_in};
+ghost use Rattle.dictionary_codes.specs.Masks.{IsMask, mask_bits, run_bits};
+ghost use Rattle.array_build.specs.inner.Masked.{are_below, masked_kind, masked_slots};
 ghost use Rattle.array_build.specs.inner.MaskedContents.{AreUnder, run_under, runs_under};
 ghost use Rattle.array_build.specs.inner.MaskedLists.{AreValidUnder, lists_under};
-ghost use Rattle.array_build.specs.inner.Nodes.{list_kind, with_buffer};
+ghost use Rattle.batch_build.specs.Nodes.{list_kind, with_buffer};
 ghost use Rattle.array_build.specs.inner.RunItems.{list_column, list_sizes};
-ghost use Rattle.array_build.specs.inner.Runs.{AreOffsetsAdded, run_bits, with_run_slots};
+ghost use Rattle.array_build.specs.inner.Runs.{AreOffsetsAdded, with_run_slots};
 ghost use Rattle.arrow_schema.specs.View.{column_of};
 ghost use Rattle.cells.specs.Cell.{null};
 ghost use Rattle.cells.specs.Dictionary.{item_list};
@@ -20,17 +21,16 @@ ghost use Rattle.columns.specs.Runs.{are_runs_sound, is_run_sound, runs_cells};
 ghost use Rattle.columns.specs.Sound.{is_sound};
 ghost use Rattle.columns.specs.View.{view_array};
 
-use crate::batch::{BuiltBatch, push_buffer};
 use crate::item_slots::item_slots;
 use crate::run_contents::push_null_offsets;
 use crate::run_items::{item_runs, run_list_offsets};
-use crate::run_slots::{count_slots, run_len};
 use crate::slot_masks::push_masked_slots;
 use crate::slot_offsets::push_masked_slot_offsets;
-use crate::widths::offset_size;
 use arrow_schema::Field;
+use batch_build::{BuiltBatch, offset_size, push_buffer};
 use bitmap::{get, run_end};
 use columns::{ArrayView, OffsetWidth, SlotRun, Span, push_offset};
+use dictionary_codes::{count_slots, run_len};
 use std::alloc::{AllocError, Global};
 
 // The offsets at which the items of a run begin, by the bits of a mask from one on; and where the last end.

@@ -5,16 +5,7 @@ ghost use Rattle.columns.specs.Offsets.{width_of};
 
 use byteorder::{ByteOrder, LittleEndian};
 use columns::OffsetWidth;
-
-/// Writes the low bytes of a number, n of them, over the bytes from a place on.
-#[inline]
-pub(crate) fn put_number<const SIZE: usize>(bytes: &mut [u8], at: usize, number: u64)
-    requires size { SIZE ≤ 8 }
-    requires room { at + SIZE ≤ length bytes.old }
-    ensures { bytes.new ≡ take at bytes.old ++ (little_bytes SIZE number ++ drop (at + SIZE) bytes.old) }
-{
-    bytes[at..at + SIZE].copy_from_slice(&number.to_le_bytes()[..SIZE]);
-}
+use dictionary_codes::put_number;
 
 /// Writes an offset over the one at a place.
 #[inline]

@@ -1,18 +1,18 @@
 // Values of booleans.
 ghost use Rattle.std.specs.Prelude.{◌≡◌, ◌++◌, true, OnOk, IfOk, None, length};
-ghost use Rattle.array_build.specs.Batch.{plain_column};
-ghost use Rattle.array_build.specs.inner.Masked.{IsMask, joined, slots_mask};
-ghost use Rattle.array_build.specs.inner.Runs.{run_values, runs_bits, runs_values};
+ghost use Rattle.batch_build.specs.Batch.{plain_column};
+ghost use Rattle.dictionary_codes.specs.Masks.{IsMask, joined, slots_mask, runs_bits};
+ghost use Rattle.array_build.specs.inner.Runs.{run_values, runs_values};
 ghost use Rattle.columns.specs.Runs.{are_runs_sound, is_run_sound};
 ghost use Rattle.arrow_schema.specs.Column.{booleans};
 ghost use Rattle.bitmap.specs.Bits.{packed};
 
 use crate::mask_bits::push_mask_bits;
 use crate::run_flags::{are_short, push_alike, push_booleans};
-use crate::run_slots::count_slots;
 use crate::slot_masks::both_set;
 use bitmap::{MaskBuilder, pack, packed_reads_back};
 use columns::SlotRun;
+use dictionary_codes::count_slots;
 use std::alloc::{AllocError, Global};
 
 // The values of a run of booleans, whatever stands below nulls.

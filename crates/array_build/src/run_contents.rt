@@ -1,7 +1,7 @@
 // The bytes of texts and binaries, and where they end, of runs that stand as they are written.
 ghost use Rattle.std.specs.Prelude.{◌≡◌, ◌≤◌, ◌+◌, ◌++◌, false, true, OnOk, IfOk, Some, None, length, replicate};
 ghost use Rattle.std.specs.List.{flat_map};
-ghost use Rattle.array_build.specs.Batch.{batch_in, buffer_bytes, plain_column};
+ghost use Rattle.batch_build.specs.Batch.{batch_in, buffer_bytes, plain_column};
 ghost use Rattle.array_build.specs.inner.MaskedContents.{with_contents};
 ghost use Rattle.array_build.specs.inner.Runs.{AreAsWritten, AreOffsetsAdded, cell_sizes, contents_width, is_run_as_written, kind_cells, span_contents};
 ghost use Rattle.columns.specs.Runs.{is_run_sound, run_cells};
@@ -14,13 +14,13 @@ ghost use Rattle.columns.specs.Offsets.{width_of};
 ghost use Rattle.columns.specs.Tests.{are_few_offsets};
 ghost use Rattle.columns.specs.View.{view_array};
 
-use crate::batch::{Buffer, BuiltBatch, push_any_buffer, push_buffer};
 use crate::number_bytes::last_offset;
-use crate::run_slots::{count_slots, only_run};
+use crate::run_slots::only_run;
 use crate::slot_offsets::push_slot_offsets;
-use crate::widths::offset_size;
 use arrow_schema::DataType;
+use batch_build::{Buffer, BuiltBatch, offset_size, push_any_buffer, push_buffer};
 use columns::{ArrayView, OffsetWidth, SlotRun, bytes_at, push_offset};
+use dictionary_codes::count_slots;
 use std::alloc::{AllocError, Global};
 
 /// The bytes of some slots' texts or binaries.

@@ -2,9 +2,9 @@
 ghost use Rattle.std.specs.Prelude.{◌≡◌, ◌≤◌, ◌<◌, ◌-◌, ◌*◌, ◌++◌, true, IfOk, length, replicate};
 ghost use Rattle.std.specs.List.{flat_map};
 ghost use Rattle.std.specs.Simd.Lanes.{mask_l};
-ghost use Rattle.array_build.specs.inner.Masked.{bitmap_bits, mask_bits, repeated};
+ghost use Rattle.dictionary_codes.specs.Masks.{bitmap_bits, mask_bits, bitmap_of};
+ghost use Rattle.array_build.specs.inner.Masked.{repeated};
 ghost use Rattle.array_build.specs.inner.RunItems.{AreFixedItems, fixed_below, fixed_column};
-ghost use Rattle.array_build.specs.inner.Runs.{bitmap_of};
 ghost use Rattle.bitmap.specs.Bits.{packed};
 ghost use Rattle.columns.specs.Runs.{are_runs_sound, is_run_sound, runs_cells};
 ghost use Rattle.arrow_schema.specs.View.{column_of};

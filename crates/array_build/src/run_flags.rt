@@ -1,7 +1,7 @@
 // A `bool` for each slot of runs that have few slots each: many are packed at once, where each run of bits would cost a call.
 ghost use Rattle.std.specs.Prelude.{◌≡◌, ◌≤◌, ◌+◌, ◌-◌, ◌*◌, ◌++◌, false, true, OnOk, IfOk, length, map, replicate};
 ghost use Rattle.std.specs.List.{list_all, range_with_len};
-ghost use Rattle.array_build.specs.inner.Runs.{run_bits, runs_bits};
+ghost use Rattle.dictionary_codes.specs.Masks.{run_bits, runs_bits};
 ghost use Rattle.bitmap.specs.Bits.{bit};
 ghost use Rattle.columns.specs.Array.{bits_in, slots_in};
 ghost use Rattle.columns.specs.CellAt.{is_valid};

@@ -1,7 +1,7 @@
 // The items of lists, and where they end, of runs that stand as they are written.
 ghost use Rattle.std.specs.Prelude.{◌≡◌, ◌≤◌, ◌+◌, true, IfOk, length};
 ghost use Rattle.std.specs.List.{flat_map};
-ghost use Rattle.array_build.specs.inner.Nodes.{list_kind};
+ghost use Rattle.batch_build.specs.Nodes.{list_kind};
 ghost use Rattle.array_build.specs.inner.RunItems.{AreItems, list_column, list_sizes, run_lists};
 ghost use Rattle.array_build.specs.inner.Runs.{AreAsWritten, AreOffsetsAdded, is_run_as_written, kind_cells};
 ghost use Rattle.columns.specs.Runs.{are_runs_sound, is_run_sound, runs_cells};
@@ -13,11 +13,11 @@ ghost use Rattle.columns.specs.Offsets.{width_of};
 
 use crate::item_slots::item_slots;
 use crate::run_contents::push_null_offsets;
-use crate::run_slots::count_slots;
 use crate::slot_offsets::push_slot_offsets;
-use crate::widths::offset_size;
 use arrow_schema::Field;
+use batch_build::offset_size;
 use columns::{OffsetWidth, SlotRun, push_offset};
+use dictionary_codes::count_slots;
 use std::alloc::{AllocError, Global};
 
 // The offsets at which the items of a run begin, where the first begin at `start`; and where the last end.

@@ -1,14 +1,14 @@
 // The runs of a field of structs.
 ghost use Rattle.std.specs.Prelude.{◌≡◌, true, [], ◌∷◌, IfOk, None, length};
 ghost use Rattle.array_build.specs.inner.RunParts.{IsPart, IsPartIn, IsPartOf};
-ghost use Rattle.array_build.specs.inner.Runs.{runs_bits};
+ghost use Rattle.dictionary_codes.specs.Masks.{runs_bits};
 ghost use Rattle.columns.specs.declared.slot_runs.SlotRun.TheVariants.{Nulls};
 ghost use Rattle.arrow_schema.specs.Column.{nulls};
 ghost use Rattle.arrow_schema.specs.View.{column_of, kind_of};
 
-use crate::run_slots::count_slots;
 use arrow_schema::{DataType, Field};
 use columns::{ArrayView, SlotRun};
+use dictionary_codes::count_slots;
 use std::alloc::{AllocError, Global};
 
 // The slots that the field at a place has of some structs: below a null there is a null, and structs without an array for it have no slot.

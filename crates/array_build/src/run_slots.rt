@@ -1,30 +1,22 @@
 // Which slots of runs are valid.
 ghost use Rattle.std.specs.Prelude.{◌≡◌, ◌≤◌, ◌+◌, ◌++◌, ◌∷◌, [], IfSome, ◌==◌, ◌||◌, ◌*◌, nat_le, false, true, OnOk, IfOk, length, map};
 ghost use Rattle.std.specs.List.{list_all, range_with_len};
-ghost use Rattle.array_build.specs.Batch.{batch_in};
-ghost use Rattle.array_build.specs.inner.Runs.{bitmap_of, run_bits, runs_bits, with_run_slots};
+ghost use Rattle.batch_build.specs.Batch.{batch_in};
+ghost use Rattle.dictionary_codes.specs.Masks.{bitmap_of, run_bits, runs_bits};
+ghost use Rattle.array_build.specs.inner.Runs.{with_run_slots};
 ghost use Rattle.columns.specs.Runs.{has_validity};
 ghost use Rattle.columns.specs.Array.{slots_in};
 ghost use Rattle.columns.specs.CellAt.{is_valid};
 ghost use Rattle.columns.specs.Tests.{has_short_validity};
 ghost use Rattle.columns.specs.View.{view_array};
 
-use crate::batch::{BuiltBatch, push_validity};
 use crate::mask_bits::push_mask_bits;
 use crate::run_flags::{are_short, run_flags};
+use batch_build::{BuiltBatch, push_validity};
 use bitmap::{MaskBuilder, get, pack, run_end};
 use columns::{ArrayView, SlotRun};
+use dictionary_codes::count_slots;
 use std::alloc::{AllocError, Global};
-
-#[tactic(auto, using(crate::proofs::RunSlots::slots_counted))]
-pub(crate) fn run_len(run: &SlotRun<'_>) -> usize
-    ensures { result ≡ length (run_bits run.now) }
-{
-    match run {
-        SlotRun::Slots { len, .. } => *len,
-        SlotRun::Nulls(count) => *count,
-    }
-}
 
 /// The run, where there is no other.
 pub(crate) fn only_run<'a>(runs: &[SlotRun<'a>]) -> Option<SlotRun<'a>>
@@ -34,20 +26,6 @@ pub(crate) fn only_run<'a>(runs: &[SlotRun<'a>]) -> Option<SlotRun<'a>>
         [run] => Some(*run),
         _ => None,
     }
-}
-
-/// How many slots runs have. More than a number holds have no room in memory.
-pub(crate) fn count_slots(runs: &[SlotRun<'_>]) -> Result<usize, AllocError>
-    ensures { IfOk result (λ count. count ≡ length (runs_bits runs.now)) }
-{
-    let mut count = 0usize;
-    for run in runs {
-        match count.checked_add(run_len(run)) {
-            Some(more) => count = more,
-            None => return Err(AllocError),
-        }
-    }
-    Ok(count)
 }
 
 /// Whether each of some slots is valid.

@@ -1,8 +1,8 @@
 // Values of one width.
 ghost use Rattle.std.specs.Prelude.{◌≡◌, ◌≤◌, ◌+◌, ◌-◌, ◌*◌, ◌++◌, true, false, OnOk, IfOk, Some, None, map, take, drop, replicate, length};
 ghost use Rattle.std.specs.List.{flat_map, range_with_len};
-ghost use Rattle.array_build.specs.Batch.{buffer_bytes, plain_column};
-ghost use Rattle.array_build.specs.inner.Masked.{IsMask, masked_cells};
+ghost use Rattle.batch_build.specs.Batch.{buffer_bytes, plain_column};
+ghost use Rattle.dictionary_codes.specs.Masks.{IsMask, masked_cells};
 ghost use Rattle.array_build.specs.inner.Runs.{cleared, fixed_value, fixed_width, is_run_as_written, kind_cells};
 ghost use Rattle.bitmap.specs.Bits.{bit};
 ghost use Rattle.columns.specs.Runs.{are_runs_sound, is_run_sound, run_cells};
@@ -15,13 +15,13 @@ ghost use Rattle.columns.specs.View.{view_array};
 ghost use Rattle.facts.specs.Bytes.{AreBytes};
 
 use crate::as_written::are_slots_as_written;
-use crate::batch::Buffer;
-use crate::number_bytes::put_number;
-use crate::run_slots::{count_slots, only_run};
+use crate::run_slots::only_run;
 use crate::slot_masks::are_bytes;
 use crate::unset_slots::next_unset;
 use arrow_schema::DataType;
+use batch_build::Buffer;
 use columns::{ArrayView, SlotRun};
+use dictionary_codes::{count_slots, put_number};
 use std::alloc::{AllocError, Global};
 
 // The values of some slots of an array.

@@ -2,17 +2,19 @@
 // where all bits are set.
 ghost use Rattle.std.specs.Prelude.{◌≡◌, ◌≤◌, ◌*◌, true, IfOk, OnOk, length};
 ghost use Rattle.std.specs.List.{list_all};
-ghost use Rattle.array_build.specs.Batch.{batch_in};
-ghost use Rattle.array_build.specs.inner.Masked.{IsMask, bitmap_bits, joined, mask_bits, masked_slots};
-ghost use Rattle.array_build.specs.inner.Runs.{bitmap_of, runs_bits, with_run_slots};
+ghost use Rattle.batch_build.specs.Batch.{batch_in};
+ghost use Rattle.dictionary_codes.specs.Masks.{IsMask, bitmap_bits, joined, mask_bits, bitmap_of, runs_bits};
+ghost use Rattle.array_build.specs.inner.Masked.{masked_slots};
+ghost use Rattle.array_build.specs.inner.Runs.{with_run_slots};
 ghost use Rattle.bitmap.specs.Bits.{packed};
 ghost use Rattle.columns.specs.Runs.{has_validity};
 ghost use Rattle.facts.specs.Bytes.{AreBytes};
 
-use crate::batch::{BuiltBatch, push_validity};
-use crate::run_slots::{count_slots, run_validity};
+use crate::run_slots::run_validity;
+use batch_build::{BuiltBatch, push_validity};
 use bitmap::{and, packed_reads_back};
 use columns::SlotRun;
+use dictionary_codes::count_slots;
 use std::alloc::{AllocError, Global};
 
 /// A byte is below 256: a contract knows it of a slice that it is given.

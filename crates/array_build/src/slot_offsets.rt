@@ -1,6 +1,6 @@
 // Where the spans of slots begin that stand one after another, all of them or those under a mask: their offsets, from another start on.
 ghost use Rattle.std.specs.Prelude.{◌≡◌, ◌≤◌, ◌<◌, ◌+◌, ◌-◌, ◌*◌, ◌^◌, ◌++◌, ℕ, List, false, IfOk, length, if◌then◌else◌};
-ghost use Rattle.array_build.specs.inner.Masked.{mask_bits};
+ghost use Rattle.dictionary_codes.specs.Masks.{mask_bits};
 ghost use Rattle.array_build.specs.inner.MaskedContents.{masked_sizes, total};
 ghost use Rattle.array_build.specs.inner.Runs.{AreOffsetsAdded, slot_sizes, span_of};
 ghost use Rattle.bitmap.specs.Bits.{bit};
@@ -12,7 +12,7 @@ ghost use Rattle.columns.specs.Tests.{are_few_offsets, are_unordered};
 ghost use Rattle.columns.specs.View.{view_array};
 
 use crate::number_bytes::put_offset;
-use crate::widths::offset_size;
+use batch_build::offset_size;
 use bitmap::get;
 use columns::{ArrayView, OffsetWidth, offset_at};
 use std::alloc::AllocError;

@@ -30,16 +30,6 @@ pub(crate) fn value_width(data_type: &DataType) -> Option<usize>
     }
 }
 
-/// The bytes of an offset.
-pub(crate) fn offset_size(width: OffsetWidth) -> usize
-    ensures { result ≡ width_of width }
-{
-    match width {
-        OffsetWidth::Four => 4,
-        OffsetWidth::Eight => 8,
-    }
-}
-
 /// How wide the offsets of texts or binaries are.
 pub(crate) fn contents_width(data_type: &DataType) -> Option<OffsetWidth>
     ensures { option_map width_of result ≡ contents_width (kind_of data_type.now) }

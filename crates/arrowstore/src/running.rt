@@ -39,7 +39,8 @@ pub fn run<S: AsStr, R: Read, W: Write + Output, E: Write>(
     ensures helps { result.status ≡ Done → AreRecode (map S.text arguments.now) ⊎ (is_own (map S.text arguments.now) ≡ true)
         ⊎ GivesSome (W.contents output.old) (W.contents output.new) }
     ensures only_recode_reads { AreRecode (map S.text arguments.now) ⊎ (input.new ≡ input.old) }
-    // What is on `errors`: the report of a refusal to such an audience, and nothing where all is done; nor, at a terminal, that the output failed where its reader is gone.
+    // What is on `errors`: the report of a refusal to such an audience, and nothing where all is done; nor, at a terminal, that the output failed where its
+    // reader is gone.
     ensures reports { HasReported E.contents (heard audience (W.unread output.new)) None [] IsIo output.old output.new errors.old errors.new result }
 {
     if is_own(arguments) {

@@ -87,8 +87,8 @@ fn lines_of(alloc: Global, script: &[u8]) -> Result<Vec<ScriptLine<'_>>, Refusal
 /// device stopped, and which tables a crash leaves.
 ///
 /// # Errors
-/// `Opening` where no store has that number of sectors; `Io` where a file can't be read; `BadScript` with the first line that is none; `TooManyBytes` of a file;
-/// `OutOfMemory`. Then nothing is printed, unless a write fails.
+/// `Opening` where no store has that number of sectors; `Io` where a file can't be read; `BadScript` with the first line that is none; `TooManyBytes` of a
+/// file; `OutOfMemory`. Then nothing is printed, unless a write fails.
 pub fn replay<F: Read + OpenFile + Drop, H: Files<File = F> + AllocGlobal, W: Write>(
     rt: &H,
     script: &str,

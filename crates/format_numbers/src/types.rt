@@ -35,8 +35,8 @@ pub fn codes_of_types()
     ensures large_list_view { LARGE_LIST_VIEW ≡ 26 }
 {}
 
-/// The codes that a stream may name: nulls, integers, binaries, texts, booleans, dates, timestamps, lists, structs, fixed-size binaries and lists, and the large
-/// binaries, texts and lists.
+/// The codes that a stream may name: nulls, integers, binaries, texts, booleans, dates, timestamps, lists, structs, fixed-size binaries and lists, and the
+/// large binaries, texts and lists.
 pub fn codes_of_supported_types()
     ensures { (code : ℕ) → supported_codes code ≡ list_any (λ n. n == code) (1 ∷ 2 ∷ 4 ∷ 5 ∷ 6 ∷ 8 ∷ 10 ∷ 12 ∷ 13 ∷ 15 ∷ 16 ∷ 19 ∷ 20 ∷ 21 ∷ []) }
 {}

@@ -2,8 +2,8 @@
 use Rattle.std.proofs.Common.{◌≡◌, ℕ, ◌+◌, ◌<◌, List, [], ◌∷◌, ◌++◌, map, length, get_or, take, drop, ap, sym, ◌∙◌, append_assoc, length-append}
 use Rattle.std.proofs.lemmas.List.{map_push}
 use Rattle.facts.specs.laws.Lists.{drop-item, take-item}
-use Rattle.array_build.specs.Batch.{buffer_bytes, buffers_in}
-use Rattle.array_build.specs.declared.batch.Buffer.{Buffer}
+use Rattle.batch_build.specs.Batch.{buffer_bytes, buffers_in}
+use Rattle.batch_build.specs.declared.batch.Buffer.{Buffer}
 use Rattle.ipc_encode.specs.View.{joined_parts}
 
 -- one buffer more is seen

@@ -1,6 +1,6 @@
 -- A stream as messages are added to it: all of a message but its body, and then the body.
 use Rattle.std.proofs.Common.{◌≡◌, ℕ, List, ◌++◌, append_assoc, ap, sym, ◌∙◌}
-use Rattle.array_build.specs.declared.batch.Buffer.{Buffer}
+use Rattle.batch_build.specs.declared.batch.Buffer.{Buffer}
 use Rattle.ipc_encode.specs.declared.stream.Stream.{Stream}
 use Rattle.ipc_encode.specs.View.{joined_parts}
 use Rattle.ipc_encode.specs.inner.Stream.{stream_in}

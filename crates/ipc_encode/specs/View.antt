@@ -2,8 +2,8 @@
 use Rattle.std.specs.Prelude.{ℕ, List, ◌++◌, map}
 use Rattle.std.specs.Global.{Vec}
 use Rattle.std.specs.List.{flat_map}
-use Rattle.array_build.specs.Batch.{buffer_bytes}
-use Rattle.array_build.specs.declared.batch.Buffer.{Buffer}
+use Rattle.batch_build.specs.Batch.{buffer_bytes}
+use Rattle.batch_build.specs.declared.batch.Buffer.{Buffer}
 use Rattle.arrow_schema.specs.Column.{PlainSchema}
 use Rattle.ipc_encode.specs.declared.encoder.EncodedPieces.{EncodedPieces}
 use Rattle.cells.specs.Cell.{PlainTable}

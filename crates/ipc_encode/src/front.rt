@@ -1,10 +1,10 @@
 // The front of a record batch's message: all of it but its body. Most pieces of a table have as many rows, the same nodes and buffers as long as those of the
 // piece before, and so its front.
 ghost use Rattle.std.specs.Prelude.{◌≡◌, ℕ, List, true, IfOk, length, map};
-ghost use Rattle.array_build.specs.Batch.{buffers_in, node_in};
+ghost use Rattle.batch_build.specs.Batch.{buffers_in, node_in};
 ghost use Rattle.ipc_encode.specs.inner.Messages.{AreFew, IsFront};
 
-use array_build::Buffer;
+use batch_build::Buffer;
 use ipc_write::{BatchContents, fronts_depend_on_lengths, write_batch_front};
 use std::alloc::{AllocError, Global};
 

@@ -1,14 +1,14 @@
 // A stream as it is written: buffers of some size are parts of it by themselves, so that none is copied, and all else is put together.
 ghost use Rattle.std.specs.Prelude.{◌≡◌, ◌+◌, ◌++◌, ◌<◌, ◌^◌, [], OnOk, IfOk, IfSome, length};
-ghost use Rattle.array_build.specs.Batch.{buffer_bytes, buffers_in};
+ghost use Rattle.batch_build.specs.Batch.{buffer_bytes, buffers_in};
 ghost use Rattle.ipc_encode.specs.View.{joined_parts};
 ghost use Rattle.ipc_encode.specs.inner.Stream.{stream_in};
 ghost use Rattle.arrow_schema.specs.Limits.{IsWithinLimits};
 ghost use Rattle.arrow_schema.specs.View.{schema_of};
 ghost use Rattle.ipc_write.specs.Written.{body, end_of_stream, padded, schema_message};
 
-use array_build::Buffer;
 use arrow_schema::Schema;
+use batch_build::Buffer;
 use ipc_write::{write_end, write_padding, write_schema};
 use std::alloc::{AllocError, Global};
 use std::mem;

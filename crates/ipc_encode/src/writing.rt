@@ -9,7 +9,7 @@ ghost use Rattle.values.specs.TableView.{table_of};
 
 use crate::encoder::encode_table;
 use crate::stream::Stream;
-use array_build::Buffer;
+use batch_build::Buffer;
 use std::alloc::{AllocError, Global};
 use std::io::{self, Write};
 use values::Table;

@@ -7,7 +7,7 @@ use Rattle.std.proofs.lemmas.Bool.{and_parts, or_parts, false_from_ne_true, leb-
 use Rattle.std.proofs.lemmas.List.{length-map, length-append, map-append, drop_at}
 use Rattle.std.proofs.lemmas.Slice.Eq.{bytes_eq-Decides}
 use Rattle.sector_dev.specs.Disk.{Disk, Image, synced_image}
-use Rattle.array_build.specs.declared.batch.Buffer.{Buffer}
+use Rattle.batch_build.specs.declared.batch.Buffer.{Buffer}
 use Rattle.ipc_encode.specs.View.{joined_parts, streams_in}
 use Rattle.ipc_encode.specs.declared.encoder.EncodedPieces.{EncodedPieces}
 use Rattle.segments.specs.declared.errors.TakeError.{TakeError}

@@ -6,8 +6,8 @@ use Rattle.std.specs.Global.{Vec}
 use Rattle.std.proofs.Common.{◌≡◌, ℕ, ◌+◌, ◌<◌, List, [], ◌∷◌, ◌++◌, Bor, Option, Some, None, Result, Ok, get_or, drop, ap, ◌∙◌, append_assoc, arith}
 use Rattle.std.proofs.lemmas.List.{drop_more, map-append}
 use Rattle.facts.specs.laws.Lists.{drop-item, flat_map-push}
-use Rattle.array_build.specs.Batch.{buffer_bytes}
-use Rattle.array_build.specs.declared.batch.Buffer.{Buffer}
+use Rattle.batch_build.specs.Batch.{buffer_bytes}
+use Rattle.batch_build.specs.declared.batch.Buffer.{Buffer}
 use Rattle.ipc_encode.specs.View.{joined_parts, streams_behind}
 use Rattle.segments.specs.declared.piece.PiecePart.{PiecePart}
 use Rattle.segments.specs.declared.piece.PiecePart.TheVariants.{Borrowed}

@@ -18,7 +18,7 @@ ghost use Rattle.store.specs.inner.Prepared.{in_runs, taking_refusal, IsPrepared
 use crate::Store;
 use crate::change::{Change, Edit};
 use crate::editing::{edited, given_up, in_runs, segments_after, unplaced, version_after};
-use array_build::Buffer;
+use batch_build::Buffer;
 use catalogue::{MAX_SEGMENTS, Segment, one_page_each};
 use commit::{CatalogueKind, Commit, Opened, Places, Plan, place, plan_next, publish};
 use ipc_encode::EncodedPieces;

@@ -5,8 +5,8 @@ ghost use Rattle.commit.specs.Placing.{AreShort};
 ghost use Rattle.store.specs.Under.{table_under};
 ghost use Rattle.values.specs.Table.{IsTable};
 
-use array_build::Buffer;
 use arrow_schema::Schema;
+use batch_build::Buffer;
 use ipc_encode::{EncodedPieces, encode_own_pieces, encode_pieces};
 use std::alloc::{AllocError, Global};
 use values::Table;

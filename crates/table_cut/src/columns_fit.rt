@@ -12,9 +12,9 @@ ghost use Rattle.table_cut.specs.inner.Room.{AreRunsOf};
 
 use crate::columns_of_runs::column_at;
 use crate::row_run::RowRun;
-use array_build::count_entries;
 use arrow_schema::{DictSpec, Field, Schema};
 use cells::entry_limit;
+use dictionary_codes::count_entries;
 use std::alloc::{AllocError, Global};
 
 /// Whether there are no lists or structs.

@@ -9,10 +9,10 @@ ghost use Rattle.table_cut.specs.Rows.{arrays_of_run};
 ghost use Rattle.table_cut.specs.inner.Columns.{arrays_behind};
 
 use crate::row_run::RowRun;
-use array_build::{Compared, is_same_dictionary};
 use arrow_schema::{DataType, Field};
 use cells::entry_limit;
 use columns::{ArrayView, PlacedArray, array_or, no_array};
+use dictionary_codes::{Compared, is_same_dictionary};
 
 // Buffers with more bytes than these together, of which the second are for each row, are not compared: the rows are gone through.
 const LEAST_COMPARED: usize = 16_384;

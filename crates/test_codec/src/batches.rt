@@ -1,7 +1,7 @@
-// Batches that are built of rows (array_build). What is wanted of a case is worked by hand from the standard (Arrow columnar format, "Physical Memory
+// Batches that are built of rows (batch_build). What is wanted of a case is worked by hand from the standard (Arrow columnar format, "Physical Memory
 // Layout").
 use crate::made::{NotMade, assert_no_row, schema_of_columns, table_of_rows};
-use array_build::{Buffer, BuiltBatch, BuiltDictionary, build};
+use batch_build::{Buffer, BuiltBatch, BuiltDictionary, build};
 use columns::rows_can_be_built;
 use std::alloc::Global;
 use text_import::jsonl_rows;

@@ -299,7 +299,8 @@ fn stays(alloc: Global, device: &mut ModelDevice, acknowledged: u64) -> bool {
     }
 }
 
-// Runs the script with this fault. After a stop, and after a failed call, what a crash leaves goes on. After a write or a sync that failed the device itself is opened too.
+// Runs the script with this fault. After a stop, and after a failed call, what a crash leaves goes on. After a write or a sync that failed the device itself is
+// opened too.
 fn survives_on(alloc: Global, device: &mut ModelDevice, fault: Fault) -> bool {
     set_fault(device, fault);
     let acknowledged = run_script(alloc, device);

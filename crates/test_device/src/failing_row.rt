@@ -34,7 +34,8 @@ fn are_either(device: &mut Device) -> bool {
     well
 }
 
-// Some sectors are written, and some that the row is to go over were read ahead. Then the row fails: what was written is not lost, and what is read does not change.
+// Some sectors are written, and some that the row is to go over were read ahead. Then the row fails: what was written is not lost, and what is read does not
+// change.
 fn is_cut_short(device: &mut Device, is_synced: bool) -> bool {
     write_row(device, 5, &[[3; 512]; 20]).is_ok()
         && (!is_synced || device.sync().is_ok())

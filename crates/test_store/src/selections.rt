@@ -1,4 +1,5 @@
-// Selections of a table that is made of rows, and not read from a store (query). All others are made by commands, here and by scripts (tests/texts, tests/queries).
+// Selections of a table that is made of rows, and not read from a store (query). All others are made by commands, here and by scripts (tests/texts,
+// tests/queries).
 use crate::inputs::{Cell, Given, INT, new_schema, rows_of};
 use crate::made::{NotMade, assert_no_row};
 use crate::steps::{Asked, add_table, query};

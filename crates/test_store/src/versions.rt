@@ -1,4 +1,5 @@
-// Stores of each version of the format: what is asked of one keeps its version but for an upgrade, and in version 2 the catalogue has 32 bytes more for each segment.
+// Stores of each version of the format: what is asked of one keeps its version but for an upgrade, and in version 2 the catalogue has 32 bytes more for each
+// segment.
 use crate::inputs::{INT, Input};
 use crate::made::{NotMade, assert_no_row};
 use crate::playing::{Slot, is_played, shut};

@@ -2,10 +2,11 @@
 use Rattle.std.specs.Prelude.{◌≡◌, ◌≤◌, ℕ, ◌+◌, ◌*◌, Bool, true, List, [], ◌∷◌, ◌++◌, length, sum_by, None, if◌then◌else◌}
 use Rattle.std.specs.List.{flat_map}
 use Rattle.arrow_schema.specs.Column.{Kind}
-use Rattle.array_build.specs.Batch.{PlainBatch, plain_column}
-use Rattle.array_build.specs.inner.Masked.{are_below, mask_bits, masked}
-use Rattle.array_build.specs.inner.Nodes.{with_buffer}
-use Rattle.array_build.specs.inner.Runs.{cell_sizes, kind_cells, run_bits, runs_bits}
+use Rattle.batch_build.specs.Batch.{PlainBatch, plain_column}
+use Rattle.array_build.specs.inner.Masked.{are_below}
+use Rattle.dictionary_codes.specs.Masks.{mask_bits, masked, run_bits, runs_bits}
+use Rattle.batch_build.specs.Nodes.{with_buffer}
+use Rattle.array_build.specs.inner.Runs.{cell_sizes, kind_cells}
 use Rattle.cells.specs.Cell.{Cell}
 use Rattle.columns.specs.Array.{Array}
 use Rattle.columns.specs.Buildable.{can_build}

@@ -1,7 +1,7 @@
 -- Lists under a mask: a slot whose bit is not set has no items, whatever stands there.
 use Rattle.std.specs.Prelude.{◌≡◌, ◌≤◌, ◌<◌, ℕ, ◌+◌, ◌-◌, true, List}
 use Rattle.std.specs.List.{flat_map}
-use Rattle.array_build.specs.inner.Masked.{mask_bits, masked}
+use Rattle.dictionary_codes.specs.Masks.{mask_bits, masked}
 use Rattle.bitmap.specs.Bits.{bit}
 use Rattle.cells.specs.Cell.{Cell}
 use Rattle.cells.specs.Dictionary.{item_list}

@@ -1,8 +1,8 @@
 -- Runs of lists: how many items each list has, and the runs of these items.
 use Rattle.std.specs.Prelude.{◌≡◌, ℕ, ◌*◌, true, List, None, map, length, replicate}
 use Rattle.std.specs.List.{flat_map}
-use Rattle.array_build.specs.Batch.{plain_column}
-use Rattle.array_build.specs.inner.Nodes.{list_kind}
+use Rattle.batch_build.specs.Batch.{plain_column}
+use Rattle.batch_build.specs.Nodes.{list_kind}
 use Rattle.columns.specs.Runs.{run_cells, is_run_sound}
 use Rattle.columns.specs.declared.slot_runs.SlotRun.{SlotRun}
 use Rattle.columns.specs.declared.slot_runs.SlotRun.TheVariants.{Slots, Nulls}

@@ -6,18 +6,19 @@ use Rattle.arrow_schema.specs.Column.{Kind, Columns, integers, dates, timestamps
 use Rattle.columns.specs.Runs.{runs_cells, are_runs_sound}
 use Rattle.columns.specs.declared.slot_runs.SlotRun.{SlotRun}
 use Rattle.columns.specs.declared.slot_runs.SlotRun.TheVariants.{Slots, Nulls}
-use Rattle.bitmap.specs.Bits.{bit, packed}
+use Rattle.bitmap.specs.Bits.{bit}
 use Rattle.cells.specs.Cell.{Cell}
 use Rattle.cells.specs.Fit.{date_bits}
 use Rattle.columns.specs.Buildable.{can_build}
 use Rattle.columns.specs.Array.{Array, bits_in, contents_in, offsets_in, values_in}
 use Rattle.columns.specs.Built.{contents_of, integer_bytes, fixed_bytes, sums_from}
 use Rattle.columns.specs.CellAt.{is_valid, number_at, span_size, value_at}
-use Rattle.columns.specs.Tests.{Typed, unset_bits}
+use Rattle.columns.specs.Tests.{Typed}
 use Rattle.columns.specs.View.{view_array}
-use Rattle.array_build.specs.Batch.{PlainBatch, batch_in, built_at, plain_column, with_arrays}
-use Rattle.array_build.specs.declared.batch.BuiltBatch.{BuiltBatch}
-use Rattle.array_build.specs.inner.Nodes.{with_node, with_buffer}
+use Rattle.batch_build.specs.Batch.{PlainBatch, batch_in, built_at, plain_column, with_arrays}
+use Rattle.batch_build.specs.declared.batch.BuiltBatch.{BuiltBatch}
+use Rattle.batch_build.specs.Nodes.{with_validity}
+use Rattle.dictionary_codes.specs.Masks.{bitmap_of}
 
 -- the arrays of each column, and all below them
 unfoldable pub built_columns : Columns → List (List SlotRun) → List Typed
@@ -35,16 +36,6 @@ AddsRuns kind runs old new = batch_in new ≡ with_arrays (batch_in old) (built_
 
 -- ---- which slots are valid
 
-abbrev pub run_bits : SlotRun → List Bool
-run_bits (Slots view from len) = map (is_valid (view_array view)) (range_with_len from len)
-run_bits (Nulls n) = replicate n false
-
-abbrev pub runs_bits : List SlotRun → List Bool
-runs_bits runs = flat_map run_bits runs
-
-abbrev pub bitmap_of : List Bool → List ℕ
-bitmap_of bits = if list_all (λ b. b) bits then [] else packed bits
-
 -- the bits of booleans, whatever stands below nulls
 abbrev pub run_values : SlotRun → List Bool
 run_values (Slots view from len) = map (bit (bits_in (view_array view))) (range_with_len from len)
@@ -52,10 +43,6 @@ run_values (Nulls n) = replicate n false
 
 abbrev pub runs_values : List SlotRun → List Bool
 runs_values runs = flat_map run_values runs
-
--- the node and the validity bitmap of slots
-abbrev pub with_validity : PlainBatch → (slots : ℕ) → (validity : List ℕ) → PlainBatch
-with_validity p slots validity = with_buffer (with_node p (record { slots = slots; null_count = unset_bits validity slots })) validity
 
 abbrev pub with_run_slots : PlainBatch → List Bool → PlainBatch
 with_run_slots p bits = with_validity p (length bits) (bitmap_of bits)

@@ -2,7 +2,7 @@
 use Rattle.std.specs.Prelude.{◌≡◌, ℕ, ◌+◌, false, List, [], ◌∷◌, ◌++◌, map, length}
 use Rattle.arrow_schema.specs.Column.{PlainSchema, columns_of}
 use Rattle.ipc_canonical.specs.Canonical.{entries_messages}
-use Rattle.array_build.specs.Batch.{PlainDictionary}
+use Rattle.batch_build.specs.Batch.{PlainDictionary}
 use Rattle.cells.specs.Cell.{Cell}
 use Rattle.columns.specs.Buffers.{Node, buffers_of, dictionaries_of}
 use Rattle.columns.specs.Built.{built_parts}

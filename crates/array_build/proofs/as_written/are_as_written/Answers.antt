@@ -5,7 +5,7 @@ use Rattle.arrow_schema.specs.Column.{Column, Kind}
 use Rattle.arrow_schema.specs.View.{kind_of}
 use Rattle.facts.specs.laws.Lists.{drop-item}
 use Rattle.array_build.proofs.as_written.are_as_written.Goals as goal
-use Rattle.array_build.specs.Batch.{plain_column}
+use Rattle.batch_build.specs.Batch.{plain_column}
 use Rattle.array_build.specs.inner.Runs.{are_runs_as_written, is_run_as_written}
 use Rattle.columns.specs.Runs.{are_runs_sound, is_run_sound}
 use Rattle.columns.specs.declared.slot_runs.SlotRun.{SlotRun}

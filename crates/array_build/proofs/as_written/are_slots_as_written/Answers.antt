@@ -3,7 +3,7 @@ use Rattle.std.proofs.Common.{◌≡◌, ◌+◌, ap, sym, ◌∙◌}
 use Rattle.std.proofs.lemmas.Bool.{and_parts}
 use Rattle.arrow_schema.specs.Column.{Kind}
 use Rattle.arrow_schema.specs.View.{kind_of}
-use Rattle.array_build.specs.Batch.{plain_column}
+use Rattle.batch_build.specs.Batch.{plain_column}
 use Rattle.array_build.specs.inner.Runs.{offsets_width, fixed_width, is_as_written}
 use Rattle.array_build.proofs.AsWritten.{no_bytes_written, short_validity, zeros_written}
 use Rattle.array_build.proofs.RunContents.{enough_offsets}

@@ -3,24 +3,24 @@ use Rattle.std.specs.List.{flat_map}
 use Rattle.std.proofs.Common.{◌≡◌, ◌*◌, true, ◌∙◌, ℕ, List, [], map, ap, ap₂, refl, subst, sym, rules}
 use Rattle.std.proofs.lemmas.Result.{on_ok_weaker}
 use Rattle.array_build.proofs.MaskedLists.{masked_list_runs_are}
-use Rattle.array_build.proofs.MaskedRuns.{cells_without, no_mask}
+use Rattle.dictionary_codes.specs.laws.MaskedRuns.{cells_without, no_mask}
 use Rattle.array_build.proofs.RunColumns.{field_built, field_fits, field_sound, have_validity}
-use Rattle.array_build.proofs.Premises.{items_can_be_built, fixed_items_can_be_built}
+use Rattle.batch_build.specs.laws.Premises.{items_can_be_built, fixed_items_can_be_built}
 use Rattle.array_build.proofs.RunFixedItems.{fixed_list_runs_are, item_masked}
 use Rattle.array_build.proofs.RunItems.{list_runs_are}
 use Rattle.array_build.proofs.RunParts.{all_behind, no_field, parts_can_be_masked, place_built, place_next, struct_runs_are}
 use Rattle.array_build.proofs.by_runs.+by_runs.Goals as goal
-use Rattle.array_build.specs.Batch.{batch_in, built_at, plain_column, with_arrays}
-use Rattle.array_build.specs.inner.Masked.{IsMask, bitmap_bits, masked_cells, masked_kind, slots_mask}
-use Rattle.array_build.specs.inner.Nodes.{list_kind}
+use Rattle.batch_build.specs.Batch.{batch_in, built_at, plain_column, with_arrays}
+use Rattle.dictionary_codes.specs.Masks.{IsMask, bitmap_bits, masked_cells, slots_mask, bitmap_of}
+use Rattle.array_build.specs.inner.Masked.{masked_kind}
+use Rattle.batch_build.specs.Nodes.{list_kind}
 use Rattle.array_build.specs.inner.RunItems.{fixed_column}
-use Rattle.array_build.specs.inner.Runs.{AreAsWritten, bitmap_of, contents_width, kind_cells}
+use Rattle.array_build.specs.inner.Runs.{AreAsWritten, contents_width, kind_cells}
 use Rattle.columns.specs.Runs.{are_runs_sound, runs_cells}
 use Rattle.columns.specs.declared.slot_runs.SlotRun.{SlotRun}
 use Rattle.arrow_schema.specs.Column.{Column, Columns, Kind, columns_of, fixed_lists, structs}
 use Rattle.arrow_schema.specs.View.{column_of, kind_of}
-use Rattle.arrow_schema.specs.declared.types.Field.{Field}
-use Rattle.arrow_schema.specs.declared.types.Field.{the_lemmas as field_lemmas}
+use Rattle.arrow_schema.specs.declared.types.Field.{Field, the_lemmas as field_lemmas}
 use Rattle.cells.specs.Cell.{Cell}
 use Rattle.cells.specs.Dictionary.{item_list}
 use Rattle.columns.specs.Buildable.{can_build}

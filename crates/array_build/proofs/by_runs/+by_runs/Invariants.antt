@@ -1,6 +1,7 @@
 use Rattle.std.proofs.Common.{◌≡◌, map}
-use Rattle.array_build.specs.Batch.{batch_in, built_below, with_arrays}
-use Rattle.array_build.specs.inner.Masked.{masked_parts, slots_mask}
+use Rattle.batch_build.specs.Batch.{batch_in, built_below, with_arrays}
+use Rattle.array_build.specs.inner.Masked.{masked_parts}
+use Rattle.dictionary_codes.specs.Masks.{slots_mask}
 use Rattle.array_build.proofs.RunParts.{AreBehind, columns_behind, rows_behind}
 use Rattle.array_build.proofs.by_runs.+by_runs.Given as goal
 use Rattle.arrow_schema.specs.Column.{columns_of}

@@ -2,12 +2,12 @@ use Rattle.std.specs.Prelude.{OnOk, None, is_some}
 use Rattle.std.proofs.Common.{◌≡◌, ◌∙◌, List, ap, map, subst}
 use Rattle.arrow_schema.specs.Column.{Kind}
 use Rattle.arrow_schema.specs.View.{column_of, index_of, kind_of}
-use Rattle.array_build.proofs.Coded.{dictionary_built, entries_can}
-use Rattle.array_build.proofs.CodedRuns.{field_coded}
-use Rattle.array_build.proofs.Fields.{dictionary_can_be_built, dictionary_field}
+use Rattle.batch_build.specs.laws.Coded.{dictionary_built, entries_can}
+use Rattle.array_build.proofs.CodedFields.{field_coded}
+use Rattle.batch_build.specs.laws.Fields.{dictionary_can_be_built, dictionary_field}
 use Rattle.array_build.proofs.by_runs.build_coded_column.Goals as goal
-use Rattle.array_build.specs.Batch.{PlainBatch, batch_in, dictionary_in, plain_column}
-use Rattle.array_build.specs.inner.Masked.{masked_cells}
+use Rattle.batch_build.specs.Batch.{PlainBatch, batch_in, dictionary_in, plain_column}
+use Rattle.dictionary_codes.specs.Masks.{masked_cells}
 use Rattle.cells.specs.Cell.{Cell}
 use Rattle.columns.specs.Buildable.{can_build}
 use Rattle.values.specs.Borrowed.{borrowed_cell}

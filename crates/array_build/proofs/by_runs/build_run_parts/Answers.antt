@@ -1,10 +1,10 @@
 use Rattle.std.specs.Prelude.{Vec}
 use Rattle.std.specs.Global.{Global}
 use Rattle.std.proofs.Common.{◌≡◌, true, ◌∙◌, List, [], drop, ap, refl, subst, sym}
-use Rattle.array_build.proofs.MaskedRuns.{cells_without, no_mask}
+use Rattle.dictionary_codes.specs.laws.MaskedRuns.{cells_without, no_mask}
 use Rattle.array_build.proofs.RunColumns.{column_arrays, last_column, next_left, place_left}
 use Rattle.array_build.proofs.by_runs.build_run_parts.Goals as goal
-use Rattle.array_build.specs.Batch.{batch_in, built_at, with_arrays}
+use Rattle.batch_build.specs.Batch.{batch_in, built_at, with_arrays}
 use Rattle.columns.specs.Runs.{are_runs_sound, runs_cells}
 use Rattle.columns.specs.declared.slot_runs.SlotRun.{SlotRun}
 use Rattle.arrow_schema.specs.View.{column_of}

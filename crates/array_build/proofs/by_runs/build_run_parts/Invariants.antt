@@ -1,5 +1,5 @@
 use Rattle.std.proofs.Common.{◌≡◌, drop}
-use Rattle.array_build.specs.Batch.{batch_in, with_arrays}
+use Rattle.batch_build.specs.Batch.{batch_in, with_arrays}
 use Rattle.array_build.proofs.RunColumns.{AreLeft, built_left, lists_of}
 use Rattle.array_build.proofs.by_runs.build_run_parts.Given as goal
 

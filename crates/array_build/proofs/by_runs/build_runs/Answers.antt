@@ -3,7 +3,7 @@ use Rattle.arrow_schema.specs.Column.{Columns, columns_of}
 use Rattle.arrow_schema.specs.View.{column_of}
 use Rattle.array_build.proofs.RunColumns.{lists_of, rows_built}
 use Rattle.array_build.proofs.by_runs.build_runs.Goals as goal
-use Rattle.array_build.specs.Batch.{PlainBatch, batch_of, with_arrays}
+use Rattle.batch_build.specs.Batch.{PlainBatch, batch_of, with_arrays}
 use Rattle.array_build.specs.inner.Runs.{built_columns}
 use Rattle.columns.specs.declared.slot_runs.SlotRun.{SlotRun}
 use Rattle.columns.specs.Tests.{Typed}

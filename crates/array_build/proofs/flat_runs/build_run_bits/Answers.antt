@@ -6,9 +6,9 @@ use Rattle.arrow_schema.specs.View.{kind_of}
 use Rattle.array_build.proofs.RunArrays.{boolean_runs_are}
 use Rattle.array_build.proofs.RunColumns.{have_validity}
 use Rattle.array_build.proofs.flat_runs.build_run_bits.Goals as goal
-use Rattle.array_build.specs.Batch.{PlainBatch, batch_in, plain_column}
-use Rattle.array_build.specs.inner.Masked.{IsMask, slots_mask}
-use Rattle.array_build.specs.inner.Nodes.{with_buffer}
+use Rattle.batch_build.specs.Batch.{PlainBatch, batch_in, plain_column}
+use Rattle.dictionary_codes.specs.Masks.{IsMask, slots_mask}
+use Rattle.batch_build.specs.Nodes.{with_buffer}
 use Rattle.columns.specs.Runs.{are_runs_sound}
 
 pub push_masked_slots-requires-clause-validity : goal.push_masked_slots-requires-clause-validity

@@ -5,7 +5,7 @@ use Rattle.arrow_schema.specs.View.{kind_of}
 use Rattle.array_build.proofs.RunArrays.{content_runs_are}
 use Rattle.array_build.proofs.RunColumns.{have_validity}
 use Rattle.array_build.proofs.flat_runs.build_run_contents.Goals as goal
-use Rattle.array_build.specs.Batch.{PlainBatch, batch_in}
+use Rattle.batch_build.specs.Batch.{PlainBatch, batch_in}
 use Rattle.array_build.specs.inner.MaskedContents.{with_contents}
 use Rattle.array_build.specs.inner.Runs.{kind_cells}
 use Rattle.columns.specs.Offsets.{width_of}

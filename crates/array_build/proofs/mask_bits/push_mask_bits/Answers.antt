@@ -4,8 +4,8 @@ use Rattle.std.proofs.lemmas.List.FromFn.{length-map-range_with_len}
 use Rattle.std.proofs.lemmas.Result.{on_ok_weaker}
 use Rattle.std.proofs.lemmas.Simd.{mask_l-lt}
 use Rattle.bitmap.specs.Bits.{bit}
-use Rattle.array_build.proofs.MaskedRuns.{bits_append}
-use Rattle.array_build.proofs.Turns.{turned}
+use Rattle.dictionary_codes.specs.laws.MaskedRuns.{bits_append}
+use Rattle.batch_build.specs.laws.Turns.{turned}
 use Rattle.array_build.proofs.mask_bits.push_mask_bits.Goals as goal
 
 pub push_word-requires-clause-word : goal.push_word-requires-clause-word

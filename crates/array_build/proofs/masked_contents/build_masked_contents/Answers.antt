@@ -7,7 +7,7 @@ use Rattle.array_build.proofs.MaskedContents.{copied_below, masked_below}
 use Rattle.array_build.proofs.RunArrays.{masked_contents_are}
 use Rattle.array_build.proofs.RunColumns.{have_validity}
 use Rattle.array_build.proofs.masked_contents.build_masked_contents.Goals as goal
-use Rattle.array_build.specs.Batch.{PlainBatch, batch_in}
+use Rattle.batch_build.specs.Batch.{PlainBatch, batch_in}
 use Rattle.array_build.specs.inner.MaskedContents.{AreUnder, runs_under, with_contents}
 use Rattle.cells.specs.Cell.{Cell}
 use Rattle.columns.specs.Offsets.{width_of}

@@ -5,14 +5,14 @@ use Rattle.std.proofs.lemmas.Bool.{and_parts}
 use Rattle.std.proofs.lemmas.List.Concat.{flat_map-append}
 use Rattle.arrow_schema.specs.Column.{Column, Kind}
 use Rattle.arrow_schema.specs.View.{kind_of}
-use Rattle.array_build.proofs.Ended.{ended}
+use Rattle.batch_build.specs.laws.Ended.{ended}
 use Rattle.array_build.proofs.MaskedContents.{next_run}
-use Rattle.array_build.proofs.Turns.{turned}
+use Rattle.batch_build.specs.laws.Turns.{turned}
 use Rattle.array_build.proofs.masked_contents.masked_contents.Goals as goal
-use Rattle.array_build.specs.Batch.{plain_column}
-use Rattle.array_build.specs.inner.Masked.{are_below, mask_bits}
+use Rattle.batch_build.specs.Batch.{plain_column}
+use Rattle.array_build.specs.inner.Masked.{are_below}
+use Rattle.dictionary_codes.specs.Masks.{mask_bits, run_bits, runs_bits}
 use Rattle.array_build.specs.inner.MaskedContents.{run_under, runs_under}
-use Rattle.array_build.specs.inner.Runs.{run_bits, runs_bits}
 use Rattle.columns.specs.Runs.{are_runs_sound, is_run_sound}
 use Rattle.columns.specs.declared.slot_runs.SlotRun.{SlotRun}
 use Rattle.cells.specs.Cell.{Cell}

@@ -2,10 +2,10 @@ use Rattle.std.specs.Prelude.{None}
 use Rattle.std.proofs.Common.{◌≡◌, ◌++◌, ◌+◌, true, length, drop}
 use Rattle.std.specs.List.{flat_map}
 use Rattle.arrow_schema.specs.View.{kind_of}
-use Rattle.array_build.specs.Batch.{plain_column}
-use Rattle.array_build.specs.inner.Masked.{are_below, mask_bits}
+use Rattle.batch_build.specs.Batch.{plain_column}
+use Rattle.array_build.specs.inner.Masked.{are_below}
+use Rattle.dictionary_codes.specs.Masks.{mask_bits, runs_bits}
 use Rattle.array_build.specs.inner.MaskedContents.{runs_under}
-use Rattle.array_build.specs.inner.Runs.{runs_bits}
 use Rattle.columns.specs.Runs.{are_runs_sound}
 use Rattle.columns.specs.Built.{contents_of}
 use Rattle.array_build.proofs.masked_contents.masked_contents.Given as goal

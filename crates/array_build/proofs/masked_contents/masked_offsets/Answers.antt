@@ -7,12 +7,13 @@ use Rattle.byteorder.specs.Endian.{little_bytes}
 use Rattle.arrow_schema.specs.Column.{Column, Kind}
 use Rattle.arrow_schema.specs.View.{kind_of}
 use Rattle.array_build.proofs.MaskedContents.{next_run, run_room}
-use Rattle.array_build.proofs.Offsets.{last_offset}
+use Rattle.batch_build.specs.laws.Offsets.{last_offset}
 use Rattle.array_build.proofs.masked_contents.masked_offsets.Goals as goal
-use Rattle.array_build.specs.Batch.{plain_column}
-use Rattle.array_build.specs.inner.Masked.{are_below, mask_bits}
+use Rattle.batch_build.specs.Batch.{plain_column}
+use Rattle.array_build.specs.inner.Masked.{are_below}
+use Rattle.dictionary_codes.specs.Masks.{mask_bits, run_bits, runs_bits}
 use Rattle.array_build.specs.inner.MaskedContents.{run_under, runs_under}
-use Rattle.array_build.specs.inner.Runs.{cell_sizes, run_bits, runs_bits}
+use Rattle.array_build.specs.inner.Runs.{cell_sizes}
 use Rattle.columns.specs.Runs.{are_runs_sound, is_run_sound}
 use Rattle.columns.specs.declared.slot_runs.SlotRun.{SlotRun}
 use Rattle.cells.specs.Cell.{Cell}

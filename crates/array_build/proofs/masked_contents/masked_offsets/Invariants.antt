@@ -3,10 +3,11 @@ use Rattle.std.proofs.Common.{◌≡◌, ◌++◌, ◌+◌, true, length, drop}
 use Rattle.std.specs.List.{flat_map}
 use Rattle.byteorder.specs.Endian.{little_bytes}
 use Rattle.arrow_schema.specs.View.{kind_of}
-use Rattle.array_build.specs.Batch.{plain_column}
-use Rattle.array_build.specs.inner.Masked.{are_below, mask_bits}
+use Rattle.batch_build.specs.Batch.{plain_column}
+use Rattle.array_build.specs.inner.Masked.{are_below}
+use Rattle.dictionary_codes.specs.Masks.{mask_bits, runs_bits}
 use Rattle.array_build.specs.inner.MaskedContents.{runs_under}
-use Rattle.array_build.specs.inner.Runs.{cell_sizes, runs_bits}
+use Rattle.array_build.specs.inner.Runs.{cell_sizes}
 use Rattle.columns.specs.Runs.{are_runs_sound}
 use Rattle.columns.specs.Built.{contents_of, offsets_of, sums_from}
 use Rattle.columns.specs.Offsets.{width_of}

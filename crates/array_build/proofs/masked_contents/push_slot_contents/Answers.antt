@@ -2,9 +2,9 @@ use Rattle.std.specs.Prelude.{if◌then◌else◌}
 use Rattle.std.proofs.Common.{◌≡◌, ◌+◌, ◌-◌, ◌++◌, ◌∙◌, ℕ, Bool, [], List, arith, ap, sym}
 use Rattle.std.proofs.lemmas.List.{append-nil}
 use Rattle.array_build.proofs.MaskedContents.{next_spans}
-use Rattle.array_build.proofs.Turns.{turned}
+use Rattle.batch_build.specs.laws.Turns.{turned}
 use Rattle.array_build.proofs.masked_contents.push_slot_contents.Goals as goal
-use Rattle.array_build.specs.inner.Masked.{mask_bits}
+use Rattle.dictionary_codes.specs.Masks.{mask_bits}
 use Rattle.array_build.specs.inner.MaskedContents.{masked_spans}
 use Rattle.array_build.specs.inner.Runs.{span_contents}
 use Rattle.bitmap.specs.Bits.{bit}

@@ -1,5 +1,5 @@
 use Rattle.std.proofs.Common.{◌≡◌, ◌≤◌, ◌+◌, ◌-◌, ◌++◌}
-use Rattle.array_build.specs.inner.Masked.{mask_bits}
+use Rattle.dictionary_codes.specs.Masks.{mask_bits}
 use Rattle.array_build.specs.inner.MaskedContents.{masked_spans}
 use Rattle.columns.specs.Offsets.{width_of}
 use Rattle.columns.specs.View.{view_array}

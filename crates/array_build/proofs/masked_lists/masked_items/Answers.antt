@@ -3,16 +3,16 @@ use Rattle.std.proofs.Common.{◌≡◌, ◌∙◌, ◌+◌, ◌++◌, ℕ, List
 use Rattle.std.proofs.lemmas.Bool.{and_parts}
 use Rattle.arrow_schema.specs.Column.{Column, Kind}
 use Rattle.arrow_schema.specs.View.{column_of}
-use Rattle.array_build.proofs.Ended.{ended}
+use Rattle.batch_build.specs.laws.Ended.{ended}
 use Rattle.array_build.proofs.MaskedContents.{next_run}
 use Rattle.array_build.proofs.MaskedLists.{next_items}
-use Rattle.array_build.proofs.Turns.{turned}
+use Rattle.batch_build.specs.laws.Turns.{turned}
 use Rattle.array_build.proofs.masked_lists.masked_items.Goals as goal
-use Rattle.array_build.specs.inner.Masked.{are_below, mask_bits}
+use Rattle.array_build.specs.inner.Masked.{are_below}
+use Rattle.dictionary_codes.specs.Masks.{mask_bits, run_bits, runs_bits}
 use Rattle.array_build.specs.inner.MaskedContents.{run_under, runs_under}
-use Rattle.array_build.specs.inner.Nodes.{list_kind}
+use Rattle.batch_build.specs.Nodes.{list_kind}
 use Rattle.array_build.specs.inner.RunItems.{list_column}
-use Rattle.array_build.specs.inner.Runs.{run_bits, runs_bits}
 use Rattle.cells.specs.Cell.{Cell}
 use Rattle.cells.specs.Dictionary.{item_list}
 use Rattle.columns.specs.Runs.{are_runs_sound, is_run_sound, runs_cells}

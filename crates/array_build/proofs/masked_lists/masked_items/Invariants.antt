@@ -2,11 +2,11 @@ use Rattle.std.proofs.Common.{◌≡◌, ◌++◌, ◌+◌, true, length, drop}
 use Rattle.std.specs.List.{flat_map}
 use Rattle.arrow_schema.specs.View.{column_of}
 use Rattle.array_build.proofs.masked_lists.masked_items.Given as goal
-use Rattle.array_build.specs.inner.Masked.{are_below, mask_bits}
+use Rattle.array_build.specs.inner.Masked.{are_below}
+use Rattle.dictionary_codes.specs.Masks.{mask_bits, runs_bits}
 use Rattle.array_build.specs.inner.MaskedContents.{runs_under}
-use Rattle.array_build.specs.inner.Nodes.{list_kind}
+use Rattle.batch_build.specs.Nodes.{list_kind}
 use Rattle.array_build.specs.inner.RunItems.{list_column}
-use Rattle.array_build.specs.inner.Runs.{runs_bits}
 use Rattle.cells.specs.Dictionary.{item_list}
 use Rattle.columns.specs.Runs.{are_runs_sound, runs_cells}
 

@@ -7,13 +7,13 @@ use Rattle.arrow_schema.specs.Column.{Column, Kind}
 use Rattle.arrow_schema.specs.View.{column_of}
 use Rattle.array_build.proofs.MaskedContents.{next_run}
 use Rattle.array_build.proofs.MaskedLists.{lists_room, next_count}
-use Rattle.array_build.proofs.Offsets.{last_offset}
+use Rattle.batch_build.specs.laws.Offsets.{last_offset}
 use Rattle.array_build.proofs.masked_lists.masked_list_offsets.Goals as goal
-use Rattle.array_build.specs.inner.Masked.{are_below, mask_bits}
+use Rattle.array_build.specs.inner.Masked.{are_below}
+use Rattle.dictionary_codes.specs.Masks.{mask_bits, run_bits, runs_bits}
 use Rattle.array_build.specs.inner.MaskedContents.{run_under, runs_under}
-use Rattle.array_build.specs.inner.Nodes.{list_kind}
+use Rattle.batch_build.specs.Nodes.{list_kind}
 use Rattle.array_build.specs.inner.RunItems.{list_column, list_sizes}
-use Rattle.array_build.specs.inner.Runs.{run_bits, runs_bits}
 use Rattle.cells.specs.Cell.{Cell}
 use Rattle.cells.specs.Dictionary.{item_list}
 use Rattle.columns.specs.Built.{sums_from}

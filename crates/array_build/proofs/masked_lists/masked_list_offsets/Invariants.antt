@@ -3,11 +3,11 @@ use Rattle.std.specs.List.{flat_map}
 use Rattle.byteorder.specs.Endian.{little_bytes}
 use Rattle.arrow_schema.specs.View.{column_of}
 use Rattle.array_build.proofs.masked_lists.masked_list_offsets.Given as goal
-use Rattle.array_build.specs.inner.Masked.{are_below, mask_bits}
+use Rattle.array_build.specs.inner.Masked.{are_below}
+use Rattle.dictionary_codes.specs.Masks.{mask_bits, runs_bits}
 use Rattle.array_build.specs.inner.MaskedContents.{runs_under}
-use Rattle.array_build.specs.inner.Nodes.{list_kind}
+use Rattle.batch_build.specs.Nodes.{list_kind}
 use Rattle.array_build.specs.inner.RunItems.{list_column, list_sizes}
-use Rattle.array_build.specs.inner.Runs.{runs_bits}
 use Rattle.cells.specs.Dictionary.{item_list}
 use Rattle.columns.specs.Runs.{are_runs_sound}
 use Rattle.columns.specs.Built.{list_offsets, sums_from}

@@ -7,9 +7,9 @@ use Rattle.array_build.proofs.MaskedContents.{copied_below, under_below}
 use Rattle.array_build.proofs.MaskedLists.{list_values}
 use Rattle.array_build.proofs.RunColumns.{have_validity}
 use Rattle.array_build.proofs.masked_lists.push_masked_lists.Goals as goal
-use Rattle.array_build.specs.Batch.{PlainBatch}
+use Rattle.batch_build.specs.Batch.{PlainBatch}
 use Rattle.array_build.specs.inner.MaskedContents.{AreUnder, runs_under}
-use Rattle.array_build.specs.inner.Nodes.{list_kind, with_buffer}
+use Rattle.batch_build.specs.Nodes.{list_kind, with_buffer}
 use Rattle.cells.specs.Cell.{Cell}
 use Rattle.cells.specs.Dictionary.{item_list}
 use Rattle.columns.specs.Built.{list_offsets}

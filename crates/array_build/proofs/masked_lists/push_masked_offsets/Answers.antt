@@ -8,7 +8,7 @@ use Rattle.array_build.proofs.MaskedLists.{nulls_have_none, run_lists_under}
 use Rattle.array_build.proofs.RunItems.{list_tests, null_list_sizes}
 use Rattle.array_build.proofs.masked_lists.push_masked_offsets.Goals as goal
 use Rattle.array_build.specs.inner.MaskedContents.{run_under, total}
-use Rattle.array_build.specs.inner.Nodes.{list_kind}
+use Rattle.batch_build.specs.Nodes.{list_kind}
 use Rattle.array_build.specs.inner.RunItems.{list_sizes}
 use Rattle.array_build.specs.inner.Runs.{AreOffsetsAdded}
 use Rattle.cells.specs.Dictionary.{item_list}

@@ -7,7 +7,7 @@ use Rattle.arrow_schema.specs.Column.{Column}
 use Rattle.arrow_schema.specs.View.{column_of}
 use Rattle.array_build.proofs.MaskedLists.{next_lists, stretch_valid}
 use Rattle.array_build.proofs.RunItems.{list_tests}
-use Rattle.array_build.proofs.Turns.{turned}
+use Rattle.batch_build.specs.laws.Turns.{turned}
 use Rattle.array_build.proofs.masked_lists.push_slot_items.Goals as goal
 use Rattle.array_build.specs.inner.MaskedLists.{lists_under}
 use Rattle.array_build.specs.inner.RunItems.{list_column}

@@ -1,12 +1,12 @@
 use Rattle.std.proofs.Common.{◌≡◌, ◌∙◌, ℕ, Bool, List, ap, arith, length, sym}
 use Rattle.std.proofs.lemmas.Bool.{eqb-false, eqb-true}
 use Rattle.std.proofs.lemmas.Result.{IfOk-weaker}
-use Rattle.array_build.proofs.MaskedRuns.{mask_long}
+use Rattle.dictionary_codes.specs.laws.MaskedRuns.{mask_long}
 use Rattle.array_build.proofs.Masks.{joined_packed, joined_without, packed_long}
 use Rattle.array_build.proofs.RunArrays.{runs_values_counted}
 use Rattle.array_build.proofs.run_bits.run_booleans.Goals as goal
-use Rattle.array_build.specs.inner.Masked.{bitmap_bits, joined}
-use Rattle.array_build.specs.inner.Runs.{runs_bits, runs_values}
+use Rattle.dictionary_codes.specs.Masks.{bitmap_bits, joined, runs_bits}
+use Rattle.array_build.specs.inner.Runs.{runs_values}
 use Rattle.bitmap.specs.Bits.{packed}
 
 pub returns-then-is_empty : goal.returns-then-is_empty

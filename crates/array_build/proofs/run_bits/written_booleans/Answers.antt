@@ -3,10 +3,10 @@ use Rattle.std.proofs.Common.{◌∙◌, ◌+◌, ◌++◌, Bool, List, ap, drop
 use Rattle.std.proofs.lemmas.Bool.{and_parts}
 use Rattle.arrow_schema.specs.Column.{Column, booleans}
 use Rattle.facts.specs.laws.Lists.{drop-item}
-use Rattle.array_build.proofs.Ended.{ended}
-use Rattle.array_build.proofs.Turns.{turned}
+use Rattle.batch_build.specs.laws.Ended.{ended}
+use Rattle.batch_build.specs.laws.Turns.{turned}
 use Rattle.array_build.proofs.run_bits.written_booleans.Goals as goal
-use Rattle.array_build.specs.Batch.{plain_column}
+use Rattle.batch_build.specs.Batch.{plain_column}
 use Rattle.array_build.specs.inner.Runs.{run_values, runs_values}
 use Rattle.columns.specs.Runs.{are_runs_sound, is_run_sound}
 use Rattle.columns.specs.declared.slot_runs.SlotRun.{SlotRun}

@@ -1,7 +1,7 @@
 use Rattle.std.specs.Prelude.{None}
 use Rattle.std.proofs.Common.{◌≡◌, ◌++◌, true, drop}
 use Rattle.arrow_schema.specs.Column.{booleans}
-use Rattle.array_build.specs.Batch.{plain_column}
+use Rattle.batch_build.specs.Batch.{plain_column}
 use Rattle.array_build.specs.inner.Runs.{runs_values}
 use Rattle.columns.specs.Runs.{are_runs_sound}
 use Rattle.array_build.proofs.run_bits.written_booleans.Given as goal

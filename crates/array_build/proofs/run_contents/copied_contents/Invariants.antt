@@ -2,7 +2,7 @@ use Rattle.std.specs.Prelude.{None}
 use Rattle.std.proofs.Common.{◌≡◌, ◌++◌, true, drop}
 use Rattle.std.specs.List.{flat_map}
 use Rattle.arrow_schema.specs.View.{kind_of}
-use Rattle.array_build.specs.Batch.{plain_column}
+use Rattle.batch_build.specs.Batch.{plain_column}
 use Rattle.array_build.specs.inner.Runs.{are_runs_as_written, kind_cells}
 use Rattle.columns.specs.Runs.{are_runs_sound}
 use Rattle.columns.specs.Built.{contents_of}

@@ -5,7 +5,7 @@ use Rattle.std.proofs.lemmas.List.{append-nil}
 use Rattle.arrow_schema.specs.View.{kind_of}
 use Rattle.array_build.proofs.RunContents.{no_contents}
 use Rattle.array_build.proofs.run_contents.push_contents.Goals as goal
-use Rattle.array_build.specs.Batch.{plain_column}
+use Rattle.batch_build.specs.Batch.{plain_column}
 use Rattle.columns.specs.Runs.{run_cells}
 use Rattle.columns.specs.declared.slot_runs.SlotRun.{SlotRun}
 use Rattle.arrow_schema.specs.Column.{Kind}

@@ -7,10 +7,10 @@ use Rattle.std.proofs.lemmas.List.Concat.{flat_map-append}
 use Rattle.byteorder.specs.Endian.{little_bytes}
 use Rattle.arrow_schema.specs.Column.{Column, Kind}
 use Rattle.arrow_schema.specs.View.{kind_of}
-use Rattle.array_build.proofs.Offsets.{last_offset}
+use Rattle.batch_build.specs.laws.Offsets.{last_offset}
 use Rattle.array_build.proofs.RunContents.{run_room}
 use Rattle.array_build.proofs.run_contents.run_offsets.Goals as goal
-use Rattle.array_build.specs.Batch.{plain_column}
+use Rattle.batch_build.specs.Batch.{plain_column}
 use Rattle.array_build.specs.inner.Runs.{are_runs_as_written, cell_sizes, is_run_as_written, kind_cells}
 use Rattle.columns.specs.Runs.{are_runs_sound, is_run_sound, run_cells}
 use Rattle.columns.specs.declared.slot_runs.SlotRun.{SlotRun}

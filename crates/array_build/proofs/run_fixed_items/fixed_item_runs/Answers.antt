@@ -1,8 +1,8 @@
 use Rattle.std.specs.List.{flat_map}
 use Rattle.std.proofs.Common.{◌+◌, ◌++◌, ◌∙◌, List, ap, arith, drop, refl, sym}
 use Rattle.std.proofs.lemmas.Bool.{and_parts}
-use Rattle.array_build.proofs.Ended.{ended}
-use Rattle.array_build.proofs.Turns.{turned}
+use Rattle.batch_build.specs.laws.Ended.{ended}
+use Rattle.batch_build.specs.laws.Turns.{turned}
 use Rattle.array_build.proofs.run_fixed_items.fixed_item_runs.Goals as goal
 use Rattle.array_build.specs.inner.RunItems.{fixed_below, fixed_column}
 use Rattle.arrow_schema.specs.Column.{Column}

@@ -1,8 +1,10 @@
 use Rattle.std.proofs.Common.{◌*◌, ◌∙◌, ℕ, ap}
-use Rattle.array_build.proofs.Masks.{bitmap_back, bits_counted}
+use Rattle.array_build.proofs.Masks.{bitmap_back}
+use Rattle.dictionary_codes.specs.laws.Bitmaps.{bits_counted}
 use Rattle.array_build.proofs.RunFixedItems.{repeated_length}
 use Rattle.array_build.proofs.run_fixed_items.item_mask.Goals as goal
-use Rattle.array_build.specs.inner.Masked.{bitmap_bits, repeated}
+use Rattle.dictionary_codes.specs.Masks.{bitmap_bits}
+use Rattle.array_build.specs.inner.Masked.{repeated}
 
 pub returns-clause-bits : goal.returns-clause-bits
 returns-clause-bits c =

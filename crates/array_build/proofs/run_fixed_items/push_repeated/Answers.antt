@@ -4,7 +4,8 @@ use Rattle.std.proofs.lemmas.Simd.{mask_l-lt}
 use Rattle.bitmap.specs.Bits.{bit}
 use Rattle.array_build.proofs.RunFixedItems.{repeated_length}
 use Rattle.array_build.proofs.run_fixed_items.push_repeated.Goals as goal
-use Rattle.array_build.specs.inner.Masked.{mask_bits, repeated}
+use Rattle.dictionary_codes.specs.Masks.{mask_bits}
+use Rattle.array_build.specs.inner.Masked.{repeated}
 
 -- as many as each bit has
 counted : (size : ℕ) (mask : List ℕ) (from n : ℕ) → length (repeated size (mask_bits mask from n)) ≡ n * size

@@ -1,7 +1,8 @@
 use Rattle.std.proofs.Common.{◌≡◌, ◌∙◌, ap, arith, ℕ}
 use Rattle.array_build.proofs.RunFixedItems.{more_repeated}
 use Rattle.array_build.proofs.run_fixed_items.repeated_bits.Goals as goal
-use Rattle.array_build.specs.inner.Masked.{mask_bits, repeated}
+use Rattle.dictionary_codes.specs.Masks.{mask_bits}
+use Rattle.array_build.specs.inner.Masked.{repeated}
 use Rattle.bitmap.specs.Bits.{packed}
 
 pub loop-next-preserved : goal.loop-next-preserved

@@ -1,5 +1,6 @@
 use Rattle.std.proofs.Common.{◌≡◌, ◌≤◌, ◌-◌}
-use Rattle.array_build.specs.inner.Masked.{mask_bits, repeated}
+use Rattle.dictionary_codes.specs.Masks.{mask_bits}
+use Rattle.array_build.specs.inner.Masked.{repeated}
 use Rattle.array_build.proofs.run_fixed_items.repeated_bits.Given as goal
 
 abbrev pub decreases-loop-next : goal.decreases-loop-next

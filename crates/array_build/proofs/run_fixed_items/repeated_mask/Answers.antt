@@ -3,12 +3,12 @@ use Rattle.std.proofs.Common.{◌≡◌, ◌*◌, ◌∙◌, ℕ, true, Bool, Li
 use Rattle.std.specs.List.{list_all}
 use Rattle.std.proofs.lemmas.Bool.{eqb-false, eqb-true}
 use Rattle.std.proofs.lemmas.Result.{IfOk-weaker}
-use Rattle.array_build.proofs.MaskedItems.{all_alike}
-use Rattle.array_build.proofs.Masks.{bitmap_long, bitmap_none, bitmap_packed, bits_counted, bits_with, bits_without, some_unset}
+use Rattle.dictionary_codes.specs.laws.MaskedItems.{all_alike}
+use Rattle.dictionary_codes.specs.laws.Bitmaps.{bitmap_long, bitmap_none, bitmap_packed, bits_counted, bits_with, bits_without, some_unset}
 use Rattle.array_build.proofs.RunFixedItems.{repeated_alike, repeated_never, some_repeated}
 use Rattle.array_build.proofs.run_fixed_items.repeated_mask.Goals as goal
-use Rattle.array_build.specs.inner.Masked.{bitmap_bits, repeated}
-use Rattle.array_build.specs.inner.Runs.{bitmap_of}
+use Rattle.dictionary_codes.specs.Masks.{bitmap_bits, bitmap_of}
+use Rattle.array_build.specs.inner.Masked.{repeated}
 use Rattle.bitmap.specs.Bits.{packed}
 
 pub returns-then-size-eq0 : goal.returns-then-size-eq0

@@ -3,7 +3,8 @@ use Rattle.std.specs.Simd.Lanes.{mask_l}
 use Rattle.std.proofs.Common.{◌≡◌, ◌-◌, ◌*◌, ◌^◌, ◌<◌, ◌≤◌, ◌∙◌, ℕ, Bool, ap, arith}
 use Rattle.array_build.proofs.RepeatedWords.{fits, one_more}
 use Rattle.array_build.proofs.run_fixed_items.repeated_word.Goals as goal
-use Rattle.array_build.specs.inner.Masked.{mask_bits, repeated}
+use Rattle.dictionary_codes.specs.Masks.{mask_bits}
+use Rattle.array_build.specs.inner.Masked.{repeated}
 
 pub overflow_add-word : goal.overflow_add-word
 overflow_add-word c =

@@ -1,6 +1,7 @@
 use Rattle.std.specs.Simd.Lanes.{mask_l}
 use Rattle.std.proofs.Common.{◌≡◌, ◌≤◌, ◌-◌}
-use Rattle.array_build.specs.inner.Masked.{mask_bits, repeated}
+use Rattle.dictionary_codes.specs.Masks.{mask_bits}
+use Rattle.array_build.specs.inner.Masked.{repeated}
 use Rattle.array_build.proofs.run_fixed_items.repeated_word.Given as goal
 
 -- the bits that were gone through, from the last one back

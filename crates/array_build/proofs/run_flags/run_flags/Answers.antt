@@ -2,10 +2,10 @@ use Rattle.std.specs.List.{list_all}
 use Rattle.std.proofs.Common.{◌∙◌, ◌+◌, ◌++◌, List, ap, drop, refl, sym}
 use Rattle.std.proofs.lemmas.Bool.{and_parts}
 use Rattle.facts.specs.laws.Lists.{drop-item}
-use Rattle.array_build.proofs.Ended.{ended}
-use Rattle.array_build.proofs.Turns.{turned}
+use Rattle.batch_build.specs.laws.Ended.{ended}
+use Rattle.batch_build.specs.laws.Turns.{turned}
 use Rattle.array_build.proofs.run_flags.run_flags.Goals as goal
-use Rattle.array_build.specs.inner.Runs.{run_bits, runs_bits}
+use Rattle.dictionary_codes.specs.Masks.{run_bits, runs_bits}
 use Rattle.columns.specs.Runs.{has_validity}
 use Rattle.columns.specs.declared.slot_runs.SlotRun.{SlotRun}
 

@@ -2,7 +2,7 @@ use Rattle.std.proofs.Common.{List, arith, drop, subst, sym}
 use Rattle.std.proofs.lemmas.List.{drop_all}
 use Rattle.array_build.proofs.RunItems.{AreItemsLeft, no_items_yet, first_is, items_more, all_items}
 use Rattle.array_build.proofs.run_items.item_runs.Goals as goal
-use Rattle.array_build.specs.inner.Nodes.{list_kind}
+use Rattle.batch_build.specs.Nodes.{list_kind}
 use Rattle.array_build.specs.inner.RunItems.{list_column}
 use Rattle.array_build.specs.inner.Runs.{is_run_as_written}
 use Rattle.columns.specs.declared.slot_runs.SlotRun.{SlotRun}

@@ -1,7 +1,7 @@
 use Rattle.std.proofs.Common.{◌≡◌, ◌≤◌, drop, length, vec_len, vec_capacity}
 use Rattle.array_build.proofs.RunItems.{AreItemsLeft}
 use Rattle.array_build.proofs.run_items.item_runs.Given as goal
-use Rattle.array_build.specs.inner.Nodes.{list_kind}
+use Rattle.batch_build.specs.Nodes.{list_kind}
 use Rattle.array_build.specs.inner.RunItems.{list_column}
 use Rattle.array_build.specs.inner.Runs.{is_run_as_written}
 use Rattle.arrow_schema.specs.View.{column_of}

@@ -1,8 +1,8 @@
 use Rattle.std.proofs.Common.{List, refl}
-use Rattle.array_build.proofs.Offsets.{last_offset}
+use Rattle.batch_build.specs.laws.Offsets.{last_offset}
 use Rattle.array_build.proofs.RunItems.{list_room}
 use Rattle.array_build.proofs.run_items.run_list_offsets.Goals as goal
-use Rattle.array_build.specs.inner.Nodes.{list_kind}
+use Rattle.batch_build.specs.Nodes.{list_kind}
 use Rattle.array_build.specs.inner.RunItems.{list_sizes}
 use Rattle.array_build.specs.inner.Runs.{kind_cells}
 use Rattle.columns.specs.declared.slot_runs.SlotRun.{SlotRun}

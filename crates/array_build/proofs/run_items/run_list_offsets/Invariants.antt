@@ -2,7 +2,7 @@ use Rattle.std.proofs.Common.{◌≡◌, ◌+◌, ◌++◌, true, drop, length}
 use Rattle.std.specs.List.{flat_map}
 use Rattle.byteorder.specs.Endian.{little_bytes}
 use Rattle.array_build.proofs.run_items.run_list_offsets.Given as goal
-use Rattle.array_build.specs.inner.Nodes.{list_kind}
+use Rattle.batch_build.specs.Nodes.{list_kind}
 use Rattle.array_build.specs.inner.RunItems.{list_column, list_sizes}
 use Rattle.array_build.specs.inner.Runs.{are_runs_as_written, kind_cells}
 use Rattle.columns.specs.Runs.{are_runs_sound}

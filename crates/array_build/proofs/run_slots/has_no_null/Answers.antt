@@ -1,7 +1,7 @@
 use Rattle.std.specs.List.{list_all, range_with_len}
 use Rattle.std.proofs.Common.{Bool, ap, sym, ◌∙◌}
 use Rattle.std.proofs.lemmas.List.Folds.{list_all-map}
-use Rattle.array_build.specs.inner.Runs.{run_bits}
+use Rattle.dictionary_codes.specs.Masks.{run_bits}
 use Rattle.columns.specs.declared.slot_runs.SlotRun.{SlotRun}
 use Rattle.columns.specs.CellAt.{is_valid}
 use Rattle.columns.specs.View.{view_array}

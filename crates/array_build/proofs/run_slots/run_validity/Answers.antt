@@ -4,10 +4,10 @@ use Rattle.std.proofs.Common.{◌≡◌, ◌∙◌, ◌+◌, ◌++◌, ℕ, Bool
 use Rattle.std.proofs.lemmas.Bool.{and_parts, le-leb, or_right}
 use Rattle.bitmap.specs.Bits.{bytes_of, packed}
 use Rattle.facts.specs.laws.Lists.{drop-item}
-use Rattle.array_build.proofs.Ended.{ended}
-use Rattle.array_build.proofs.Turns.{turned}
+use Rattle.batch_build.specs.laws.Ended.{ended}
+use Rattle.batch_build.specs.laws.Turns.{turned}
 use Rattle.array_build.proofs.run_slots.run_validity.Goals as goal
-use Rattle.array_build.specs.inner.Runs.{bitmap_of, run_bits, runs_bits}
+use Rattle.dictionary_codes.specs.Masks.{bitmap_of, run_bits, runs_bits}
 use Rattle.columns.specs.Runs.{has_validity}
 use Rattle.columns.specs.declared.slot_runs.SlotRun.{SlotRun}
 

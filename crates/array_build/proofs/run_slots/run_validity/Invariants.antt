@@ -1,6 +1,6 @@
 use Rattle.std.proofs.Common.{◌≡◌, ◌++◌, true, drop}
 use Rattle.std.specs.List.{list_all}
-use Rattle.array_build.specs.inner.Runs.{runs_bits}
+use Rattle.dictionary_codes.specs.Masks.{runs_bits}
 use Rattle.columns.specs.Runs.{has_validity}
 use Rattle.array_build.proofs.run_slots.run_validity.Given as goal
 

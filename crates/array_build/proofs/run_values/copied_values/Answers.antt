@@ -3,10 +3,10 @@ use Rattle.std.specs.List.{flat_map}
 use Rattle.std.proofs.Common.{◌+◌, ◌++◌, ◌∙◌, ℕ, List, ap, drop, refl, sym}
 use Rattle.std.proofs.lemmas.Bool.{and_parts}
 use Rattle.std.proofs.lemmas.List.Concat.{flat_map-append}
-use Rattle.array_build.proofs.Ended.{ended}
-use Rattle.array_build.proofs.Turns.{turned}
+use Rattle.batch_build.specs.laws.Ended.{ended}
+use Rattle.batch_build.specs.laws.Turns.{turned}
 use Rattle.array_build.proofs.run_values.copied_values.Goals as goal
-use Rattle.array_build.specs.Batch.{plain_column}
+use Rattle.batch_build.specs.Batch.{plain_column}
 use Rattle.array_build.specs.inner.Runs.{fixed_value, kind_cells}
 use Rattle.columns.specs.Runs.{are_runs_sound, is_run_sound, run_cells, runs_cells}
 use Rattle.columns.specs.declared.slot_runs.SlotRun.{SlotRun}

@@ -6,14 +6,14 @@ use Rattle.std.proofs.lemmas.List.{take_at}
 use Rattle.std.proofs.lemmas.Result.{IfOk-weaker}
 use Rattle.arrow_schema.specs.Column.{Kind}
 use Rattle.arrow_schema.specs.View.{kind_of}
-use Rattle.array_build.proofs.MaskedRuns.{cells_without, mask_long}
+use Rattle.dictionary_codes.specs.laws.MaskedRuns.{cells_without, mask_long}
 use Rattle.array_build.proofs.MaskedValues.{values_length, values_masked}
-use Rattle.array_build.proofs.Masks.{bits_counted, bits_with}
+use Rattle.dictionary_codes.specs.laws.Bitmaps.{bits_counted, bits_with}
 use Rattle.array_build.proofs.RunArrays.{count_cells}
 use Rattle.array_build.proofs.run_values.masked_values.Goals as goal
-use Rattle.array_build.specs.Batch.{plain_column}
-use Rattle.array_build.specs.inner.Masked.{mask_bits, slots_mask}
-use Rattle.array_build.specs.inner.Runs.{cleared, fixed_value, kind_cells, runs_bits}
+use Rattle.batch_build.specs.Batch.{plain_column}
+use Rattle.dictionary_codes.specs.Masks.{mask_bits, slots_mask, runs_bits}
+use Rattle.array_build.specs.inner.Runs.{cleared, fixed_value, kind_cells}
 use Rattle.columns.specs.declared.slot_runs.SlotRun.{SlotRun}
 
 pub returns-then-is_empty : goal.returns-then-is_empty

@@ -1,11 +1,11 @@
 use Rattle.std.proofs.Common.{◌≡◌, ◌∙◌, ℕ, Bool, List, ap, ap₂, arith, length, refl, sym}
 use Rattle.std.proofs.lemmas.Bool.{eqb-false, eqb-true}
 use Rattle.std.proofs.lemmas.Result.{IfOk-weaker}
-use Rattle.array_build.proofs.MaskedRuns.{mask_long}
-use Rattle.array_build.proofs.Masks.{joined_alone, joined_both, joined_without, none_unset}
+use Rattle.dictionary_codes.specs.laws.MaskedRuns.{mask_long}
+use Rattle.array_build.proofs.Masks.{joined_alone, joined_both, joined_without}
+use Rattle.dictionary_codes.specs.laws.Bitmaps.{none_unset}
 use Rattle.array_build.proofs.slot_masks.masked_validity.Goals as goal
-use Rattle.array_build.specs.inner.Masked.{joined, mask_bits}
-use Rattle.array_build.specs.inner.Runs.{bitmap_of, runs_bits}
+use Rattle.dictionary_codes.specs.Masks.{joined, mask_bits, bitmap_of, runs_bits}
 use Rattle.bitmap.specs.Bits.{packed}
 
 pub returns-then-is_empty : goal.returns-then-is_empty

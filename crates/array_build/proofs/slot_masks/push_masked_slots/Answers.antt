@@ -1,11 +1,13 @@
 use Rattle.std.specs.Prelude.{◌*◌, ◌==◌, ◌||◌, nat_le}
 use Rattle.std.proofs.Common.{◌≡◌, ◌∙◌, ℕ, Bool, true, false, List, ap, ap₂, length, subst, sym}
-use Rattle.array_build.proofs.MaskedItems.{masked_length}
-use Rattle.array_build.proofs.Masks.{bitmap_back, bitmap_fits, counted}
+use Rattle.dictionary_codes.specs.laws.MaskedItems.{masked_length}
+use Rattle.array_build.proofs.Masks.{bitmap_back, counted}
+use Rattle.dictionary_codes.specs.laws.Bitmaps.{bitmap_fits}
 use Rattle.array_build.proofs.slot_masks.push_masked_slots.Goals as goal
-use Rattle.array_build.specs.Batch.{batch_in}
-use Rattle.array_build.specs.inner.Masked.{bitmap_bits, masked_slots, slots_mask}
-use Rattle.array_build.specs.inner.Runs.{bitmap_of, runs_bits, with_validity}
+use Rattle.batch_build.specs.Batch.{batch_in}
+use Rattle.dictionary_codes.specs.Masks.{bitmap_bits, slots_mask, bitmap_of, runs_bits}
+use Rattle.array_build.specs.inner.Masked.{masked_slots}
+use Rattle.batch_build.specs.Nodes.{with_validity}
 
 pub push_validity-requires : goal.push_validity-requires
 push_validity-requires c =

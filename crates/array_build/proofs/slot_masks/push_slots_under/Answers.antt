@@ -1,11 +1,12 @@
 use Rattle.std.specs.Prelude.{◌*◌, ◌==◌, ◌||◌, nat_le}
 use Rattle.std.proofs.Common.{◌≡◌, ◌∙◌, ℕ, true, List, ap₂, length, subst, sym}
 use Rattle.std.proofs.lemmas.Result.{on_ok_weaker}
-use Rattle.array_build.proofs.Masks.{bitmap_fits, counted}
+use Rattle.dictionary_codes.specs.laws.Bitmaps.{bitmap_fits}
+use Rattle.array_build.proofs.Masks.{counted}
 use Rattle.array_build.proofs.slot_masks.push_slots_under.Goals as goal
-use Rattle.array_build.specs.Batch.{batch_in}
+use Rattle.batch_build.specs.Batch.{batch_in}
 use Rattle.array_build.specs.inner.Masked.{masked_slots}
-use Rattle.array_build.specs.inner.Runs.{with_validity}
+use Rattle.batch_build.specs.Nodes.{with_validity}
 
 pub push_validity-requires : goal.push_validity-requires
 push_validity-requires c =

@@ -8,7 +8,7 @@ use Rattle.array_build.proofs.SlotOffsets.{ascend, one_put, one_room}
 use Rattle.array_build.proofs.MaskedContents.{next_offset, next_total}
 use Rattle.array_build.proofs.RunContents.{offset_room, offsets_with}
 use Rattle.array_build.proofs.slot_offsets.put_masked_slot_offsets.Goals as goal
-use Rattle.array_build.specs.inner.Masked.{mask_bits}
+use Rattle.dictionary_codes.specs.Masks.{mask_bits}
 use Rattle.array_build.specs.inner.MaskedContents.{masked_sizes, total}
 use Rattle.bitmap.specs.Bits.{bit}
 use Rattle.columns.specs.Array.{Array, slots_in}

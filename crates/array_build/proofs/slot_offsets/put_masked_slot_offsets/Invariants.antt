@@ -1,5 +1,5 @@
 use Rattle.std.proofs.Common.{◌≡◌, ◌+◌, ◌-◌, ◌*◌, ◌++◌, List, ℕ, take}
-use Rattle.array_build.specs.inner.Masked.{mask_bits}
+use Rattle.dictionary_codes.specs.Masks.{mask_bits}
 use Rattle.array_build.specs.inner.MaskedContents.{masked_sizes, total}
 use Rattle.array_build.proofs.RunContents.{offsets_with}
 use Rattle.columns.specs.Offsets.{width_of}

@@ -2,7 +2,7 @@ use Rattle.std.specs.Global.{Vec}
 use Rattle.std.specs.List.{AllByRecursion}
 use Rattle.std.proofs.Common.{◌≡◌, ◌<◌, ◌^◌, ◌+◌, ◌++◌, List, ℕ, [], ◌∷◌, length, map, drop, refl, ap, sym, subst, ◌∙◌, arith}
 use Rattle.std.proofs.lemmas.List.{drop_all, length-map, map-append}
-use Rattle.array_build.specs.declared.batch.Buffer.{Buffer}
+use Rattle.batch_build.specs.declared.batch.Buffer.{Buffer}
 use Rattle.arrow_schema.specs.Column.{PlainSchema}
 use Rattle.arrow_schema.specs.View.{schema_of}
 use Rattle.ipc_canonical.specs.Pieces.{IsPieceOf}

@@ -1,6 +1,6 @@
 use Rattle.std.proofs.Common.{List, ℕ, [], ◌∷◌, ◌++◌, ◌∙◌, Bor, map, take_all, ap, arith, sym}
 use Rattle.std.proofs.lemmas.List.{map_push}
-use Rattle.array_build.specs.Batch.{buffers_in}
+use Rattle.batch_build.specs.Batch.{buffers_in}
 use Rattle.ipc_encode.proofs.BufferLemmas.{buffers_more}
 use Rattle.ipc_encode.proofs.front.borrowed.Goals as goal
 

@@ -1,5 +1,5 @@
 use Rattle.std.proofs.Common.{◌≡◌, ◌≤◌, length, map, take, vec_len, vec_capacity}
-use Rattle.array_build.specs.Batch.{buffers_in}
+use Rattle.batch_build.specs.Batch.{buffers_in}
 use Rattle.ipc_encode.proofs.front.borrowed.Given as goal
 
 abbrev pub invariant-loop-buffer : goal.invariant-loop-buffer

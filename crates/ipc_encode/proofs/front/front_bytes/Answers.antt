@@ -1,5 +1,5 @@
 use Rattle.std.proofs.Common.{◌≡◌, ◌++◌, List, ℕ, map, ap, sym, ◌∙◌}
-use Rattle.array_build.specs.Batch.{buffers_in}
+use Rattle.batch_build.specs.Batch.{buffers_in}
 use Rattle.ipc_write.specs.Trees.{raw_node}
 use Rattle.ipc_write.specs.Written.{body, batch_message}
 use Rattle.ipc_encode.proofs.Steps.{code_room, batch_is}

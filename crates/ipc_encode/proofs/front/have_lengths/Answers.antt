@@ -1,7 +1,7 @@
 use Rattle.std.proofs.Common.{◌≡◌, ◌<◌, List, [], ◌∷◌, ◌++◌, ◌∙◌, map, length, get_or, take_all, ap, sym, arith}
 use Rattle.std.proofs.lemmas.List.{take_more}
-use Rattle.array_build.specs.Batch.{buffers_in}
-use Rattle.array_build.specs.declared.batch.Buffer.{Buffer}
+use Rattle.batch_build.specs.Batch.{buffers_in}
+use Rattle.batch_build.specs.declared.batch.Buffer.{Buffer}
 use Rattle.ipc_encode.proofs.BufferLemmas.{lengths_more}
 use Rattle.ipc_encode.proofs.front.have_lengths.Goals as goal
 

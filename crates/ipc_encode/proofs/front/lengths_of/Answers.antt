@@ -1,6 +1,6 @@
 use Rattle.std.proofs.Common.{◌≡◌, ◌+◌, List, ℕ, [], ◌∷◌, ◌++◌, ◌∙◌, map, length, take, take_all, ap, arith, sym}
-use Rattle.array_build.specs.Batch.{buffers_in}
-use Rattle.array_build.specs.declared.batch.Buffer.{Buffer}
+use Rattle.batch_build.specs.Batch.{buffers_in}
+use Rattle.batch_build.specs.declared.batch.Buffer.{Buffer}
 use Rattle.ipc_encode.proofs.BufferLemmas.{lengths_more}
 use Rattle.ipc_encode.proofs.front.lengths_of.Goals as goal
 

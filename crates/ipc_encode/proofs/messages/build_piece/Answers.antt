@@ -6,7 +6,7 @@ use Rattle.arrow_schema.specs.Column.{PlainSchema, columns_of}
 use Rattle.arrow_schema.specs.View.{column_of, schema_of}
 use Rattle.arrow_schema.specs.declared.types.Field.{Field}
 use Rattle.ipc_encode.proofs.Steps.{PieceLaws, IsBuiltPiece, built_piece}
-use Rattle.array_build.specs.Batch.{batch_of, built_below}
+use Rattle.batch_build.specs.Batch.{batch_of, built_below}
 use Rattle.cells.specs.Cell.{Cell}
 use Rattle.values.specs.Borrowed.{borrowed_cells}
 use Rattle.ipc_encode.proofs.messages.build_piece.Goals as goal

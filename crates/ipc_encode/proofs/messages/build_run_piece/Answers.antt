@@ -1,7 +1,7 @@
 use Rattle.std.proofs.Common.{◌≡◌, true, List, map, ap, sym, subst, ◌∙◌}
 use Rattle.std.specs.Prelude.{IfOk}
 use Rattle.std.proofs.lemmas.Result.{IfOk-weaker}
-use Rattle.array_build.specs.Batch.{batch_of, built_below}
+use Rattle.batch_build.specs.Batch.{batch_of, built_below}
 use Rattle.columns.specs.Runs.{HaveRuns, can_build_columns}
 use Rattle.columns.specs.declared.slot_runs.SlotRun.{SlotRun}
 use Rattle.arrow_schema.specs.Column.{PlainSchema, columns_of}

@@ -1,7 +1,7 @@
 use Rattle.std.specs.List.{AllByRecursion}
 use Rattle.std.specs.Vec.Iter.{into_iter_items}
 use Rattle.std.proofs.Common.{◌≡◌, ◌+◌, ◌++◌, length, map}
-use Rattle.array_build.specs.Batch.{dictionary_in}
+use Rattle.batch_build.specs.Batch.{dictionary_in}
 use Rattle.ipc_encode.specs.inner.Messages.{HasFew, built_messages}
 use Rattle.ipc_encode.specs.inner.Stream.{stream_in}
 use Rattle.ipc_encode.proofs.messages.write_all_entries.Given as goal

@@ -1,6 +1,6 @@
 use Rattle.std.proofs.Common.{◌≡◌, ◌++◌, List, ℕ, map, ap, sym, ◌∙◌}
 use Rattle.std.proofs.lemmas.Result.{on_ok_weaker}
-use Rattle.array_build.specs.Batch.{buffers_in}
+use Rattle.batch_build.specs.Batch.{buffers_in}
 use Rattle.ipc_write.specs.Written.{body}
 use Rattle.ipc_encode.proofs.Steps.{code_room, entries_are}
 use Rattle.ipc_encode.proofs.messages.write_entries_front.Goals as goal

@@ -1,6 +1,6 @@
 use Rattle.std.proofs.Common.{◌≡◌, List, length, drop, ap, arith}
 use Rattle.std.proofs.lemmas.List.{drop_all}
-use Rattle.array_build.specs.declared.batch.Buffer.{Buffer}
+use Rattle.batch_build.specs.declared.batch.Buffer.{Buffer}
 use Rattle.ipc_encode.specs.View.{joined_parts}
 use Rattle.ipc_encode.proofs.BufferLemmas.{joined_len}
 use Rattle.ipc_encode.proofs.stream.count_bytes.Goals as goal

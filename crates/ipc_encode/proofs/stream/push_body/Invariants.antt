@@ -1,6 +1,6 @@
 use Rattle.std.specs.Vec.Iter.{into_iter_items}
 use Rattle.std.proofs.Common.{◌≡◌, ◌++◌}
-use Rattle.array_build.specs.Batch.{buffers_in}
+use Rattle.batch_build.specs.Batch.{buffers_in}
 use Rattle.ipc_encode.specs.inner.Stream.{stream_in}
 use Rattle.ipc_write.specs.Written.{body}
 use Rattle.ipc_encode.proofs.stream.push_body.Given as goal

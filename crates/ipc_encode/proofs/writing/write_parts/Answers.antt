@@ -1,4 +1,4 @@
-use Rattle.array_build.specs.Batch.{buffer_bytes}
+use Rattle.batch_build.specs.Batch.{buffer_bytes}
 use Rattle.ipc_encode.proofs.PartLemmas.{next_part}
 use Rattle.ipc_encode.proofs.writing.write_parts.Goals as goal
 

@@ -1,6 +1,6 @@
 use Rattle.std.proofs.Common.{◌≡◌, ◌<◌, ◌++◌, ◌∙◌, List, length, get_or, subst, arith}
 use Rattle.std.specs.Global.{Vec}
-use Rattle.array_build.specs.declared.batch.Buffer.{Buffer}
+use Rattle.batch_build.specs.declared.batch.Buffer.{Buffer}
 use Rattle.ipc_encode.specs.View.{joined_parts}
 use Rattle.store.proofs.Turns.{stream_more}
 use Rattle.store.proofs.carrying.borrowed_streams.Goals as goal

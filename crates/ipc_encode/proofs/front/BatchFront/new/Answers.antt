@@ -1,5 +1,5 @@
 use Rattle.std.proofs.Common.{◌∙◌}
-use Rattle.array_build.specs.Batch.{buffers_in}
+use Rattle.batch_build.specs.Batch.{buffers_in}
 use Rattle.ipc_encode.proofs.Steps.{front_of}
 use Rattle.ipc_encode.proofs.front.BatchFront.new.Goals as goal
 

@@ -1,0 +1,7 @@
+mod Entries
+mod Equals
+mod FirstCells
+mod FirstsSeen
+mod Low
+mod PartColumns
+mod Sized

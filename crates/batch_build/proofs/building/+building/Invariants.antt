@@ -1,0 +1,20 @@
+use Rattle.std.proofs.Common.{◌≡◌, true, map}
+use Rattle.arrow_schema.specs.Column.{columns_of}
+use Rattle.arrow_schema.specs.View.{column_of}
+use Rattle.batch_build.specs.Batch.{batch_in, built_below, with_arrays}
+use Rattle.cells.specs.Dictionary.{part_list}
+use Rattle.columns.specs.Buildable.{can_build_parts}
+use Rattle.values.specs.Borrowed.{borrowed_cell}
+use Rattle.batch_build.proofs.PartColumns.{rows_from, columns_from}
+use Rattle.batch_build.proofs.building.+building.Given as goal
+
+-- what is left of the columns can be built, and completes the batch
+abbrev pub invariant-build_parts-loop-place : goal.invariant-build_parts-loop-place
+invariant-build_parts-loop-place l =
+    let left = columns_from l.place l.fields in
+    let rows = map part_list (map borrowed_cell l.cells) in
+    record {
+      can : can_build_parts left (rows_from l.place rows) ≡ true;
+      batch : with_arrays (batch_in l.batch) (built_below left (rows_from l.place rows))
+          ≡ with_arrays (batch_in l.fn.batch) (built_below (columns_of (map column_of l.fields)) rows);
+    }

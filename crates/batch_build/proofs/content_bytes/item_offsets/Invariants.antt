@@ -1,0 +1,16 @@
+use Rattle.std.proofs.Common.{◌≡◌, ◌++◌, ◌+◌, map, drop, length}
+use Rattle.std.specs.List.{flat_map}
+use Rattle.byteorder.specs.Endian.{little_bytes}
+use Rattle.cells.specs.Dictionary.{item_list}
+use Rattle.columns.specs.Built.{offsets_of, sums_from}
+use Rattle.columns.specs.Offsets.{width_of}
+use Rattle.values.specs.Borrowed.{borrowed_cell}
+use Rattle.batch_build.proofs.content_bytes.item_offsets.Given as goal
+
+-- the offsets so far and the others, which end where all ends
+abbrev pub invariant-loop-cell : goal.invariant-loop-cell
+invariant-loop-cell l = record {
+  offsets : l.offsets.items ++ flat_map (little_bytes (width_of l.width)) (sums_from l.end (map (λ c. length (item_list c)) (map borrowed_cell (drop l.cell-index l.cells))))
+      ≡ offsets_of (width_of l.width) (map (λ c. length (item_list c)) (map borrowed_cell l.cells));
+  end : l.end + length (flat_map item_list (map borrowed_cell (drop l.cell-index l.cells))) ≡ length (flat_map item_list (map borrowed_cell l.cells));
+}

@@ -1,0 +1,28 @@
+use Rattle.std.specs.List.{flat_map}
+use Rattle.std.proofs.Common.{◌+◌, List, map, drop, refl}
+use Rattle.facts.specs.laws.Lists.{drop-item}
+use Rattle.columns.specs.Built.{fixed_bytes}
+use Rattle.values.specs.Borrowed.{borrowed_cell}
+use Rattle.values.specs.declared.borrowed.ValueRef.{ValueRef}
+use Rattle.batch_build.specs.laws.Ended.{ended}
+use Rattle.batch_build.specs.laws.Turns.{turned}
+use Rattle.batch_build.proofs.value_bytes.fixed_values.Goals as goal
+
+pub loop-cell-preserved : goal.loop-cell-preserved
+loop-cell-preserved c =
+    let cell = c.cell-item.result in
+    let others = map borrowed_cell (drop (c.loop-cell.cell-index + 1) c.args.cells.now) in
+    let kept = rw (drop-item c.args.cells.now c.loop-cell.cell-index cell c.loop-cell-test.true c.cell-item.is) at c.loop-cell.invariant in
+    turned
+    c.loop-cell.values.items
+    (fixed_bytes c.args.width (borrowed_cell cell))
+    (flat_map (fixed_bytes c.args.width) others)
+    _
+    _
+    c.in_ok-push_fixed.ensures
+    kept
+
+pub returns : goal.returns
+returns c =
+    ended (λ (cells : List ValueRef). flat_map (fixed_bytes c.args.width) (map borrowed_cell cells)) c.loop-cell.values.items _ c.args.cells.now c.loop-cell.cell-index refl c.loop-cell-test.false
+    c.loop-cell.invariant

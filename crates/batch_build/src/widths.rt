@@ -1,0 +1,15 @@
+// How wide the offsets of a type are.
+ghost use Rattle.std.specs.Prelude.{◌≡◌};
+ghost use Rattle.columns.specs.Offsets.{width_of};
+
+use columns::OffsetWidth;
+
+/// The bytes of an offset.
+pub fn offset_size(width: OffsetWidth) -> usize
+    ensures { result ≡ width_of width }
+{
+    match width {
+        OffsetWidth::Four => 4,
+        OffsetWidth::Eight => 8,
+    }
+}

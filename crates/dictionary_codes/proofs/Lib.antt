@@ -1,0 +1,6 @@
+mod CodedRuns
+mod Codes
+mod Known
+mod MaskedCodes
+mod Stamped
+mod Written

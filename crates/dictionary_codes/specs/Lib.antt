@@ -1,0 +1,4 @@
+pub mod CodedCells
+pub mod Masks
+pub mod laws
+pub mod inner

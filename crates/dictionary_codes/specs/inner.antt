@@ -1,0 +1,8 @@
+pub mod ArrayCells
+pub mod Codes
+pub mod Known
+pub mod MaskParts
+pub mod Named
+pub mod Same
+pub mod Seen
+pub mod Stamped

@@ -1,0 +1,144 @@
+// The codes of runs of slots of a column with a dictionary, and how many entries they name.
+ghost use Rattle.std.specs.Prelude.{◌≡◌, ◌*◌, ◌/◌, ◌&&◌, true, IfOk, Some, [], length, map};
+ghost use Rattle.std.specs.List.{flat_map, list_all};
+ghost use Rattle.arrow_schema.specs.View.{bits_of, column_of, index_of};
+ghost use Rattle.dictionary_codes.specs.Masks.{IsMask, masked_cells, runs_bits};
+ghost use Rattle.dictionary_codes.specs.CodedCells.{is_coded};
+ghost use Rattle.columns.specs.Runs.{are_runs_sound, runs_cells};
+ghost use Rattle.cells.specs.Dictionary.{entries_of};
+ghost use Rattle.columns.specs.Buildable.{is_null_or_entry};
+ghost use Rattle.columns.specs.Built.{index_bytes};
+ghost use Rattle.columns.specs.Texts.{has_utf8_texts};
+ghost use Rattle.values.specs.Borrowed.{borrowed_cell};
+ghost use Rattle.cells.specs.Nulls.{is_there};
+
+use crate::known_entries::KnownEntries;
+use crate::run_codes::put_codes;
+use crate::run_slots::count_slots;
+use arrow_schema::{BitWidth, DictSpec, Field};
+use columns::SlotRun;
+use std::alloc::{AllocError, Global};
+use values::ValueRef;
+
+/// What slots have in a column with a dictionary: the bytes of their indices, 0 at nulls; whether each has one, and is no null; and the cells of the entries
+/// that the indices name (Arrow columnar format, "Dictionary-encoded Layout").
+#[derive(Drop)]
+pub struct RunCodes<'a> {
+    pub indices: Vec<u8>,
+    pub valid: Vec<bool>,
+    pub entries: Vec<ValueRef<'a>>,
+}
+
+// Room for n indices. More bytes than a number holds have none in memory.
+fn room_for(alloc: Global, width: BitWidth, slots: usize) -> Result<Vec<u8>, AllocError>
+    ensures { IfOk result (λ bytes. length bytes.items ≡ bits_of width / 8 * slots) }
+{
+    match width.bytes().checked_mul(slots) {
+        Some(size) => vec![in alloc; 0; size],
+        None => Err(AllocError),
+    }
+}
+
+// The codes of runs that have n slots, of which no entry is named before.
+fn new_codes<'a>(
+    alloc: Global,
+    entries: &mut KnownEntries<'a>,
+    slots: usize,
+    field: &'a Field,
+    spec: DictSpec,
+    runs: &[SlotRun<'a>],
+    mask: &[u8],
+) -> Result<RunCodes<'a>, AllocError>
+    requires none { entries.old.named.items ≡ [] }
+    requires count { slots ≡ length (runs_bits runs.now) }
+    requires spec { field.now.dictionary ≡ Some spec }
+    requires sound { are_runs_sound (column_of field.now) runs.now ≡ true }
+    requires mask { IsMask mask.now runs.now }
+    requires coded { list_all is_coded (masked_cells (column_of field.now) mask.now runs.now) ≡ true }
+    ensures indices { IfOk result (λ codes. codes.indices.items
+        ≡ flat_map (index_bytes (index_of spec) (entries_of (masked_cells (column_of field.now) mask.now runs.now)))
+        (masked_cells (column_of field.now) mask.now runs.now)) }
+    ensures valid { IfOk result (λ codes. codes.valid.items ≡ map is_there (masked_cells (column_of field.now) mask.now runs.now)) }
+    ensures entries { IfOk result (λ codes. map borrowed_cell codes.entries.items ≡ entries_of (masked_cells (column_of field.now) mask.now runs.now)) }
+{
+    let mut indices = room_for(alloc, spec.index.width, slots)?;
+    let mut valid = vec![in alloc; false; slots]?;
+    put_codes(
+        alloc,
+        entries,
+        indices.as_mut_slice(),
+        valid.as_mut_slice(),
+        field,
+        spec,
+        runs,
+        mask,
+    )?;
+    let entries = entries.cells(alloc)?;
+    Ok(RunCodes {
+        indices,
+        valid,
+        entries,
+    })
+}
+
+/// The indices of runs of slots, each the place of a value among the distinct ones, in the order in which they are first seen. Where a bit of the mask is not
+/// set there is a null, whatever stands there. What was known of dictionaries is used, and what is seen is kept.
+///
+/// # Errors
+/// `AllocError` where memory was refused: what is known is still so.
+pub fn codes_of_runs<'a>(
+    alloc: Global,
+    entries: &mut KnownEntries<'a>,
+    field: &'a Field,
+    spec: DictSpec,
+    runs: &[SlotRun<'a>],
+    mask: &[u8],
+) -> Result<RunCodes<'a>, AllocError>
+    requires spec { field.now.dictionary ≡ Some spec }
+    requires sound { are_runs_sound (column_of field.now) runs.now ≡ true }
+    requires mask { IsMask mask.now runs.now }
+    requires coded { list_all is_coded (masked_cells (column_of field.now) mask.now runs.now) ≡ true }
+    ensures indices { IfOk result (λ codes. codes.indices.items
+        ≡ flat_map (index_bytes (index_of spec) (entries_of (masked_cells (column_of field.now) mask.now runs.now)))
+        (masked_cells (column_of field.now) mask.now runs.now)) }
+    ensures valid { IfOk result (λ codes. codes.valid.items ≡ map is_there (masked_cells (column_of field.now) mask.now runs.now)) }
+    ensures entries { IfOk result (λ codes. map borrowed_cell codes.entries.items ≡ entries_of (masked_cells (column_of field.now) mask.now runs.now)) }
+{
+    entries.end();
+    let slots = count_slots(runs)?;
+    let codes = new_codes(alloc, entries, slots, field, spec, runs, mask)?;
+    entries.end();
+    Ok(codes)
+}
+
+/// How many distinct values the cells of runs of a column with a dictionary have. An entry of an array's own dictionary is looked up once.
+///
+/// # Errors
+/// `AllocError` where memory was refused.
+pub fn count_entries<'a>(
+    alloc: Global,
+    field: &'a Field,
+    spec: DictSpec,
+    runs: &[SlotRun<'a>],
+) -> Result<usize, AllocError>
+    requires spec { field.now.dictionary ≡ Some spec }
+    requires sound { are_runs_sound (column_of field.now) runs.now ≡ true }
+    requires coded { list_all (λ c. is_null_or_entry c && has_utf8_texts c) (runs_cells (column_of field.now) runs.now) ≡ true }
+    ensures { IfOk result (λ count. count ≡ length (entries_of (runs_cells (column_of field.now) runs.now))) }
+{
+    let slots = count_slots(runs)?;
+    let mut entries = KnownEntries::none(alloc);
+    let mut indices = room_for(alloc, spec.index.width, slots)?;
+    let mut valid = vec![in alloc; false; slots]?;
+    put_codes(
+        alloc,
+        &mut entries,
+        indices.as_mut_slice(),
+        valid.as_mut_slice(),
+        field,
+        spec,
+        runs,
+        &[],
+    )?;
+    Ok(entries.count())
+}

@@ -1,0 +1,64 @@
+// The number of an entry among those that were seen, and the index that is written for its place.
+ghost use Rattle.std.specs.Prelude.{◌≡◌, ◌≤◌, ◌+◌, ◌++◌, OnErr, OnOk, IfOk, drop, length, map, take};
+ghost use Rattle.dictionary_codes.specs.inner.Codes.{IsNumber, sized_code};
+ghost use Rattle.cells.specs.Dictionary.{with_entry};
+ghost use Rattle.cells.specs.Entry.{entry_cell};
+ghost use Rattle.columns.specs.Built.{place_or_zero};
+ghost use Rattle.values.specs.Borrowed.{borrowed_cell};
+
+use crate::number_bytes::put_number;
+use cells::Entry;
+use indexmap::IndexSet;
+use std::alloc::AllocError;
+use values::ValueRef;
+
+/// The number of a cell among the entries that were seen, of which it is one then: a null has none.
+pub(crate) fn number_of<'a>(
+    seen: &mut IndexSet<Entry<'a>>,
+    cell: ValueRef<'a>,
+) -> Result<Option<usize>, AllocError>
+    ensures seen { OnOk result (map entry_cell seen.new.keys ≡ with_entry (map entry_cell seen.old.keys) (borrowed_cell cell.entry)) }
+    ensures number { IfOk result (λ number. IsNumber (map entry_cell seen.new.keys) number (borrowed_cell cell.entry)) }
+    ensures unchanged { OnErr result (seen.new.keys ≡ seen.old.keys) }
+{
+    match cell.as_entry() {
+        None => Ok(None),
+        Some(entry) => {
+            let (number, _) = seen.insert_full(entry)?;
+            Ok(Some(number))
+        }
+    }
+}
+
+/// The cell of an entry.
+pub(crate) fn cell_of<'a>(entry: &Entry<'a>) -> ValueRef<'a>
+    ensures { borrowed_cell result ≡ entry_cell entry.now }
+{
+    match entry {
+        Entry::Bool(boolean) => ValueRef::Bool(*boolean),
+        Entry::Int(number) => ValueRef::Int(*number),
+        Entry::Text(text) => ValueRef::Text(text),
+        Entry::Bytes(bytes) => ValueRef::Bytes(bytes),
+    }
+}
+
+// The place that a code is, or 0 where there is none.
+#[inline]
+fn place_or_zero(code: Option<usize>) -> u64
+    ensures { result ≡ place_or_zero code }
+{
+    match code {
+        Some(place) => place as u64,
+        None => 0,
+    }
+}
+
+/// Writes the index of n bytes that a code is over the bytes from a place on: 0 where there is none.
+#[inline]
+pub(crate) fn put_code<const SIZE: usize>(indices: &mut [u8], at: usize, code: Option<usize>)
+    requires size { SIZE ≤ 8 }
+    requires room { at + SIZE ≤ length indices.old }
+    ensures { indices.new ≡ take at indices.old ++ (sized_code SIZE code ++ drop (at + SIZE) indices.old) }
+{
+    put_number::<SIZE>(indices, at, place_or_zero(code));
+}
