@@ -1,12 +1,12 @@
-// What is asked once more of the system, of a store, of a script and of what is kept of the input, where a person reads why a request was refused, and no
-// read or write is known to have failed.
+// What is asked once more of a store, of its path, of a script and of what is kept of the input, where a person reads why a request was refused, and no call
+// of the system is known to have failed.
 use crate::Failures;
 use crate::copying_files::open_to_read;
 use crate::failed_file::KeptFile;
 use crate::failing::{is_of_failure, told_failure};
+use crate::in_place_of_store::file_in_place_of_store;
 use crate::input_again::{FoundField, field_of_no_table, field_with_fault};
 use crate::script_again::line_of_script;
-use crate::unopened::refused_file;
 use cli_refusals::Refusal;
 use cli_requests::{StoreCommand, StoreRequest};
 use cli_texts::Audience;
@@ -41,11 +41,9 @@ pub(crate) enum AskedAgain {
 /// What is known of a request that was served, beside how it ended.
 #[derive(Clone, Copy)]
 pub(crate) struct Served<'a> {
-    /// What `is_there` gave before it was served.
-    pub(crate) was_there: bool,
     /// What is kept of the input.
     pub(crate) start: &'a [u8],
-    /// How the last read or write failed.
+    /// How the last call of the system failed.
     pub(crate) failures: &'a Failures,
 }
 
@@ -128,12 +126,12 @@ fn found_of<F: Read + Write + Seek + OpenFile + LockFile + Drop, H: Files<File =
 ) -> Option<AskedAgain> {
     if is_of_failure(refusal) {
         if let Some(failure) = served.failures.take() {
-            return told_failure(rt.alloc(), request, &failure);
+            return told_failure(rt, request, &failure);
         }
     }
     match refusal {
         Refusal::Io | Refusal::BadSize => {
-            let file = refused_file(rt, request, served.was_there, refusal)?;
+            let file = file_in_place_of_store(rt, request)?;
             Some(AskedAgain::File(file))
         }
         Refusal::BadScript(number) => {

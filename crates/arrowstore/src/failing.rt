@@ -1,14 +1,16 @@
-// What is said of a read or a write that failed while a request was served.
+// What is said of a call of the system that failed while a request was served.
 use crate::asking_again::AskedAgain;
 use crate::failed_file::{KeptFile, Reason, system_text};
+use crate::in_place_of_store::reason_in_place_of_store;
 use crate::{Failure, FileCall};
 use cli_refusals::{MOST_SHOWN, Refusal};
 use cli_requests::StoreRequest;
 use commit::OpeningRefusal;
 use std::alloc::Global;
-use std::io;
+use std::io::{self, ErrorKind};
+use std::rt::Files;
 
-/// Whether a request is refused so where a read or a write fails.
+/// Whether a request is refused so where a call of the system fails.
 pub(crate) fn is_of_failure(refusal: &Refusal) -> bool {
     matches!(
         refusal,
@@ -28,30 +30,64 @@ fn is_told(request: &StoreRequest<'_>, path: &str) -> bool {
     }
 }
 
-fn reason_of(alloc: Global, call: FileCall, error: &io::Error) -> Option<Reason> {
-    let text = system_text(alloc, error)?;
+fn unopened(alloc: Global, error: &io::Error) -> Option<Reason> {
+    Some(Reason::Unopened(system_text(alloc, error)?))
+}
+
+fn reason_of_opening<H: Files + AllocGlobal>(
+    rt: &H,
+    request: &StoreRequest<'_>,
+    path: &str,
+    error: &io::Error,
+) -> Option<Reason> {
+    if error.kind() == ErrorKind::AlreadyExists {
+        return Some(Reason::Exists);
+    }
+    match reason_in_place_of_store(rt, request, path) {
+        Some(reason) => Some(reason),
+        None => unopened(rt.alloc(), error),
+    }
+}
+
+fn reason_of_lock(alloc: Global, error: &io::Error) -> Option<Reason> {
+    if error.kind() == ErrorKind::WouldBlock {
+        Some(Reason::Locked)
+    } else {
+        unopened(alloc, error)
+    }
+}
+
+fn reason_of<H: Files + AllocGlobal>(
+    rt: &H,
+    request: &StoreRequest<'_>,
+    path: &str,
+    call: FileCall,
+    error: &io::Error,
+) -> Option<Reason> {
     match call {
-        FileCall::Read => Some(Reason::Unread(text)),
-        FileCall::Write => Some(Reason::Unwritten(text)),
-        FileCall::Sync => Some(Reason::Unsynced(text)),
+        FileCall::Open => reason_of_opening(rt, request, path, error),
+        FileCall::Lock => reason_of_lock(rt.alloc(), error),
+        FileCall::Read => Some(Reason::Unread(system_text(rt.alloc(), error)?)),
+        FileCall::Write => Some(Reason::Unwritten(system_text(rt.alloc(), error)?)),
+        FileCall::Sync => Some(Reason::Unsynced(system_text(rt.alloc(), error)?)),
     }
 }
 
 /// The failure, where it can be told.
-pub(crate) fn told_failure(
-    alloc: Global,
+pub(crate) fn told_failure<H: Files + AllocGlobal>(
+    rt: &H,
     request: &StoreRequest<'_>,
     failure: &Failure,
 ) -> Option<AskedAgain> {
     match failure {
-        Failure::Input(error) => Some(AskedAgain::Input(system_text(alloc, error)?)),
-        Failure::Output(error) => Some(AskedAgain::Output(system_text(alloc, error)?)),
+        Failure::Input(error) => Some(AskedAgain::Input(system_text(rt.alloc(), error)?)),
+        Failure::Output(error) => Some(AskedAgain::Output(system_text(rt.alloc(), error)?)),
         Failure::File { path, call, error } => {
             if !is_told(request, path) {
                 return None;
             }
-            let reason = reason_of(alloc, *call, error)?;
-            Some(AskedAgain::File(KeptFile::new(alloc, path, reason)?))
+            let reason = reason_of(rt, request, path, *call, error)?;
+            Some(AskedAgain::File(KeptFile::new(rt.alloc(), path, reason)?))
         }
     }
 }

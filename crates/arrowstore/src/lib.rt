@@ -17,6 +17,7 @@ mod copying_files;
 mod ending;
 mod failed_file;
 mod failing;
+mod in_place_of_store;
 mod input_again;
 mod kept_start;
 mod noted;
@@ -28,7 +29,6 @@ mod script_again;
 mod serving;
 mod serving_device;
 mod serving_open;
-mod unopened;
 mod with_files;
 
 pub use cli_texts::{Audience, Ended, Output, WatchedOutput, report_unreadable_arguments};

@@ -1,4 +1,4 @@
-// The input, the output and files of which it is noted how the last read, write or sync failed.
+// The input, the output and files of which it is noted how the last call of the system failed.
 ghost use Rattle.std.specs.Prelude.{◌≡◌};
 
 use sector_dev::LockFile;
@@ -7,14 +7,14 @@ use std::cell::Cell;
 use std::fs::{Metadata, OpenFile};
 use std::io::{self, Read, Seek, SeekFrom, Write};
 
-/// A read, a write or a sync that failed, with what the system says of it.
+/// A call of the system that failed, with what it says of that.
 #[derive(Drop)]
 pub enum Failure {
     /// A read of the input.
     Input(io::Error),
     /// A write of the output.
     Output(io::Error),
-    /// A call on the file that was opened at this path.
+    /// A call on the file at this path.
     File {
         path: String,
         call: FileCall,
@@ -25,6 +25,10 @@ pub enum Failure {
 /// What is asked of a file.
 #[derive(Clone, Copy)]
 pub enum FileCall {
+    /// To open or to make it.
+    Open,
+    /// To lock it.
+    Lock,
     /// A read.
     Read,
     /// A write, or a change of its length.
@@ -33,7 +37,7 @@ pub enum FileCall {
     Sync,
 }
 
-/// How the last read, write or sync failed, of those that are noted here.
+/// How the last call of the system failed, of those that are noted here.
 #[derive(Drop)]
 pub struct Failures {
     last: Cell<Option<Failure>>,
@@ -56,6 +60,22 @@ impl Failures {
     fn note(&self, failure: Option<Failure>) {
         self.last.set(failure);
     }
+
+    /// Notes how it ended to open or to make a file at a path. Where memory for the path is refused, nothing is noted.
+    pub fn note_opening<F>(&self, alloc: Global, path: &str, opened: &io::Result<F>) {
+        self.note(match opened {
+            Ok(_) => None,
+            Err(error) => failed_opening(alloc, path, *error),
+        });
+    }
+}
+
+fn failed_opening(alloc: Global, path: &str, error: io::Error) -> Option<Failure> {
+    Some(Failure::File {
+        path: String::from_str(alloc, path).ok()?,
+        call: FileCall::Open,
+        error,
+    })
 }
 
 /// An input of which is noted that a read failed.
@@ -148,7 +168,7 @@ impl FileNote<'_> {
     }
 }
 
-/// A file of which is noted that a read, a write or a sync failed. Where memory for its path is refused, nothing is noted.
+/// A file of which is noted that a lock, a read, a write or a sync failed. Where memory for its path is refused, nothing is noted.
 #[derive(Drop)]
 pub struct NotedFile<'a, F> {
     file: F,
@@ -242,10 +262,14 @@ impl<F: OpenFile> OpenFile for NotedFile<'_, F> {
 
 impl<F: LockFile> LockFile for NotedFile<'_, F> {
     fn lock_to_write(&self) -> io::Result<()> {
-        self.file.lock_to_write()
+        let locked = self.file.lock_to_write();
+        self.note(FileCall::Lock, &locked);
+        locked
     }
 
     fn lock_to_read(&self) -> io::Result<()> {
-        self.file.lock_to_read()
+        let locked = self.file.lock_to_read();
+        self.note(FileCall::Lock, &locked);
+        locked
     }
 }

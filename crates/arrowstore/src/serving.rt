@@ -56,8 +56,8 @@ pub(crate) fn has_sectors(kind: &FileType) -> bool {
     kind.is_file() || kind.is_block_device()
 }
 
-/// Whether something stands at a path that has none.
-pub(crate) fn has_no_sectors_at<H: Files>(rt: &H, path: &str) -> bool {
+// Whether something stands at a path that has none.
+fn has_no_sectors_at<H: Files>(rt: &H, path: &str) -> bool {
     match fs::metadata(rt, path) {
         Ok(found) => !has_sectors(&found.file_type()),
         Err(_) => false,

@@ -22,7 +22,6 @@ use crate::asking_again::{AskedAgain, Served, ask_again};
 use crate::ending::end_whole_or_partly;
 use crate::kept_start::Input;
 use crate::serving::serve;
-use crate::unopened::is_there;
 use crate::{Failures, run};
 use cli_refusals::{Hint, Hinted, Refusal};
 use cli_requests::{Mistake, StoreRequest, ask_for_help, is_of_store, refused_word, request_of};
@@ -129,7 +128,6 @@ fn serve_and_report<
         (ends_of input.old output.old errors.old) (ends_of input.new output.new errors.new) result }
     ensures unread { (takes_input_word (request_word request.now) ≡ true) ⊎ (input.new ≡ input.old) }
 {
-    let was_there = audience == Audience::Terminal && is_there(rt, request);
     let mut hinted = None;
     let mut left_out = Vec::new(rt.alloc());
     let done = serve(rt, request, input, output, &mut hinted, &mut left_out);
@@ -138,7 +136,6 @@ fn serve_and_report<
         Some(hint) => end_whole_or_partly(done, &left_out, Some(hint), audience, errors),
         None => {
             let served = Served {
-                was_there,
                 start: input.start(),
                 failures,
             };
@@ -217,7 +214,7 @@ fn run_on_store<
 }
 
 /// Does what the arguments ask for, of which the first is the program's name, also on the files of stores, and reports
-/// on `errors` why not. Of the reads and writes that are noted in `failures`, a person is told which has failed.
+/// on `errors` why not. Of the calls of the system that are noted in `failures`, a person is told which has failed.
 pub fn run_with_files<
     F: Read + Write + Seek + OpenFile + LockFile + Drop,
     H: Files<File = F> + AllocGlobal,

@@ -11,7 +11,7 @@ use std::path::PathBuf;
 use std::rt::Files;
 use std::time::Clock;
 
-/// The files of `files`. While one is read or written, the line says how much that was, and where that fails it is noted in `failures`.
+/// The files of `files`. While one is read or written, the line says how much that was, and where a call fails it is noted in `failures`.
 #[derive(Drop)]
 pub struct ProgressFiles<'a, C: Clock, T, H> {
     files: &'a H,
@@ -48,8 +48,12 @@ impl<'a, C: Clock, T: Write + Copy, H: Files + AllocGlobal> Files for ProgressFi
     type Dir = H::Dir;
 
     fn open_file(&self, how: &OpenOptions, path: &str) -> io::Result<Self::File> {
+        let opened = self.files.open_file(how, path);
+        if let Some(failures) = self.failures {
+            failures.note_opening(self.files.alloc(), path, &opened);
+        }
         let file = ProgressFile {
-            file: self.files.open_file(how, path)?,
+            file: opened?,
             line: self.line,
             bytes_read: 0,
             bytes_written: 0,

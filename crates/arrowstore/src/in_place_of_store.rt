@@ -1,0 +1,49 @@
+// What stands at the path of a store where it is neither a file whose bytes stay nor a disk.
+use crate::failed_file::{KeptFile, Reason};
+use crate::serving::has_sectors;
+use cli_requests::StoreRequest;
+use std::fs;
+use std::rt::Files;
+
+// The path of the store that a request opens.
+fn store_of<'a>(request: &StoreRequest<'a>) -> Option<&'a str> {
+    match request {
+        StoreRequest::Copy { path, .. }
+        | StoreRequest::Salvage { path, .. }
+        | StoreRequest::Command { path, .. } => Some(path),
+        StoreRequest::Format { .. } | StoreRequest::Replay(_) => None,
+    }
+}
+
+fn reason_of_kind<H: Files>(rt: &H, path: &str) -> Option<Reason> {
+    let found = fs::metadata(rt, path).ok()?;
+    let kind = found.file_type();
+    if kind.is_dir() {
+        Some(Reason::Folder)
+    } else if has_sectors(&kind) {
+        None
+    } else {
+        Some(Reason::NotRegular)
+    }
+}
+
+/// Why no store stands at a path, where a request opens one there.
+pub(crate) fn reason_in_place_of_store<H: Files>(
+    rt: &H,
+    request: &StoreRequest<'_>,
+    path: &str,
+) -> Option<Reason> {
+    match store_of(request) {
+        Some(store) if store == path => reason_of_kind(rt, path),
+        _ => None,
+    }
+}
+
+/// What stands in place of the store that a request opens.
+pub(crate) fn file_in_place_of_store<H: Files + AllocGlobal>(
+    rt: &H,
+    request: &StoreRequest<'_>,
+) -> Option<KeptFile> {
+    let path = store_of(request)?;
+    KeptFile::new(rt.alloc(), path, reason_of_kind(rt, path)?)
+}
