@@ -21,7 +21,7 @@ pub record IsOpened {D : Type 0} {g : Ghosts D} (device : D) (store : Store D g)
   pub count : g.failed (device_of store) ≡ g.failed device
   pub on : is_halted store ≡ false
   pub found : g.tells ≡ true → FindsStore g.size g.story device store
-  -- it stands for a machine that allows what the device has
+  -- if the device stands for a machine, some machine goes on with the opening, and the store stands for that one
   pub opens : g.tells ≡ true → (base : Tables) (m : Machine) → DeviceFits g.size g.story base m device
       → Opens g.size g.story g.failed base m open_call device store
 

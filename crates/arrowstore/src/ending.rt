@@ -28,7 +28,6 @@ fn tell_all<E: Write>(left_out: &[LeftOut], audience: Audience, errors: &mut E) 
     tell_lacking(audience, errors)
 }
 
-// Reports what was left out of a request that was done in part.
 fn end_partly<E: Write>(left_out: &[LeftOut], audience: Audience, errors: &mut E) -> Ended
     ensures status { result.status ≡ Status.PartlyDone }
     ensures lines { IsTrue result.is_reported → Appends (E.contents errors.old) (E.contents errors.new) (left_out_text audience (plain_left left_out.now)) }
