@@ -115,7 +115,6 @@ fn selection_to_print(
     Ok(selected)
 }
 
-// Returns the lines of what a query selects from a table.
 fn lines_of_selection(
     alloc: Global,
     form: RowForm,
