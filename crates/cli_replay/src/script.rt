@@ -62,7 +62,6 @@ fn parts_of(alloc: Global, bytes: &[u8], end: u8) -> Result<Vec<&[u8]>, AllocErr
     bytes.split(|byte| *byte == end).collect(alloc)
 }
 
-// Returns whether the last part is empty.
 fn ends_empty(parts: &[&[u8]]) -> bool
     ensures { result ≡ ends_empty (text_list parts.now) }
 {
