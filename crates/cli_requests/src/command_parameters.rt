@@ -44,7 +44,6 @@ fn repeated<'a>(alloc: Global, id: &'a str, help: &'a str) -> Arg<'a>
     Arg::new(alloc, id).num_args(0..).help(help)
 }
 
-// Makes an option with a value.
 pub(crate) fn option<'a>(alloc: Global, id: &'a str, value: &'a str, help: &'a str) -> Arg<'a>
     ensures { (rule_of result ≡ option_rule id.entry.now) × (result.global ≡ false) }
 {
@@ -187,7 +186,6 @@ pub(crate) fn with_operand<'a>(
         .arg(required(alloc, id, help))
 }
 
-// Makes a command that names the store's file.
 fn with_file<'a>(alloc: Global, name: &'a str) -> Result<Command<'a>, AllocError>
     ensures { IfOk result (λ c. app_of c ≡ store_app name.now) }
 {
@@ -201,7 +199,6 @@ fn with_form<'a>(alloc: Global, name: &'a str) -> Result<Command<'a>, AllocError
     with_file(alloc, name)?.arg(json(alloc))
 }
 
-// Makes a command that also names a table.
 fn with_table<'a>(alloc: Global, name: &'a str) -> Result<Command<'a>, AllocError>
     ensures { IfOk result (λ c. app_of c ≡ table_app name.now) }
 {
@@ -235,7 +232,6 @@ fn with_new_store<'a>(alloc: Global, name: &'a str) -> Result<Command<'a>, Alloc
     with_new_file(alloc, name)?.arg(sectors(alloc))
 }
 
-// Makes a command that takes the fields of a new table.
 fn with_fields<'a>(alloc: Global, name: &'a str) -> Result<Command<'a>, AllocError>
     ensures { IfOk result (λ c. app_of c ≡ create_app name.now) }
 {
@@ -255,7 +251,6 @@ fn with_rows<'a>(alloc: Global, name: &'a str) -> Result<Command<'a>, AllocError
         .arg(null_text(alloc))
 }
 
-// Makes a command that takes conditions.
 fn with_conditions<'a>(alloc: Global, name: &'a str) -> Result<Command<'a>, AllocError>
     ensures { IfOk result (λ c. app_of c ≡ conditions_app name.now) }
 {
@@ -289,7 +284,6 @@ pub(crate) fn with_query<'a>(alloc: Global, name: &'a str) -> Result<Command<'a>
         .arg(objects(alloc))
 }
 
-// Makes the command of this name.
 fn command<'a>(alloc: Global, name: &'a str) -> Result<Command<'a>, AllocError>
     ensures { IfOk result (λ c. IsOwnApp name.now (app_of c)) }
 {

@@ -55,7 +55,6 @@ fn formless<'a>(alloc: Global, texts: &[&'a str]) -> Option<&'a str> {
     None
 }
 
-// Returns whether a table refuses a query for this reason.
 fn refuses(
     alloc: Global,
     table: &Table,
@@ -112,7 +111,6 @@ fn refused_column<'a>(
     Ok(None)
 }
 
-// Returns the first condition that a table refuses for this reason.
 fn refused_condition<'a>(
     alloc: Global,
     table: &Table,

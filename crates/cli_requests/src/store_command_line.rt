@@ -132,7 +132,6 @@ fn command_request<'a>(
     Ok(StoreRequest::Command { path, command })
 }
 
-// Returns the word of the command.
 #[tactic(auto, unfolding(crate::specs::StoreWords::first_word))]
 fn first_word<S: AsStr>(arguments: &[S]) -> &str
     ensures { result.now ≡ first_word (map S.text arguments.now) }
@@ -154,7 +153,6 @@ fn program_name<S: AsStr>(arguments: &[S]) -> &str {
     }
 }
 
-// Returns the words after the program's name.
 fn words_from_command<S: AsStr>(arguments: &[S]) -> &[S]
     ensures { map S.text result.now ≡ drop 1 (map S.text arguments.now) }
 {
@@ -300,7 +298,6 @@ fn create_command<'a>(
     })
 }
 
-// Returns whether the summary is printed as JSON.
 fn asks_json(words: &ArgMatches<'_>) -> bool
     ensures { HasJson (found_of words.now) result }
 {
