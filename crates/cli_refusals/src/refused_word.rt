@@ -1,4 +1,3 @@
-// The refused word of a command line.
 use std::fmt;
 
 /// What a word of the command line names.
