@@ -1,4 +1,3 @@
-// How a run ended.
 ghost use Rattle.std.specs.Prelude.{◌≡◌};
 ghost use Rattle.cli_texts.specs.Reported.{status_code, ended_code};
 
