@@ -39,7 +39,6 @@ fn has_name(field: &Field, name: &str) -> bool
     field.name.as_str() == name
 }
 
-// Returns how many of the fields have this name.
 pub(crate) fn count_named(fields: &[Field], name: &str) -> usize
     ensures { result ≡ count_by (λ f. has_name name.now (column_of f)) fields.now }
 {
@@ -128,7 +127,6 @@ fn order(value: ValueRef<'_>, literal: &Value) -> Option<Ordering>
     }
 }
 
-// Returns whether a value meets a predicate.
 fn meets(predicate: &Predicate, value: ValueRef<'_>) -> bool
     ensures { result ≡ meets (predicate_in predicate.now) (borrowed_cell value.entry) }
 {

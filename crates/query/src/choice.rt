@@ -1,5 +1,3 @@
-// Which columns and rows of a table a query selects.
-
 /// Which columns and rows of a table a query selects: the first of the rows whose bits are set.
 #[derive(Drop)]
 pub struct Choice {

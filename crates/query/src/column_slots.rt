@@ -105,7 +105,6 @@ fn buffers_of<'a>(field: &Field, view: ArrayView<'a>) -> Buffers<'a>
     }
 }
 
-// Returns the column of a field whose array is at a place.
 fn column_at<'a>(
     field: &'a Field,
     part: &'a TablePart,

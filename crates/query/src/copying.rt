@@ -22,7 +22,6 @@ fn copy_bytes(alloc: Global, bytes: &[u8]) -> Result<Value, AllocError>
     Ok(Value::Bytes(Vec::from_slice(alloc, bytes)?))
 }
 
-// Makes a list of copied values.
 fn list_of(copies: Result<Vec<Value>, AllocError>) -> Result<Value, AllocError>
     ensures { (cells : List Cell) → IfOk copies (λ v. map cell v.items ≡ cells) → IfOk result (λ v. cell v ≡ plain.items (cells_of cells)) }
 {
@@ -32,7 +31,6 @@ fn list_of(copies: Result<Vec<Value>, AllocError>) -> Result<Value, AllocError>
     }
 }
 
-// Makes a struct of copied values.
 fn struct_of(copies: Result<Vec<Value>, AllocError>) -> Result<Value, AllocError>
     ensures { (cells : List Cell) → IfOk copies (λ v. map cell v.items ≡ cells) → IfOk result (λ v. cell v ≡ plain.parts (cells_of cells)) }
 {

@@ -1,4 +1,3 @@
-// Why a query is refused.
 use std::alloc::AllocError;
 use thiserror::Error;
 

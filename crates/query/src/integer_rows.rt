@@ -74,7 +74,6 @@ fn number_value(number: Option<i128>) -> Value
 }
 
 impl IntegerColumn {
-    // Returns the value at a slot of a batch.
     fn value(self, part: &TablePart, batch: &Batch, slot: usize) -> Value
         requires { has_integers self.integer (slot + 1) (array_of self.place part.now batch.now) ≡ true }
         ensures { cell result ≡ integer_in self part.now batch.now slot }
@@ -89,7 +88,6 @@ impl IntegerColumn {
     }
 }
 
-// Appends the values at a slot of a batch.
 fn push_integers(
     cells: &mut Vec<Value>,
     columns: &[IntegerColumn],

@@ -80,7 +80,6 @@ fn bytes_in(alloc: Global, text: &str) -> Result<Option<Value>, AllocError>
     }
 }
 
-// Returns whether values of a type can be compared.
 pub(crate) fn is_comparable(data_type: &DataType) -> bool
     ensures { result ≡ is_comparable (kind_of data_type.now) }
 {

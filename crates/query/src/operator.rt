@@ -38,7 +38,6 @@ fn operator_text(operator: Operator) -> &'static str
     }
 }
 
-// Returns the operator with this text.
 #[tactic(auto, using(crate::proofs::Naming::skip_one), unfolding(crate::specs::ConditionText::operator_of))]
 pub(crate) fn operator_of(text: &str) -> Option<Operator>
     ensures { result ≡ operator_of text.now }

@@ -1,5 +1,3 @@
-// How a row is printed.
-
 /// How a row is printed, as JSON (RFC 8259).
 #[derive(Clone, Copy)]
 pub enum RowForm {

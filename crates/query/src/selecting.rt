@@ -33,7 +33,6 @@ use cells::Value;
 use std::alloc::{AllocError, Global};
 use values::{Table, TableError, Values, accepted_rows_are_a_table};
 
-// Returns the places of the columns asked for.
 #[tactic(auto, unfolding(crate::specs::Selection::chosen))]
 fn places_of(alloc: Global, fields: &[Field], names: &[String]) -> Result<Vec<usize>, QueryError>
     ensures ok { IfOk result (λ v. chosen (map column_of fields.now) (map string_bytes names.now) ≡ Some v.items) }

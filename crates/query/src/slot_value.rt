@@ -31,7 +31,6 @@ fn push_integer(out: &mut Vec<u8>, number: Option<i128>) -> Result<(), AllocErro
     }
 }
 
-// Appends a value that is borrowed from an array.
 #[tactic(auto, unfolding(crate::specs::Line::json_of))]
 fn push_borrowed(alloc: Global, out: &mut Vec<u8>, value: ValueRef<'_>) -> Result<(), AllocError>
     ensures { OnOk result (out.new.items ≡ out.old.items ++ json_of (borrowed_cell value.entry)) }
