@@ -108,7 +108,6 @@ pub fn encode(alloc: Global, table: &Table) -> Result<Vec<u8>, AllocError>
     into_bytes(alloc, stream)
 }
 
-// Encodes the rows of a table as messages.
 fn messages_of<'a>(alloc: Global, table: &'a Table) -> Result<Stream<'a>, AllocError>
     ensures { IfOk result (λ stream. stream_in stream ≡ rows_messages (table_of table.now).schema (table_of table.now).rows) }
 {
@@ -155,7 +154,6 @@ fn encode_piece<'a>(
     into_parts(before, stream)
 }
 
-// Returns whether the fields are equal, one by one.
 fn are_same_fields(fields: &[Field], others: &[Field]) -> bool
     ensures { result ≡ true → map column_of fields.now ≡ map column_of others.now }
 {

@@ -22,7 +22,6 @@ pub(crate) fn borrowed<'a>(
     Ok(slices)
 }
 
-// Returns the length of each buffer.
 fn lengths_of(alloc: Global, buffers: &[Buffer<'_>]) -> Result<Vec<usize>, AllocError>
     ensures { IfOk result (λ lengths. lengths.items ≡ map length (buffers_in buffers.now)) }
 {
@@ -33,7 +32,6 @@ fn lengths_of(alloc: Global, buffers: &[Buffer<'_>]) -> Result<Vec<usize>, Alloc
     Ok(lengths)
 }
 
-// Returns whether the buffers have these lengths, one by one.
 fn have_lengths(buffers: &[Buffer<'_>], lengths: &[usize]) -> bool
     ensures { result ≡ true → map length (buffers_in buffers.now) ≡ lengths.now }
 {
@@ -48,7 +46,6 @@ fn have_lengths(buffers: &[Buffer<'_>], lengths: &[usize]) -> bool
     true
 }
 
-// Returns whether the nodes are equal, one by one.
 fn are_same_nodes(nodes: &[(u64, u64)], others: &[(u64, u64)]) -> bool
     ensures { result ≡ true → nodes.now ≡ others.now }
 {

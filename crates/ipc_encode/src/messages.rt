@@ -47,7 +47,6 @@ fn write_entries_front(
     write_dictionary_front(alloc, out, id, false, contents)
 }
 
-// Writes all entries of the dictionary with this id.
 fn write_entries<'a>(
     alloc: Global,
     stream: &mut Stream<'a>,

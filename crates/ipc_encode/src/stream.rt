@@ -67,7 +67,6 @@ fn push_part<'a>(
     Ok(())
 }
 
-// Appends a buffer.
 #[tactic(auto, unfolding(crate::specs::inner::Stream::stream_in))]
 fn push_buffer<'a>(
     alloc: Global,
@@ -124,7 +123,6 @@ fn count_bytes(before: usize, parts: &[Buffer<'_>]) -> Option<usize>
     Some(count)
 }
 
-// Joins parts, and then more bytes.
 fn join(alloc: Global, parts: &[Buffer<'_>], last: &[u8]) -> Result<Vec<u8>, AllocError>
     ensures { IfOk result (λ bytes. bytes.items ≡ joined_parts parts.now ++ last.now) }
 {

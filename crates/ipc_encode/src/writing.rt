@@ -39,7 +39,6 @@ impl From<AllocError> for WriteError {
     }
 }
 
-// Writes all of the bytes and nothing else.
 fn write_part<W: Write>(writer: &mut W, bytes: &[u8]) -> Result<(), WriteError>
     ensures written { OnOk result (Appends (W.contents writer.old) (W.contents writer.new) bytes.now) }
     ensures io { IfErr result (λ e. e ≡ WriteError.Io) }
@@ -48,7 +47,6 @@ fn write_part<W: Write>(writer: &mut W, bytes: &[u8]) -> Result<(), WriteError>
     Ok(())
 }
 
-// Writes all parts one after another, and nothing else.
 fn write_parts<W: Write>(writer: &mut W, parts: &[Buffer<'_>]) -> Result<(), WriteError>
     ensures written { OnOk result (Appends (W.contents writer.old) (W.contents writer.new) (joined_parts parts.now)) }
     ensures io { IfErr result (λ e. e ≡ WriteError.Io) }
