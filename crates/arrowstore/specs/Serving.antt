@@ -67,7 +67,7 @@ pub record Upgrades {D : Type 0} {g : Ghosts D} {R W : Type 0} (contents : W →
   pub written : OnOk result (Appends (contents before.output) (contents after.output) (codes "ok\n"))
   pub unhinted : after.hint ≡ before.hint
 
--- the command that an input as a whole is, unless the store is halted or the first test fails (`import_input`, `append_input`)
+-- the command that is made of a whole input is carried out so too, unless the store is halted or the first test fails (`import_input`, `append_input`)
 pub record CarriesInput {D : Type 0} {g : Ghosts D} {R W : Type 0} (remaining : R → Option (List ℕ)) (contents : W → Option (List ℕ))
     (command : List ℕ → PlainCommand) (passes : Bool) (why : tables.Refusal) (old new : Store D g) (before after : Channels R W)
     (result : Result (Unit {0}) Refusal) : Type 0 where
@@ -76,7 +76,7 @@ pub record CarriesInput {D : Type 0} {g : Ghosts D} {R W : Type 0} (remaining : 
   pub silent : IfErr result (λ refusal. refusal ≢ Io → after.output ≡ before.output)
   pub unhinted : after.hint ≡ before.hint
 
--- the rows that an input as a whole has as a text (`append_text`)
+-- the rows that a whole input has as a text are appended so too (`append_text`)
 pub record CarriesText {D : Type 0} {g : Ghosts D} {R W : Type 0} (contents : W → Option (List ℕ)) (input : Option (List ℕ)) (form : TextForm)
     (name : List ℕ) (refuses : Refusal → Type 0) (old new : Store D g) (before after : Channels R W)
     (result : Result (Unit {0}) Refusal) : Type 0 where

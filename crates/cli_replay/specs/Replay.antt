@@ -44,7 +44,7 @@ use Rattle.cli_replay.specs.Playing.{Plays, replies_text, stop_text, FoundText}
 abbrev pub IsOfFile : {F : Type 0} → (remaining : F → Option (List ℕ)) → List ℕ → Type 0
 IsOfFile {F} remaining bytes = (file : F) × IfSome (remaining file) (λ all. bytes ≡ all)
 
--- some file begins with these bytes: as many as a stream may have and one more
+-- these are the first bytes of some file, where they are known: at most one more than a stream may have
 abbrev pub IsFrontOfFile : {F : Type 0} → (remaining : F → Option (List ℕ)) → List ℕ → Type 0
 IsFrontOfFile {F} remaining bytes = (file : F) × IfSome (remaining file) (λ all. bytes ≡ take (LARGEST_INPUT + 1) all)
 

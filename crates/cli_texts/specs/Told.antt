@@ -25,7 +25,7 @@ told Program hint refusal = refusal_line refusal
 told Terminal hint refusal = refusal_line refusal ++ remedy_line hint refusal
 told Departed hint refusal = if is_io refusal then [] else refusal_line refusal
 
--- who reads the report of a run: on a terminal the reader of the output may be gone
+-- who reads the report of a run: at a terminal, somebody who has departed if the reader of its output is gone
 abbrev pub heard : Audience → (is_unread : Bool) → Audience
 heard Terminal true = Departed
 heard audience _ = audience

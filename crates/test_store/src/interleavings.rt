@@ -245,7 +245,7 @@ impl Pair {
         }
     }
 
-    // Handles a call at which the device may have stopped, and returns whether it made a call of the device.
+    // Notes that the device stopped at this step, and returns whether the step makes a call of the device.
     fn stops_at(&mut self, step: Step) -> bool {
         let was_open = self.open;
         self.stopped = true;

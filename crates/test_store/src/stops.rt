@@ -13,7 +13,7 @@ use sector_dev::{CrashChoice, ModelDevice};
 use std::alloc::Global;
 use store::{Reply, StoreOrDevice};
 
-// A function that names a constant proves its contents, so only one function names this one; others alike.
+// A function that names a constant proves its contents, so only one function names this one. Others are kept so too.
 const SCRIPT: Steps = &[
     (Format, "ok"),
     (Import("t", Ints(&[7, -1])), "ok"),
