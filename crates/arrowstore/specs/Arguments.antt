@@ -1,4 +1,4 @@
--- The arguments of the program: the command `recode`, which takes none of its own, and requests for help.
+-- The arguments of the program: the command `recode`, which takes no arguments of its own, and requests for help.
 use Rattle.std.specs.Prelude.{◌≡◌, ◌⊎◌, ◌≤◌, Bool, true, false, List, [], ◌∷◌, length, codes, Some, slice_get}
 use Rattle.std.specs.Str.{bytes_eq, chars}
 use Rattle.clap.specs.Words.{App, Text, new_app, with_subcommand}
@@ -35,6 +35,6 @@ pub data AskForHelp (arguments : List Text) : Type 0 where
   flag : (name word : Text) (rest : List Text) → arguments ≡ name ∷ word ∷ rest → IsHelpFlag word → AskForHelp arguments
   flag_of_recode : (name word : Text) (rest : List Text) → arguments ≡ name ∷ codes "recode" ∷ word ∷ rest → IsHelpFlag word → AskForHelp arguments
 
--- arguments that are right without a store: those of `recode`, and such as ask for help or for a text of the program's own
+-- arguments that are right without a store: those of `recode`, and those that ask for help or for one of the program's own texts
 abbrev pub AreRight : List Text → Type 0
 AreRight arguments = AreRecode arguments ⊎ AskForHelp arguments ⊎ (is_own arguments ≡ true)

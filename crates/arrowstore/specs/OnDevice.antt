@@ -1,4 +1,4 @@
--- What a command of a store comes to on a device: on the store that stands there, or refused where none is opened.
+-- What a command of a store does on a device: it is carried out on the store there, or refused if none can be opened.
 use Rattle.std.specs.Prelude.{◌≡◌, ◌⊎◌, ℕ, true, false, List, Option, Result, IsErrAnd}
 use Rattle.sector_dev.specs.declared.device.SectorDevice.{Ghosts}
 use Rattle.commit.specs.Standing.{is_size}
@@ -21,11 +21,11 @@ pub record IsOpened {D : Type 0} {g : Ghosts D} (device : D) (store : Store D g)
   pub count : g.failed (device_of store) ≡ g.failed device
   pub on : is_halted store ≡ false
   pub found : g.tells ≡ true → FindsStore g.size g.story device store
-  -- it stands for a machine that allows what the device has
+  -- if the device stands for a machine, some machine goes on with the opening, and the store stands for that one
   pub opens : g.tells ≡ true → (base : Tables) (m : Machine) → DeviceFits g.size g.story base m device
       → Opens g.size g.story g.failed base m open_call device store
 
--- a device that was not opened, for this reason: nothing was written to it
+-- opening the device was refused for this reason, and nothing was written to it
 pub record StaysShut {D : Type 0} (g : Ghosts D) (device : D) (refusal : OpeningRefusal) (back : D) : Type 0 where
   pub leaves : LeavesUnopened g.size g.story g.tells device refusal back
   pub size : g.size back ≡ g.size device
@@ -33,12 +33,12 @@ pub record StaysShut {D : Type 0} (g : Ghosts D) (device : D) (refusal : Opening
   pub shuts : g.tells ≡ true → (base : Tables) (m : Machine) → DeviceFits g.size g.story base m device
       → Shuts g.size g.story g.failed base m open_call device refusal back
 
--- why no store is opened on a device, and as what it is given back
+-- no store was opened on the device, for this reason, and the device was returned as `back`
 unfoldable pub RefusesOpening : {D : Type 0} → (g : Ghosts D) → (device back : D) → Refusal → Type 0
 RefusesOpening g device back (refusals.Opening r) = StaysShut g device r back
 RefusesOpening g device back _ = ⊥
 
--- a command was carried out on the store that was opened on a device, which is given back as that store left it
+-- a command was carried out on the store that was opened on a device, and the device was returned as that store left it
 pub record ServesOpened {D : Type 0} (g : Ghosts D) {R W : Type 0} (remaining : R → Option (List ℕ)) (contents : W → Option (List ℕ)) (command : OpenCommand)
     (device back : D) (before after : Channels R W) (result : Result (Unit {0}) Refusal) : Type 0 where
   pub old : Store D g
@@ -47,7 +47,7 @@ pub record ServesOpened {D : Type 0} (g : Ghosts D) {R W : Type 0} (remaining : 
   pub serves : Serves remaining contents command old new before after result
   pub gives_back : back ≡ device_of new
 
--- or it was refused since no store was opened there, and nothing was read or written
+-- a command was carried out so, or it was refused since no store was opened there, and nothing was read or written
 abbrev pub ServesDevice : {D : Type 0} → (g : Ghosts D) → {R W : Type 0} → (remaining : R → Option (List ℕ)) → (contents : W → Option (List ℕ)) → OpenCommand
     → (device back : D) → (before after : Channels R W) → Result (Unit {0}) Refusal → Type 0
 ServesDevice g remaining contents command device back before after result =

@@ -1,4 +1,4 @@
--- What a request of a store comes to, on devices of one kind.
+-- What a request of a store does, on devices of one kind.
 use Rattle.std.specs.Prelude.{◌≡◌, ◌⊎◌, ◌≤◌, ℕ, Bool, true, List, [], ◌∷◌, codes, Option, Some, None, IsSome, Result, Ok, Err, IfErr, OnOk, IsErrAnd}
 use Rattle.std.specs.Io.KnownBytes.{Appends}
 use Rattle.std.specs.declared.io.traits.Read.{Ghosts as ReadGhosts}
@@ -49,13 +49,13 @@ use Rattle.arrowstore.specs.OpenCommands.{States, RefusesStating}
 use Rattle.arrowstore.specs.OnDevice.{IsOpened, RefusesOpening, ServesDevice}
 use Rattle.arrowstore.specs.Serving.{Channels, channels, image_of}
 
--- a device that was opened over a file: all of the file, of which no write is held back
+-- a device that was opened over a file: the whole file, with no write held back
 pub record IsOpenedFile {F : Type 0} {r : ReadGhosts F} {w : WriteGhosts F} {s : SeekGhosts F} (device : FileDevice F r w s) : Type 0 where
   pub over : (file : F) × IsOver file device
   pub none_failed : failures_of device ≡ 0
   pub none_buffered : IsEmpty device
 
--- why no file is opened: the system refuses it, or it has no size of a store
+-- the reasons why no file is opened: the system refuses it, or it does not have the size of a store
 unfoldable pub IsOfFile : Refusal → Type 0
 IsOfFile refusals.Io = Unit {0}
 IsOfFile refusals.BadSize = Unit {0}
@@ -75,27 +75,27 @@ pub record ServesStated {D : Type 0} (g : Ghosts D) (is_opened : D → Type 0) {
   pub back : D
   pub serves : ServesDevice g remaining contents stated device back before after result
 
--- or it was refused before a device was opened, and all is as it was
+-- a command was served so, or it was refused before a device was opened, and nothing has changed
 abbrev pub ServesCommand : {D : Type 0} → (g : Ghosts D) → (is_opened : D → Type 0) → {R W : Type 0} → (remaining : R → Option (List ℕ))
     → (contents : W → Option (List ℕ)) → StoreCommand → (before after : Channels R W) → Result (Unit {0}) Refusal → Type 0
 ServesCommand g is_opened remaining contents command before after result =
     IsErrAnd result (λ refusal. RefusesCommand command refusal × (after ≡ before))
     ⊎ ServesStated g is_opened remaining contents command before after result
 
--- why no store of this version is made on a device of this number of sectors
+-- why no store of this version is made on a device with this number of sectors
 unfoldable pub FailsToFormat : {D : Type 0} → (g : Ghosts D) → (sectors : ℕ) → FormatVersion → Refusal → Type 0
 FailsToFormat {D} g sectors version (refusals.Opening r) =
     (device : D) × (back : D) × (g.size device ≡ sectors) × LeavesUnformatted g.size g.story g.tells version device r back
 FailsToFormat g sectors version _ = ⊥
 
--- why none is made in a new file of this number of sectors: the system refuses the file, no store has that size, or some device was not formatted
+-- why none is made in a new file with this number of sectors: the system refuses the file, no store has that size, or some device was not formatted
 unfoldable pub RefusesFormat : {D : Type 0} → (g : Ghosts D) → (sectors : ℕ) → FormatVersion → Refusal → Type 0
 RefusesFormat g sectors version refusals.Io = Unit {0}
 RefusesFormat g sectors version refusals.BadSize = ¬ ((LEAST_SECTORS ≤ sectors) × (sectors ≤ MOST_SECTORS))
 RefusesFormat g sectors version (refusals.Opening r) = (is_size sectors ≡ true) × FailsToFormat g sectors version (refusals.Opening r)
 RefusesFormat g sectors version _ = ⊥
 
--- an empty store of this number of sectors was made on a device, in this version, and `ok` is written
+-- an empty store with this number of sectors was made on a device, in this version, and `ok` was written
 pub record MakesStore {D : Type 0} (g : Ghosts D) {W : Type 0} (contents : W → Option (List ℕ)) (sectors : ℕ) (version : FormatVersion) (output output' : W)
     (result : Result (Unit {0}) Refusal) : Type 0 where
   pub store : Store D g
@@ -104,13 +104,13 @@ pub record MakesStore {D : Type 0} (g : Ghosts D) {W : Type 0} (contents : W →
   pub written : OnOk result (Appends (contents output) (contents output') (codes "ok\n"))
   pub failed : IfErr result (λ refusal. refusal ≡ refusals.Io)
 
--- or why not, and then nothing is written
+-- a store was made so, or it was refused and nothing was written
 abbrev pub Formats : {D : Type 0} → (g : Ghosts D) → {W : Type 0} → (contents : W → Option (List ℕ)) → (sectors : ℕ) → FormatVersion → (output output' : W)
     → Result (Unit {0}) Refusal → Type 0
 Formats g contents sectors version output output' result =
     IsErrAnd result (λ refusal. RefusesFormat g sectors version refusal × (output' ≡ output)) ⊎ MakesStore g contents sectors version output output' result
 
--- ---- a copy of the store of a file, in a new file
+-- ---- a copy of the store in a file, in a new file
 
 -- a store that was opened on the device of a file
 pub record OpensStore {D : Type 0} (g : Ghosts D) (is_opened : D → Type 0) (store : Store D g) : Type 0 where
@@ -118,11 +118,11 @@ pub record OpensStore {D : Type 0} (g : Ghosts D) (is_opened : D → Type 0) (st
   pub opened : is_opened device
   pub stands : IsOpened device store
 
--- or why none was: its file is not opened, or no store is on the device of it
+-- why no store was opened: its file is not opened, or no store can be opened on the device of that file
 abbrev pub FailsToOpen : {D : Type 0} → (g : Ghosts D) → (is_opened : D → Type 0) → Refusal → Type 0
 FailsToOpen {D} g is_opened refusal = IsOfFile refusal ⊎ ((device : D) × is_opened device × ((back : D) × RefusesOpening g device back refusal))
 
--- a new store of this number of sectors was made in the version of another one, and the tables of that one were copied into it, which was answered so
+-- a new store with this number of sectors was made in the version of another store, and copying the tables of that one into it was answered so
 pub record CopiesInto {D : Type 0} (g : Ghosts D) (sectors : ℕ) (from : Store D g) (answer : Result (Unit {0}) tables.Refusal) : Type 0 where
   pub made : Store D g
   pub new : IsNewStore sectors (commit_of from).version made
@@ -141,7 +141,7 @@ abbrev pub RefusesCopying : {D : Type 0} → (g : Ghosts D) → (is_opened : D �
 RefusesCopying {D} g is_opened sectors refusal =
     FailsToOpen g is_opened refusal ⊎ ((from : Store D g) × OpensStore g is_opened from × FailsToCopy g sectors from refusal)
 
--- a store was opened and copied, and `ok` is written
+-- a store was opened and copied, and `ok` was written
 pub record MakesCopy {D : Type 0} (g : Ghosts D) (is_opened : D → Type 0) {W : Type 0} (contents : W → Option (List ℕ)) (sectors : ℕ) (output output' : W)
     (result : Result (Unit {0}) Refusal) : Type 0 where
   pub from : Store D g
@@ -150,16 +150,16 @@ pub record MakesCopy {D : Type 0} (g : Ghosts D) (is_opened : D → Type 0) {W :
   pub written : OnOk result (Appends (contents output) (contents output') (codes "ok\n"))
   pub failed : IfErr result (λ refusal. refusal ≡ refusals.Io)
 
--- or why not, and then nothing is written
+-- a store was copied so, or it was refused and nothing was written
 abbrev pub CopiesStore : {D : Type 0} → (g : Ghosts D) → (is_opened : D → Type 0) → {W : Type 0} → (contents : W → Option (List ℕ)) → (sectors : ℕ)
     → (output output' : W)
     → Result (Unit {0}) Refusal → Type 0
 CopiesStore g is_opened contents sectors output output' result =
     IsErrAnd result (λ refusal. RefusesCopying g is_opened sectors refusal × (output' ≡ output)) ⊎ MakesCopy g is_opened contents sectors output output' result
 
--- ---- a salvage of a table of the store of a file
+-- ---- a salvage of a table in the store of a file
 
--- a store was opened and its table of this name was salvaged, which left these segments out; the store was only read
+-- a store was opened and its table of this name was salvaged, leaving out these segments; the store was only read
 pub record SalvagesOpened {D : Type 0} (g : Ghosts D) (is_opened : D → Type 0) {W : Type 0} (contents : W → Option (List ℕ)) (name : List ℕ)
     (output output' : W)
     (left : List (ℕ × ℕ)) : Type 0 where
@@ -169,7 +169,7 @@ pub record SalvagesOpened {D : Type 0} (g : Ghosts D) (is_opened : D → Type 0)
   pub after_it : Store D g
   pub reads : OnlyReadsStore g.size g.story g.failed g.tells done store after_it
 
--- or it has no such table, or the salvage was broken off
+-- a store was opened, and it has no such table or the salvage was broken off
 pub record FailsToSalvage {D : Type 0} (g : Ghosts D) (is_opened : D → Type 0) (name : List ℕ) (refusal : Refusal) : Type 0 where
   pub store : Store D g
   pub opens : OpensStore g is_opened store
@@ -177,7 +177,7 @@ pub record FailsToSalvage {D : Type 0} (g : Ghosts D) (is_opened : D → Type 0)
   pub after_it : Store D g
   pub reads : OnlyReadsStore g.size g.story g.failed g.tells (refusal_ended refusal) store after_it
 
--- what a salvage leaves out; where it is refused since no store is opened, nothing is written
+-- a table was salvaged so, or it was refused and the list of what is left out stays; if no store was opened, nothing was written
 abbrev pub SalvagesFile : {D : Type 0} → (g : Ghosts D) → (is_opened : D → Type 0) → {W : Type 0} → (contents : W → Option (List ℕ)) → (name : List ℕ)
     → (output output' : W)
     → (left left' : List (ℕ × ℕ)) → Result (Unit {0}) Refusal → Type 0
@@ -187,7 +187,7 @@ SalvagesFile g is_opened contents name output output' left left' (Err refusal) =
 
 -- ---- a script
 
--- the script of some file was played on a device in memory, and what is printed is what came of it; or why not
+-- the script of some file was replayed on a device in memory, and what came of it was printed; or why not
 abbrev pub Replays : (g : Ghosts ModelDevice) → {F R W : Type 0} → (of_file : F → Option (List ℕ)) → (of_none : R → Option (List ℕ))
     → (contents : W → Option (List ℕ))
     → ReplayWords → (output output' : W) → Result (Unit {0}) Refusal → Type 0
@@ -197,7 +197,7 @@ Replays g of_file of_none contents words output output' result =
 
 -- ---- requests
 
--- what a request comes to, and what it leaves out, which is nothing but of a salvage; what a script does is said by `replays`
+-- what a request does and what it leaves out, which is nothing unless it is a salvage; `replays` says what a script does
 abbrev pub ServesRequest : {D : Type 0} → (g : Ghosts D) → (is_opened : D → Type 0) → {R W : Type 0} → (remaining : R → Option (List ℕ))
     → (contents : W → Option (List ℕ)) → (replays : ReplayWords → W → W → Result (Unit {0}) Refusal → Type 0) → StoreRequest → (before after : Channels R W)
     → (left left' : List (ℕ × ℕ)) → Result (Unit {0}) Refusal → Type 0
@@ -212,11 +212,11 @@ ServesRequest g is_opened remaining contents replays (requests.Replay words) bef
 ServesRequest g is_opened remaining contents replays (requests.Command path command) before after left left' result =
     ServesCommand g is_opened remaining contents command before after result × (left' ≡ left)
 
--- the refusals after which some output may be written: a read or a write failed, or a salvage was broken off
+-- the refusals after which some output may have been written: a read or a write failed, or a salvage was broken off
 abbrev pub WritesPart : (word : List ℕ) → Refusal → Type 0
 WritesPart word refusal = IsIo refusal ⊎ ((word ≡ codes "salvage") × IsBrokenOff refusal)
 
--- how a run ends that leaves this out
+-- the status of a run that leaves this out
 abbrev pub status_of : Result (Unit {0}) Refusal → (left : List (ℕ × ℕ)) → Status
 status_of (Ok unit) [] = Done
 status_of (Ok unit) (s ∷ ss) = PartlyDone
@@ -237,14 +237,14 @@ pub record Ends (R W E : Type 0) : Type 0 where
 abbrev pub ends_of : {R W E : Type 0} → R → W → E → Ends R W E
 ends_of input output errors = record { input = input; output = output; errors = errors }
 
--- what a run of the command of this word ended with, and what it left out, was reported to an audience, with a hint
+-- how a run of the command of this word ended, and what it left out, was reported to an audience, with a hint
 abbrev pub HasTold : {W E : Type 0} → (reported : E → Option (List ℕ)) → Audience → (word : List ℕ) → (left : List (ℕ × ℕ)) → (output output' : W)
     → (errors errors' : E)
     → Ended → Option Hint → Type 0
 HasTold reported audience word left output output' errors errors' ended hint =
     HasReported reported audience hint left (WritesPart word) output output' errors errors' ended
 
--- a request was served, and what is left out or hinted is reported
+-- a request was served, and what was left out or hinted was reported
 pub record ServesTold {D : Type 0} (g : Ghosts D) (is_opened : D → Type 0) {R W E : Type 0} (remaining : R → Option (List ℕ)) (contents : W → Option (List ℕ))
     (replays : ReplayWords → W → W → Result (Unit {0}) Refusal → Type 0) (reported : E → Option (List ℕ)) (audience : Audience) (request : StoreRequest)
     (before after : Ends R W E) (ended : Ended) : Type 0 where
@@ -255,16 +255,16 @@ pub record ServesTold {D : Type 0} (g : Ghosts D) (is_opened : D → Type 0) {R 
       (channels after.input after.output hinted) [] left result
   pub ends : ended.status ≡ status_of result left
   pub hint : Option Hint
-  -- what is hinted of the input and the tables is what the command has hinted at, and else nothing is
+  -- the hint names the part of the input or the table that the command hinted at, and none if it hinted at none
   pub hints : hinted_of hint ≡ hinted
   pub told : HasTold reported audience (request_word request) left before.output after.output before.errors after.errors ended hint
 
--- the request that the words state: the command of the first one, where operands alone follow the file and the tables that they name, and all that `clap`
--- finds, options too
+-- the request that the words state: the command of the first one, where only operands follow the file and the tables that they name, and all that
+-- `clap` finds, options too
 abbrev pub IsAskedBy : (arguments : List (List ℕ)) → StoreRequest → Type 0
 IsAskedBy arguments request = (request_word request ≡ first_word arguments) × Names arguments request × IsReadFrom arguments request
 
--- it was served
+-- that request was served
 pub record ServesAsked {D : Type 0} (g : Ghosts D) (is_opened : D → Type 0) {R W E : Type 0} (remaining : R → Option (List ℕ)) (contents : W → Option (List ℕ))
     (replays : ReplayWords → W → W → Result (Unit {0}) Refusal → Type 0) (reported : E → Option (List ℕ)) (audience : Audience) (arguments : List (List ℕ))
     (before after : Ends R W E) (ended : Ended) : Type 0 where
@@ -272,7 +272,7 @@ pub record ServesAsked {D : Type 0} (g : Ghosts D) (is_opened : D → Type 0) {R
   pub asks : IsAskedBy arguments request
   pub served : ServesTold g is_opened remaining contents replays reported audience request before after ended
 
--- help that is asked for is given, or what the words say is reported as wrong and nothing is written
+-- help that was asked for is given, or the words are reported as wrong and nothing is written
 abbrev pub GivesHelpOrWrong : {W : Type 0} → (contents : W → Option (List ℕ)) → (asks_for_help : Bool) → (output output' : W) → Status → Type 0
 GivesHelpOrWrong contents asks_for_help output output' status =
     ((asks_for_help ≡ true) × (status ≡ Done → GivesSome (contents output) (contents output'))) ⊎ (IsWrong status × (output' ≡ output))
@@ -282,7 +282,7 @@ abbrev pub AsksForNone : {W : Type 0} → (contents : W → Option (List ℕ)) �
 AsksForNone contents arguments output output' status =
     GivesHelpOrWrong contents (ask_for_help arguments) output output' status × (AreRightWords arguments → status ≡ Refused refusals.OutOfMemory)
 
--- arguments for a store: no command of them is served, and nothing is read; or the request that they state was served
+-- arguments for a store: none of their commands is served and nothing is read, or the request that they state was served
 abbrev pub RunsOnStore : {D : Type 0} → (g : Ghosts D) → (is_opened : D → Type 0) → {R W E : Type 0} → (remaining : R → Option (List ℕ))
     → (contents : W → Option (List ℕ)) → (replays : ReplayWords → W → W → Result (Unit {0}) Refusal → Type 0) → (reported : E → Option (List ℕ)) → Audience
     → (arguments : List (List ℕ)) → (before after : Ends R W E) → Ended → Type 0

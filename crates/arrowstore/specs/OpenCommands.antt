@@ -1,4 +1,4 @@
--- What the words of a command of a store state.
+-- The commands that the words of a store's command line state.
 use Rattle.std.specs.Prelude.{◌≡◌, ℕ, Bool, true, false, List, map, Option, Some}
 use Rattle.std.specs.Option.{option_copied}
 use Rattle.query.specs.Query.{PlainQuery}
@@ -16,16 +16,16 @@ use Rattle.cli_requests.specs.declared.store_words.StoreCommand.TheVariants as w
 use Rattle.arrowstore.specs.declared.open_command.OpenCommand.{OpenCommand}
 use Rattle.arrowstore.specs.declared.open_command.OpenCommand.TheVariants as opened
 
--- the query that the words of one state, if they state any
+-- the query that the words state, if they state one
 abbrev pub query_stated : QueryWords → Option PlainQuery
 query_stated q = stated_query (map (λ t. t.now) q.conditions.items) (option_copied q.columns) q.limit
 
--- a table of this name and of the fields that the texts state is made
+-- the command makes a table of this name, with the fields that the texts state
 abbrev pub StatesTable : (name : List ℕ) → (texts : List (List ℕ)) → PlainCommand → Type 0
 StatesTable name texts (plain.create n schema) = (n ≡ name) × StateSchema texts schema
 StatesTable name texts _ = ⊥
 
--- what this query selects is saved
+-- the command saves what this query selects
 abbrev pub StatesSaving : (from to : List ℕ) → Option PlainQuery → PlainCommand → Type 0
 StatesSaving from to stated (plain.save_as f t query) = (f ≡ from) × (t ≡ to) × (stated ≡ Some query)
 StatesSaving from to stated _ = ⊥
@@ -49,7 +49,7 @@ States words.Compact opened.Compact = Unit {0}
 States words.Upgrade opened.Upgrade = Unit {0}
 States _ _ = ⊥
 
--- why the words state no command: the texts of fields or of conditions are refused, or memory is, where the command owns its names
+-- why the words state no command: a text of a field or condition is refused, or memory is, if the command owns its names
 unfoldable pub RefusesStating : StoreCommand → Refusal → Type 0
 RefusesStating (words.Create name fields) refusal = RefusesFields (map (λ t. t.now) fields.items) refusal
 RefusesStating (words.SaveAs from to query) refusal = RefusesWords (query_stated query) refusal
@@ -58,7 +58,7 @@ RefusesStating (words.Rename from to) refusal = refusal ≡ refusals.OutOfMemory
 RefusesStating (words.Drop name) refusal = refusal ≡ refusals.OutOfMemory
 RefusesStating _ refusal = ⊥
 
--- a command that reads the input
+-- whether a command reads the input
 abbrev pub reads_input : OpenCommand → Bool
 reads_input (opened.Import name) = true
 reads_input (opened.Append name) = true

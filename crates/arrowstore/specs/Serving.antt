@@ -1,4 +1,4 @@
--- What a command of an open store takes, gives and leaves: for each command the words of its own function, in one definition.
+-- What each command of an open store reads, writes and leaves, in one definition: for each command the words of its own function.
 use Rattle.std.specs.Prelude.{◌≡◌, ◌≢◌, ℕ, Bool, true, false, List, codes, Option, Some, IsSome, Result, Ok, IfErr, OnOk}
 use Rattle.std.specs.Io.KnownBytes.{Appends}
 use Rattle.std.specs.List.{AllByRecursion}
@@ -40,7 +40,7 @@ use Rattle.cli_commands.specs.TextRows.{HandsRows, RefusesText, IfOfText, IfHint
 use Rattle.arrowstore.specs.declared.open_command.OpenCommand.{OpenCommand}
 use Rattle.arrowstore.specs.declared.open_command.OpenCommand.TheVariants as opened
 
--- what a command reads, writes and hints at: an input, an output, and the part of the input that is refused or the table that can't be read
+-- what a command reads, writes and hints at: an input, an output, and the refused part of the input or the table that can't be read
 pub record Channels (R W : Type 0) : Type 0 where
   pub input : R
   pub output : W
@@ -58,7 +58,7 @@ pub record Carries {D : Type 0} {g : Ghosts D} {R W : Type 0} (contents : W → 
   pub written : OnOk result (Appends (contents before.output) (contents after.output) (codes "ok\n"))
   pub unhinted : after.hint ≡ before.hint
 
--- so is an upgrade (`upgrade_store`)
+-- an upgrade is carried out so too (`upgrade_store`)
 pub record Upgrades {D : Type 0} {g : Ghosts D} {R W : Type 0} (contents : W → Option (List ℕ)) (old new : Store D g) (before after : Channels R W)
     (result : Result (Unit {0}) Refusal) : Type 0 where
   pub goes : g.tells ≡ true → (base : Tables) (m : Machine) → StoreFits g.size g.story base m old
@@ -67,7 +67,7 @@ pub record Upgrades {D : Type 0} {g : Ghosts D} {R W : Type 0} (contents : W →
   pub written : OnOk result (Appends (contents before.output) (contents after.output) (codes "ok\n"))
   pub unhinted : after.hint ≡ before.hint
 
--- so is the command that all of an input is, unless the store is halted or the first test fails (`import_input`, `append_input`)
+-- the command that is made of a whole input is carried out so too, unless the store is halted or the first test fails (`import_input`, `append_input`)
 pub record CarriesInput {D : Type 0} {g : Ghosts D} {R W : Type 0} (remaining : R → Option (List ℕ)) (contents : W → Option (List ℕ))
     (command : List ℕ → PlainCommand) (passes : Bool) (why : tables.Refusal) (old new : Store D g) (before after : Channels R W)
     (result : Result (Unit {0}) Refusal) : Type 0 where
@@ -76,7 +76,7 @@ pub record CarriesInput {D : Type 0} {g : Ghosts D} {R W : Type 0} (remaining : 
   pub silent : IfErr result (λ refusal. refusal ≢ Io → after.output ≡ before.output)
   pub unhinted : after.hint ≡ before.hint
 
--- so are the rows that all of an input has as a text (`append_text`)
+-- the rows that a whole input has as a text are appended so too (`append_text`)
 pub record CarriesText {D : Type 0} {g : Ghosts D} {R W : Type 0} (contents : W → Option (List ℕ)) (input : Option (List ℕ)) (form : TextForm)
     (name : List ℕ) (refuses : Refusal → Type 0) (old new : Store D g) (before after : Channels R W)
     (result : Result (Unit {0}) Refusal) : Type 0 where
@@ -102,7 +102,7 @@ pub record Prints {R W : Type 0} (printed : Type 0) (refuses : Refusal → Type 
 abbrev pub image_of : {D : Type 0} {g : Ghosts D} → Store D g → Image
 image_of {g = g} store = shown_image (now (g.story (device_of store)))
 
--- the table of this name that reads show
+-- reads show this table under this name
 abbrev pub Shows : {D : Type 0} {g : Ghosts D} → Store D g → List ℕ → PlainTable → Type 0
 Shows {g = g} store name table = ReadsTable (is_halted store) g.tells (image_of store) (entry_of (listed_in store) name) table
 
@@ -114,7 +114,7 @@ AreReadable {g = g} store = g.tells ≡ true → AllByRecursion (IsReadable (is_
 abbrev pub OnlyRead : {D : Type 0} {g : Ghosts D} → Result (Unit {0}) Refusal → (old new : Store D g) → Type 0
 OnlyRead {g = g} result old new = OnlyReadsStore g.size g.story g.failed g.tells (store_ended result) old new
 
--- all tables of a store can be read, or the first one that can't is told and hinted at (`check_tables`)
+-- all tables of a store can be read, or the first one that can't is reported and hinted at (`check_tables`)
 pub record Checks {D : Type 0} {g : Ghosts D} {R W : Type 0} (contents : W → Option (List ℕ)) (old new : Store D g) (before after : Channels R W)
     (result : Result (Unit {0}) Refusal) : Type 0 where
   pub written : OnOk result (Appends (contents before.output) (contents after.output) (codes "ok\n"))
@@ -123,7 +123,7 @@ pub record Checks {D : Type 0} {g : Ghosts D} {R W : Type 0} (contents : W → O
   pub reads : OnlyRead result old new
   pub hinted : IfChecked after.hint g.tells (is_halted old) (image_of old) (listed_in old) result
 
--- what each command does, from a store and what it reads, writes and hints at to what they are after it
+-- what each command does: how the store and what it reads, writes and hints at change
 unfoldable pub Serves : {D : Type 0} {g : Ghosts D} {R W : Type 0} → (remaining : R → Option (List ℕ)) → (contents : W → Option (List ℕ)) → OpenCommand
     → (old new : Store D g) → (before after : Channels R W) → Result (Unit {0}) Refusal → Type 0
 Serves remaining contents (opened.Change c) old new before after result = Carries contents (command_of c) old new before after result

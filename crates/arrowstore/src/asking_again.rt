@@ -1,5 +1,5 @@
-// What is asked once more of a store, of its path, of a script and of what is kept of the input, where a person reads why a request was refused, and no call
-// of the system is known to have failed.
+// What a terminal is told beside a refusal: the system call that failed, or what a second look at the store, its path, the script or the kept start
+// of the input finds.
 use crate::Failures;
 use crate::copying_files::open_to_read;
 use crate::failed_file::KeptFile;
@@ -18,36 +18,36 @@ use std::rt::Files;
 use store::Store;
 use values::Table;
 
-/// What was found.
+/// What a hint on a terminal can name.
 #[derive(Drop)]
 pub(crate) enum AskedAgain {
     Nothing,
-    /// The file that was not opened, made, read, written or synced, and why.
+    /// The file on which a call failed, and why.
     File(KeptFile),
-    /// Why the input was not read.
+    /// Why the input could not be read.
     Input(String),
-    /// Why the output was not written.
+    /// Why the output could not be written.
     Output(String),
-    /// A table without rows, of the schema of the one that a query was refused for.
+    /// An empty table with the schema of the table that the refused query was for.
     Queried(Table),
     /// The name of a table that can't be read.
     Unread(String),
-    /// The line of a script that is refused.
+    /// The refused line of a script.
     Line(Vec<u8>),
-    /// What is said of a field of the input.
+    /// What is wrong with the fields of the input.
     Field(FoundField),
 }
 
-/// What is known of a request that was served, beside how it ended.
+/// What is known of a served request besides its result.
 #[derive(Clone, Copy)]
 pub(crate) struct Served<'a> {
-    /// What is kept of the input.
+    /// The first bytes of the input, as far as they were kept.
     pub(crate) start: &'a [u8],
-    /// How the last call of the system failed.
+    /// How the last system call failed, if it did.
     pub(crate) failures: &'a Failures,
 }
 
-// The file of the store and the name of the table that is queried.
+// Returns the path of the store and the name of the table that a request queries.
 fn query_of<'a>(request: &StoreRequest<'a>) -> Option<(&'a str, &'a str)> {
     match request {
         StoreRequest::Command {
@@ -58,7 +58,7 @@ fn query_of<'a>(request: &StoreRequest<'a>) -> Option<(&'a str, &'a str)> {
     }
 }
 
-// None where the store is not opened again: another program may have locked it by now.
+// Returns `None` if the store can't be opened again: another program may have locked it by now.
 fn queried_table<
     F: Read + Write + Seek + OpenFile + LockFile + Drop,
     H: Files<File = F> + AllocGlobal,
@@ -71,7 +71,7 @@ fn queried_table<
     }
 }
 
-// The file of a store of which a request reads tables, or segments of them, that it does not name. A check hints at its table itself.
+// Returns the path of the store if the request reads tables or segments that it does not name. `check` hints at the table itself.
 fn read_whole<'a>(request: &StoreRequest<'a>) -> Option<&'a str> {
     match request {
         StoreRequest::Copy { path, .. }
@@ -90,7 +90,7 @@ fn is_of_segment(refusal: &tables::Refusal) -> bool {
     )
 }
 
-// The first table that can't be read for this reason.
+// Returns the name of the first table that is refused for this very reason.
 fn first_unread<D: SectorDevice>(
     alloc: Global,
     store: &mut Store<D>,
@@ -158,7 +158,7 @@ fn found_of<F: Read + Write + Seek + OpenFile + LockFile + Drop, H: Files<File =
     }
 }
 
-/// Asks again where a person reads why a request ended so.
+/// Looks for what a hint can name, if a person reads why the request was refused.
 pub(crate) fn ask_again<
     F: Read + Write + Seek + OpenFile + LockFile + Drop,
     H: Files<File = F> + AllocGlobal,

@@ -1,4 +1,4 @@
-// What the arguments of a command line ask for.
+// Parses the command line of `recode` and requests for help.
 ghost use Rattle.std.specs.Prelude.{◌≡◌, false, map, codes, Some, IfOk, IfErr, OnOk, MatchResult};
 ghost use Rattle.clap.specs.Words.{app_of, kind_of, subcommand_name_of};
 ghost use Rattle.clap.specs.declared.error.kind.ErrorKind.TheVariants.{OutOfMemory, UnknownArgument};
@@ -15,11 +15,11 @@ use std::convert::AsStr;
 /// What a command line asks for.
 #[derive(Clone, Copy)]
 pub(crate) enum Action {
-    /// A stream from standard input, in its canonical form to standard output.
+    /// Reads a stream from standard input and writes its canonical form to standard output.
     Recode,
 }
 
-/// Reads a command line, of which the program's name is the first argument. An `Err` is a mistake in it, or asks for help.
+/// Parses a command line, whose first argument is the program's name. An `Err` is a usage error or a request for help.
 pub(crate) fn action_of<S: AsStr>(alloc: Global, arguments: &[S]) -> Result<Action, Error>
     ensures understood { AreRecode (map S.text arguments.now)
         → MatchResult result (λ action. action ≡ Action.Recode) (λ error. kind_of error ≡ OutOfMemory) }
@@ -42,7 +42,7 @@ fn have_more_topics<S: AsStr>(arguments: &[S]) -> bool
     }
 }
 
-// What follows `help` is one word, so the second one is wrong.
+// `help` takes at most one word, so the second one is the error.
 fn unexpected_topic<S: AsStr>(alloc: Global, arguments: &[S]) -> Result<Error, AllocError>
     ensures { IfOk result (λ error. kind_of error ≡ UnknownArgument) }
 {
@@ -57,7 +57,7 @@ fn unexpected_topic<S: AsStr>(alloc: Global, arguments: &[S]) -> Result<Error, A
     command.error(ErrorKind::UnknownArgument, message.as_str())
 }
 
-// The same of arguments with one word after `help` at most.
+// `action_of` for arguments with at most one word after `help`.
 fn action_of_few<S: AsStr>(alloc: Global, arguments: &[S]) -> Result<Action, Error>
     requires { have_more_topics (map S.text arguments.now) ≡ false }
     ensures understood { AreRecode (map S.text arguments.now)
@@ -75,7 +75,7 @@ fn action_of_few<S: AsStr>(alloc: Global, arguments: &[S]) -> Result<Action, Err
     }
 }
 
-// Where no command is given, or one that is not known, what is said of it names all commands, or one that is near.
+// Reports a missing or unknown command against all commands, so that the message lists them or suggests a similar one.
 fn with_all_commands<S: AsStr>(alloc: Global, arguments: &[S], error: Error) -> Error
     ensures { kind_of result ≡ kind_of error }
 {
@@ -89,7 +89,7 @@ fn with_all_commands<S: AsStr>(alloc: Global, arguments: &[S], error: Error) -> 
     }
 }
 
-// What is wrong with the arguments where all commands are known.
+// Parses the arguments with all commands known, and returns the error.
 fn error_of_all<S: AsStr>(alloc: Global, arguments: &[S]) -> Option<Error> {
     let commands = cli_commands(alloc)
         .ok()?

@@ -1,4 +1,4 @@
-// A copy of the store of a file, in a new file.
+// Copies the store in a file into a new file.
 ghost use Rattle.std.specs.Prelude.{◌≡◌, ◌≢◌, ◌≤◌, Ok, IfOk, IfErr, OnOk};
 ghost use Rattle.sector_dev.specs.declared.file.TheConstants.{MOST_SECTORS};
 ghost use Rattle.arrowstore.specs.OnFiles.{IsOpenedFile, OpensStore, FailsToOpen, CopiesInto, FailsToCopy, CopiesStore};
@@ -13,7 +13,7 @@ use std::io::{Read, Seek, Write};
 use std::rt::Files;
 use store::Store;
 
-/// The store in a file, to be read.
+/// Opens the store in a file for reading.
 pub(crate) fn open_to_read<
     F: Read + Write + Seek + OpenFile + LockFile + Drop,
     H: Files<File = F> + AllocGlobal,
@@ -28,7 +28,7 @@ pub(crate) fn open_to_read<
     }
 }
 
-// Gives a file this length, and has the system bring that to the disk.
+// Sets the length of a file and syncs it.
 fn set_length<F: OpenFile>(file: &F, bytes: u64) -> Result<(), Refusal>
     ensures { IfErr result (λ refusal. refusal ≡ Refusal.Io) }
 {
@@ -36,7 +36,7 @@ fn set_length<F: OpenFile>(file: &F, bytes: u64) -> Result<(), Refusal>
     file.sync_all().map_err(|_| Refusal::Io)
 }
 
-// Makes a new file a byte longer than its sectors. No file of such a length is opened as a store, whatever it has by then.
+// Makes a new file one byte longer than its sectors. A file of such a length is never opened as a store, whatever its contents.
 fn mark_unfinished<F: OpenFile + Drop, H: Files<File = F>>(
     rt: &H,
     path: &str,
@@ -60,7 +60,7 @@ fn mark_finished<F: OpenFile>(file: &F, sectors: u64) -> Result<(), Refusal>
     set_length(file, sectors * 512)
 }
 
-// All tables of a store, in a store of its version in a new file. Where that is refused, no file is left, unless the system refuses to remove it too.
+// Copies all tables into a store of the same version in a new file. On an error the file is removed, unless the system refuses that too.
 fn copy_into_file<
     F: Read + Write + Seek + OpenFile + LockFile + Drop,
     H: Files<File = F> + AllocGlobal,
@@ -72,14 +72,14 @@ fn copy_into_file<
     let file = or_removed(rt, path, mark_unfinished(rt, path, sectors))?;
     let mut to = format_new(rt, path, device, from.version())?;
     match copy_tables(rt.alloc(), from, &mut to) {
-        // The commit point of the copy: from here on the file is opened as a store.
+        // The commit point of the copy: from here on the file opens as a store.
         Ok(()) => or_removed(rt, path, mark_finished(&file, sectors)),
         Err(refusal) => or_removed(rt, path, Err(Refusal::Store(refusal))),
     }
 }
 
-/// Makes a store of `sectors` sectors of 512 bytes in a new file, in the version of the store in another file, copies all tables of that one into it, and
-/// writes `ok`. Where that is broken off, the new file is not opened as a store.
+/// Copies all tables of a store into a new file with `sectors` sectors of 512 bytes, in a store of the same version, and writes `ok`. An unfinished
+/// copy is never opened as a store.
 pub(crate) fn serve_copy<
     F: Read + Write + Seek + OpenFile + LockFile + Drop,
     H: Files<File = F> + AllocGlobal,

@@ -1,4 +1,4 @@
-// How a request of a store is reported to have ended.
+// Reports how a request of a store ended.
 ghost use Rattle.std.specs.Prelude.{◌≡◌, IsTrue, OnOk};
 ghost use Rattle.std.specs.Io.KnownBytes.{Appends};
 ghost use Rattle.cli_texts.specs.Ending.{TellsRefusal};
@@ -28,7 +28,6 @@ fn tell_all<E: Write>(left_out: &[LeftOut], audience: Audience, errors: &mut E) 
     tell_lacking(audience, errors)
 }
 
-// What was left out of a request that is done.
 fn end_partly<E: Write>(left_out: &[LeftOut], audience: Audience, errors: &mut E) -> Ended
     ensures status { result.status ≡ Status.PartlyDone }
     ensures lines { IsTrue result.is_reported → Appends (E.contents errors.old) (E.contents errors.new) (left_out_text audience (plain_left left_out.now)) }
@@ -39,7 +38,7 @@ fn end_partly<E: Write>(left_out: &[LeftOut], audience: Audience, errors: &mut E
     }
 }
 
-/// Reports how a request ended: what was left out where it is done, or the refusal, with what is refused where more of it is known.
+/// Reports how a request ended: what was left out if it succeeded, or else the refusal, with a hint at what was refused if there is one.
 pub(crate) fn end_whole_or_partly<E: Write>(
     done: Result<(), Refusal>,
     left_out: &[LeftOut],

@@ -1,4 +1,4 @@
-// A file that was not opened, made, read, written or synced, and why.
+// A file on which a system call failed, and why.
 ghost use Rattle.std.specs.Prelude.{◌≡◌, None, Some};
 ghost use Rattle.arrowstore.specs.OnFiles.{hinted_of};
 
@@ -6,7 +6,7 @@ use cli_refusals::{FailedFile, FileReason, Hint, has_unshown};
 use std::alloc::Global;
 use std::io;
 
-/// Why it was not.
+/// Why the call failed.
 #[derive(Drop)]
 pub(crate) enum Reason {
     Locked,
@@ -19,7 +19,7 @@ pub(crate) enum Reason {
     Unsynced(String),
 }
 
-/// Such a file and the reason, kept until they are reported.
+/// The path and the reason, kept until they are reported.
 #[derive(Drop)]
 pub(crate) struct KeptFile {
     path: String,
@@ -27,7 +27,7 @@ pub(crate) struct KeptFile {
 }
 
 impl KeptFile {
-    /// None where a terminal is not shown the path.
+    /// Returns `None` if the path can't be shown on a terminal, or if memory for it is refused.
     pub(crate) fn new(alloc: Global, path: &str, reason: Reason) -> Option<KeptFile> {
         if has_unshown(path) {
             return None;
@@ -38,7 +38,7 @@ impl KeptFile {
         })
     }
 
-    /// The hint that names the file and the reason.
+    /// Returns the hint that names the file and the reason.
     pub(crate) fn hint(&self) -> Hint<'_>
         ensures { hinted_of (Some result) ≡ None }
     {
@@ -59,7 +59,7 @@ impl KeptFile {
     }
 }
 
-// The system's text of an error, as `Permission denied (os error 13)`, without its number.
+// Strips the error number: `Permission denied (os error 13)` becomes `Permission denied`.
 fn without_number(text: &str) -> &str {
     match text.split_once(" (") {
         Some((words, _)) => words,
@@ -67,7 +67,7 @@ fn without_number(text: &str) -> &str {
     }
 }
 
-/// What the system says of an error.
+/// Returns the system's text for an error, without its number.
 pub(crate) fn system_text(alloc: Global, error: &io::Error) -> Option<String> {
     let text = format!(in alloc; "{error}").ok()?;
     String::from_str(alloc, without_number(text.as_str())).ok()

@@ -1,4 +1,4 @@
-// What is said of a call of the system that failed while a request was served.
+// Explains the system call that failed while a request was served.
 use crate::asking_again::AskedAgain;
 use crate::failed_file::{KeptFile, Reason, system_text};
 use crate::in_place_of_store::reason_in_place_of_store;
@@ -10,7 +10,7 @@ use std::alloc::Global;
 use std::io::{self, ErrorKind};
 use std::rt::Files;
 
-/// Whether a request is refused so where a call of the system fails.
+/// Returns whether a failed system call can be the cause of this refusal.
 pub(crate) fn is_of_failure(refusal: &Refusal) -> bool {
     matches!(
         refusal,
@@ -22,7 +22,7 @@ pub(crate) fn is_of_failure(refusal: &Refusal) -> bool {
     )
 }
 
-// A long path of a script, which could hide the rest of the line, is not reported.
+// A long path that a script names is not shown: it could hide the rest of the line.
 fn is_told(request: &StoreRequest<'_>, path: &str) -> bool {
     match request {
         StoreRequest::Replay(words) => path == words.script || path.len() <= MOST_SHOWN,
@@ -73,7 +73,7 @@ fn reason_of<H: Files + AllocGlobal>(
     }
 }
 
-/// The failure, where it can be told.
+/// Returns what to report of a failed call, or `None` if its path can't be shown or memory is refused.
 pub(crate) fn told_failure<H: Files + AllocGlobal>(
     rt: &H,
     request: &StoreRequest<'_>,

@@ -1,11 +1,11 @@
-// What stands at the path of a store where it is neither a file whose bytes stay nor a disk.
+// What is found at the path of a store if it is neither a regular file nor a block device.
 use crate::failed_file::{KeptFile, Reason};
 use crate::serving::has_sectors;
 use cli_requests::StoreRequest;
 use std::fs;
 use std::rt::Files;
 
-// The path of the store that a request opens.
+// Returns the path of the existing store that a request opens.
 fn store_of<'a>(request: &StoreRequest<'a>) -> Option<&'a str> {
     match request {
         StoreRequest::Copy { path, .. }
@@ -27,7 +27,7 @@ fn reason_of_kind<H: Files>(rt: &H, path: &str) -> Option<Reason> {
     }
 }
 
-/// Why no store stands at a path, where a request opens one there.
+/// Returns why the file at `path` can't be a store, if the request opens a store there.
 pub(crate) fn reason_in_place_of_store<H: Files>(
     rt: &H,
     request: &StoreRequest<'_>,
@@ -39,7 +39,7 @@ pub(crate) fn reason_in_place_of_store<H: Files>(
     }
 }
 
-/// What stands in place of the store that a request opens.
+/// Returns the file at the path of the request's store, if a file of its kind can't be a store.
 pub(crate) fn file_in_place_of_store<H: Files + AllocGlobal>(
     rt: &H,
     request: &StoreRequest<'_>,

@@ -1,4 +1,4 @@
-// What is said of a field of the stream that a request has read, where a person reads why it was refused.
+// Finds the field of an input stream that a refusal is about, to name it on a terminal.
 ghost use Rattle.std.specs.Prelude.{◌≡◌, None, Some};
 ghost use Rattle.arrowstore.specs.OnFiles.{hinted_of};
 
@@ -16,18 +16,18 @@ use std::fs::OpenFile;
 use std::io::{Read, Seek, Write};
 use std::rt::Files;
 
-/// What is found of its fields.
+/// What is wrong with the fields of the stream.
 #[derive(Drop)]
 pub(crate) enum FoundField {
-    /// The name of one that is refused.
+    /// The name of a refused field.
     Refused(Vec<u8>),
-    /// The name and the text of one, and the text of the field that the table has in its place.
+    /// The name and the text of a field, and the text of the different field that the table has in its place.
     Other {
         name: String,
         found: String,
         wanted: String,
     },
-    /// How many there are, and how many columns the table has.
+    /// The number of fields in the stream, and the number of columns in the table.
     Count {
         fields: usize,
         columns: usize,
@@ -35,7 +35,7 @@ pub(crate) enum FoundField {
 }
 
 impl FoundField {
-    /// The hint that says it.
+    /// Returns the hint that says so.
     pub(crate) fn hint(&self) -> Hint<'_>
         ensures { hinted_of (Some result) ≡ None }
     {
@@ -58,7 +58,7 @@ impl FoundField {
     }
 }
 
-// The schema that the bytes of a stream begin with.
+// Reads the schema at the start of a stream.
 fn raw_schema_at<'a>(alloc: Global, start: &'a [u8]) -> Option<RawSchema<'a>> {
     let Ok((NextMessage::Message(message), _)) = read_message(start) else {
         return None;
@@ -69,7 +69,7 @@ fn raw_schema_at<'a>(alloc: Global, start: &'a [u8]) -> Option<RawSchema<'a>> {
     }
 }
 
-// Whether a schema of this field alone has the fault.
+// Returns whether a schema of this field alone has the fault.
 fn has_fault(alloc: Global, field: RawField<'_>, fault: Fault) -> Option<bool> {
     let mut fields = Vec::new(alloc);
     fields.push(field).ok()?;
@@ -85,7 +85,7 @@ fn has_fault(alloc: Global, field: RawField<'_>, fault: Fault) -> Option<bool> {
     }
 }
 
-/// The first field of a stream for which the stream has this fault.
+/// Returns the first field that has this fault by itself.
 pub(crate) fn field_with_fault(alloc: Global, start: &[u8], fault: Fault) -> Option<FoundField> {
     let schema = raw_schema_at(alloc, start)?;
     for field in schema.fields {
@@ -107,7 +107,7 @@ fn schema_of_field(alloc: Global, field: &Field) -> Option<Schema> {
     })
 }
 
-// Whether a table takes the one where it has the other.
+// Returns whether the two fields have the same shape.
 fn are_alike(alloc: Global, found: &Field, wanted: &Field) -> Option<bool> {
     let found = schema_of_field(alloc, found)?;
     let wanted = schema_of_field(alloc, wanted)?;
@@ -122,8 +122,8 @@ fn other_field(alloc: Global, found: &Field, wanted: &Field) -> Option<FoundFiel
     })
 }
 
-// The first field of a schema that is another one than a table has in its place, or how many there are. Another program may have made the table anew
-// since the refusal: then there may be nothing to say.
+// Returns the first field that differs from the table's field in its place, or else the two counts if they differ. `None` is possible: another
+// program may have replaced the table since the refusal.
 fn first_other(alloc: Global, input: &Schema, table: &Schema) -> Option<FoundField> {
     for (found, wanted) in input.fields.iter().zip(&table.fields) {
         if !are_alike(alloc, found, wanted)? {
@@ -137,7 +137,7 @@ fn first_other(alloc: Global, input: &Schema, table: &Schema) -> Option<FoundFie
     Some(FoundField::Count { fields, columns })
 }
 
-// The file of the store and the name of the table that a stream is appended to.
+// Returns the path of the store and the name of the table that a stream is appended to.
 fn appended_to<'a>(request: &StoreRequest<'a>) -> Option<(&'a str, &'a str)> {
     match request {
         StoreRequest::Command {
@@ -148,7 +148,7 @@ fn appended_to<'a>(request: &StoreRequest<'a>) -> Option<(&'a str, &'a str)> {
     }
 }
 
-/// The first field of a stream that is another one than its table has in its place.
+/// Returns the first field of the stream that differs from the table's field in its place, or else the two counts if they differ.
 pub(crate) fn field_of_no_table<
     F: Read + Write + Seek + OpenFile + LockFile + Drop,
     H: Files<File = F> + AllocGlobal,

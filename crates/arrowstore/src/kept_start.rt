@@ -1,20 +1,20 @@
-// An input of which the first bytes are kept.
+// An input whose first bytes are kept.
 ghost use Rattle.std.specs.Prelude.{◌≡◌};
 
 use cli_texts::Audience;
 use std::alloc::Global;
 use std::io::{self, Read};
 
-/// The most bytes that are kept of an input. The schema of a stream stands at its beginning.
+/// The maximum number of bytes that are kept of an input. A stream begins with its schema.
 pub const MOST_KEPT: usize = 65_536;
 
-/// An input of which the first bytes are known after it was read.
+/// An input whose first bytes are known after it was read.
 pub trait Input {
-    /// The first bytes that were read, as far as they are kept.
+    /// Returns the first bytes that were read, as far as they were kept.
     fn start(&self) -> &[u8];
 }
 
-/// Reads what `input` gives, and keeps its first bytes.
+/// A reader that passes on what `input` gives and keeps its first bytes.
 #[derive(Drop)]
 pub struct KeptStart<R: Read> {
     input: R,
@@ -23,7 +23,7 @@ pub struct KeptStart<R: Read> {
 }
 
 impl<R: Read> KeptStart<R> {
-    /// At most [`MOST_KEPT`] bytes are kept, where a person reads why the input is refused, and else none.
+    /// Keeps at most [`MOST_KEPT`] bytes for a terminal, and none for any other audience.
     pub fn new(alloc: Global, input: R, audience: Audience) -> KeptStart<R>
         ensures { result.input ≡ input }
     {
@@ -39,7 +39,7 @@ impl<R: Read> KeptStart<R> {
     }
 }
 
-// Appends as many of the bytes as there is room for. Where memory for them is refused, no more are kept.
+// Appends as many of the bytes as there is room for. Once memory is refused, no more are kept.
 fn keep(start: &mut Vec<u8>, room: &mut usize, bytes: &[u8]) {
     let count = bytes.len().min(*room);
     match start.extend_from_slice(&bytes[..count]) {

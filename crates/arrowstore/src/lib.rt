@@ -1,8 +1,8 @@
-//! What the program `arrowstore` does, over any reader and writer: its contracts say which bytes are taken and given.
+//! The program `arrowstore` over any reader and writers: its contracts say which bytes are read and written.
 //!
-//! [`run_with_files`] does what a command line asks for; the crate `program` hands it the process's arguments, streams and files. [`run`] is
-//! that without files. The commands that they carry out stand in `cli_commands`, what a command line asks of a store in `cli_requests`,
-//! what is reported and how a run ends in `cli_texts`, and why a command was refused in `cli_refusals`.
+//! [`run_with_files`] executes a command line; the crate `program` passes it the process's arguments, streams and files. [`run`] does the same
+//! without files. `cli_commands` has the commands, `cli_requests` parses the command lines of stores, `cli_texts` reports how a run ended, and
+//! `cli_refusals` explains why a command was refused.
 //!
 //! ```
 //! let arguments = ["arrowstore", "recode"];

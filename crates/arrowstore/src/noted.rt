@@ -1,4 +1,4 @@
-// The input, the output and files of which it is noted how the last call of the system failed.
+// Wrappers of the input, the output and files that note how the last system call failed.
 ghost use Rattle.std.specs.Prelude.{◌≡◌};
 
 use sector_dev::LockFile;
@@ -7,7 +7,7 @@ use std::cell::Cell;
 use std::fs::{Metadata, OpenFile};
 use std::io::{self, Read, Seek, SeekFrom, Write};
 
-/// A call of the system that failed, with what it says of that.
+/// A failed system call, with the system's error.
 #[derive(Drop)]
 pub enum Failure {
     /// A read of the input.
@@ -22,46 +22,45 @@ pub enum Failure {
     },
 }
 
-/// What is asked of a file.
+/// A kind of call on a file.
 #[derive(Clone, Copy)]
 pub enum FileCall {
-    /// To open or to make it.
+    /// Opening or creating it.
     Open,
-    /// To lock it.
+    /// Locking it.
     Lock,
-    /// A read.
+    /// Reading it.
     Read,
-    /// A write, or a change of its length.
+    /// Writing it or changing its length.
     Write,
-    /// To bring it to the disk.
+    /// Syncing it to the disk.
     Sync,
 }
 
-/// How the last call of the system failed, of those that are noted here.
+/// How the last noted system call failed, if it did.
 #[derive(Drop)]
 pub struct Failures {
     last: Cell<Option<Failure>>,
 }
 
 impl Failures {
-    /// Nothing has failed.
+    /// Creates a note that nothing has failed.
     pub fn new() -> Failures {
         Failures {
             last: Cell::new(None),
         }
     }
 
-    /// Takes out how the last of them failed. None where it did not.
+    /// Takes the failure of the last noted call, or `None` if that call succeeded.
     pub fn take(&self) -> Option<Failure> {
         self.last.take()
     }
 
-    // Notes how one ended.
     fn note(&self, failure: Option<Failure>) {
         self.last.set(failure);
     }
 
-    /// Notes how it ended to open or to make a file at a path. Where memory for the path is refused, nothing is noted.
+    /// Notes how opening or creating the file at `path` ended. If memory for the path is refused, no failure is noted.
     pub fn note_opening<F>(&self, alloc: Global, path: &str, opened: &io::Result<F>) {
         self.note(match opened {
             Ok(_) => None,
@@ -78,7 +77,7 @@ fn failed_opening(alloc: Global, path: &str, error: io::Error) -> Option<Failure
     })
 }
 
-/// An input of which is noted that a read failed.
+/// An input that notes how its last read ended.
 #[derive(Drop)]
 pub struct NotedInput<'a, R: Read> {
     input: R,
@@ -106,7 +105,7 @@ impl<R: Read> Read for NotedInput<'_, R> {
     }
 }
 
-/// An output of which is noted that a write failed.
+/// An output that notes how its last write ended, and a failed flush.
 #[derive(Drop)]
 pub struct NotedOutput<'a, W: Write> {
     output: W,
@@ -142,7 +141,7 @@ impl<W: Write> Write for NotedOutput<'_, W> {
     }
 }
 
-// Where the failures of a file are noted, and the path that it was opened at.
+// Where the failures of a file are noted, and the path at which it was opened.
 #[derive(Drop)]
 struct FileNote<'a> {
     failures: &'a Failures,
@@ -150,7 +149,7 @@ struct FileNote<'a> {
 }
 
 impl FileNote<'_> {
-    // None where memory for the path is refused.
+    // Returns `None` if memory for the path is refused.
     fn failure(&self, call: FileCall, error: io::Error) -> Option<Failure> {
         Some(Failure::File {
             path: self.path.clone().ok()?,
@@ -159,7 +158,6 @@ impl FileNote<'_> {
         })
     }
 
-    // Notes how a call ended.
     fn note<T>(&self, call: FileCall, done: &io::Result<T>) {
         self.failures.note(match done {
             Ok(_) => None,
@@ -168,7 +166,7 @@ impl FileNote<'_> {
     }
 }
 
-/// A file of which is noted that a lock, a read, a write or a sync failed. Where memory for its path is refused, nothing is noted.
+/// A file that notes how its last lock, read, write or sync ended. If memory for its path is refused, it notes nothing.
 #[derive(Drop)]
 pub struct NotedFile<'a, F> {
     file: F,
@@ -176,7 +174,7 @@ pub struct NotedFile<'a, F> {
 }
 
 impl<'a, F> NotedFile<'a, F> {
-    /// The file at a path. Without `failures` nothing is noted of it.
+    /// Wraps the file at `path`. Without `failures` it notes nothing.
     pub fn new(
         alloc: Global,
         file: F,

@@ -1,4 +1,4 @@
-// What the words of a command of a store state.
+// The commands of an open store, made from the words of a command line.
 ghost use Rattle.std.specs.Prelude.{◌≡◌, map, string_bytes, Some, IfOk, IfErr};
 ghost use Rattle.query.specs.View.{query_in};
 ghost use Rattle.tables.specs.Commands as plain;
@@ -18,49 +18,49 @@ use std::alloc::Global;
 use tables::Command;
 use text_import::TextForm;
 
-/// What is asked of an open store: its fields and conditions were read.
+/// A command of an open store, with its fields and conditions parsed.
 #[derive(Drop)]
 pub enum OpenCommand<'a> {
-    /// A change of its tables.
+    /// Changes the tables.
     Change(Command),
-    /// The table that all of the input means as a stream, in place of one of this name.
+    /// Makes the table of the stream that the whole input is, in place of one of this name.
     Import {
         name: &'a str,
     },
-    /// The rows that all of the input means as a stream, after those of the table.
+    /// Appends the rows of the stream that the whole input is to the table.
     Append {
         name: &'a str,
     },
-    /// The same of a text.
+    /// Appends the rows of the text that the whole input is to the table.
     AppendText {
         name: &'a str,
         form: TextForm<'a>,
     },
-    /// The rows that a query selects, as lines in a form.
+    /// Prints the rows that a query selects, a line each, in this form.
     Select {
         name: &'a str,
         query: Query,
         form: RowForm,
     },
-    /// The names of its tables, and how many rows each has.
+    /// Prints the name and the number of rows of each table.
     Tables,
-    /// The fields of a table.
+    /// Prints the fields of a table.
     Schema {
         name: &'a str,
     },
-    /// The stream of a table.
+    /// Writes the stream of a table.
     Export {
         name: &'a str,
     },
-    /// Whether all tables can be read.
+    /// Checks that all tables can be read.
     Check,
-    /// The store in numbers, as lines or as JSON.
+    /// Prints the summary of the store, as lines or as JSON.
     Info {
         as_json: bool,
     },
-    /// Steps of a compaction until there is nothing to do.
+    /// Compacts the store step by step until there is nothing left to do.
     Compact,
-    /// A digest for each segment.
+    /// Gives each segment a digest.
     Upgrade,
 }
 
@@ -108,15 +108,15 @@ fn save_as(alloc: Global, from: &str, to: &str, words: &QueryWords<'_>) -> Resul
     })
 }
 
-/// The command that words state of an open store. No store is needed to read the texts of fields and conditions.
+/// Returns the command of an open store that the words state. Parsing fields and conditions needs no store.
 ///
 /// # Errors
-/// `Fields` and `Query` where such a text is refused; `OutOfMemory`.
+/// `Fields` or `Query` if such a text is refused; `OutOfMemory`.
 #[tactic(auto, unfolding(crate::specs::OpenCommands::States, crate::specs::OpenCommands::RefusesStating, cli_requests::specs::StoreWords::takes_input_word))]
 pub fn stated<'a>(alloc: Global, command: &StoreCommand<'a>) -> Result<OpenCommand<'a>, Refusal>
     ensures stated { IfOk result (States command.now) }
     ensures refused { IfErr result (RefusesStating command.now) }
-    // Which commands read the input their words say.
+    // A command reads the input exactly if its words say so.
     ensures reads { IfOk result (λ c. reads_input c ≡ takes_input_word (command_word command.now)) }
 {
     match command {

@@ -1,4 +1,4 @@
-// A script that is played on a device in memory.
+// Replays a script on a device in memory.
 ghost use Rattle.std.specs.Prelude.{◌≡◌, ◌≢◌, IfErr};
 ghost use Rattle.arrowstore.specs.OnFiles.{Replays};
 
@@ -10,7 +10,7 @@ use std::fs::OpenFile;
 use std::io::{Empty, Read, Write};
 use std::rt::Files;
 
-/// Plays the script that the words name, and prints what came of it. Nothing is written but to the output.
+/// Replays the script that the words name and prints the outcome. Writes to nothing but the output.
 pub(crate) fn serve_replay<F: Read + OpenFile + Drop, H: Files<File = F> + AllocGlobal, W: Write>(
     rt: &H,
     words: &ReplayWords<'_>,

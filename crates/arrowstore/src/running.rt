@@ -1,4 +1,4 @@
-// The program over any input and output.
+// The program over any input and output, without files.
 ghost use Rattle.std.specs.Prelude.{◌≡◌, ◌⊎◌, [], true, map, None};
 ghost use Rattle.std.specs.Io.KnownBytes.{Appends};
 ghost use Rattle.arrowstore.specs.Arguments.{AreRecode, AreRight};
@@ -16,7 +16,7 @@ use std::alloc::Global;
 use std::convert::AsStr;
 use std::io::{Read, Write};
 
-/// Does what the arguments ask for, of which the first is the program's name, and reports on `errors` why not.
+/// Executes the arguments, the first of which is the program's name, and reports on `errors` if that fails.
 #[tactic(auto, using(crate::proofs::WordLemmas::recode_is_not_own))]
 pub fn run<S: AsStr, R: Read, W: Write + Output, E: Write>(
     alloc: Global,
@@ -26,21 +26,21 @@ pub fn run<S: AsStr, R: Read, W: Write + Output, E: Write>(
     errors: &mut E,
     audience: Audience,
 ) -> Ended
-    // Done: the command was right, or help or a text of the program's own was asked for.
+    // `Done`: the command was right, or help or one of the program's own texts was asked for.
     ensures done { result.status ≡ Done → AreRight (map S.text arguments.now) }
-    // The arguments that ask for it are taken, and the output is as `Recodes` says.
+    // The arguments of `recode` are accepted, and the output is as `Recodes` says.
     ensures recodes { AreRecode (map S.text arguments.now) → Recodes W.contents (R.remaining input.old) output.old output.new result.status }
-    // The output has been given that text, and nothing else.
+    // That text is written, and nothing else.
     ensures own { is_own (map S.text arguments.now) ≡ true
         → GivesText (Appends (W.contents output.old) (W.contents output.new) (own_text (map S.text arguments.now))) result.status }
-    // Wrong arguments are reported, unless memory is out: nothing is read, and nothing is written but on `errors`.
+    // Wrong arguments are reported, unless memory runs out: nothing is read, and nothing but `errors` is written.
     ensures wrong_arguments { AreRight (map S.text arguments.now) ⊎ (IsWrong result.status × (output.new ≡ output.old)) }
-    // Help that is asked for is written, and nothing else.
+    // Help that was asked for is written, and nothing else.
     ensures helps { result.status ≡ Done → AreRecode (map S.text arguments.now) ⊎ (is_own (map S.text arguments.now) ≡ true)
         ⊎ GivesSome (W.contents output.old) (W.contents output.new) }
     ensures only_recode_reads { AreRecode (map S.text arguments.now) ⊎ (input.new ≡ input.old) }
-    // What is on `errors`: the report of a refusal to such an audience, and nothing where all is done; nor, at a terminal, that the output failed where its
-    // reader is gone.
+    // `errors` gets the report of a refusal for this audience, and nothing on success; nor, at a terminal, the failure of an output whose reader is
+    // gone.
     ensures reports { HasReported E.contents (heard audience (W.unread output.new)) None [] IsIo output.old output.new errors.old errors.new result }
 {
     if is_own(arguments) {

@@ -1,4 +1,4 @@
-// The rows of a table that can be read, of the store of a file.
+// Salvages the readable rows of a table in the store of a file.
 ghost use Rattle.std.specs.Prelude.{◌≡◌, IfErr};
 ghost use Rattle.store.specs.Salvaging.{plain_left};
 ghost use Rattle.cli_commands.specs.Salvaging.{IsBrokenOff};
@@ -14,7 +14,7 @@ use std::io::{Read, Seek, Write};
 use std::rt::Files;
 use store::LeftOut;
 
-/// Writes the stream of all rows of a table that can be read. `left_out` is left with the segments that can't, where all others were written.
+/// Writes the stream of all rows of a table that can be read. On success `left_out` holds the segments that can't be read.
 pub(crate) fn serve_salvage<
     F: Read + Write + Seek + OpenFile + LockFile + Drop,
     H: Files<File = F> + AllocGlobal,

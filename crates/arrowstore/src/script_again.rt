@@ -1,9 +1,9 @@
-// A script that was refused is read once more, where a person reads why.
+// Reads a refused script once more, to show the refused line on a terminal.
 use cli_requests::StoreRequest;
 use std::fs;
 use std::rt::Files;
 
-// What was read of a pipe is gone.
+// A pipe can't be read twice.
 fn read_again<H: Files + AllocGlobal>(rt: &H, path: &str) -> Option<Vec<u8>> {
     let found = fs::metadata(rt, path).ok()?;
     if found.is_file() {
@@ -13,7 +13,7 @@ fn read_again<H: Files + AllocGlobal>(rt: &H, path: &str) -> Option<Vec<u8>> {
     }
 }
 
-/// A line of the script of a request, counted from 1.
+/// Returns a line of the request's script, counted from 1.
 pub(crate) fn line_of_script<H: Files + AllocGlobal>(
     rt: &H,
     request: &StoreRequest<'_>,

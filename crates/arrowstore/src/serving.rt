@@ -1,4 +1,4 @@
-// The commands of a store, on its file.
+// Serves the requests of stores on their files.
 ghost use Rattle.std.specs.Prelude.{◌≡◌, ◌≢◌, ◌⊎◌, true, IfOk, IfErr};
 ghost use Rattle.sector_dev.specs.View.{sectors_of};
 ghost use Rattle.store.specs.Fits.{device_of, IsNewStore};
@@ -24,7 +24,7 @@ use std::os::unix::fs::FileTypeExt;
 use std::rt::Files;
 use store::{LeftOut, Store};
 
-// An empty store on a device, or why not, with the device.
+// Makes an empty store on a device, or returns the refusal with the device.
 fn format_on<D: SectorDevice + Drop>(
     alloc: Global,
     device: D,
@@ -40,8 +40,8 @@ fn format_on<D: SectorDevice + Drop>(
     }
 }
 
-// A program may be started without its standard streams, and the next file that it opens then stands in the place of one: what is printed
-// would go into the store. Folders, which can be neither read nor written, take these places before.
+// If a standard stream is closed, the next file opened takes its descriptor, and what is printed would go into the store. Opening folders first,
+// which can be neither read nor written, takes these descriptors.
 pub(crate) fn take_places_of_streams<
     F: Read + Write + Seek + OpenFile + LockFile + Drop,
     H: Files<File = F> + AllocGlobal,
@@ -51,12 +51,12 @@ pub(crate) fn take_places_of_streams<
     Ok((fs::open(rt, "/")?, fs::open(rt, "/")?, fs::open(rt, "/")?))
 }
 
-/// Whether what is of this kind has sectors: a file, or a disk.
+/// Returns whether a file of this kind has sectors: a regular file or a block device.
 pub(crate) fn has_sectors(kind: &FileType) -> bool {
     kind.is_file() || kind.is_block_device()
 }
 
-// Whether something stands at a path that has none.
+// Returns whether what is at the path has no sectors.
 fn has_no_sectors_at<H: Files>(rt: &H, path: &str) -> bool {
     match fs::metadata(rt, path) {
         Ok(found) => !has_sectors(&found.file_type()),
@@ -64,7 +64,7 @@ fn has_no_sectors_at<H: Files>(rt: &H, path: &str) -> bool {
     }
 }
 
-/// The device that a file is, to be read. A named pipe is not opened: it would be waited for.
+/// Opens the device in a file for reading. A named pipe is not opened, since that would block.
 pub(crate) fn device_to_read<
     F: Read + Write + Seek + OpenFile + LockFile + Drop,
     H: Files<File = F> + AllocGlobal,
@@ -78,7 +78,7 @@ pub(crate) fn device_to_read<
     }
 }
 
-// The device that a file is. One that is only read is not opened for writing.
+// Opens the device in a file. If the command only reads, the file is not opened for writing.
 fn device_of<F: Read + Write + Seek + OpenFile + LockFile + Drop, H: Files<File = F> + AllocGlobal>(
     rt: &H,
     path: &str,
@@ -93,7 +93,7 @@ fn device_of<F: Read + Write + Seek + OpenFile + LockFile + Drop, H: Files<File 
     }
 }
 
-/// What was done to a new file. Where that is refused the file is removed. Its device still has it locked: nobody else has put anything into it.
+/// Returns `done`, and removes the new file if it is an error. The file's device still holds its lock, so nobody else has written to it.
 pub(crate) fn or_removed<T: Drop, H: Files>(
     rt: &H,
     path: &str,
@@ -107,7 +107,7 @@ pub(crate) fn or_removed<T: Drop, H: Files>(
     done
 }
 
-/// A store in a new file, on its device. Where it is not made, no file is left, unless the system refuses to remove it too.
+/// Makes an empty store on the device of a new file. On an error the file is removed, unless the system refuses that too.
 pub(crate) fn format_new<
     F: Read + Write + Seek + OpenFile + LockFile + Drop,
     H: Files<File = F> + AllocGlobal,
@@ -127,7 +127,7 @@ pub(crate) fn format_new<
     }
 }
 
-// A new file with an empty store. Where it is not made, no file is left, unless the system refuses to remove it too.
+// Creates a file with an empty store. On an error no file is left, unless the system refuses to remove it.
 fn format_file<
     F: Read + Write + Seek + OpenFile + LockFile + Drop,
     H: Files<File = F> + AllocGlobal,
@@ -153,7 +153,7 @@ fn serve_format<
     write_whole(output, b"ok\n")
 }
 
-// A command on the store of a file. Its texts are read before anything is asked of the system.
+// Serves a command on the store in a file. Its texts are parsed before any system call.
 fn serve_command<
     F: Read + Write + Seek + OpenFile + LockFile + Drop,
     H: Files<File = F> + AllocGlobal,
@@ -180,8 +180,8 @@ fn serve_command<
     done
 }
 
-/// Does what is asked of a store. Where a text is refused, `hint` is left with the part of it that is, and where a check is, with the first table that can't
-/// be read; `left_out` is left with what a salvage leaves out.
+/// Serves a request of a store. If a text is refused, `hint` is set to the refused part of it, and if a check is refused, to the first table that
+/// can't be read; `left_out` is set to what a salvage leaves out.
 pub(crate) fn serve<
     F: Read + Write + Seek + OpenFile + LockFile + Drop,
     H: Files<File = F> + AllocGlobal,
@@ -200,7 +200,7 @@ pub(crate) fn serve<
         (channels input.old output.old hint.old) (channels input.new output.new hint.new)
         (plain_left left_out.old.items) (plain_left left_out.new.items) result }
     ensures unread { (takes_input_word (request_word request.now) ≡ true) ⊎ (input.new ≡ input.old) }
-    // Where it is refused, nothing is written, unless a read or a write failed or a salvage was broken off.
+    // A refusal writes nothing, unless a read or a write failed or a salvage was broken off.
     ensures silent { IfErr result (λ refusal. ¬ WritesPart (request_word request.now) refusal → output.new ≡ output.old) }
 {
     match request {

@@ -1,4 +1,4 @@
-// The commands of a store that is open.
+// Serves the commands of an open store.
 ghost use Rattle.std.specs.Prelude.{◌≡◌, ◌≢◌, ◌⊎◌, true, IfErr};
 ghost use Rattle.arrowstore.specs.OpenCommands.{reads_input};
 ghost use Rattle.arrowstore.specs.Serving.{channels, Serves};
@@ -14,11 +14,11 @@ use std::alloc::Global;
 use std::io::{Read, Write};
 use store::Store;
 
-/// Does what is asked of an open store, on any device. Where a text is refused, `hint` is left with the part of it that is, and where a check is, with the
-/// first table that can't be read.
+/// Executes a command of an open store, on any device. If a text is refused, `hint` is set to the refused part of it, and if a check is refused, to
+/// the first table that can't be read.
 ///
 /// # Errors
-/// Those of the function of `cli_commands` that does the command.
+/// Those of the function of `cli_commands` that executes the command.
 #[tactic(auto, unfolding(crate::specs::Serving::Serves))]
 pub fn serve_open<D: SectorDevice, R: Read, W: Write>(
     alloc: Global,
@@ -32,7 +32,7 @@ pub fn serve_open<D: SectorDevice, R: Read, W: Write>(
     ensures serves { Serves R.remaining W.contents command.entry store.old store.new
         (channels input.old output.old hint.old) (channels input.new output.new hint.new) result }
     ensures unread { (reads_input command.entry ≡ true) ⊎ (input.new ≡ input.old) }
-    // Where it is refused, nothing is written, unless a read or a write failed.
+    // A refusal writes nothing, unless a read or a write failed.
     ensures silent { IfErr result (λ refusal. refusal ≢ Refusal.Io → output.new ≡ output.old) }
 {
     match command {

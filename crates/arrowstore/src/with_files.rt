@@ -37,7 +37,7 @@ use std::rt::Files;
 use store::LeftOut;
 use values::Table;
 
-// What is said to be refused, where the command has hinted at it.
+// Returns the hint that the command itself gave.
 fn hint_of(hinted: &Option<Hinted>) -> Option<Hint<'_>>
     ensures { hinted_of result ≡ hinted.now }
 {
@@ -48,7 +48,7 @@ fn hint_of(hinted: &Option<Hinted>) -> Option<Hint<'_>>
     }
 }
 
-// The word of the command line that is refused, where one is known.
+// Returns a hint at the refused word of the command line, if that word is known.
 fn word_of<'a>(
     alloc: Global,
     request: &StoreRequest<'a>,
@@ -63,7 +63,7 @@ fn word_of<'a>(
     }
 }
 
-// What is said to be refused: what was found by asking again, or a word of the command line.
+// Returns a hint at what was found by asking again, or at a word of the command line.
 fn found_hint<'a>(
     alloc: Global,
     request: &StoreRequest<'a>,
@@ -84,7 +84,6 @@ fn found_hint<'a>(
     }
 }
 
-// Reports how a request ended.
 fn end_of_request<E: Write>(
     alloc: Global,
     request: &StoreRequest<'_>,
@@ -105,8 +104,8 @@ fn end_of_request<E: Write>(
     end_whole_or_partly(done, left_out, hint, audience, errors)
 }
 
-// A request of a store. What is said to be refused is the part of the input or the table that the command has hinted at, where it has, and else what is
-// found by asking again, or a word of the command line.
+// Serves a request of a store and reports how it ended. The hint is the part of the input or the table that the command itself hinted at, or else
+// what is found by asking again, or a word of the command line.
 fn serve_and_report<
     F: Read + Write + Seek + OpenFile + LockFile + Drop,
     H: Files<File = F> + AllocGlobal,
@@ -153,7 +152,7 @@ fn serve_and_report<
     }
 }
 
-// What `clap` says of the words of a command line. It gives help where one of them asks for it alone.
+// Reports what `clap` says of the command line: as help if a word asks for it, and else as a mistake.
 fn report_mistake<W: Write + Output, E: Write>(
     alloc: Global,
     error: &clap::Error,
@@ -173,7 +172,7 @@ fn report_mistake<W: Write + Output, E: Write>(
     }
 }
 
-// A command line of a store.
+// Executes a command line of a store.
 fn run_on_store<
     F: Read + Write + Seek + OpenFile + LockFile + Drop,
     H: Files<File = F> + AllocGlobal,
@@ -213,8 +212,8 @@ fn run_on_store<
     }
 }
 
-/// Does what the arguments ask for, of which the first is the program's name, also on the files of stores, and reports
-/// on `errors` why not. Of the calls of the system that are noted in `failures`, a person is told which has failed.
+/// Executes the arguments, the first of which is the program's name, also on the files of stores, and reports on `errors` if that fails. At a
+/// terminal the report names the system call noted in `failures` that failed.
 pub fn run_with_files<
     F: Read + Write + Seek + OpenFile + LockFile + Drop,
     H: Files<File = F> + AllocGlobal,
@@ -231,30 +230,31 @@ pub fn run_with_files<
     failures: &Failures,
     audience: Audience,
 ) -> Ended
-    // Done: the command was right, or help or a text of the program's own was asked for.
+    // `Done`: the command was right, or help or one of the program's own texts was asked for.
     ensures done { result.status ≡ Done → AreRight (map S.text arguments.now) ⊎ (is_of_store (map S.text arguments.now) ≡ true) }
-    // The arguments that ask for it are taken, and the output is as `Recodes` says.
+    // The arguments of `recode` are accepted, and the output is as `Recodes` says.
     ensures recodes { AreRecode (map S.text arguments.now) → Recodes W.contents (R.remaining input.old) output.old output.new result.status }
-    // The output has been given that text, and nothing else.
+    // That text is written, and nothing else.
     ensures own { is_own (map S.text arguments.now) ≡ true
         → GivesText (Appends (W.contents output.old) (W.contents output.new) (own_text (map S.text arguments.now))) result.status }
-    // Wrong arguments are reported, unless memory is out: nothing is read, and nothing is written but on `errors`.
+    // Wrong arguments are reported, unless memory runs out: nothing is read, and nothing but `errors` is written.
     ensures wrong_arguments { AreRight (map S.text arguments.now) ⊎ (is_of_store (map S.text arguments.now) ≡ true)
         ⊎ (IsWrong result.status × (output.new ≡ output.old)) }
-    // The input is read by these commands alone.
+    // Only these commands read the input.
     ensures others_leave_input { AreRecode (map S.text arguments.now) ⊎ (takes_input (map S.text arguments.now) ≡ true) ⊎ (input.new ≡ input.old) }
-    // A store's words lead to the command of the first one, on the file and the tables that they name: it was refused before a store was open, or what
-    // the words state was carried out on one. But where a word asks for help that may be given, and wrong words are reported; right ones are not.
+    // The words of a store's command line lead to the command of the first one, on the file and the tables that they name: it was refused before a
+    // store was open, or what the words state was executed on one. If a word asks for help, that may be given instead, and wrong words are
+    // reported; right ones are not.
     ensures serves { is_of_store (map S.text arguments.now) ≡ true
         → RunsOnStore ⟦<FileDevice<F> as SectorDevice>⟧ IsOpenedFile R.remaining W.contents
         (Replays ⟦<ModelDevice as SectorDevice>⟧ F.remaining ⟦<Empty as Read>⟧.remaining W.contents) E.contents
         (heard audience (W.unread output.new)) (map S.text arguments.now)
         (ends_of input.old output.old errors.old) (ends_of input.new output.new errors.new) result }
-    // Where no command is done, help that is asked for is written, and nothing else.
+    // If no command is done, help that was asked for is written, and nothing else.
     ensures helps { result.status ≡ Done → AreRecode (map S.text arguments.now) ⊎ (is_own (map S.text arguments.now) ≡ true)
         ⊎ (is_of_store (map S.text arguments.now) ≡ true) ⊎ GivesSome (W.contents output.old) (W.contents output.new) }
-    // What is on `errors`: the report of a refusal to such an audience, the segments that are left out, and nothing where all is done; nor that the output
-    // failed where its reader is gone. Only of commands of a store more is hinted, or something left out.
+    // `errors` gets the report of a refusal for this audience, the segments that are left out, and nothing on success; nor the failure of an output
+    // whose reader is gone. Only commands of a store have further hints or leave something out.
     ensures reports { (hint : Option Hint) × (left : List (ℕ × ℕ))
         × ((is_of_store (map S.text arguments.now) ≡ true) ⊎ ((hint ≡ None) × (left ≡ [])))
         × HasTold E.contents (heard audience (W.unread output.new)) (first_word (map S.text arguments.now)) left output.old output.new errors.old

@@ -1,4 +1,4 @@
-// A device that is a file: written and read sector by sector, and written by rows of sectors.
+// Measures a device that is a file: written and read sector by sector, and written by rows of sectors.
 use anyhow::{Context, Result, bail};
 use sector_dev::{DevError, FileDevice, FileError, SectorDevice};
 use std::fs::{self, File};
@@ -6,7 +6,7 @@ use std::time::Instant;
 
 const SECTORS_IN_A_MEBIBYTE: u64 = 2048;
 
-// those of 4,096 values of 4 bytes
+// the sectors of 4,096 values of 4 bytes
 const ROW: usize = 32;
 
 // What is measured of a device.
@@ -17,7 +17,7 @@ enum Step {
     Rows,
 }
 
-// The content of a sector: its number, again and again.
+// Returns the content of a sector: its number, repeated.
 fn content(n: u64) -> [u8; 512] {
     let mut content = [0; 512];
     for chunk in content.chunks_exact_mut(8) {
@@ -45,7 +45,7 @@ fn write_rows<D: SectorDevice>(device: &mut D) -> Result<(), DevError> {
     device.sync()
 }
 
-// Whether each sector has its number in front: more would measure the test.
+// Returns whether each sector begins with its number: testing more would measure the test.
 fn reads_all<D: SectorDevice>(device: &mut D) -> Result<bool, DevError> {
     let mut sector = [0; 512];
     let mut well = true;
@@ -56,7 +56,7 @@ fn reads_all<D: SectorDevice>(device: &mut D) -> Result<bool, DevError> {
     Ok(well)
 }
 
-// Whether it was done, and no other bytes were read.
+// Does a step, and returns whether the right bytes were read.
 fn is_done<D: SectorDevice>(device: &mut D, step: Step) -> Result<bool, DevError> {
     match step {
         Step::Write => write_all(device)?,
@@ -66,7 +66,7 @@ fn is_done<D: SectorDevice>(device: &mut D, step: Step) -> Result<bool, DevError
     Ok(true)
 }
 
-// The device that a step is done on: a new one, unless it is read.
+// Returns the device for a step: a new one, unless it is read.
 fn device_of(
     rt: &HostRuntime,
     path: &str,
@@ -117,7 +117,7 @@ fn measure_sectors(rt: &HostRuntime, path: &str, sectors: u64) -> Result<()> {
     measure_step(rt, path, sectors, Step::Read)
 }
 
-/// Measures devices of n mebibytes, each in a new file at the path.
+/// Measures devices of this many mebibytes, each in a new file at the path.
 pub fn measure(rt: &HostRuntime, path: &str, mebibytes: &str) -> Result<()> {
     let mebibytes = mebibytes.parse::<u64>().context("a number of mebibytes")?;
     let sectors = mebibytes.saturating_mul(SECTORS_IN_A_MEBIBYTE);

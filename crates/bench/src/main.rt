@@ -1,9 +1,9 @@
-//! Measures counting and joining bits beside reading the same bytes, a device that is a file, and an export in pieces.
+//! Measures counting and joining bits against reading the same bytes, a device that is a file, and an export in pieces.
 //!
-//! `bench [bitmap MEGABYTES] [device PATH MEBIBYTES]` prints on standard output what it counted, and on standard error how long each
-//! step took; `bench pieces STORE TABLE` writes the stream of a table, of which it holds one segment at a time. `bitmap` takes two masks of that size. `device`
-//! writes so much to a new file at the path, sector by sector, syncs it,
-//! reads it again, writes as much to another new file by 32 sectors at a time, syncs that, and removes the file.
+//! `bench [bitmap MEGABYTES] [device PATH MEBIBYTES]` prints on standard output what it counted, and on standard error how long each step took.
+//! `bitmap` takes two masks of that size. `device` writes that many mebibytes to a new file at the path, sector by sector, syncs it, reads it
+//! again, writes as much to another new file by 32 sectors at a time, syncs that, and removes the file. `bench pieces STORE TABLE` writes the
+//! stream of a table, with one segment in memory at a time.
 #![tactic(auto)]
 
 mod file_device;

@@ -1,11 +1,11 @@
-// Counting and joining bits, timed beside reading the same bytes. A join makes new memory, so it stands beside a copy.
+// Times counting and joining bits against reading the same bytes. A join makes new memory, so it is compared with a copy.
 use anyhow::{Context, Result};
 use std::simd::prelude::*;
 use std::time::{CpuClock, Duration};
 
 const MEGABYTE: usize = 1_000_000;
 
-/// Measures masks of n megabytes. Four bits of each byte of the first one are set, and two of these in the second.
+/// Measures masks of this many megabytes. The first has four bits set in each byte, and the second two of these.
 pub fn measure(rt: &HostRuntime, megabytes: &str) -> Result<()> {
     let megabytes = megabytes.parse::<u16>().context("a number of megabytes")?;
     let size = usize::from(megabytes) * MEGABYTE;
@@ -57,7 +57,7 @@ fn measure_join(rt: &HostRuntime, first: &[u8], second: &[u8], read: Duration) -
     report(rt, "join", time, read)
 }
 
-// One line: the step, its time, and its time for 100 of reading.
+// Prints one line: the step, its time, and its time as a percentage of reading.
 fn report(rt: &HostRuntime, step: &str, time: Duration, read: Duration) -> Result<()> {
     let microseconds = time.as_micros();
     let share = microseconds.saturating_mul(100) / read.as_micros().max(1);
@@ -65,7 +65,7 @@ fn report(rt: &HostRuntime, step: &str, time: Duration, read: Duration) -> Resul
     Ok(())
 }
 
-// The sum of the bytes as numbers of 64 bits, which wraps; the last bytes that make no block of 64 are left out.
+// Returns the sum of the bytes as numbers of 64 bits, which wraps; bytes after the last block of 64 are left out.
 fn sum_of_words(bytes: &[u8]) -> u64 {
     let (blocks, _) = bytes.as_chunks::<64>();
     let mut total = u64x8::splat(0);

@@ -1,4 +1,4 @@
-// An export that gives its pieces one after another: one segment of the table is in memory at a time.
+// Exports a table piece by piece: one segment is in memory at a time.
 use anyhow::{Error, Result, bail};
 use sector_dev::{FileDevice, SectorDevice};
 use std::alloc::Global;
@@ -6,7 +6,7 @@ use std::fs::File;
 use std::io::Write;
 use store::Store;
 
-// More than the pieces of a table of 65,536 segments: of each segment one, the schema and the end of stream.
+// More than the pieces of a table of 65,536 segments: one for each segment, the schema and the end of stream.
 const MOST_PIECES: u32 = 65_600;
 
 fn write_pieces<D: SectorDevice, W: Write>(

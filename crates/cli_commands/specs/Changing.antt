@@ -1,4 +1,4 @@
--- What the program answers of commands that change the tables of a store.
+-- What the program answers to commands that change the tables of a store.
 use Rattle.std.specs.Prelude.{◌≡◌, ◌≢◌, ◌↔◌, ℕ, Bool, true, false, List, [], Option, IsSome, Result, Ok, Err, IfErr, OnOk}
 use Rattle.sector_dev.specs.Disk.{Story}
 use Rattle.sector_dev.specs.Time.{OnlyReads}
@@ -19,35 +19,35 @@ use Rattle.cli_refusals.specs.declared.refusal.Refusal.{Refusal}
 use Rattle.cli_refusals.specs.declared.refusal.Refusal.TheVariants.{Io, Fields, Store, OutOfMemory}
 use Rattle.cli_commands.specs.Given.{RefusesInput}
 
--- the program's answer follows that of the store: what is done is reported as done, unless the output fails, and a refusal is the store's
+-- the program's answer follows the store's: what is done is reported as done, unless the output fails, and a refusal is the store's
 abbrev pub Follows : Result (Unit {0}) tables.Refusal → Result (Unit {0}) Refusal → Type 0
 Follows (Ok done) (Ok unit) = Unit {0}
 Follows (Ok done) (Err refusal) = refusal ≡ Io
 Follows (Err e) (Ok unit) = ⊥
 Follows (Err e) (Err refusal) = refusal ≡ Store e
 
--- the store gave an answer of which this holds, and the program's follows it
+-- the store gave an answer for which this holds, and the program's answer follows it
 abbrev pub Answered : (Result (Unit {0}) tables.Refusal → Type 0) → Result (Unit {0}) Refusal → Type 0
 Answered P result = (answer : Result (Unit {0}) tables.Refusal) × P answer × Follows answer result
 
--- a store answers a command so: what `Store::apply` promises of every store and every device
+-- how a store answers a command: what `Store::apply` promises of every store and every device
 pub record AnswersCommand {D : Type 0} {g : Ghosts D} (size : D → ℕ) (story : D → Story) (tells : Bool) (command : PlainCommand)
     (answer : Result (Unit {0}) tables.Refusal) (old new : stores.Store D g) : Type 0 where
   -- what is decided of the command is carried out or reported
   pub applied : is_halted old ≡ false → IsApplied size story tells old command answer new
-  -- a refusal leaves the commit, the catalogue and the runs; it has only read, unless the device failed
+  -- a refusal keeps the commit, the catalogue and the runs, and has only read, unless the device failed
   pub kept : IfErr answer (λ e. IsKept old new)
   pub reads : IfErr answer (λ e. e ≢ refusals.Device → tells ≡ true → OnlyReads (story (device_of old)) (story (device_of new)))
-  -- a halted store says that it is halted, and a store halts where its device fails
+  -- a halted store reports that it is halted, and a store halts if its device fails
   pub halted : (answer ≡ Err refusals.Halted) ↔ (is_halted old ≡ true)
   pub still : is_halted old ≡ true → new ≡ old
   pub halts : is_halted old ≡ false → (is_halted new ≡ true) ↔ (answer ≡ Err refusals.Device)
-  -- on a store that lies on its disk each stop leaves what stood, or the command done; and once it is answered, it is done
+  -- on a store that lies on its disk each stop leaves the old tables or the command done; once it is answered, it is done
   pub writes : is_halted old ≡ false → tells ≡ true → IsOnDisk size story old → IsApplyingAtEachMoment size story old command new
   pub written : OnOk answer (tells ≡ true → IsOnDisk size story old → IsDoneOnDisk size story old command new)
 
--- a store answers a command that has all of an input so: what `Store::import_from` and `Store::append_from` promise of every store and every device,
--- where `passes` is the test that comes before anything is read, and `why` is reported where it fails
+-- how a store answers a command that has a whole input: what `Store::import_from` and `Store::append_from` promise of every store and every device;
+-- `passes` is the test before anything is read, and `why` is reported if it fails
 pub record AnswersInput {D : Type 0} {g : Ghosts D} {R : Type 0} (size : D → ℕ) (story : D → Story) (failed : D → ℕ) (tells : Bool)
     (remaining : R → Option (List ℕ))
     (command : List ℕ → PlainCommand) (passes : Bool) (why : tables.Refusal) (input left : R) (answer : Result (Unit {0}) tables.Refusal)
@@ -55,7 +55,7 @@ pub record AnswersInput {D : Type 0} {g : Ghosts D} {R : Type 0} (size : D → �
   pub takes : TakesInput size story failed tells (remaining input) command old answer new
   pub reads : ReadsFrom remaining (is_halted old) passes why input left (new ≡ old) answer
 
--- the store does not tell the schema of a table of this name, with this entry if there is one, and nothing was read; or the input is refused
+-- the store does not give the schema of a table of this name, with this entry if there is one, and nothing was read; or the input is refused
 abbrev pub RefusesAppend : {R : Type 0} → (remaining : R → Option (List ℕ)) → (halted : Bool) → (found : Option PlainEntry) → (old new : R) → Refusal → Type 0
 RefusesAppend remaining halted found old new (Store refusal) = RefusesSchema halted found refusal × (new ≡ old)
 RefusesAppend remaining halted found old new refusal = (halted ≡ false) × IsSome found × RefusesInput (remaining old) (remaining new) refusal

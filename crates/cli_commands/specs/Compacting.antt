@@ -24,11 +24,11 @@ use Rattle.store.specs.Runs.{Run}
 use Rattle.cli_refusals.specs.declared.refusal.Refusal.{Refusal}
 use Rattle.cli_commands.specs.Changing.{Follows}
 
--- the word `steps`, and how many
+-- the word `steps` and their number
 abbrev pub steps_text : ℕ → List ℕ
 steps_text count = codes "steps " ++ decimal count ++ codes "\n"
 
--- a step that did something: two segments became one, or one lies further in front
+-- a step that did something: two segments became one, or one moved forward
 pub record Steps {D : Type 0} {g : Ghosts D} (old : Store D g) (taken : Compaction) (new : Store D g) : Type 0 where
   pub did : taken ≢ Nothing
   pub stepped : HasStepped g.size g.story g.tells old taken new
@@ -46,7 +46,7 @@ pub record StopsBy {D : Type 0} {g : Ghosts D} (old : Store D g) (r : tables.Ref
   pub kept : IsKept old new
   pub reads : r ≢ refusals.Device → g.tells ≡ true → OnlyReads (g.story (device_of old)) (g.story (device_of new))
 
--- the last step: there is nothing to do any more, and the store was only read; or it was refused
+-- the last step: nothing was left to do, and the store was only read; or it was refused
 abbrev pub EndsSteps : {D : Type 0} {g : Ghosts D} → (old : Store D g) → Result (Unit {0}) tables.Refusal → (new : Store D g) → Type 0
 EndsSteps {g = g} old (Ok unit) new = HasStepped g.size g.story g.tells old Nothing new × OnlyReadsStore g.size g.story g.failed g.tells nothing old new
 EndsSteps old (Err r) new = StopsBy old r new
@@ -70,14 +70,14 @@ pub record RunsOn {D : Type 0} {g : Ghosts D} (base : Tables) (m : Machine) (cal
       (g.story (device_of new)) (g.failed (device_of new))
   pub fits : StoreFits g.size g.story base next new
 
--- at each moment of a stretch of time a stop leaves a store with these tables
+-- at each moment between these two states of a store a stop leaves a store with these tables
 abbrev pub StaysWith : {D : Type 0} {g : Ghosts D} → Tables → (old new : Store D g) → Type 0
 StaysWith {g = g} t old new =
     Grows (LeavesOnly (λ (image : Image). held_by (g.size (device_of old)) image ≡ holds t)) (g.story (device_of old)) (g.story (device_of new))
 
 -- ---- a whole compaction
 
--- these steps did something, and what came after them was answered so
+-- these steps did something, and the call after them was answered so
 pub record Compacted {D : Type 0} {g : Ghosts D} (taken : List Compaction) (answer : Result (Unit {0}) tables.Refusal) (old new : Store D g) : Type 0 where
   pub mid : Store D g
   pub steps : StepsTo old taken mid
@@ -85,17 +85,17 @@ pub record Compacted {D : Type 0} {g : Ghosts D} (taken : List Compaction) (answ
   pub size : g.size (device_of new) ≡ g.size (device_of old)
   pub count : g.failed (device_of new) ≡ counted (last_reply answer) (g.failed (device_of old))
   pub book : book_of new ≡ book_of old
-  -- a halted store stays as it is, and a store halts where its device fails
+  -- a halted store stays as it is, and a store halts if its device fails
   pub still : is_halted old ≡ true → (answer ≡ Err refusals.Halted) × (new ≡ old)
   pub halts : is_halted old ≡ false → (is_halted new ≡ true) ↔ (answer ≡ Err refusals.Device)
-  -- on a store that stands for a machine they are calls that change no table
+  -- on a store that stands for a machine the steps are calls that change no table
   pub goes : g.tells ≡ true → (base : Tables) (m : Machine) → StoreFits g.size g.story base m old
       → RunsOn base m (step_calls taken ++ compact_call ∷ []) (map reply_of taken ++ last_reply answer ∷ []) old new
-  -- and whenever it stops the tables are those that were
+  -- and a stop at any moment leaves the tables of before
   pub stays : g.tells ≡ true → (base : Tables) (m : Machine) → StoreFits g.size g.story base m old → is_halted old ≡ false
       → StaysWith (after base m.settled) old new
 
--- a compaction that the program answered: how many steps did something is written once there is nothing to do any more, and a refusal is the store's
+-- a compaction that the program answered: once nothing is left to do, the number of steps that did something is written; a refusal is the store's
 pub record Compacts {D : Type 0} {g : Ghosts D} {W : Type 0} (contents : W → Option (List ℕ)) (old new : Store D g) (output output' : W)
     (result : Result (Unit {0}) Refusal) : Type 0 where
   pub taken : List Compaction

@@ -1,4 +1,4 @@
--- What a copy of all tables of a store leaves of it, and of the store that they are copied into.
+-- What copying all tables of a store leaves of it, and of the store that they are copied into.
 use Rattle.std.specs.Prelude.{◌≡◌, ◌⊎◌, ◌++◌, ℕ, true, List, [], ◌∷◌, map, take, slice_get, Some, Result, Ok, Err, IfErr, OnOk}
 use Rattle.sector_dev.specs.Disk.{now, shown_image}
 use Rattle.sector_dev.specs.declared.device.SectorDevice.{Ghosts}
@@ -30,7 +30,7 @@ pub record ComesTo {D : Type 0} {g : Ghosts D} (base : Tables) (m : Machine) (ta
   pub fits : StoreFits g.size g.story base next new
   pub tables_are : after base next.settled ≡ tables
 
--- a store of which no table has a name yet has all those of another one, once they are copied
+-- once the tables of a store are copied into one that has no table, that one has all of them
 abbrev pub HasAllOf : {D E : Type 0} {g : Ghosts D} {h : Ghosts E} → (from : Store D g) → (old new : Store E h) → Type 0
 HasAllOf {g = g} {h = h} from old new =
     g.tells ≡ true → h.tells ≡ true → (a b : Tables) (m n : Machine) → StoreFits g.size g.story a m from → StoreFits h.size h.story b n old
@@ -38,7 +38,8 @@ HasAllOf {g = g} {h = h} from old new =
 
 -- ---- on any store and any device
 
--- the stream of a table that reads of one store show was given to another one to be imported, which answered so; the first store was only read up to then
+-- the stream of a table that reads of one store show was given to another one to import, which answered so; up to then the first store was only
+-- read
 pub record ImportsTable {D E : Type 0} {g : Ghosts D} {h : Ghosts E} (from : Store D g) (name : List ℕ) (old : Store E h)
     (answer : Result (Unit {0}) Refusal) (new : Store E h) : Type 0 where
   pub source : Store D g
@@ -47,12 +48,12 @@ pub record ImportsTable {D E : Type 0} {g : Ghosts D} {h : Ghosts E} (from : Sto
   pub shows : ReadsTable (is_halted source) g.tells (shown_image (now (g.story (device_of source)))) (entry_of (listed_in source) name) table
   pub answers : AnswersCommand h.size h.story h.tells (import_stream name (canonical table)) answer old new
 
--- so were all tables that are listed, one after another, and each import was acknowledged
+-- each listed table was imported so, one after another, and each import was acknowledged
 abbrev pub ImportsEach : {D E : Type 0} {g : Ghosts D} {h : Ghosts E} → (from : Store D g) → (listed : List (List ℕ × ℕ)) → (old new : Store E h) → Type 0
 ImportsEach from [] old new = new ≡ old
 ImportsEach {E = E} {h = h} from (x ∷ xs) old new = (mid : Store E h) × ImportsTable from x.0 old (Ok tt) mid × ImportsEach from xs mid new
 
--- a table is not read, up to which the store was only read
+-- a table can't be read, and up to then the store was only read
 pub record FailsToRead {D : Type 0} {g : Ghosts D} (from : Store D g) (name : List ℕ) (r : Refusal) : Type 0 where
   pub source : Store D g
   pub reads : OnlyReadsStore g.size g.story g.failed g.tells done from source
@@ -63,7 +64,7 @@ abbrev pub RefusesTable : {D E : Type 0} {g : Ghosts D} {h : Ghosts E} → (from
     → (new : Store E h) → Type 0
 RefusesTable from name old r new = (((r ≡ OutOfMemory) ⊎ FailsToRead from name r) × (new ≡ old)) ⊎ ImportsTable from name old (Err r) new
 
--- the table of a place is the first that is not copied, and those before it are
+-- the table at some place is the first that is not copied, and those before it are
 pub record StopsCopying {D E : Type 0} {g : Ghosts D} {h : Ghosts E} (from : Store D g) (listed : List (List ℕ × ℕ)) (old : Store E h) (r : Refusal)
     (new : Store E h) : Type 0 where
   pub place : ℕ
@@ -73,7 +74,7 @@ pub record StopsCopying {D E : Type 0} {g : Ghosts D} {h : Ghosts E} (from : Sto
   pub before : ImportsEach from (take place listed) old mid
   pub refuses : RefusesTable from table.0 mid r new
 
--- why not all tables are copied: they are not listed, or one is not copied
+-- why not all tables are copied: they can't be listed, or one is not copied
 abbrev pub RefusesCopy : {D E : Type 0} {g : Ghosts D} {h : Ghosts E} → (from : Store D g) → (old : Store E h) → Refusal → (new : Store E h) → Type 0
 RefusesCopy from old r new = (RefusesTables (is_halted from) r × (new ≡ old)) ⊎ StopsCopying from (tables_of (listed_in from)) old r new
 

@@ -5,7 +5,7 @@ use Rattle.cli_commands.specs.declared.input.TheConstants.{LARGEST_INPUT}
 use Rattle.cli_refusals.specs.declared.refusal.Refusal.{Refusal}
 use Rattle.cli_refusals.specs.declared.refusal.Refusal.TheVariants.{Fault, TooManyBytes, Io, BadSize, BadScript, Fields, Text, Query, Opening, Store, OutOfMemory}
 
--- of every answer but the refusal of too many bytes
+-- P holds, unless the answer is the refusal of too many bytes
 abbrev pub UnlessTooManyBytes : {A : Type 0} → Result A Refusal → Type 0 → Type 0
 UnlessTooManyBytes (Ok x) P = P
 UnlessTooManyBytes (Err (Fault fault)) P = P
@@ -31,7 +31,8 @@ IsOfInput _ = ⊥
 abbrev pub IsWholeInput : Option (List ℕ) → List ℕ → Type 0
 IsWholeInput input bytes = IfSome input (λ all. bytes ≡ all) × (length bytes ≤ LARGEST_INPUT)
 
--- why an input is not handed on, and what was read of it: one byte more than an input may have; or a read failed, or memory was refused, before that byte
+-- why an input is not passed on, and what was read of it: one byte more than an input may have; or, before that byte, a read failed or memory was
+-- refused
 abbrev pub RefusesInput : (old new : Option (List ℕ)) → Refusal → Type 0
 RefusesInput old new TooManyBytes = HasGiven old new (LARGEST_INPUT + 1)
 RefusesInput old new Io = HasGivenAtMost old new LARGEST_INPUT

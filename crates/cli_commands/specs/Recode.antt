@@ -8,7 +8,7 @@ use Rattle.ipc_canonical.specs.Canonical.{canonical}
 use Rattle.cli_refusals.specs.declared.refusal.Refusal.{Refusal}
 use Rattle.cli_refusals.specs.declared.refusal.Refusal.TheVariants.{Fault, TooManyBytes, Io, BadSize, BadScript, Fields, Text, Query, Opening, Store, OutOfMemory}
 
--- the answer speaks of the whole input: it has a meaning, or a fault
+-- the answer is about the whole input: it has a meaning, or a fault
 abbrev pub IsVerdict : {A : Type 0} → Result A Refusal → Type 0
 IsVerdict (Ok x) = Unit {0}
 IsVerdict (Err (Fault fault)) = Unit {0}
@@ -27,8 +27,8 @@ IsVerdict (Err OutOfMemory) = ⊥
 abbrev pub AppendsCanonical : Option (List ℕ) → Option (List ℕ) → List ℕ → Type 0
 AppendsCanonical old new input = (table : PlainTable) × (meaning supported_codes input ≡ Ok table) × Appends old new (canonical table)
 
--- why an input, which had these bytes left, is not recoded: it has this fault, it is too long, a read or a write failed, or memory was refused. A fault that is
--- reported is the fault of the input
+-- why an input that had these bytes left is not recoded: it has this fault, it is too long, a read or a write failed, or memory was refused. A
+-- reported fault is the fault of the input
 abbrev pub IsTrueFault : Refusal → Option (List ℕ) → Type 0
 IsTrueFault (Fault fault) input = IfSome input (λ bytes. meaning supported_codes bytes ≡ Err fault)
 IsTrueFault TooManyBytes input = Unit {0}

@@ -17,7 +17,7 @@ use Rattle.store.specs.Reading.{ReadsTable, RefusesRead}
 use Rattle.cli_refusals.specs.declared.refusal.Refusal.{Refusal}
 use Rattle.cli_refusals.specs.declared.refusal.Refusal.TheVariants.{Io, Query, Store, OutOfMemory}
 
--- the names that a word has between its commas: an empty word is one empty name; without the word all columns are asked for
+-- the names between the commas of a word: an empty word is one empty name; without the word all columns are asked for
 abbrev pub named_columns : Option (List ℕ) → List (List ℕ)
 named_columns None = []
 named_columns (Some word) = slice_split (λ b. b == 44) word
@@ -25,7 +25,7 @@ named_columns (Some word) = slice_split (λ b. b == 44) word
 abbrev pub conditions_of : List (List ℕ) → Option (List PlainCondition)
 conditions_of texts = all_some (map condition_of texts)
 
--- the query that the words of a command line state: none where a text is no condition
+-- the query that the words of a command line state, or none if a text is no condition
 abbrev pub stated_query : List (List ℕ) → Option (List ℕ) → Option ℕ → Option PlainQuery
 stated_query texts columns limit = option_map (λ cs. record { columns = named_columns columns; conditions = cs; limit = limit }) (conditions_of texts)
 
@@ -39,17 +39,17 @@ RefusesWords stated _ = ⊥
 abbrev pub rows_text : RowForm → PlainTable → List ℕ
 rows_text form t = lines_text form t.schema.columns t.rows
 
--- no two members of an object have the same name
+-- rows can be printed as objects if no two columns have the same name
 abbrev pub is_printable : RowForm → PlainTable → Bool
 is_printable Array t = true
 is_printable Object t = are_named_apart t.schema.columns
 
--- what is selected, where it can be printed so; a name that two columns have names none
+-- what is selected, if it can be printed in this form; a name that two columns share names none
 abbrev pub printable : RowForm → Result PlainTable query.Refusal → Result PlainTable query.Refusal
 printable form (Ok selected) = if is_printable form selected then Ok selected else Err query.unknown_column
 printable form (Err refusal) = Err refusal
 
--- the table whose rows a query prints, or why there is none: the refusals of its selection come first
+-- the table whose rows a query prints, or why there is none: refusals of its selection come first
 abbrev pub printed_selection : RowForm → PlainTable → PlainQuery → Result PlainTable query.Refusal
 printed_selection form t q = printable form (selection t q)
 
@@ -69,13 +69,13 @@ plain_reason UnknownColumn = query.unknown_column
 plain_reason BadCondition = query.bad_condition
 plain_reason NotComparable = query.not_comparable
 
--- why no lines are made of what a query selects from a table: it is refused, or memory was
+-- why no lines are made of what a query selects from a table: the query or memory is refused
 abbrev pub RefusesLines : RowForm → PlainTable → PlainQuery → Refusal → Type 0
 RefusesLines form table q (Query refusal) = printed_selection form table q ≡ Err (plain_reason refusal)
 RefusesLines form table q OutOfMemory = Unit {0}
 RefusesLines form table q _ = ⊥
 
--- why nothing is printed of a query: the table is not read; or it is, and the query is refused or memory was; or there is a selection, and the output failed
+-- why a query prints nothing: the table is not read; or it is, and the query or memory is refused; or there is a selection, and the output failed
 abbrev pub RefusesQuery : RowForm → (halted tells : Bool) → Image → Option PlainEntry → PlainQuery → Refusal → Type 0
 RefusesQuery form halted tells image found q (Store refusal) = RefusesRead halted tells image found refusal
 RefusesQuery form halted tells image found q (Query refusal) = QueryAnswers form halted tells image found q (Err (plain_reason refusal))

@@ -16,7 +16,7 @@ use Rattle.text_import.specs.declared.form.TextForm.{TextForm}
 use Rattle.cli_commands.specs.Given.{IsWholeInput}
 use Rattle.cli_commands.specs.Changing.{Answered, RefusesAppend}
 
--- all of an input, as a text for the schema of the table that is found, gives this
+-- the whole input, as a text for the schema of the table that was found, gives this
 pub record InputGives (form : TextForm) (found : Option PlainEntry) (input : Option (List ℕ)) (given : Result (List (List Cell)) Refused) : Type 0 where
   pub entry : PlainEntry
   pub is_there : found ≡ Some entry
@@ -24,32 +24,32 @@ pub record InputGives (form : TextForm) (found : Option PlainEntry) (input : Opt
   pub whole : IsWholeInput input bytes
   pub gives : rows_of_text form entry.schema bytes ≡ given
 
--- the rows of all of an input were handed to the store, which gave an answer, and the program's follows it; or it was refused before, and this holds of
--- the refusal
+-- the rows of the whole input were given to the store, and the program's answer follows its answer; or they were refused before, and `before` holds
+-- of the refusal
 abbrev pub HandsRows : TextForm → Option PlainEntry → Option (List ℕ) → (List (List Cell) → Result (Unit {0}) tables.Refusal → Type 0)
     → (before : Refusal → Type 0) → Result (Unit {0}) Refusal → Type 0
 HandsRows form found input P before result =
     IsErrAnd result before ⊎ ((rows : List (List Cell)) × InputGives form found input (Ok rows) × Answered (P rows) result)
 
--- why no rows are handed to the store: all of the input was read, and as a text it is refused; or it is refused as each append is
+-- why no rows are given to the store: the whole input was read and is refused as a text; or it is refused as any append is
 abbrev pub RefusesText : {R : Type 0} → (remaining : R → Option (List ℕ)) → TextForm → (halted : Bool) → (found : Option PlainEntry) → (old new : R)
     → Refusal → Type 0
 RefusesText remaining form halted found old new (Text refused) =
     (halted ≡ false) × InputGives form found (remaining old) (Err refused) × IsAtEnd (remaining new)
 RefusesText remaining form halted found old new refusal = RefusesAppend remaining halted found old new refusal
 
--- a refusal of the text is that of all of the input
+-- a refusal of the text is the one for the whole input
 abbrev pub IfOfText : TextForm → Option PlainEntry → Option (List ℕ) → Refusal → Type 0
 IfOfText form found input (Text refused) = InputGives form found input (Err refused)
 IfOfText form found input _ = Unit {0}
 
--- what is hinted of a text that is refused, if anything: the part of it that is
+-- the hint at a refused text: the part of it that is refused, or none
 abbrev pub HintsAt : Option Hinted → TextForm → PlainSchema → List ℕ → Option Refused → Type 0
 HintsAt None form schema bytes refused = Unit {0}
 HintsAt (Some (Part part)) form schema bytes (Some refused) = refused_part form schema bytes refused.number ≡ Some (part_of part)
 HintsAt (Some hinted) form schema bytes _ = ⊥
 
--- all of an input is refused, as a text for the schema of the table that is found, and this is the part of it that is
+-- the whole input, as a text for the schema of the table that was found, is refused, and this is the refused part
 pub record HintsPart (part : PlainPart) (form : TextForm) (found : Option PlainEntry) (input : Option (List ℕ)) (refused : Refused) : Type 0 where
   pub entry : PlainEntry
   pub is_there : found ≡ Some entry
@@ -58,7 +58,7 @@ pub record HintsPart (part : PlainPart) (form : TextForm) (found : Option PlainE
   pub refuses : rows_of_text form entry.schema bytes ≡ Err refused
   pub names : refused_part form entry.schema bytes refused.number ≡ Some part
 
--- nothing is hinted but of a refused text
+-- only a refused text has a hint
 abbrev pub IfHinted : Option Hinted → TextForm → Option PlainEntry → Option (List ℕ) → Result (Unit {0}) Refusal → Type 0
 IfHinted None form found input result = Unit {0}
 IfHinted (Some (Part part)) form found input (Err (Text refused)) = HintsPart (part_of part) form found input refused

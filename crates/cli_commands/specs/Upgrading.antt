@@ -1,4 +1,4 @@
--- What the program answers of an upgrade.
+-- What the program answers to an upgrade.
 use Rattle.std.specs.Prelude.{◌≡◌, ◌≢◌, ◌↔◌, ℕ, Bool, true, false, Result, Ok, Err, IfOk, IfErr}
 use Rattle.sector_dev.specs.Disk.{Story}
 use Rattle.sector_dev.specs.Time.{OnlyReads}
@@ -15,27 +15,27 @@ use Rattle.store.specs.Upgrading.{HasUpgraded, RefusesUpgrade}
 use Rattle.cli_refusals.specs.declared.refusal.Refusal.{Refusal}
 use Rattle.cli_commands.specs.Changing.{Follows}
 
--- whatever was done, it was done
+-- the answer without what the upgrade did
 abbrev pub as_done : Result Upgraded tables.Refusal → Result (Unit {0}) tables.Refusal
 as_done (Ok upgraded) = Ok tt
 as_done (Err e) = Err e
 
--- the store gave an answer of which this holds, and the program's follows it
+-- the store gave an answer for which this holds, and the program's answer follows it
 abbrev pub AnsweredUpgrade : (Result Upgraded tables.Refusal → Type 0) → Result (Unit {0}) Refusal → Type 0
 AnsweredUpgrade P result = (answer : Result Upgraded tables.Refusal) × P answer × Follows (as_done answer) result
 
--- a store answers an upgrade so: what `Store::upgrade` promises of every store and every device
+-- how a store answers an upgrade: what `Store::upgrade` promises of every store and every device
 pub record AnswersUpgrade {D : Type 0} {g : Ghosts D} (size : D → ℕ) (story : D → Story) (tells : Bool) (answer : Result Upgraded tables.Refusal)
     (old new : stores.Store D g) : Type 0 where
   -- the digests are those of the bytes that reads gave, and each refusal has its one reason
   pub upgraded : IfOk answer (λ upgraded. HasUpgraded size story tells old upgraded new)
   pub told : IfErr answer (λ e. RefusesUpgrade size story tells (is_halted old) old e new)
-  -- a store that has digests is left as it is
+  -- a store that has digests stays as it is
   pub already : is_halted old ≡ false → (commit_of old).version ≡ Two → answer ≡ Ok Already
-  -- a refusal leaves the commit, the catalogue and the runs; it has only read, unless the device failed
+  -- a refusal keeps the commit, the catalogue and the runs, and has only read, unless the device failed
   pub kept : IfErr answer (λ e. IsKept old new)
   pub reads : IfErr answer (λ e. e ≢ refusals.Device → tells ≡ true → OnlyReads (story (device_of old)) (story (device_of new)))
-  -- a halted store says that it is halted, and a store halts where its device fails
+  -- a halted store reports that it is halted, and a store halts if its device fails
   pub halted : (answer ≡ Err refusals.Halted) ↔ (is_halted old ≡ true)
   pub still : is_halted old ≡ true → new ≡ old
   pub halts : is_halted old ≡ false → (is_halted new ≡ true) ↔ (answer ≡ Err refusals.Device)

@@ -1,4 +1,4 @@
-// What changes the tables of an open store.
+// Commands that change the tables of an open store.
 ghost use Rattle.std.specs.Prelude.{◌≡◌, ◌≢◌, true, codes, IfErr, OnOk};
 ghost use Rattle.std.specs.Io.KnownBytes.{Appends};
 ghost use Rattle.catalogue.specs.Entries.{is_name};
@@ -21,21 +21,21 @@ use std::io::{Read, Write};
 use store::Store;
 use tables::Command;
 
-/// Carries out a command, and writes `ok` once it is done.
+/// Executes a command and writes `ok` once it is done.
 ///
 /// # Errors
-/// `Store` where the store refuses: then nothing is written, and the tables are as they were; after `Store(Device)` the store is halted, and it is
-/// open whether the command is done. `Io` where the output fails: the command is done all the same.
+/// `Store` if the store refuses: nothing is written, and the tables are unchanged; after `Store(Device)` the store is halted, and the command may
+/// or may not be done. `Io` if the output fails: the command is done all the same.
 pub fn apply_command<D: SectorDevice, W: Write>(
     alloc: Global,
     store: &mut Store<D>,
     command: Command,
     output: &mut W,
 ) -> Result<(), Refusal>
-    // The answer is the store's: done only where it has the command done, and else its refusal.
+    // The answer is the store's: `Ok` only if the store has done the command, and else its refusal.
     ensures goes { D.tells ≡ true → (base : Tables) (m : Machine) → StoreFits D.size D.story base m store.old
         → Answered (λ answer. GoesOn D.size D.story D.failed base m (apply_call (command_of command)) (ended answer) store.old store.new) result }
-    // On every store and every device: the store was given the command, and what it answered is reported.
+    // On every store and every device: the store was given the command, and its answer is reported.
     ensures told { Answered (λ answer. AnswersCommand D.size D.story D.tells (command_of command) answer store.old store.new) result }
     ensures written { OnOk result (Appends (W.contents output.old) (W.contents output.new) (codes "ok\n")) }
     ensures silent { IfErr result (λ refusal. refusal ≢ Refusal.Io → output.new ≡ output.old) }
@@ -44,13 +44,13 @@ pub fn apply_command<D: SectorDevice, W: Write>(
     write_whole(output, b"ok\n")
 }
 
-/// Makes the table that all of the input means as a stream, in place of one of this name, and writes `ok`.
+/// Reads the whole input as a stream, makes its table in place of one of this name, and writes `ok`.
 ///
-/// That the store is halted, and then a bad name, is reported before anything is read.
+/// A halted store, and then a bad name, is reported before anything is read.
 ///
 /// # Errors
-/// `Store`, as [`Store::import_from`] refuses: then nothing is written, and the tables are as they were; after `Store(Device)` the store is halted,
-/// and it is open whether the command is done. `Io` where the output fails: the command is done all the same.
+/// `Store`, as [`Store::import_from`] refuses: nothing is written, and the tables are unchanged; after `Store(Device)` the store is halted, and the
+/// command may or may not be done. `Io` if the output fails: the command is done all the same.
 pub fn import_input<D: SectorDevice, R: Read, W: Write>(
     alloc: Global,
     store: &mut Store<D>,
@@ -58,7 +58,7 @@ pub fn import_input<D: SectorDevice, R: Read, W: Write>(
     input: &mut R,
     output: &mut W,
 ) -> Result<(), Refusal>
-    // The answer is the store's: it was given all of the input, or there was a reason before, and nothing is changed.
+    // The answer is the store's, which was given the whole input; or there was a reason before that, and nothing is changed.
     ensures told { Answered (λ answer. AnswersInput D.size D.story D.failed D.tells R.remaining (import_stream name.now) (is_name name.now) BadName
         input.old input.new answer store.old store.new) result }
     ensures written { OnOk result (Appends (W.contents output.old) (W.contents output.new) (codes "ok\n")) }
@@ -68,13 +68,13 @@ pub fn import_input<D: SectorDevice, R: Read, W: Write>(
     write_whole(output, b"ok\n")
 }
 
-/// Appends the rows that all of the input means as a stream to a table, and writes `ok`.
+/// Reads the whole input as a stream, appends its rows to a table, and writes `ok`.
 ///
-/// That the store is halted, and then that there is no such table, is reported before anything is read.
+/// A halted store, and then a missing table, is reported before anything is read.
 ///
 /// # Errors
-/// `Store`, as [`Store::append_from`] refuses: then nothing is written, and the tables are as they were; after `Store(Device)` the store is halted,
-/// and it is open whether the command is done. `Io` where the output fails: the command is done all the same.
+/// `Store`, as [`Store::append_from`] refuses: nothing is written, and the tables are unchanged; after `Store(Device)` the store is halted, and the
+/// command may or may not be done. `Io` if the output fails: the command is done all the same.
 pub fn append_input<D: SectorDevice, R: Read, W: Write>(
     alloc: Global,
     store: &mut Store<D>,

@@ -1,4 +1,4 @@
-// A compaction of an open store.
+// Compacts an open store.
 ghost use Rattle.std.specs.Prelude.{◌≡◌, ◌≢◌, List, length, Ok, Err, IfOk, IfErr, OnOk};
 ghost use Rattle.std.specs.Io.KnownBytes.{Appends};
 ghost use Rattle.store.specs.declared.compacting.Compaction as steps;
@@ -10,7 +10,7 @@ use std::alloc::Global;
 use std::io::Write;
 use store::{Compaction, Store};
 
-// Steps until there is nothing to do, and how many did something. That there are not too many of them is what `store::compactions_end` says.
+// Takes steps until there is nothing left to do, and returns how many did something. The law `store::compactions_end` bounds their number.
 fn take_steps<D: SectorDevice>(alloc: Global, store: &mut Store<D>) -> Result<u64, tables::Refusal>
     ensures done { IfOk result (λ count. (taken : List steps.Compaction) × (length taken ≡ count) × Compacted taken (Ok tt) store.old store.new) }
     ensures refused { IfErr result (λ r. (taken : List steps.Compaction) × Compacted taken (Err r) store.old store.new) }
@@ -27,7 +27,7 @@ fn take_steps<D: SectorDevice>(alloc: Global, store: &mut Store<D>) -> Result<u6
     unreachable!()
 }
 
-// No memory is taken: what was done is reported also where there is none.
+// Takes no memory, so that the work is reported even when memory is out.
 fn write_steps<W: Write>(output: &mut W, count: u64) -> Result<(), Refusal>
     ensures written { OnOk result (Appends (W.contents output.old) (W.contents output.new) (steps_text count)) }
     ensures io { IfErr result (λ e. e ≡ Refusal.Io) }
@@ -36,19 +36,19 @@ fn write_steps<W: Write>(output: &mut W, count: u64) -> Result<(), Refusal>
     output.flush().map_err(|_| Refusal::Io)
 }
 
-/// Joins neighbouring segments that can be one, and moves the last ones forward, step by step until there is nothing to do, and writes
-/// `steps` and how many steps did something.
+/// Joins neighbouring segments that can be one and moves the last ones forward, step by step until there is nothing left to do, and writes `steps`
+/// and the number of steps that did something.
 ///
-/// The tables stay as they are at each moment.
+/// The tables are the same at every moment.
 ///
 /// # Errors
-/// `Store` where the store refuses a step: those before it are done, and nothing is written. `Io` where the output fails: the compaction is done.
+/// `Store` if the store refuses a step: the steps before it are done, and nothing is written. `Io` if the output fails: the compaction is done.
 pub fn compact_tables<D: SectorDevice, W: Write>(
     alloc: Global,
     store: &mut Store<D>,
     output: &mut W,
 ) -> Result<(), Refusal>
-    // Each step did something and the catalogue shrank by it, up to one with nothing to do, or to one that the store refused. No table changes.
+    // Each step did something and shrank the catalogue, up to one with nothing to do or one that the store refused. No table changes.
     ensures compacts { Compacts W.contents store.old store.new output.old output.new result }
     ensures silent { IfErr result (λ refusal. refusal ≢ Refusal.Io → output.new ≡ output.old) }
 {

@@ -1,4 +1,4 @@
-// All tables of a store, copied into another one.
+// Copies all tables of a store into another one.
 ghost use Rattle.std.specs.Prelude.{map, string_bytes, Ok, IfErr, OnOk};
 ghost use Rattle.catalogue.specs.Edits.{tables_of};
 ghost use Rattle.store.specs.Calls.{done};
@@ -12,7 +12,7 @@ use std::alloc::Global;
 use store::Store;
 use tables::{Command, Refusal};
 
-// One table, as the stream that it is exported as. It is freed before the next one.
+// Copies one table as the stream of its export, which is freed before the next table.
 fn copy_table<D: SectorDevice, E: SectorDevice>(
     alloc: Global,
     from: &mut Store<D>,
@@ -30,7 +30,7 @@ fn copy_table<D: SectorDevice, E: SectorDevice>(
     to.apply(alloc, Command::ImportStream { name: owned, bytes })
 }
 
-// Some tables, up to the first that is refused.
+// Copies tables up to the first that is refused.
 fn copy_each<D: SectorDevice, E: SectorDevice>(
     alloc: Global,
     from: &mut Store<D>,
@@ -51,22 +51,22 @@ fn copy_each<D: SectorDevice, E: SectorDevice>(
     Ok(())
 }
 
-/// Copies all tables of a store into another one, which has none: one after another in byte order of the names, each read whole and then imported, which
-/// is acknowledged before the next one is read. One table is in memory at a time.
+/// Copies all tables of a store into another one, which has none, in byte order of their names. Each table is read whole and then imported, and the
+/// import is acknowledged before the next table is read, so one table is in memory at a time.
 ///
 /// # Errors
-/// Those of [`Store::tables`], [`Store::export_bytes`] and, as an import, [`Store::apply`]. The tables before are copied then.
+/// Those of [`Store::tables`], [`Store::export_bytes`] and, for an import, [`Store::apply`]. The tables before the refused one are copied.
 pub fn copy_tables<D: SectorDevice, E: SectorDevice>(
     alloc: Global,
     from: &mut Store<D>,
     to: &mut Store<E>,
 ) -> Result<(), Refusal>
-    // Of stores that stand for machines: the one that has no tables has just those of the other one, and each was acknowledged.
+    // If the stores stand for machines: the one without tables then has exactly those of the other one, and each import was acknowledged.
     ensures copied { OnOk result (HasAllOf from.old to.old to.new) }
     // On any store and any device: the stream of each table that is listed and read was imported; each refusal has its one reason.
     ensures imports { OnOk result (ImportsEach from.old (tables_of (listed_in from.old)) to.old to.new) }
     ensures told { IfErr result (λ r. RefusesCopy from.old to.old r to.new) }
-    // The store that is copied is only read.
+    // The source is only read.
     ensures reads { IsOnlyRead from.old from.new }
 {
     let tables = from.tables(alloc)?;

@@ -1,4 +1,4 @@
-// Reading all of an input, which may be too long, as the program reports it.
+// Reads a whole input of limited length.
 ghost use Rattle.std.specs.Prelude.{◌≡◌, ◌+◌, ◌≤◌, IfSome, IfOk, IfErr, OnOk, IsErrOf, vec_len};
 ghost use Rattle.std.specs.Io.KnownBytes.{IsAtEnd};
 ghost use Rattle.store.specs.Input.{HasGiven, HasGivenAtMost};
@@ -10,17 +10,17 @@ use std::io::Read;
 use store::read_at_most;
 use tables::{Limit, MAX_IMPORT_BYTES};
 
-/// The most bytes that an input may have: those of the longest stream that is imported.
+/// The maximum length of an input in bytes: that of the longest stream that can be imported.
 pub const LARGEST_INPUT: usize = MAX_IMPORT_BYTES;
 
-// Reads to the end, at most as many bytes as an input may have and one more.
+// Reads to the end, but at most one byte more than an input may have.
 pub(crate) fn read_input<R: Read>(alloc: Global, reader: &mut R) -> Result<Vec<u8>, Refusal>
     ensures all { IfOk result (λ bytes. IfSome (R.remaining reader.old) (λ input. bytes.items ≡ input)) }
     ensures end { OnOk result (IsAtEnd (R.remaining reader.new)) }
     ensures within { IfOk result (λ bytes. vec_len bytes ≤ LARGEST_INPUT) }
     ensures too_many { IsErrOf result Refusal.TooManyBytes
         → HasGiven (R.remaining reader.old) (R.remaining reader.new) (LARGEST_INPUT + 1) }
-    // Every other refusal comes before the byte that is one too many.
+    // Any other refusal comes before the first byte too many is read.
     ensures few { UnlessTooManyBytes result (HasGivenAtMost (R.remaining reader.old) (R.remaining reader.new) LARGEST_INPUT) }
     ensures told { IfErr result IsOfInput }
 {

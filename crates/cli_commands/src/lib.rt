@@ -1,9 +1,9 @@
 //! The commands of an open store on any device, over any reader and writer, and [`recode`].
 //!
-//! [`apply_command`], [`import_input`], [`append_input`] and [`append_text`] change its tables; [`print_tables`],
-//! [`print_schema`], [`print_selection`], [`print_summary`], [`export_table`] and [`check_tables`] read them; [`compact_tables`] moves their rows together,
-//! [`upgrade_store`] gives their segments digests, [`copy_tables`] copies all into another store, and [`salvage_table`] writes what can be read of a
-//! damaged one. Their contracts say which bytes are taken and given, and what became of the store.
+//! [`apply_command`], [`import_input`], [`append_input`] and [`append_text`] change the tables; [`print_tables`], [`print_schema`],
+//! [`print_selection`], [`print_summary`], [`export_table`] and [`check_tables`] read them; [`compact_tables`] joins their segments,
+//! [`upgrade_store`] gives the segments digests, [`copy_tables`] copies all tables into another store, and [`salvage_table`] writes what can be
+//! read of a damaged one. Their contracts say which bytes are read and written, and what becomes of the store.
 //! [`recode`] reads a stream and writes its canonical form.
 //!
 //! ```

@@ -1,4 +1,4 @@
-// What an open store is asked for, as lines on an output.
+// Prints the tables of an open store, and the fields of one, as lines.
 ghost use Rattle.std.specs.Prelude.{◌≡◌, ◌≢◌, ◌++◌, map, option_map, string_bytes, false, Some, IfSome, IsSome, IfOk, IfErr, OnOk};
 ghost use Rattle.std.specs.Fmt.{decimal};
 ghost use Rattle.std.specs.Io.KnownBytes.{Appends};
@@ -24,10 +24,10 @@ fn push_number(text: &mut String, number: u64) -> Result<(), AllocError>
     write!(text, "{number}")
 }
 
-/// The lines of these tables: the name of each, and how many rows it has.
+/// Returns a line for each of these tables: its name and its number of rows.
 ///
 /// # Errors
-/// `AllocError` where memory was refused.
+/// `AllocError` if memory is refused.
 pub fn lines_of_tables(alloc: Global, tables: &[(String, u64)]) -> Result<String, AllocError>
     ensures { IfOk result (λ text. string_bytes text ≡ tables_text (map (λ t. (string_bytes t.0, t.1)) tables.now)) }
 {
@@ -52,10 +52,10 @@ fn lines_of_fields(alloc: Global, fields: &[Field]) -> Result<String, AllocError
     Ok(text)
 }
 
-/// Prints a line for each table, in byte order of the names: the name, and how many rows the table has.
+/// Prints a line for each table, in byte order of the names: the name and the number of rows.
 ///
 /// # Errors
-/// `Store` with `Halted` or `OutOfMemory`, and `OutOfMemory`: then nothing is written. `Io` where a write fails: some lines may be written.
+/// `Store` with `Halted` or `OutOfMemory`, and `OutOfMemory`: nothing is written. `Io` if a write fails: some lines may be written.
 pub fn print_tables<D: SectorDevice, W: Write>(
     alloc: Global,
     store: &Store<D>,
@@ -64,7 +64,7 @@ pub fn print_tables<D: SectorDevice, W: Write>(
     // What is printed is what the store has, and nothing else.
     ensures written { OnOk result (Appends (W.contents output.old) (W.contents output.new) (tables_text (tables_of (listed_in store.now)))) }
     ensures told { IfErr result (RefusesPrinting (RefusesTables (is_halted store.now)) (is_halted store.now ≡ false)) }
-    // Where it is refused nothing is printed, unless a write failed.
+    // A refusal prints nothing, unless a write failed.
     ensures silent { IfErr result (λ refusal. refusal ≢ Refusal.Io → output.new ≡ output.old) }
 {
     let tables = store.tables(alloc)?;
@@ -72,10 +72,10 @@ pub fn print_tables<D: SectorDevice, W: Write>(
     write_whole(output, text.as_bytes())
 }
 
-/// Prints a line for each field of a table, as a field text whose names are JSON strings.
+/// Prints a line for each field of a table: a field text whose names are JSON strings.
 ///
 /// # Errors
-/// `Store` with `Halted`, `NoTable` or `OutOfMemory`, and `OutOfMemory`: then nothing is written. `Io` where a write fails: some may be written.
+/// `Store` with `Halted`, `NoTable` or `OutOfMemory`, and `OutOfMemory`: nothing is written. `Io` if a write fails: some lines may be written.
 pub fn print_schema<D: SectorDevice, W: Write>(
     alloc: Global,
     store: &Store<D>,

@@ -1,4 +1,4 @@
-// What reads the tables of an open store: an export, and a check of all of them.
+// Commands that read the tables of an open store: `export`, and `check` of all of them.
 ghost use Rattle.std.specs.Prelude.{◌≡◌, ◌≢◌, true, codes, map, string_bytes, IfErr, OnOk};
 ghost use Rattle.std.specs.List.{AllByRecursion};
 ghost use Rattle.std.specs.Io.KnownBytes.{Appends};
@@ -16,10 +16,10 @@ use std::alloc::Global;
 use std::io::Write;
 use store::Store;
 
-/// Writes the canonical stream of the table of a name. Its parts are made before the first byte is written.
+/// Writes the canonical stream of the table of this name. All of its parts are made before the first byte is written.
 ///
 /// # Errors
-/// `Store`, as [`Store::read`] refuses: then nothing is written. `Io` where a write fails: some of the stream may be written.
+/// `Store`, as [`Store::read`] refuses: nothing is written. `Io` if a write fails: part of the stream may be written.
 pub fn export_table<D: SectorDevice, W: Write>(
     alloc: Global,
     store: &mut Store<D>,
@@ -34,7 +34,7 @@ pub fn export_table<D: SectorDevice, W: Write>(
         (shown_image (now (D.story (device_of store.old)))) (entry_of (listed_in store.old) name.now) t)) }
     // The store is only read.
     ensures reads { OnlyReadsStore D.size D.story D.failed D.tells (store_ended result) store.old store.new }
-    // Where it is refused nothing is written, unless a write failed.
+    // A refusal writes nothing, unless a write failed.
     ensures silent { IfErr result (λ refusal. refusal ≢ Refusal.Io → output.new ≡ output.old) }
 {
     match store.export(alloc, name, output) {
@@ -44,7 +44,7 @@ pub fn export_table<D: SectorDevice, W: Write>(
     }
 }
 
-// A hint at a table; none where memory is refused for its name.
+// Returns a hint at a table, or `None` if memory for its name is refused.
 fn hint_at(alloc: Global, name: &str) -> Option<Hinted>
     ensures { IsHintOf name.now result }
 {
@@ -54,7 +54,7 @@ fn hint_at(alloc: Global, name: &str) -> Option<Hinted>
     }
 }
 
-// Reads each of some tables, up to the first that can't be read. `hint` is then left with that one, if memory suffices, and else with none.
+// Reads tables up to the first that can't be read, and sets `hint` to that one, or to `None` if memory is refused.
 fn read_each<D: SectorDevice>(
     alloc: Global,
     store: &mut Store<D>,
@@ -85,13 +85,12 @@ fn read_each<D: SectorDevice>(
     Ok(())
 }
 
-/// Reads each table, in byte order of the names, and writes `ok` where all can be read.
+/// Reads each table, in byte order of the names, and writes `ok` if all can be read.
 ///
-/// The first table that can't be read is reported as [`Store::read`] reports it, and none after it is read. `hint` is left with its name, if memory
-/// suffices, and else with none.
+/// Stops at the first table that can't be read, reports it as [`Store::read`] does, and sets `hint` to its name, or to `None` if memory is refused.
 ///
 /// # Errors
-/// `Store` where the tables are not listed or one can't be read: then nothing is written. `Io` where a write fails: all tables can be read.
+/// `Store` if the tables can't be listed or one can't be read: nothing is written. `Io` if a write fails: all tables can be read.
 #[tactic(auto, using(crate::proofs::ReadingLemmas::nothing_hinted))]
 pub fn check_tables<D: SectorDevice, W: Write>(
     alloc: Global,
@@ -107,7 +106,7 @@ pub fn check_tables<D: SectorDevice, W: Write>(
         → RefusesCheck (is_halted store.old) (shown_image (now (D.story (device_of store.old)))) (listed_in store.old) refusal)
         (D.tells ≡ true → AllByRecursion (IsReadable (is_halted store.old) (shown_image (now (D.story (device_of store.old)))) (listed_in store.old))
         (tables_of (listed_in store.old)))) }
-    // What is hinted is the first table that can't be read; of another answer there is no hint.
+    // A hint names the first table that can't be read; any other answer has no hint.
     ensures hint { IfChecked hint.new D.tells (is_halted store.old) (shown_image (now (D.story (device_of store.old)))) (listed_in store.old) result }
     // The store is only read.
     ensures reads { OnlyReadsStore D.size D.story D.failed D.tells (store_ended result) store.old store.new }

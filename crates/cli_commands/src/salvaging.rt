@@ -1,4 +1,4 @@
-// The rows of a table that can be read, as a stream.
+// Salvages the readable rows of a table as a stream.
 ghost use Rattle.std.specs.Prelude.{◌≡◌, IsSome, IfOk, IfErr};
 ghost use Rattle.sector_dev.specs.Disk.{now, shown_image};
 ghost use Rattle.catalogue.specs.Edits.{entry_of};
@@ -14,12 +14,12 @@ use std::alloc::Global;
 use std::io::Write;
 use store::{LeftOut, Store};
 
-/// Writes the stream of all rows of the table of a name that can be read, one segment after another, and gives the segments that are left out. One segment is
+/// Writes the stream of all rows of a table that can be read, one segment after another, and returns the segments that are left out. One segment is
 /// in memory at a time.
 ///
 /// # Errors
-/// `Store`, as [`Store::salvage`] refuses. `Io` where a write fails. After `Io`, and where the device fails or memory is refused, some of the stream may be
-/// written.
+/// `Store`, as [`Store::salvage`] refuses. `Io` if a write fails. After `Io`, and if the device fails or memory is refused, part of the stream may
+/// be written.
 pub fn salvage_table<D: SectorDevice, W: Write>(
     alloc: Global,
     store: &mut Store<D>,
@@ -33,7 +33,7 @@ pub fn salvage_table<D: SectorDevice, W: Write>(
         (IsSome (entry_of (listed_in store.old) name.now))) }
     // The store is only read.
     ensures reads { OnlyReadsStore D.size D.story D.failed D.tells (store_ended result) store.old store.new }
-    // Where it is refused nothing is written, unless it was broken off.
+    // A refusal writes nothing, unless the salvage was broken off.
     ensures silent { IfErr result (λ refusal. ¬ IsBrokenOff refusal → output.new ≡ output.old) }
 {
     match store.salvage(alloc, name, output) {

@@ -1,4 +1,4 @@
-// Queries of the tables of an open store.
+// Queries the tables of an open store.
 ghost use Rattle.std.specs.Prelude.{◌≡◌, ◌≢◌, map, string_bytes, Some, Ok, IfOk, IfErr, OnOk};
 ghost use Rattle.std.specs.Option.{option_copied};
 ghost use Rattle.std.specs.Io.KnownBytes.{Appends};
@@ -58,10 +58,10 @@ fn conditions_of(alloc: Global, texts: &[&str]) -> Result<Vec<Condition>, Refusa
     Ok(conditions)
 }
 
-/// The query that words state: conditions, names of columns split by commas, and how many rows at most.
+/// Returns the query that the words state: conditions, column names separated by commas, and the maximum number of rows.
 ///
 /// # Errors
-/// `Query` with `BadCondition` where a string has not the shape of a condition; `OutOfMemory`.
+/// `Query` with `BadCondition` if a text does not have the form of a condition; `OutOfMemory`.
 pub fn query_of(
     alloc: Global,
     conditions: &[&str],
@@ -88,7 +88,7 @@ fn lines_of_rows(alloc: Global, form: RowForm, table: &Table) -> Result<Vec<u8>,
     Ok(text)
 }
 
-// An object has a member for each column, so that it must be the only one of its name.
+// An object has a member for each column, so the names of the columns must differ.
 fn can_be_printed(form: RowForm, table: &Table) -> bool
     ensures { result ≡ is_printable form (table_of table.now) }
 {
@@ -98,7 +98,7 @@ fn can_be_printed(form: RowForm, table: &Table) -> bool
     }
 }
 
-// What a query selects from a table, where it can be printed in this form.
+// Returns what a query selects from a table, if it can be printed in this form.
 fn selection_to_print(
     alloc: Global,
     form: RowForm,
@@ -115,7 +115,6 @@ fn selection_to_print(
     Ok(selected)
 }
 
-// The lines of what a query selects from a table.
 fn lines_of_selection(
     alloc: Global,
     form: RowForm,
@@ -129,12 +128,12 @@ fn lines_of_selection(
     Ok(lines_of_rows(alloc, form, &selected)?)
 }
 
-/// Prints each row that a query selects from a table, as a line of JSON: an array, or an object by the names of the columns. All lines are made before
-/// the first is written.
+/// Prints each row that a query selects from a table as a line of JSON: an array, or an object with the names of the columns. All lines are made
+/// before the first is written.
 ///
 /// # Errors
-/// Those of [`Store::read`]; `Query` where the query is refused, or with `UnknownColumn` where two of the chosen columns have the same name and rows are
-/// objects; `Io` where a write fails, and then some lines may be written.
+/// Those of [`Store::read`]; `Query` if the query is refused, or with `UnknownColumn` if rows are objects and two of the chosen columns have the
+/// same name; `Io` if a write fails, and some lines may be written.
 pub fn print_selection<D: SectorDevice, W: Write>(
     alloc: Global,
     store: &mut Store<D>,
@@ -143,7 +142,7 @@ pub fn print_selection<D: SectorDevice, W: Write>(
     form: RowForm,
     output: &mut W,
 ) -> Result<(), Refusal>
-    // What is written are the lines of the selection of the table that reads show, and nothing else.
+    // What is written is the lines of the selection from the table that reads show, and nothing else.
     ensures written { OnOk result ((selected : PlainTable) × QueryAnswers form (is_halted store.old) D.tells (shown_image (now (D.story (device_of store.old))))
         (entry_of (listed_in store.old) name.now) (query_in query.now) (Ok selected)
         × Appends (W.contents output.old) (W.contents output.new) (rows_text form selected)) }
@@ -151,7 +150,7 @@ pub fn print_selection<D: SectorDevice, W: Write>(
         (entry_of (listed_in store.old) name.now) (query_in query.now)) }
     // The store is only read.
     ensures reads { OnlyReadsStore D.size D.story D.failed D.tells (store_ended result) store.old store.new }
-    // Where it is refused nothing is written, unless a write failed.
+    // A refusal writes nothing, unless a write failed.
     ensures silent { IfErr result (λ refusal. refusal ≢ Refusal.Io → output.new ≡ output.old) }
 {
     let table = store.read(alloc, name)?;

@@ -1,4 +1,4 @@
-// A stream from a reader, in its canonical form to a writer.
+// Reads a stream and writes its canonical form.
 ghost use Rattle.std.specs.Prelude.{◌≡◌, ◌≢◌, ◌+◌, ◌≤◌, ◌<◌, length, IfSome, IfOk, IfErr, OnOk, IsErr, IsErrOf};
 ghost use Rattle.std.specs.Io.KnownBytes.{Appends, IsAtEnd};
 ghost use Rattle.ipc_message.specs.Header.{supported_codes};
@@ -20,9 +20,9 @@ use values::Table;
 /// Reads a stream to its end, and writes the canonical stream of its table and nothing else.
 ///
 /// # Errors
-/// `TooManyBytes` where the input has more than `LARGEST_INPUT` bytes, and `Fault` where the stream has no meaning; then nothing is written.
-/// `OutOfMemory` only where memory was refused, before anything is written and before the byte that is one too many was read. `Io` where a read or a
-/// write fails: some may be written then, but nothing of an input without a meaning.
+/// `TooManyBytes` if the input has more than `LARGEST_INPUT` bytes, and `Fault` if the stream has no meaning: nothing is written. `OutOfMemory`
+/// only if memory was refused, before anything is written and before the first byte too many is read. `Io` if a read or a write fails: some bytes
+/// may be written, but none for an input without a meaning.
 pub fn recode<R: Read, W: Write>(
     alloc: Global,
     reader: &mut R,
@@ -30,20 +30,20 @@ pub fn recode<R: Read, W: Write>(
 ) -> Result<(), Refusal>
     // What is written is the canonical stream of what the input means, and nothing else.
     ensures written { OnOk result (IfSome (R.remaining reader.old) (AppendsCanonical (W.contents writer.old) (W.contents writer.new))) }
-    // A fault that is reported is the fault of the input, and no refusal is of anything but the input, the output and memory.
+    // A reported fault is the fault of the input, and every other refusal is about the input, the output or memory.
     ensures fault { IfErr result (λ refusal. IsTrueFault refusal (R.remaining reader.old)) }
-    // A verdict comes only where the input was read to its end, and is not too long.
+    // A verdict comes only after the input was read to its end and is not too long.
     ensures end { IsVerdict result → IsAtEnd (R.remaining reader.new) }
     ensures within { IsVerdict result → IfSome (R.remaining reader.old) (λ input. length input ≤ LARGEST_INPUT) }
-    // Too many bytes: one more than the most was read.
+    // Too many bytes: one more than the maximum was read.
     ensures too_many { IsErrOf result Refusal.TooManyBytes
         → HasGiven (R.remaining reader.old) (R.remaining reader.new) (LARGEST_INPUT + 1) }
-    // Every other answer comes before the byte that is one too many.
+    // Any other answer comes before the first byte too many is read.
     ensures few { UnlessTooManyBytes result (HasGivenAtMost (R.remaining reader.old) (R.remaining reader.new) LARGEST_INPUT) }
-    // Of an input that has no meaning or too many bytes nothing is written, whatever fails.
+    // For an input that has no meaning or too many bytes nothing is written, whatever fails.
     ensures meaningless { IfSome (R.remaining reader.old) (λ input. IsErr (meaning supported_codes input) → writer.new ≡ writer.old) }
     ensures too_long { IfSome (R.remaining reader.old) (λ input. LARGEST_INPUT < length input → writer.new ≡ writer.old) }
-    // Where it is refused, nothing is written, unless a read or a write failed.
+    // A refusal writes nothing, unless a read or a write failed.
     ensures silent { IfErr result (λ refusal. refusal ≢ Refusal.Io → writer.new ≡ writer.old) }
 {
     let table = read_table(alloc, reader)?;
@@ -54,7 +54,7 @@ pub fn recode<R: Read, W: Write>(
     }
 }
 
-// The table that all the reader has stands for.
+// Reads the whole input and returns the table that it stands for.
 fn read_table<R: Read>(alloc: Global, reader: &mut R) -> Result<Table, Refusal>
     ensures meaning { IfOk result (λ table. IfSome (R.remaining reader.old) (λ input. meaning supported_codes input ≡ Ok (table_of table))) }
     ensures fault { IfErr result (λ refusal. IsTrueFault refusal (R.remaining reader.old)) }

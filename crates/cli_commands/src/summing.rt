@@ -1,4 +1,4 @@
-// A store in numbers, on an output.
+// Prints the summary of a store.
 ghost use Rattle.std.specs.Prelude.{◌≡◌, ◌≢◌, ◌++◌, string_bytes, false, IfOk, IfErr, OnOk};
 ghost use Rattle.std.specs.Io.KnownBytes.{Appends};
 ghost use Rattle.sector_dev.specs.Disk.{now, shown_image};
@@ -16,14 +16,14 @@ use std::fmt::Write as _;
 use std::io::Write;
 use store::{Store, Summary};
 
-// A text, and a number after it.
+// Appends a text, then a number.
 fn push_number(text: &mut String, before: &str, number: u64) -> Result<(), AllocError>
     ensures { OnOk result (string_bytes text.new ≡ string_bytes text.old ++ numbered before.now number) }
 {
     write!(text, "{before}{number}")
 }
 
-// A text, and a truth value after it.
+// Appends a text, then a truth value.
 fn push_flag(text: &mut String, before: &str, flag: bool) -> Result<(), AllocError>
     ensures { OnOk result (string_bytes text.new ≡ string_bytes text.old ++ flagged before.now flag) }
 {
@@ -77,25 +77,25 @@ fn text_of(alloc: Global, s: &Summary, agree: bool, as_json: bool) -> Result<Str
     }
 }
 
-/// Prints the numbers of a store ([`Store::summary`]) and whether its commit sectors agree ([`Store::commits_agree`]): each with its name on a line, or all as
-/// one object of JSON on one line.
+/// Prints the summary of a store ([`Store::summary`]) and whether its commit sectors agree ([`Store::commits_agree`]): a line with a name and a
+/// value each, or one JSON object on one line.
 ///
 /// # Errors
-/// `Store` with `Halted`, `OutOfMemory` or `Device`, and `OutOfMemory`: then nothing is written. `Io` where a write fails: some may be written.
+/// `Store` with `Halted`, `OutOfMemory` or `Device`, and `OutOfMemory`: nothing is written. `Io` if a write fails: some bytes may be written.
 pub fn print_summary<D: SectorDevice, W: Write>(
     alloc: Global,
     store: &mut Store<D>,
     as_json: bool,
     output: &mut W,
 ) -> Result<(), Refusal>
-    // What is printed are the numbers of this store, what reads show of its commit sectors, and nothing else.
+    // What is printed is the numbers of this store and what reads show of its commit sectors, and nothing else.
     ensures written { OnOk result ((s : _) × (agree : _) × IsSummary (D.size (device_of store.old)) store.old s
         × SaysAgreement (is_halted store.old) D.tells (shown_image (now (D.story (device_of store.old)))) agree
         × Appends (W.contents output.old) (W.contents output.new) (summary_text as_json s agree)) }
     ensures told { IfErr result (RefusesPrinting (RefusesSummary (is_halted store.old)) (is_halted store.old ≡ false)) }
     // The store is only read.
     ensures reads { OnlyReadsStore D.size D.story D.failed D.tells (store_ended result) store.old store.new }
-    // Where it is refused nothing is printed, unless a write failed.
+    // A refusal prints nothing, unless a write failed.
     ensures silent { IfErr result (λ refusal. refusal ≢ Refusal.Io → output.new ≡ output.old) }
 {
     let summary = store.summary(alloc)?;

@@ -1,4 +1,4 @@
-// Rows of an input that is a text: CSV or JSON Lines.
+// Appends the rows of an input that is a text: CSV or JSON Lines.
 ghost use Rattle.std.specs.Prelude.{◌≡◌, ◌≢◌, true, codes, string_bytes, IfErr, IfOk, IfSome, Ok, OnOk};
 ghost use Rattle.std.specs.Io.KnownBytes.{Appends};
 ghost use Rattle.catalogue.specs.Edits.{entry_of};
@@ -32,7 +32,7 @@ use text_columns::{csv_table, jsonl_table};
 use text_import::{TextError, TextForm, refused_part, rows_of_text};
 use values::WeighedTable;
 
-// The part of a refused text that is refused. Where memory is refused for it, none is answered.
+// Returns the part of a refused text that is refused, or `None` if memory for it is refused.
 #[tactic(auto, using(crate::proofs::TextLemmas::hints_at))]
 fn refused_in(
     alloc: Global,
@@ -58,7 +58,7 @@ fn refused_in(
     }
 }
 
-// The table of the rows of a text, where they are read into arrays, and what they weigh.
+// Reads the rows of a text into arrays, if that is possible, and returns their table and weight.
 fn read_table(
     alloc: Global,
     form: &TextForm<'_>,
@@ -75,7 +75,7 @@ fn read_table(
     }
 }
 
-// The command that appends the rows of a text to the table of a name. They are read into arrays where that is possible.
+// Returns the command that appends the rows of a text to a table. The rows are read into arrays if that is possible.
 fn read_command(
     alloc: Global,
     form: &TextForm<'_>,
@@ -93,7 +93,7 @@ fn read_command(
     Ok(Command::AppendRows { name, rows })
 }
 
-// The same; where the text is refused, `hint` is the part that is. The text's bytes are freed.
+// `read_command`, which also frees the text and, if the text is refused, sets `hint` to the refused part.
 fn take_command(
     alloc: Global,
     form: &TextForm<'_>,
@@ -116,15 +116,15 @@ fn take_command(
     }
 }
 
-/// Appends the rows that all of the input has, as a text for the table's schema, and writes `ok`.
+/// Reads the whole input as a text for the table's schema, appends its rows, and writes `ok`.
 ///
-/// That there is no such table is reported before anything is read. Where the text is refused, `hint` is left with the part of it that is, if
-/// memory suffices, and else with none.
+/// A missing table is reported before anything is read. If the text is refused, `hint` is set to the refused part of it, or to `None` if memory is
+/// refused.
 ///
 /// # Errors
-/// `Text` where the text is refused, after all of it was read; `TooManyBytes` where it is longer than `LARGEST_INPUT`; `OutOfMemory`; `Store` where
-/// the store refuses: the tables are then as they were, and nothing is written; after `Store(Device)` the store is halted, and it is open whether the
-/// rows are appended. `Io` where the input can't be read, and then nothing has changed, or where the output fails, and then the rows are appended.
+/// `Text` if the text is refused, after all of it was read; `TooManyBytes` if it is longer than `LARGEST_INPUT`; `OutOfMemory`; `Store` if the
+/// store refuses: the tables are unchanged, and nothing is written; after `Store(Device)` the store is halted, and the rows may or may not be
+/// appended. `Io` if the input can't be read, and then nothing is changed, or if the output fails, and then the rows are appended.
 #[tactic(auto, using(crate::proofs::TextLemmas::no_hint))]
 pub fn append_text<D: SectorDevice, R: Read, W: Write>(
     alloc: Global,
@@ -135,19 +135,19 @@ pub fn append_text<D: SectorDevice, R: Read, W: Write>(
     output: &mut W,
     hint: &mut Option<Hinted>,
 ) -> Result<(), Refusal>
-    // What the store is given are the rows of the input, as they are defined.
+    // The store is given the rows of the input, as they are defined.
     ensures goes { D.tells ≡ true → (base : Tables) (m : Machine) → StoreFits D.size D.story base m store.old
         → HandsRows form.now (entry_of (listed_in store.old) name.now) (R.remaining input.old)
         (λ rows answer. GoesOn D.size D.story D.failed base m (apply_call (append_rows name.now rows)) (ended answer) store.old store.new)
         (λ refusal. store.new ≡ store.old) result }
-    // On any store: it was given these rows, and what it answered is reported; or there was a reason before, and nothing is changed or written.
+    // On any store: it was given these rows, and its answer is reported; or there was a reason before that, and nothing is changed or written.
     ensures told { HandsRows form.now (entry_of (listed_in store.old) name.now) (R.remaining input.old)
         (λ rows answer. AnswersCommand D.size D.story D.tells (append_rows name.now rows) answer store.old store.new)
         (λ refusal. RefusesText R.remaining form.now (is_halted store.old) (entry_of (listed_in store.old) name.now) input.old input.new refusal
         × (store.new ≡ store.old) × (output.new ≡ output.old)) result }
-    // A record that is refused is the first one that is none.
+    // A refusal of the text is the one that is defined for the whole input.
     ensures refused { IfErr result (IfOfText form.now (entry_of (listed_in store.old) name.now) (R.remaining input.old)) }
-    // What is hinted is the part of the text that is refused, as it is defined; of another answer there is no hint.
+    // A hint is the refused part of the text, as it is defined; any other answer has no hint.
     ensures hint { IfHinted hint.new form.now (entry_of (listed_in store.old) name.now) (R.remaining input.old) result }
     ensures written { OnOk result (Appends (W.contents output.old) (W.contents output.new) (codes "ok\n")) }
     ensures silent { IfErr result (λ refusal. refusal ≢ Refusal.Io → output.new ≡ output.old) }

@@ -1,4 +1,4 @@
-// An open store gets digests.
+// Gives the segments of an open store digests.
 ghost use Rattle.std.specs.Prelude.{◌≡◌, ◌≢◌, true, codes, IfErr, OnOk};
 ghost use Rattle.std.specs.Io.KnownBytes.{Appends};
 ghost use Rattle.tables.specs.Tables.{Tables};
@@ -15,22 +15,22 @@ use std::alloc::Global;
 use std::io::Write;
 use store::Store;
 
-/// Gives each segment of a store of version 1 the digest of its bytes, and writes `ok` once it is done, also where the store had digests before.
+/// Gives each segment of a store of version 1 the digest of its bytes, and writes `ok` once it is done, also if the store had digests before.
 ///
-/// The tables stay as they are at each moment.
+/// The tables are the same at every moment.
 ///
 /// # Errors
-/// `Store` where the store refuses: then nothing is written, and the store is as it was; after `Store(Device)` it is halted. `Io` where the output fails:
-/// the upgrade is done all the same.
+/// `Store` if the store refuses: nothing is written, and the store is unchanged; after `Store(Device)` it is halted. `Io` if the output fails: the
+/// upgrade is done all the same.
 pub fn upgrade_store<D: SectorDevice, W: Write>(
     alloc: Global,
     store: &mut Store<D>,
     output: &mut W,
 ) -> Result<(), Refusal>
-    // The answer is the store's: done only where it has digests, and else its refusal.
+    // The answer is the store's: `Ok` only if it has digests, and else its refusal.
     ensures goes { D.tells ≡ true → (base : Tables) (m : Machine) → StoreFits D.size D.story base m store.old
         → AnsweredUpgrade (λ answer. GoesOn D.size D.story D.failed base m upgrade_call (upgrade_ended answer) store.old store.new) result }
-    // On every store and every device: the store was upgraded, and what it answered is reported.
+    // On every store and every device: the store was asked to upgrade, and its answer is reported.
     ensures told { AnsweredUpgrade (λ answer. AnswersUpgrade D.size D.story D.tells answer store.old store.new) result }
     ensures written { OnOk result (Appends (W.contents output.old) (W.contents output.new) (codes "ok\n")) }
     ensures silent { IfErr result (λ refusal. refusal ≢ Refusal.Io → output.new ≡ output.old) }

@@ -1,4 +1,4 @@
--- What is reported of a file that is not opened, made, read, written or synced.
+-- What is reported of a file that can't be used.
 use Rattle.std.specs.Prelude.{ℕ, ◌++◌, List, codes}
 use Rattle.cli_refusals.specs.declared.failed_file.FileReason.{FileReason}
 use Rattle.cli_refusals.specs.declared.failed_file.FileReason.TheVariants as reasons

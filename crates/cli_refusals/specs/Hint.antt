@@ -1,5 +1,5 @@
--- What is said to be refused, on a terminal before what to do: a word of the command line, a file, the input or the output, a part of the input, a field of a
--- stream, a table, or a line of a script.
+-- What is reported on a terminal as refused, before what to do: a word of the command line, a file, the input or the output, a part of the input, a
+-- field of a stream, a table, or a line of a script.
 use Rattle.std.specs.Prelude.{ℕ, ◌==◌, ◌++◌, decimal, codes, List, [], Option, Some, None, string_bytes, if◌then◌else◌}
 use Rattle.text_import.specs.Part.{PlainPart, header_name, header_count, record_count, field, line, PlainLinePart, column_cell, other_count, unknown_name, part_of}
 use Rattle.cli_refusals.specs.declared.hint.Hint.{Hint}
@@ -8,44 +8,44 @@ use Rattle.cli_refusals.specs.RefusedWord.{role_text}
 use Rattle.cli_refusals.specs.FailedFile.{reason_text}
 use Rattle.cli_refusals.specs.Shown.{shown}
 
--- of the name of a field, and its text
+-- the name of a field, and its text
 abbrev pub field_text : (name text : Option (List ℕ)) → List ℕ
 field_text None text = []
 field_text (Some name) None = codes "The field `" ++ name ++ codes "` is refused. "
 field_text (Some name) (Some text) = codes "The text `" ++ text ++ codes "` of field `" ++ name ++ codes "` is refused. "
 
--- of a field of a stream, its name and its text, and the text of the field that the table has in its place
+-- the name and the text of a field of a stream, and the text of the field that the table has in its place
 abbrev pub other_field_text : (name found wanted : Option (List ℕ)) → List ℕ
 other_field_text name found None = field_text name None
 other_field_text name None (Some wanted) = codes "The input has another field where the table has `" ++ wanted ++ codes "`. "
 other_field_text name (Some found) (Some wanted) = codes "The input has `" ++ found ++ codes "` where the table has `" ++ wanted ++ codes "`. "
 
--- of a line
+-- a line
 abbrev pub line_text : Option (List ℕ) → List ℕ
 line_text None = []
 line_text (Some text) = codes "The line `" ++ text ++ codes "` is refused. "
 
--- of a name of a header, and the one that is wanted
+-- a name of a header, and the expected one
 abbrev pub header_text : (found wanted : Option (List ℕ)) → List ℕ
 header_text found None = []
 header_text None (Some wanted) = codes "The header has another name where the table has `" ++ wanted ++ codes "`. "
 header_text (Some found) (Some wanted) = codes "The header names `" ++ found ++ codes "` where the table has `" ++ wanted ++ codes "`. "
 
--- of a name in an object
+-- a name in an object
 abbrev pub name_text : Option (List ℕ) → List ℕ
 name_text None = []
 name_text (Some name) = codes "The name `" ++ name ++ codes "` is no column. "
 
--- so many things, by the noun for one of them
+-- a number of things, by the noun for one of them
 abbrev pub counted : ℕ → List ℕ → List ℕ
 counted n noun = decimal n ++ codes " " ++ noun ++ (if n == 1 then [] else codes "s")
 
--- of a header, a record or a stream, how many parts it has
+-- the number of parts of a header, a record or a stream, and the number of columns of the table
 abbrev pub counts_text : (whole part : List ℕ) → (parts columns : ℕ) → List ℕ
 counts_text whole part parts columns =
     codes "The " ++ whole ++ codes " has " ++ counted parts part ++ codes ", and the table " ++ counted columns (codes "column") ++ codes ". "
 
--- of the name of a table
+-- the name of a table
 abbrev pub table_text : Option (List ℕ) → List ℕ
 table_text None = []
 table_text (Some name) = codes "The table `" ++ name ++ codes "` is refused. "

@@ -1,4 +1,4 @@
--- What the errors of the layers are reported as, and of a refusal its code, its name and what it carries, split by spaces.
+-- How the errors of the layers are reported, and the text of a refusal: its code, its name and what it carries, separated by spaces.
 use Rattle.std.specs.Prelude.{ℕ, List, ◌++◌, codes}
 use Rattle.std.specs.Fmt.{decimal}
 use Rattle.field_texts.specs.declared.parse.ParseError.{ParseError}
@@ -19,22 +19,22 @@ use Rattle.commit.specs.Told.{opening_text}
 use Rattle.cli_refusals.specs.declared.refusal.Refusal.{Refusal}
 use Rattle.cli_refusals.specs.declared.refusal.Refusal.TheVariants.{Fault, TooManyBytes, Io, BadSize, BadScript, Fields, Text, Query, Opening, Store, OutOfMemory}
 
--- what an import that failed is reported as
+-- how a failed import is reported
 abbrev pub refusal_of : ImportError → Refusal
 refusal_of (errors.Fault fault) = Fault fault
 refusal_of errors.OutOfMemory = OutOfMemory
 
--- what a file that was not opened or made is reported as
+-- how a file that was not opened or made is reported
 abbrev pub file_refusal : FileError → Refusal
 file_refusal files.Io = Io
 file_refusal files.BadSize = BadSize
 
--- what a text that was not read is reported as
+-- how a text that was not read is reported
 abbrev pub text_refusal : TextError → Refusal
 text_refusal (texts.Refused refused) = Text refused
 text_refusal texts.OutOfMemory = OutOfMemory
 
--- what a query that selects nothing is reported as
+-- how a query that selects nothing is reported
 abbrev pub query_refusal : QueryError → Refusal
 query_refusal queries.UnknownColumn = Query reasons.UnknownColumn
 query_refusal queries.BadCondition = Query reasons.BadCondition

@@ -1,4 +1,4 @@
--- What a word of a command line that is refused names.
+-- What the refused word of a command line names.
 use Rattle.std.specs.Prelude.{ℕ, List, codes}
 use Rattle.cli_refusals.specs.declared.refused_word.Role.{Role}
 use Rattle.cli_refusals.specs.declared.refused_word.Role.TheVariants as roles

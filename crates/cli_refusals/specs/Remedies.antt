@@ -1,4 +1,4 @@
--- What to do about each refusal, in a sentence: the page of refusals and a terminal give the same ones.
+-- What to do about each refusal, in a sentence: the page of refusals and a terminal give the same one.
 use Rattle.std.specs.Prelude.{ℕ, List}
 use Rattle.field_texts.specs.declared.parse.ParseError.{ParseError}
 use Rattle.field_texts.specs.declared.parse.ParseError.TheVariants as fields
@@ -16,7 +16,7 @@ use Rattle.cli_refusals.specs.declared.refusal.Refusal.{Refusal}
 use Rattle.cli_refusals.specs.declared.refusal.Refusal.TheVariants.{Fault, TooManyBytes, Io, BadSize, BadScript, Fields, Text, Query, Opening, Store, OutOfMemory}
 use Rattle.cli_refusals.specs.declared.remedies.TheConstants as remedies
 
--- of a fault of a stream; those without a remedy of their own lie with the program that wrote it
+-- for a fault of a stream; one without a remedy of its own lies with the program that wrote the stream
 unfoldable pub fault_remedy : streams.Fault → List ℕ
 fault_remedy faults.Truncated = remedies.GIVE_ALL.now
 fault_remedy faults.NoContinuation = remedies.GIVE_A_STREAM.now
@@ -33,26 +33,26 @@ fault_remedy faults.RowCount = remedies.SHORTER_BATCHES.now
 fault_remedy faults.TooHeavy = remedies.FEWER_ROWS.now
 fault_remedy _ = remedies.WRITE_AGAIN.now
 
--- of the texts of fields
+-- for field texts
 unfoldable pub fields_remedy : ParseError → List ℕ
 fields_remedy (fields.BadText number) = remedies.FORM_OF_A_FIELD.now
 fields_remedy fields.Limit = remedies.SMALLER_FIELDS.now
 fields_remedy fields.OutOfMemory = remedies.MORE_MEMORY.now
 
--- of a text of rows; all others lie with a record
+-- for a text of rows; all others lie with a record
 unfoldable pub text_remedy : text_refusals.Refusal → List ℕ
 text_remedy texts.Header = remedies.NAMES_FIRST.now
 text_remedy texts.Nested = remedies.GIVE_JSON_LINES.now
 text_remedy texts.AmbiguousNames = remedies.GIVE_ARRAYS.now
 text_remedy _ = remedies.FIX_RECORD.now
 
--- of a query
+-- for a query
 unfoldable pub query_remedy : QueryRefusal → List ℕ
 query_remedy queries.UnknownColumn = remedies.NAMES_OF_COLUMNS.now
 query_remedy queries.BadCondition = remedies.FORM_OF_A_CONDITION.now
 query_remedy queries.NotComparable = remedies.TEST_FOR_NULL.now
 
--- of an opening
+-- for an opening
 unfoldable pub opening_remedy : OpeningRefusal → List ℕ
 opening_remedy openings.NotAStore = remedies.FILE_OF_A_STORE.now
 opening_remedy openings.AlreadyAStore = remedies.SEE_TO_FILES.now
@@ -60,7 +60,7 @@ opening_remedy (openings.Damaged cause) = remedies.EARLIER_COPY.now
 opening_remedy openings.Device = remedies.TRY_AGAIN.now
 opening_remedy openings.OutOfMemory = remedies.MORE_MEMORY.now
 
--- of the open store; a fault and a query have theirs
+-- for the open store; a fault and a query have their own
 unfoldable pub store_remedy : store_refusals.Refusal → List ℕ
 store_remedy stores.NoTable = remedies.NAME_OF_A_TABLE.now
 store_remedy stores.NameTaken = remedies.OTHER_NAME.now

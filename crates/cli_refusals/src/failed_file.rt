@@ -1,24 +1,24 @@
-// A file that is not opened, made, read, written or synced.
+// A file that can't be used, and why.
 use std::fmt;
 
-/// Why it is not.
+/// Why a file can't be used.
 #[derive(Clone, Copy)]
 pub enum FileReason<'a> {
-    /// Another program has it locked.
+    /// Another program has locked it.
     Locked,
-    /// Something stands at the path of a file that was to be made.
+    /// It was to be made, but something is at its path.
     Exists,
     /// It is a folder.
     Folder,
-    /// It is a named pipe, or another thing that has no bytes which stay.
+    /// It is a named pipe or something else without stored bytes.
     NotRegular,
-    /// What the system says of opening or making it.
+    /// It could not be opened or made, with the system's reason.
     Unopened(&'a str),
-    /// What the system says of a read.
+    /// It could not be read, with the system's reason.
     Unread(&'a str),
-    /// What the system says of a write, or of giving it its length.
+    /// It could not be written or given its length, with the system's reason.
     Unwritten(&'a str),
-    /// What the system says of bringing it to the disk.
+    /// It could not be synced to the disk, with the system's reason.
     Unsynced(&'a str),
 }
 
@@ -42,7 +42,7 @@ impl fmt::Display for FileReason<'_> {
     }
 }
 
-/// A file that the command line or a script names, and why it is not opened, made, read, written or synced.
+/// A file that the command line or a script names and that can't be used, and why.
 #[derive(Clone, Copy)]
 pub struct FailedFile<'a> {
     pub path: &'a str,

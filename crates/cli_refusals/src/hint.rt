@@ -1,55 +1,55 @@
-// What is said to be refused, where more of it is known than the refusal carries.
+// What is refused, if more of it is known than the refusal carries.
 use crate::part_shown::{Counts, FieldShown, LineShown, OtherFieldShown, PartShown};
 use crate::shown::shown;
 use crate::{FailedFile, Word};
 use std::fmt;
 use text_import::RefusedPart;
 
-/// What a command hints at, where it finds more than its refusal carries.
+/// What a command itself hints at, if it finds more than its refusal carries.
 #[derive(Drop)]
 pub enum Hinted {
-    /// The part of the input that is refused.
+    /// The refused part of the input.
     Part(RefusedPart),
     /// The name of a table that can't be read.
     Table(String),
 }
 
-/// What is said to be refused on a terminal.
+/// What is reported on a terminal as refused.
 #[derive(Clone, Copy)]
 pub enum Hint<'a> {
     /// A word of the command line.
     Word(Word<'a>),
-    /// A file that the command line or a script names, and why it is not opened, made, read, written or synced.
+    /// A file that the command line or a script names and that can't be used, and why.
     File(FailedFile<'a>),
-    /// What the system says of a read of the input that failed.
+    /// The system's reason for a failed read of the input.
     Input(&'a str),
-    /// What the system says of a write of the output that failed.
+    /// The system's reason for a failed write of the output.
     Output(&'a str),
-    /// A part of the input. Those of its strings are printed that a terminal may be shown.
+    /// A part of the input. Each of its strings is printed if a terminal may be shown it.
     Part(&'a RefusedPart),
-    /// The name of a table that a command hints at, which is printed where a terminal may be shown it.
+    /// The name of a table that a command hints at, printed if a terminal may be shown it.
     Table(&'a String),
-    /// The same of a table that was found not to be readable after the command.
+    /// The name of a table that was found unreadable after the command, printed if a terminal may be shown it.
     UnreadTable(&'a str),
-    /// A line of a script, which is printed where a terminal may be shown it.
+    /// A line of a script, printed if a terminal may be shown it.
     ScriptLine(&'a [u8]),
-    /// The name of a field of a stream, which is printed where a terminal may be shown it.
+    /// The name of a field of a stream, printed if a terminal may be shown it.
     Field(&'a [u8]),
-    /// The name and the text of a field of a stream, and the text of the field that the table has in its place. Those are printed that a terminal may be
-    /// shown.
+    /// The name and the text of a field of a stream, and the text of the field that the table has in its place. Each is printed if a terminal may
+    /// be shown it.
     OtherField {
         name: &'a str,
         found: &'a str,
         wanted: &'a str,
     },
-    /// How many fields a stream has, and how many columns the table.
+    /// The number of fields of a stream, and the number of columns of the table.
     FieldCount {
         fields: usize,
         columns: usize,
     },
 }
 
-// What of the name of a table may be shown.
+// The name of a table, if it may be shown.
 #[derive(Drop)]
 struct TableShown<'a> {
     name: Option<&'a str>,
@@ -69,7 +69,7 @@ impl fmt::Display for TableShown<'_> {
     }
 }
 
-/// A sentence for each thing that is refused, and a space after it; or nothing, where none of it can be shown.
+/// Prints a sentence for each refused thing, each with a space after it, or nothing if none of it can be shown.
 impl fmt::Display for Hint<'_> {
     ghost use Rattle.std.specs.Prelude.{Some};
     ghost use Rattle.cli_refusals.specs.Hint.{hint_text};

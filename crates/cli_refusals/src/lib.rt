@@ -1,8 +1,8 @@
-//! Why a command of the program was refused, as it is reported: its text, what to do about it, and the word, the file, the input or
-//! output, the part of the input, the table or the line of a script that is meant.
+//! Why a command of the program was refused, as it is reported: the text of the refusal, what to do about it, and what it is about: a word of the
+//! command line, a file, the input or output, a part of the input, a table or a line of a script.
 //!
-//! A [`Refusal`] holds those of the layers below, which become one by `?`. Promised are its text (`specs/Refusals.antt`) and
-//! [`Refusal::remedy`], a sentence that stands on the page of all refusals ([`refusals_page`]) too.
+//! A [`Refusal`] wraps the errors of the layers below, which convert to it by `?`. Its text (`specs/Refusals.antt`) and its [`Refusal::remedy`] are
+//! promised; the remedy is a sentence that is also on the page of all refusals ([`refusals_page`]).
 //!
 //! ```
 //! assert_eq!(format!(in alloc; "{}", Refusal::Store(tables::Refusal::NoRoom(1)))?, "S8 NoRoom 1");

@@ -13,8 +13,8 @@ use crate::remedies::{
 };
 use std::alloc::{AllocError, Global};
 
-/// What each refusal means, and what to do: strings one after another, among them the sentences of `remedies`. The file
-/// `docs/refusals.md` has the same bytes.
+/// What each refusal means and what to do about it: strings to be joined, among them the sentences of `remedies`. The file `docs/refusals.md` has
+/// the same bytes.
 pub const REFUSALS: [&str; 81] = [
     "# What each refusal means
 
@@ -277,10 +277,10 @@ appended. A refusal without a remedy of its own lies with that record.
 ",
 ];
 
-/// The strings one after another.
+/// Returns the strings of the page, joined.
 ///
 /// # Errors
-/// `AllocError` where memory was refused.
+/// `AllocError` if memory is refused.
 #[tactic(auto, unfolding(crate::specs::Page::refusals_page))]
 pub fn refusals_page(alloc: Global) -> Result<String, AllocError>
     ensures { IfOk result (λ text. string_bytes text ≡ refusals_page) }

@@ -1,9 +1,9 @@
-// What is said of the part of an input that is refused.
+// Prints the refused part of an input.
 use crate::shown::shown;
 use std::fmt;
 use text_import::{LinePart, RefusedPart};
 
-/// What of a field may be shown.
+/// The name and the text of a field, if they may be shown.
 #[derive(Drop)]
 pub(crate) struct FieldShown<'a> {
     pub(crate) name: Option<&'a str>,
@@ -27,7 +27,7 @@ impl fmt::Display for FieldShown<'_> {
     }
 }
 
-/// What may be shown of a field of a stream, and of the one that the table has in its place.
+/// The name and the text of a field of a stream, and the text of the table's field in its place, if they may be shown.
 #[derive(Drop)]
 pub(crate) struct OtherFieldShown<'a> {
     pub(crate) name: Option<&'a str>,
@@ -66,7 +66,7 @@ impl fmt::Display for OtherFieldShown<'_> {
     }
 }
 
-/// What of a line may be shown.
+/// A line, if it may be shown.
 #[derive(Drop)]
 pub(crate) struct LineShown<'a> {
     pub(crate) text: Option<&'a str>,
@@ -86,7 +86,7 @@ impl fmt::Display for LineShown<'_> {
     }
 }
 
-// What of a name of a header and of the one that is wanted may be shown.
+// A name of a header and the expected one, if they may be shown.
 #[derive(Drop)]
 struct NamesShown<'a> {
     found: Option<&'a str>,
@@ -118,7 +118,7 @@ impl fmt::Display for NamesShown<'_> {
     }
 }
 
-// What of a name in an object may be shown.
+// A name in an object, if it may be shown.
 #[derive(Drop)]
 struct NameShown<'a> {
     name: Option<&'a str>,
@@ -138,7 +138,7 @@ impl fmt::Display for NameShown<'_> {
     }
 }
 
-// So many things, by the noun for one of them.
+// A number of things, with the noun for one of them.
 #[derive(Drop)]
 struct Counted {
     count: usize,
@@ -157,7 +157,7 @@ impl fmt::Display for Counted {
     }
 }
 
-/// How many parts a header, a record or a stream has, and how many columns the table.
+/// The number of parts of a header, a record or a stream, and the number of columns of the table.
 #[derive(Drop)]
 pub(crate) struct Counts {
     pub(crate) whole: &'static str,
@@ -189,7 +189,7 @@ impl fmt::Display for Counts {
     }
 }
 
-// What of a part of a line may be shown.
+// A part of a line, as far as it may be shown.
 #[derive(Drop)]
 struct LinePartShown<'a> {
     part: &'a Option<LinePart>,
@@ -231,7 +231,7 @@ impl fmt::Display for LinePartShown<'_> {
     }
 }
 
-/// What of a part of the input may be shown.
+/// A part of the input, as far as it may be shown.
 #[derive(Drop)]
 pub(crate) struct PartShown<'a> {
     pub(crate) part: &'a RefusedPart,

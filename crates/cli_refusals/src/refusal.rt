@@ -1,4 +1,3 @@
-// Why a command was refused.
 ghost use Rattle.std.specs.Prelude.{◌≡◌};
 ghost use Rattle.cli_refusals.specs.declared.refusal.Refusal.TheVariants.{OutOfMemory};
 ghost use Rattle.cli_refusals.specs.declared.refusal.Refusal.TheVariants as refusals;
@@ -19,25 +18,25 @@ use text_import::{Refused, TextError};
 pub enum Refusal {
     /// F: the input has no meaning as a stream.
     Fault(Fault),
-    /// S7: the input has more bytes than an input may have.
+    /// S7: the input has too many bytes.
     TooManyBytes,
     /// G1: a read or a write failed.
     Io,
-    /// G2: a store's file is no whole number of sectors, or no store has such a number of them.
+    /// G2: a store's file is not a whole number of sectors, or no store has this number of sectors.
     BadSize,
-    /// G3: the line of a script, counted from 1, is none that is played.
+    /// G3: this line of a script, counted from 1, can't be played.
     BadScript(u64),
-    /// P: the texts of fields state no schema.
+    /// P: the field texts state no schema.
     Fields(ParseError),
-    /// X: a record of the input is no row of the table.
+    /// X: a record of the input is not a row of the table.
     Text(Refused),
-    /// Q: the query selects nothing from the table.
+    /// Q: the query is refused for the table.
     Query(QueryRefusal),
     /// C: no store was opened or made.
     Opening(OpeningRefusal),
     /// S: the open store refused.
     Store(tables::Refusal),
-    /// A growth was refused.
+    /// Memory was refused.
     OutOfMemory,
 }
 
@@ -111,7 +110,7 @@ impl From<tables::Refusal> for Refusal {
     }
 }
 
-/// Code, name and carried values, split by spaces, as `S7 TooMany Bytes`.
+/// Prints the code, the name and the carried values, separated by spaces, as `S7 TooMany Bytes`.
 impl fmt::Display for Refusal {
     ghost use Rattle.std.specs.Prelude.{Some};
     ghost use Rattle.cli_refusals.specs.Refusals.{refusal_text};

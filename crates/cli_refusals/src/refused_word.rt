@@ -1,4 +1,3 @@
-// The word of a command line that is refused.
 use std::fmt;
 
 /// What a word of the command line names.
@@ -33,7 +32,7 @@ impl fmt::Display for Role {
     }
 }
 
-/// A word of the command line that is refused.
+/// A refused word of the command line.
 #[derive(Clone, Copy)]
 pub struct Word<'a> {
     pub role: Role,

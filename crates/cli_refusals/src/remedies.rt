@@ -1,4 +1,4 @@
-// What to do about each refusal: a sentence, which the page of refusals and a terminal show.
+// What to do about each refusal, in a sentence that the page of refusals and a terminal show.
 ghost use Rattle.std.specs.Prelude.{◌≡◌};
 ghost use Rattle.cli_refusals.specs.Remedies.{fault_remedy, fields_remedy, text_remedy, query_remedy, opening_remedy, store_remedy, remedy};
 
@@ -8,7 +8,7 @@ use field_texts::ParseError;
 use ipc_message::Fault;
 use tables::QueryRefusal;
 
-// ---- F: of a stream
+// ---- F: streams
 
 pub const WRITE_AGAIN: &str =
     "Have the stream written again, by another writer or with other options.";
@@ -39,7 +39,7 @@ pub const SHORTER_BATCHES: &str = "Have the stream written in shorter batches.";
 
 pub const FEWER_ROWS: &str = "Give fewer rows.";
 
-// ---- G and C: of files
+// ---- G and C: files
 
 pub const SEE_TO_FILES: &str =
     "See to the file, the input and the output, and look with `tables` what a store has.";
@@ -58,7 +58,7 @@ pub const EARLIER_COPY: &str =
 
 pub const TRY_AGAIN: &str = "See to the disk, and try again.";
 
-// ---- P: of field texts
+// ---- P: field texts
 
 pub const FORM_OF_A_FIELD: &str =
     "Write a field without spaces as `NAME:TYPE`, or `NAME:TYPE?` where nulls are allowed, as `id:uint64`: `help create` lists the types.";
@@ -66,7 +66,7 @@ pub const FORM_OF_A_FIELD: &str =
 pub const SMALLER_FIELDS: &str =
     "Give numbers of at most 2,147,483,647, and fewer, shorter or less deeply nested fields.";
 
-// ---- X: of a text
+// ---- X: texts
 
 pub const FIX_RECORD: &str = "Fix the record, and append all of the text again.";
 
@@ -77,7 +77,7 @@ pub const GIVE_JSON_LINES: &str = "Give the rows as JSON Lines.";
 
 pub const GIVE_ARRAYS: &str = "Give arrays in place of objects.";
 
-// ---- Q: of a query
+// ---- Q: queries
 
 pub const NAMES_OF_COLUMNS: &str =
     "Give names of columns as `schema` prints them, without the quotation marks: in `--columns` each once, and for `--objects` no two alike.";
@@ -87,7 +87,7 @@ pub const FORM_OF_A_CONDITION: &str =
 
 pub const TEST_FOR_NULL: &str = "Ask `is null` or `is not null` of such a column.";
 
-// ---- S: of an open store
+// ---- S: the open store
 
 pub const NAME_OF_A_TABLE: &str = "Give the name of a table: `tables` prints them.";
 
@@ -232,7 +232,7 @@ fn store_remedy(refusal: tables::Refusal) -> &'static str
 }
 
 impl Refusal {
-    /// What to do about it, in a sentence.
+    /// Returns what to do about the refusal, in a sentence.
     #[tactic(auto, unfolding(crate::specs::Remedies::remedy))]
     pub fn remedy(self) -> &'static str
         ensures { result.now ≡ remedy self }

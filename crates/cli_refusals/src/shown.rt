@@ -1,4 +1,4 @@
-// What a terminal may be shown of an input and of a command line.
+// What of an input and of a command line may be shown on a terminal.
 ghost use Rattle.std.specs.Prelude.{◌≡◌, option_map};
 ghost use Rattle.std.specs.List.{list_any};
 ghost use Rattle.std.specs.Str.{chars};
@@ -6,10 +6,10 @@ ghost use Rattle.cli_refusals.specs.Shown.{is_category_unshown, is_unshown, show
 
 use ucd_category::GeneralCategory;
 
-/// The most bytes that are shown of a string of the input.
+/// The maximum length in bytes of a shown string of the input.
 pub const MOST_SHOWN: usize = 100;
 
-// A character of such a category could do something to a terminal, turns the text after it round, or is not seen.
+// A character of such a category may control the terminal, reverses the text after it, or is invisible.
 fn is_category_unshown(category: GeneralCategory) -> bool
     ensures { result ≡ is_category_unshown category }
 {
@@ -29,14 +29,14 @@ fn is_unshown(c: char) -> bool
     is_category_unshown(GeneralCategory::for_char(c))
 }
 
-/// Whether a text has a character that a terminal is not shown: one of the general categories Cc, Cf, Zl and Zp of Unicode.
+/// Returns whether a text has a character that is not shown on a terminal: one of the Unicode general categories Cc, Cf, Zl and Zp.
 pub fn has_unshown(text: &str) -> bool
     ensures { result ≡ list_any is_unshown (chars text.now) }
 {
     text.chars().any(|c| is_unshown(c))
 }
 
-/// The string that bytes are, where a terminal may be shown it.
+/// Returns the bytes as a string, if it may be shown on a terminal.
 #[tactic(auto, using(crate::proofs::HintLemmas::shown_rules))]
 pub(crate) fn shown(bytes: &[u8]) -> Option<&str>
     ensures { option_map (λ t. t.now) result ≡ shown bytes.now }

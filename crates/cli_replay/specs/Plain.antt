@@ -1,4 +1,4 @@
--- What the parts of a script are, wherever they lie in memory.
+-- The parts of a script, wherever they lie in memory.
 use Rattle.std.specs.Prelude.{List, map}
 use Rattle.facts.specs.Texts.{text_list}
 use Rattle.cli_replay.specs.declared.script.ScriptLine.{ScriptLine}

@@ -1,4 +1,4 @@
--- Lines that are played one after another, on a device that may stop.
+-- Lines that are played one after another on a device that may stop.
 use Rattle.std.specs.Prelude.{◌≡◌, ◌++◌, ℕ, Bool, true, false, List, [], ◌∷◌, length, take, codes, Option, Some, None}
 use Rattle.sector_dev.specs.declared.device.SectorDevice.{Ghosts}
 use Rattle.tables.specs.Tables.{Tables}
@@ -14,7 +14,7 @@ use Rattle.cli_refusals.specs.declared.refusal.Refusal.TheVariants.{Opening, Sto
 use Rattle.cli_refusals.specs.Refusals.{refusal_text}
 use Rattle.cli_commands.specs.Printed.{tables_text}
 
--- the call of a line is answered, and then P holds of the place after it and of the replies to the others
+-- the call of the first line is answered, and P holds of the place after it and of the replies to the other lines
 pub record IsPlayed {D : Type 0} (g : Ghosts D) {R : Type 0} (remaining : R → Option (List ℕ)) (old : StoreOrDevice D g) (call : Call R) (replies : List PlainReply)
     (P : StoreOrDevice D g → List PlainReply → Type 0) : Type 0 where
   pub reply : PlainReply
@@ -28,21 +28,21 @@ pub record IsPlayed {D : Type 0} (g : Ghosts D) {R : Type 0} (remaining : R → 
 abbrev pub EndsAt : {D : Type 0} {g : Ghosts D} → StoreOrDevice D g → List PlainReply → StoreOrDevice D g → Type 0
 EndsAt old replies new = (replies ≡ []) × (new ≡ old)
 
--- a line, where its device has stopped or not
+-- a line is played unless its device has stopped
 abbrev pub PlaysLine : {D : Type 0} → (g : Ghosts D) → {R : Type 0} → (over : Bool) → (remaining : R → Option (List ℕ)) → StoreOrDevice D g → Call R
     → List PlainReply → StoreOrDevice D g
     → (StoreOrDevice D g → List PlainReply → Type 0) → Type 0
 PlaysLine g true remaining old call replies new P = EndsAt old replies new
 PlaysLine g false remaining old call replies new P = IsPlayed g remaining old call replies P
 
--- lines one after another, each answered as a call of the place, until the device has stopped
+-- lines are played one after another, each answered as a call of the place, until the device has stopped
 unfoldable pub Plays : {D : Type 0} → (g : Ghosts D) → {R : Type 0} → (is_over : D → Bool) → (remaining : R → Option (List ℕ)) → StoreOrDevice D g → List (Call R)
     → List PlainReply → StoreOrDevice D g → Type 0
 Plays g is_over remaining old [] replies new = EndsAt old replies new
 Plays g is_over remaining old (call ∷ calls) replies new =
     PlaysLine g (is_over (device_in old)) remaining old call replies new (λ next others. Plays g is_over remaining next calls others new)
 
--- one line of the code, which has no reply where the device has stopped
+-- one line as the code plays it: it has no reply if the device has stopped
 abbrev pub IsPlayedLine : {D : Type 0} → (g : Ghosts D) → {R : Type 0} → (is_over : D → Bool) → (remaining : R → Option (List ℕ)) → StoreOrDevice D g → Call R
     → Option Reply → StoreOrDevice D g → Type 0
 IsPlayedLine g is_over remaining old call None new = (is_over (device_in old) ≡ true) × (new ≡ old)
@@ -63,7 +63,7 @@ pub record ArePlayedAsRun {D : Type 0} (g : Ghosts D) {R : Type 0} (remaining : 
 abbrev pub refused_text : Refusal → List ℕ
 refused_text refusal = codes "refused " ++ refusal_text refusal ++ codes "\n"
 
--- of a line: that it was done, or why not
+-- for each line: that it was done, or why not
 abbrev pub reply_text : PlainReply → List ℕ
 reply_text (refused refusal) = refused_text (Store refusal)
 reply_text (shut_by refusal) = refused_text (Opening refusal)
@@ -77,7 +77,7 @@ abbrev pub stop_text : Bool → List ℕ
 stop_text true = codes "stopped\n"
 stop_text false = []
 
--- of an opening, and of the list of the tables after it: that list, or why the store was not opened
+-- of an opening and the list of tables after it: that list, or why the store was not opened
 abbrev pub FoundText : PlainReply → PlainReply → List ℕ → Type 0
 FoundText done (counts tables) text = text ≡ tables_text tables
 FoundText (shut_by refusal) listing text = text ≡ reply_text (shut_by refusal)

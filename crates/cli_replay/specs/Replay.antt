@@ -1,4 +1,4 @@
--- A script that is replayed: on which device, what was answered, what a crash left of it, and what is printed.
+-- The replay of a script: on which device, what was answered, what a crash left of it, and what is printed.
 use Rattle.std.specs.Prelude.{◌≡◌, ◌+◌, ◌-◌, ◌^◌, ◌++◌, ℕ, zero, suc, min, true, false, List, [], ◌∷◌, take, length, codes, Option, IfSome, Ok, Err}
 use Rattle.sector_dev.specs.Disk.{now, shown_image}
 use Rattle.sector_dev.specs.Chosen.{IsChosen}
@@ -44,7 +44,7 @@ use Rattle.cli_replay.specs.Playing.{Plays, replies_text, stop_text, FoundText}
 abbrev pub IsOfFile : {F : Type 0} → (remaining : F → Option (List ℕ)) → List ℕ → Type 0
 IsOfFile {F} remaining bytes = (file : F) × IfSome (remaining file) (λ all. bytes ≡ all)
 
--- as many of them as a stream may have, and one more
+-- these are the first bytes of some file, where they are known: at most one more than a stream may have
 abbrev pub IsFrontOfFile : {F : Type 0} → (remaining : F → Option (List ℕ)) → List ℕ → Type 0
 IsFrontOfFile {F} remaining bytes = (file : F) × IfSome (remaining file) (λ all. bytes ≡ take (LARGEST_INPUT + 1) all)
 
@@ -62,7 +62,7 @@ IsCallOfLine remaining upgrade calls.Upgrade = Unit {0}
 IsCallOfLine remaining reopen calls.Open = Unit {0}
 IsCallOfLine remaining _ _ = ⊥
 
--- one by one
+-- each line has its call
 abbrev pub AreCallsOfLines : {F R : Type 0} → (remaining : F → Option (List ℕ)) → List PlainLine → List (Call R) → Type 0
 AreCallsOfLines remaining [] [] = Unit {0}
 AreCallsOfLines remaining (line ∷ lines) (call ∷ calls) = IsCallOfLine remaining line call × AreCallsOfLines remaining lines calls
@@ -70,7 +70,7 @@ AreCallsOfLines remaining _ _ = ⊥
 
 -- ---- the device
 
--- a device of this number of sectors, which a store may have, on which an empty store stands; it is what a crash left after a formatting in this version
+-- a device with this number of sectors, which a store may have, and an empty store on it; it is what a crash left after formatting in this version
 pub record IsEmptyStore (g : Ghosts ModelDevice) (sectors : ℕ) (version : FormatVersion) (device : ModelDevice) : Type 0 where
   pub size : size_of device ≡ sectors
   pub failed : failed_of device ≡ 0
@@ -80,7 +80,7 @@ pub record IsEmptyStore (g : Ghosts ModelDevice) (sectors : ℕ) (version : Form
   pub formatted : FormatsStore size_of history_of version new store
   pub left : IsLeftOf size_of history_of (device_of store) device
 
--- a call of this number after the opening, which makes one call; 0: none
+-- the number of a call after the opening, which makes one call itself; 0 means none
 abbrev pub after_opening : ℕ → ℕ
 after_opening zero = 0
 after_opening (suc k) = min (k + 2) (2 ^ 64 - 1)
@@ -95,8 +95,8 @@ pub record IsFound {D : Type 0} (g : Ghosts D) {R : Type 0} (remaining : R → O
   pub lists : AnswersCall g.size g.story g.failed g.tells remaining found calls.Tables listing after
   pub printed : FoundText opened listing text
 
--- what is listed after the crash keeps what was acknowledged: the tables are those of commands of the lines that were played, in their order; all that were
--- acknowledged are among them, and none but these and those in which the device failed
+-- what is listed after the crash keeps what was acknowledged: the tables are those after some commands of the lines that were played, in their
+-- order; all acknowledged commands are among them, and only these and those in which the device failed
 pub record IsKept {R : Type 0} (remaining : R → Option (List ℕ)) (lines : List (Call R)) (replies : List PlainReply) (listed : List (List ℕ × ℕ)) : Type 0 where
   pub plains : List PlainCall
   pub are : AreCallsOf remaining (take (length replies) lines) plains
@@ -105,12 +105,12 @@ pub record IsKept {R : Type 0} (remaining : R → Option (List ℕ)) (lines : Li
   pub kept : InOrder (acknowledged plains replies) settled
   pub only : InOrder settled (begun plains replies)
 
--- ---- all of it
+-- ---- the whole replay
 
 pub record IsReplay (g : Ghosts ModelDevice) {R : Type 0} (remaining : R → Option (List ℕ)) (sectors : ℕ) (version : FormatVersion) (fail stop : ℕ)
     (choice : CrashChoice)
     (lines : List (Call R)) (text : List ℕ) : Type 0 where
-  -- a device with an empty store: these calls of it are to fail
+  -- a device with an empty store, of which these calls fail
   pub device : ModelDevice
   pub empty : IsEmptyStore g sectors version device
   pub faults : faults_of device ≡ record no_faults { fail = after_opening fail; stop = after_opening stop }
@@ -120,7 +120,7 @@ pub record IsReplay (g : Ghosts ModelDevice) {R : Type 0} (remaining : R → Opt
   pub replies : List PlainReply
   pub end : StoreOrDevice ModelDevice g
   pub plays : Plays g (λ d. (faults_of d).stopped) remaining begin lines replies end
-  -- what a crash leaves as the choice says
+  -- what a crash leaves under this choice
   pub left : ModelDevice
   pub crash : IsLeftOf size_of history_of (device_in end) left
   pub chosen : IsChosen choice (now (history_of (device_in end))) (size_of (device_in end)) (shown_image (now (history_of left)))
@@ -130,7 +130,7 @@ pub record IsReplay (g : Ghosts ModelDevice) {R : Type 0} (remaining : R → Opt
   pub kept : found.opened ≡ done → (listed : List (List ℕ × ℕ)) → found.listing ≡ counts listed → IsKept remaining lines replies listed
   pub printed : text ≡ replies_text replies ++ stop_text (faults_of (device_in end)).stopped ++ codes "after:\n" ++ tables
 
--- a file has a script, its lines have these calls, and the replay of these is written
+-- a file has a script, its lines have these calls, and what their replay prints is written
 pub record IsReplayOfFile (g : Ghosts ModelDevice) {F R : Type 0} (remaining : F → Option (List ℕ)) (no_reader : R → Option (List ℕ)) (sectors : ℕ)
     (version : FormatVersion) (fail stop : ℕ) (choice : CrashChoice) (output output' : Option (List ℕ)) : Type 0 where
   pub script : List ℕ
@@ -151,7 +151,7 @@ IsOfReading Io = Unit {0}
 IsOfReading OutOfMemory = Unit {0}
 IsOfReading _ = ⊥
 
--- why a new device, on which no store stands, does not become one: no store has its size, or memory is refused, to the device too
+-- why a new device, on which no store is, does not get one: no store has its size, or memory is refused, to the device too
 abbrev pub IsOfNewDevice : (sectors : ℕ) → OpeningRefusal → Type 0
 IsOfNewDevice sectors (openings.Damaged cause) = (cause ≡ DeviceSize) × (is_size sectors ≡ false)
 IsOfNewDevice sectors openings.Device = Unit {0}
@@ -163,21 +163,21 @@ FailsToFormat sectors (Opening refusal) = IsOfNewDevice sectors refusal
 FailsToFormat sectors OutOfMemory = Unit {0}
 FailsToFormat sectors _ = ⊥
 
--- lines that can be played are not: memory is refused, to the device too
+-- why lines that can be played are not: memory is refused, to the device too
 abbrev pub IsOfPlaying : Refusal → Type 0
 IsOfPlaying OutOfMemory = Unit {0}
 IsOfPlaying (Opening openings.OutOfMemory) = Unit {0}
 IsOfPlaying (Opening openings.Device) = Unit {0}
 IsOfPlaying _ = ⊥
 
--- a script of which this line is the first that is none
+-- this line is the first invalid one of the script
 abbrev pub RefusesScript : List ℕ → Refusal → Type 0
 RefusesScript script (BadScript number) = IsScript script (Err (BadLine number))
 RefusesScript script OutOfMemory = Unit {0}
 RefusesScript script _ = ⊥
 
--- the number of sectors is none of a store, which is reported first; some file has a script whose line of this number is the first that is none; a file can't be
--- read, or the output can't be written; or memory is refused
+-- why a script is not replayed: no store has this number of sectors, which is reported first; the line of this number is the first invalid one of
+-- the script in some file; a file can't be read, or the output can't be written; or memory is refused
 abbrev pub RefusesReplay : {F : Type 0} → (remaining : F → Option (List ℕ)) → (sectors : ℕ) → Refusal → Type 0
 RefusesReplay remaining sectors (Opening refusal) = IsOfNewDevice sectors refusal
 RefusesReplay remaining sectors (BadScript number) = (is_size sectors ≡ true)

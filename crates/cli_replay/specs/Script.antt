@@ -1,4 +1,4 @@
--- Scripts: one command a line, in words that are split by single spaces (README).
+-- Scripts: one command per line, its words separated by single spaces (README).
 use Rattle.std.specs.Prelude.{◌≡◌, ◌≢◌, ◌<◌, ◌+◌, ◌-◌, ◌==◌, ℕ, Bool, true, false, if◌then◌else◌, List, [], ◌∷◌, length, take, get_or, codes, Option, Some, None, option_map, unwrap_or, slice_get, Result, Ok, Err}
 use Rattle.std.specs.List.{list_all, slice_split}
 use Rattle.std.specs.Str.{bytes_eq, is_utf8}
@@ -9,7 +9,7 @@ use Rattle.field_texts.specs.declared.parse.ParseError.TheVariants as fields
 use Rattle.cli_replay.specs.declared.script.ScriptError.{ScriptError}
 use Rattle.cli_replay.specs.declared.script.ScriptError.TheVariants.{BadLine, OutOfMemory}
 
--- a command of a script; of `create` the texts of its fields
+-- a command of a script; `create` has the texts of its fields
 pub data PlainLine : Type 0 where
   create : (name : List ℕ) → (texts : List (List ℕ)) → PlainLine
   import_file : (name file : List ℕ) → PlainLine
@@ -24,15 +24,15 @@ pub data PlainLine : Type 0 where
 abbrev pub ends_empty : List (List ℕ) → Bool
 ends_empty parts = unwrap_or (option_map (λ (part : List ℕ). length part == 0) (slice_get parts (length parts - 1))) false
 
--- the lines, each of which ends with a line feed; the last one may lack it
+-- the lines, each ended by a line feed, which the last one may lack
 unfoldable pub lines_of : List ℕ → List (List ℕ)
 lines_of script = let parts = slice_split (λ b. b == 10) script in if ends_empty parts then take (length parts - 1) parts else parts
 
--- the words of a line, each of which is a text and may be empty
+-- the words of a line, each of which is UTF-8 and may be empty
 unfoldable pub words_of : List ℕ → Option (List (List ℕ))
 words_of line = let words = slice_split (λ b. b == 32) line in if list_all is_utf8 words then Some words else None
 
--- ---- what words ask for
+-- ---- what the words ask for
 
 unfoldable pub alone : List ℕ → Option PlainLine
 alone word =
@@ -65,7 +65,7 @@ line_of (word ∷ arguments) = if bytes_eq (codes "create") word then create_of 
 
 -- ---- the texts of fields
 
--- they state columns, or are refused
+-- whether they state columns or are refused
 abbrev pub AreTested : Bool → PlainLine → Type 0
 AreTested true (create name texts) = (columns : List Column) × IsReported texts (Ok columns)
 AreTested false (create name texts) = (e : ParseError) × (e ≢ fields.OutOfMemory) × IsReported texts (Err e)
@@ -81,7 +81,7 @@ HasLine (Some words) line = (line_of words ≡ Some line) × AreTested true line
 abbrev pub IsLine : List ℕ → PlainLine → Type 0
 IsLine bytes line = HasLine (words_of bytes) line
 
--- it has no words, or these ask for nothing, or the texts of its fields are refused
+-- why a line has no command: it has no words, or these ask for nothing, or the texts of its fields are refused
 abbrev pub IsRefused : Option PlainLine → Type 0
 IsRefused None = Unit {0}
 IsRefused (Some line) = AreTested false line
@@ -105,7 +105,7 @@ AreLines (bytes ∷ more) (line ∷ lines) = IsLine bytes line × AreLines more 
 AreLines [] (line ∷ lines) = ⊥
 AreLines (bytes ∷ more) [] = ⊥
 
--- the first line that is none; the number counts from 1
+-- the first invalid line; its number counts from 1
 pub record IsBadLine (lines : List (List ℕ)) (number : ℕ) : Type 0 where
   pub index : ℕ
   pub counted : number ≡ index + 1

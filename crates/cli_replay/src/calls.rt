@@ -1,4 +1,4 @@
-// The lines of a script as calls of a store, with the bytes of their files.
+// The lines of a script as calls of a store, with the contents of their files.
 ghost use Rattle.std.specs.Prelude.{◌≡◌, IfOk, IfErr};
 ghost use Rattle.facts.specs.Texts.{text_list};
 ghost use Rattle.cli_commands.specs.Changing.{StateSchema};
@@ -18,7 +18,7 @@ use std::rt::Files;
 use store::Call;
 use tables::Command;
 
-// The table of a line whose field texts were tested when the script was read: it is refused for want of memory alone.
+// The field texts were parsed when the script was read, so only memory can be refused here.
 fn create(alloc: Global, name: &str, fields: &[&str]) -> Result<Command, AllocError>
     ensures { IfOk result (λ c. (s : _) × StateSchema (text_list fields.now) s × (command_of c ≡ commands.create name.now s)) }
 {
@@ -71,7 +71,7 @@ fn call_of<F: Read + OpenFile + Drop, H: Files<File = F> + AllocGlobal>(
     Ok(Call::Apply(command))
 }
 
-/// Each line as a call. All files are read.
+/// Returns a call for each line. Reads all files that the lines name.
 pub(crate) fn calls_of<F: Read + OpenFile + Drop, H: Files<File = F> + AllocGlobal>(
     rt: &H,
     lines: &[ScriptLine<'_>],

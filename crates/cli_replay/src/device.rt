@@ -1,4 +1,4 @@
-// The device that a script is played on, and what is found on it after a crash.
+// The device that a script is played on, and what a crash leaves of it.
 ghost use Rattle.std.specs.Prelude.{◌≡◌, ℕ, string_bytes, true, IfOk, IfErr, OnOk};
 ghost use Rattle.sector_dev.specs.Disk.{now, shown_image};
 ghost use Rattle.sector_dev.specs.Chosen.{IsChosen};
@@ -23,7 +23,7 @@ use std::alloc::{AllocError, Global};
 use std::io::{Empty, Read};
 use store::{Call, Reply, Store, StoreOrDevice, answer, devices_fit, left_devices_fit};
 
-/// A device of `sectors` sectors on which an empty store of this version stands. No call of it is to fail.
+/// Returns a device of `sectors` sectors with an empty store of this version. No call on it is set to fail.
 pub(crate) fn empty_store(
     alloc: Global,
     sectors: u64,
@@ -47,7 +47,7 @@ pub(crate) fn empty_store(
     }
 }
 
-// The number of a call that is counted from the opening on, which makes one call itself.
+// Opening the store makes one call on the device, so later calls are numbered from 2.
 fn after_opening(k: u64) -> u64
     ensures { result ≡ after_opening k }
 {
@@ -57,7 +57,7 @@ fn after_opening(k: u64) -> u64
     k.saturating_add(1)
 }
 
-/// With the calls that are to fail, counted after the opening; 0: none.
+/// Sets the calls that fail and stop the device, counted after the opening; 0 means none.
 pub(crate) fn with_faults(device: ModelDevice, fail: u64, stop: u64) -> ModelDevice
     ensures fail { (faults_of result).fail ≡ after_opening fail }
     ensures stop { (faults_of result).stop ≡ after_opening stop }
@@ -72,7 +72,7 @@ pub(crate) fn with_faults(device: ModelDevice, fail: u64, stop: u64) -> ModelDev
     device
 }
 
-/// Opens the store of a device.
+/// Opens the store on a device.
 pub(crate) fn open(
     alloc: Global,
     device: ModelDevice,
@@ -93,7 +93,7 @@ pub(crate) fn open(
     }
 }
 
-// What is printed of an opening and of the list of the tables after it.
+// Returns what is printed of an opening and of the list of tables after it.
 fn found_text(alloc: Global, opened: &Reply, listing: &Reply) -> Result<String, Refusal>
     ensures found { IfOk result (λ text. FoundText (reply_in opened.now) (reply_in listing.now) (string_bytes text)) }
     ensures told { IfErr result (λ refusal. refusal ≡ Refusal.OutOfMemory) }
@@ -105,12 +105,12 @@ fn found_text(alloc: Global, opened: &Reply, listing: &Reply) -> Result<String, 
             push_refusal(&mut text, Refusal::Opening(*refusal))?;
             Ok(text)
         }
-        // Only where memory is refused the tables of an open store are not listed.
+        // Listing the tables of an open store fails only if memory is refused.
         _ => Err(Refusal::OutOfMemory),
     }
 }
 
-/// What is found on a device by an opening.
+/// Opens the store on a device and returns what is printed of it.
 pub(crate) fn found_on(alloc: Global, device: ModelDevice) -> Result<String, Refusal>
     ensures found { IfOk result (λ text. IsFound ⟦<ModelDevice as SectorDevice>⟧ ⟦<Empty as Read>⟧.remaining device (string_bytes text)) }
     ensures told { IfErr result (λ refusal. refusal ≡ Refusal.OutOfMemory) }
@@ -122,7 +122,7 @@ pub(crate) fn found_on(alloc: Global, device: ModelDevice) -> Result<String, Ref
     found_text(alloc, &opened, &listing)
 }
 
-/// What a crash leaves, as the choice says.
+/// Returns what a crash leaves of a device under this choice.
 pub(crate) fn left_by_crash(
     device: &ModelDevice,
     choice: CrashChoice,

@@ -1,4 +1,4 @@
-// The files that a script needs.
+// Reads the files that a script needs.
 ghost use Rattle.std.specs.Prelude.{◌≡◌, ◌≢◌, ◌⊎◌, string_bytes, IfOk, IfErr};
 ghost use Rattle.cli_replay.specs.Replay.{IsOfFile, IsFrontOfFile, IsOfReading};
 
@@ -17,7 +17,7 @@ fn reading_refusal(error: &io::Error) -> Refusal
     }
 }
 
-// The bytes of the file at a path; of one that is longer than a stream may be as many as that and one more, by which a store refuses it.
+// Reads a file, but at most one byte more than a stream may have, so that a store refuses a longer one.
 fn front_of_file<F: Read + OpenFile + Drop, H: Files<File = F> + AllocGlobal>(
     rt: &H,
     path: &str,
@@ -36,7 +36,7 @@ fn front_of_file<F: Read + OpenFile + Drop, H: Files<File = F> + AllocGlobal>(
     }
 }
 
-/// All of a script.
+/// Reads a whole script.
 pub(crate) fn read_script<F: Read + OpenFile + Drop, H: Files<File = F> + AllocGlobal>(
     rt: &H,
     path: &str,
@@ -51,7 +51,7 @@ pub(crate) fn read_script<F: Read + OpenFile + Drop, H: Files<File = F> + AllocG
     Ok(bytes)
 }
 
-/// A name and the bytes of a file, as a command owns them.
+/// Returns an owned name and the contents of a file, for a command.
 pub(crate) fn named_input<F: Read + OpenFile + Drop, H: Files<File = F> + AllocGlobal>(
     rt: &H,
     name: &str,

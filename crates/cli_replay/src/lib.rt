@@ -1,4 +1,4 @@
-//! Scripts of commands that are played on a device in memory, on which a call fails or a stop comes, and what a crash leaves.
+//! Scripts of commands that are played on a device in memory, where a call fails or the device stops, and what a crash then leaves.
 //!
 //! ```
 //! let lines = parse_script(alloc, b"create t a:int32?\nreopen\n")?;

@@ -1,4 +1,4 @@
-// Lines are played one after another, and what they answer is reported.
+// Plays the lines of a script one after another, and reports what they answer.
 ghost use Rattle.std.specs.Prelude.{◌≡◌, ◌++◌, string_bytes, IfOk, OnOk};
 ghost use Rattle.sector_dev.specs.View.{faults_of};
 ghost use Rattle.store.specs.Places.{reply_in, replies_of};
@@ -11,7 +11,7 @@ use std::fmt::Write as _;
 use std::io::{Empty, Read};
 use store::{Call, Reply, StoreOrDevice, answer};
 
-// A line, unless the device has stopped.
+// Plays one line, unless the device has stopped.
 fn play_line(
     alloc: Global,
     place: StoreOrDevice<ModelDevice>,
@@ -20,7 +20,7 @@ fn play_line(
     ensures { IsPlayedLine ⟦<ModelDevice as SectorDevice>⟧ (λ d. (faults_of d).stopped) ⟦<Empty as Read>⟧.remaining place call result.1 result.0 }
 {
     if place.device().has_stopped() {
-        // By a call: the drop of each kind of call, written out, would be most of the function.
+        // An explicit call: inlined, the drops of all kinds of call would make up most of the function.
         drop(call);
         return (place, None);
     }
@@ -28,7 +28,7 @@ fn play_line(
     (next, Some(reply))
 }
 
-/// Answers the lines in order, until the device has stopped.
+/// Answers the lines in order until the device has stopped.
 pub(crate) fn play(
     alloc: Global,
     place: StoreOrDevice<ModelDevice>,
@@ -49,7 +49,7 @@ pub(crate) fn play(
     Ok((place, replies))
 }
 
-/// A refusal as a line.
+/// Appends a refusal as a line.
 pub(crate) fn push_refusal(text: &mut String, refusal: Refusal) -> Result<(), AllocError>
     ensures { OnOk result (string_bytes text.new ≡ string_bytes text.old ++ refused_text refusal) }
 {
@@ -66,7 +66,7 @@ fn push_reply(text: &mut String, reply: &Reply) -> Result<(), AllocError>
     }
 }
 
-/// A line for each reply.
+/// Returns a line for each reply.
 pub(crate) fn lines_of_replies(alloc: Global, replies: &[Reply]) -> Result<String, AllocError>
     ensures { IfOk result (λ text. string_bytes text ≡ replies_text (replies_of replies.now)) }
 {

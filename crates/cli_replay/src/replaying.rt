@@ -1,4 +1,4 @@
-// All of a replay.
+// Replays a whole script.
 ghost use Rattle.std.specs.Prelude.{◌≡◌, ◌≢◌, ◌++◌, ℕ, codes, string_bytes, Ok, IfOk, IfErr, OnOk};
 ghost use Rattle.cli_replay.specs.Playing.{stop_text};
 ghost use Rattle.cli_replay.specs.Plain.{plain_lines};
@@ -21,17 +21,18 @@ use std::io::{Empty, Read, Write};
 use std::rt::Files;
 use store::{Call, acknowledged_commands_are_settled, left_devices_fit};
 
-/// What is to go wrong while a script is played, and what the crash after it leaves. Writes and syncs are counted from 1, the first after the formatting.
+/// What goes wrong while a script is played, and what the crash after it leaves. Writes and syncs are counted from 1, starting after the
+/// formatting.
 #[derive(Clone, Copy)]
 pub struct Faults {
-    /// The one that fails once; 0: none.
+    /// The write or sync that fails once; 0 means none.
     pub fail: u64,
-    /// The one in which the device stops; 0: none.
+    /// The write or sync in which the device stops; 0 means none.
     pub stop: u64,
     pub choice: CrashChoice,
 }
 
-// The lines of the replies, whether the device stopped, and what was found on it.
+// Joins the lines of the replies, whether the device stopped, and what was found on it.
 fn joined_text(lines: String, stopped: bool, found: &str) -> Result<String, AllocError>
     ensures { IfOk result (λ text. string_bytes text ≡ string_bytes lines ++ stop_text stopped ++ codes "after:\n" ++ found.now) }
 {
@@ -44,7 +45,7 @@ fn joined_text(lines: String, stopped: bool, found: &str) -> Result<String, Allo
     Ok(text)
 }
 
-/// Plays lines on a device with an empty store, of which no call was to fail, and says what they answered and what a crash left.
+/// Plays lines on a device with an empty store on which no call is set to fail, and returns what they answered and what a crash left.
 pub(crate) fn play_lines(
     alloc: Global,
     device: ModelDevice,
@@ -71,7 +72,7 @@ pub(crate) fn play_lines(
     Ok(joined_text(text, place.device().has_stopped(), &found)?)
 }
 
-// The lines of a script, as the program reports it where one is none.
+// Parses the lines of a script, with errors as the program reports them.
 fn lines_of(alloc: Global, script: &[u8]) -> Result<Vec<ScriptLine<'_>>, Refusal>
     ensures lines { IfOk result (λ lines. IsScript script.now (Ok (plain_lines lines.items))) }
     ensures told { IfErr result (RefusesScript script.now) }
@@ -83,12 +84,12 @@ fn lines_of(alloc: Global, script: &[u8]) -> Result<Vec<ScriptLine<'_>>, Refusal
     }
 }
 
-/// Plays the script at a path on a device in memory of `sectors` sectors with an empty store of this version, and prints what its lines answer, whether the
-/// device stopped, and which tables a crash leaves.
+/// Plays the script at a path on a device in memory of `sectors` sectors, with an empty store of this version, and prints what its lines answer,
+/// whether the device stopped, and which tables a crash leaves.
 ///
 /// # Errors
-/// `Opening` where no store has that number of sectors; `Io` where a file can't be read; `BadScript` with the first line that is none; `TooManyBytes` of a
-/// file; `OutOfMemory`. Then nothing is printed, unless a write fails.
+/// `Opening` if no store has this number of sectors; `Io` if a file can't be read; `BadScript` with the number of the first invalid line;
+/// `TooManyBytes` if a file is too long; `OutOfMemory`. Nothing is printed, unless a write fails.
 pub fn replay<F: Read + OpenFile + Drop, H: Files<File = F> + AllocGlobal, W: Write>(
     rt: &H,
     script: &str,
@@ -100,7 +101,7 @@ pub fn replay<F: Read + OpenFile + Drop, H: Files<File = F> + AllocGlobal, W: Wr
     ensures replays { OnOk result (IsReplayOfFile ⟦<ModelDevice as SectorDevice>⟧ F.remaining ⟦<Empty as Read>⟧.remaining sectors version
         faults.fail faults.stop faults.choice (W.contents output.old) (W.contents output.new)) }
     ensures told { IfErr result (RefusesReplay F.remaining sectors) }
-    // Where it is refused nothing is printed, unless a write failed.
+    // A refusal prints nothing, unless a write failed.
     ensures silent { IfErr result (λ refusal. refusal ≢ Refusal.Io → output.new ≡ output.old) }
 {
     let alloc = rt.alloc();

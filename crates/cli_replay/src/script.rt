@@ -1,4 +1,4 @@
-// The lines of a script.
+// Parses the lines of a script.
 ghost use Rattle.std.specs.Prelude.{◌≡◌, ◌==◌, if◌then◌else◌, Some, None, IfOk, IfErr, option_map};
 ghost use Rattle.std.specs.Result.{result_map_both};
 ghost use Rattle.facts.specs.Texts.{text_list};
@@ -15,26 +15,26 @@ use text_import::text_of;
 /// A line of a script: one command.
 #[derive(Drop)]
 pub enum ScriptLine<'a> {
-    /// A table without rows, of the fields that the texts state.
+    /// Makes an empty table with the fields that the texts state.
     Create { name: &'a str, fields: Vec<&'a str> },
-    /// The table that the stream of a file means, in place of one of this name.
+    /// Makes the table of the stream in a file, in place of one of this name.
     Import { name: &'a str, file: &'a str },
-    /// The rows that the stream of a file means, after those of the table.
+    /// Appends the rows of the stream in a file to the table.
     Append { name: &'a str, file: &'a str },
     Rename { from: &'a str, to: &'a str },
     Drop { name: &'a str },
-    /// One step of a compaction.
+    /// Takes one step of a compaction.
     Compact,
-    /// Digests for all segments.
+    /// Gives all segments digests.
     Upgrade,
-    /// The store is closed and opened again.
+    /// Closes the store and opens it again.
     Reopen,
 }
 
-/// Why a script was refused.
+/// Why a script is refused.
 #[derive(Clone, Copy, Debug, PartialEq, Eq)]
 pub enum ScriptError {
-    /// The line of this number, counted from 1, is the first that is none.
+    /// The number of the first invalid line, counted from 1.
     BadLine(u64),
     OutOfMemory,
 }
@@ -55,14 +55,13 @@ impl<T: Drop> From<AllocFailed<T>> for ScriptError {
     }
 }
 
-// The parts of some bytes before, between and after the bytes that end them.
+// Returns the parts of `bytes` before, between and after the bytes `end`.
 fn parts_of(alloc: Global, bytes: &[u8], end: u8) -> Result<Vec<&[u8]>, AllocError>
     ensures { IfOk result (λ parts. text_list parts.items ≡ slice_split (λ b. b == end) bytes.now) }
 {
     bytes.split(|byte| *byte == end).collect(alloc)
 }
 
-// The last part is empty.
 fn ends_empty(parts: &[&[u8]]) -> bool
     ensures { result ≡ ends_empty (text_list parts.now) }
 {
@@ -82,7 +81,7 @@ fn lines_of(alloc: Global, script: &[u8]) -> Result<Vec<&[u8]>, AllocError>
     Ok(lines)
 }
 
-// These parts as texts, where each is one.
+// Returns the parts as texts, or `None` if one is not UTF-8.
 fn words_in<'a>(alloc: Global, parts: &[&'a [u8]]) -> Result<Option<Vec<&'a str>>, AllocError>
     ensures { IfOk result (λ words. option_map (λ v. text_list v.items) words
         ≡ (if list_all is_utf8 (text_list parts.now) then Some (text_list parts.now) else None)) }
@@ -190,7 +189,7 @@ fn line_of<'a>(alloc: Global, words: &[&'a str]) -> Result<Option<ScriptLine<'a>
     }
 }
 
-// Whether the texts of its fields state columns.
+// Returns whether the field texts of a line can be parsed.
 fn has_fields(alloc: Global, line: &ScriptLine<'_>) -> Result<bool, ScriptError>
     ensures tested { IfOk result (λ has. AreTested has (plain_line line.now)) }
     ensures memory { IfErr result (λ e. e ≡ ScriptError.OutOfMemory) }
@@ -222,10 +221,10 @@ fn read_line(alloc: Global, line: &[u8]) -> Result<Option<ScriptLine<'_>>, Scrip
     }
 }
 
-/// The lines of a script.
+/// Parses the lines of a script.
 ///
 /// # Errors
-/// `BadLine` with the number of the first line that is none, counted from 1; `OutOfMemory`.
+/// `BadLine` with the number of the first invalid line, counted from 1; `OutOfMemory`.
 pub fn parse_script(alloc: Global, script: &[u8]) -> Result<Vec<ScriptLine<'_>>, ScriptError>
     ensures { IsScript script.now (result_map_both (λ lines. plain_lines lines.items) (λ e. e) result) }
 {

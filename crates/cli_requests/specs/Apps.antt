@@ -1,4 +1,4 @@
--- What `clap` reads of the commands, and the values that it finds.
+-- The commands as `clap` parses them, and the values that it finds.
 use Rattle.std.specs.Prelude.{◌≡◌, ◌≢◌, Bool, true, false, ◌||◌, List, [], ◌∷◌, codes, Some, option_map, if◌then◌else◌, unwrap_or}
 use Rattle.std.specs.Str.{bytes_eq}
 use Rattle.std.specs.Str.Parse.{digits_value}
@@ -37,11 +37,11 @@ required_rule id = record (new_rule id) { required = true }
 abbrev pub store_app : Text → App
 store_app name = with_rule (new_app name) (required_rule (codes "STORE"))
 
--- decimal digits of a number of 64 bits
+-- an unsigned number of 64 bits
 abbrev pub sectors_rule : Rule
 sectors_rule = record (required_rule (codes "SECTORS")) { parser = Some (parsers.Unsigned 0 18446744073709551615) }
 
--- one that takes an option without a value
+-- an option without a value, and a command that takes it
 abbrev pub json_rule : Rule
 json_rule = record (new_rule (codes "json")) { long = Some (codes "json"); action = Some SetTrue }
 
@@ -52,11 +52,11 @@ info_app name = with_rule (store_app name) json_rule
 abbrev pub option_rule : Text → Rule
 option_rule id = record (new_rule id) { long = Some id; value_names = 1 }
 
--- the version of a store that is made
+-- the version of the store to be made
 abbrev pub version_rule : Rule
 version_rule = record (option_rule (codes "format-version")) { parser = Some (parsers.Unsigned 1 2) }
 
--- one that takes how many sectors the store has and its version, and one that names a new file before the sectors
+-- a command that takes a number of sectors and a version, and one that names a new file before the number
 abbrev pub format_app : Text → App
 format_app name = with_rule (with_rule (store_app name) sectors_rule) version_rule
 
@@ -66,14 +66,14 @@ new_file_app name = with_rule (store_app name) (required_rule (codes "NEW"))
 abbrev pub copy_app : Text → App
 copy_app name = with_rule (new_file_app name) sectors_rule
 
--- one that names a table too, and one that gives it another name
+-- a command that also names a table, and one that gives the table another name
 abbrev pub table_app : Text → App
 table_app name = with_rule (store_app name) (required_rule (codes "NAME"))
 
 abbrev pub rename_app : Text → App
 rename_app name = with_rule (table_app name) (required_rule (codes "NEW"))
 
--- a word that may stand any number of times
+-- a word that may be given any number of times
 abbrev pub repeated_rule : Text → Rule
 repeated_rule id = record (new_rule id) { range = Some (record { start_inclusive = 0; end_inclusive = usize_max }) }
 
@@ -81,7 +81,7 @@ repeated_rule id = record (new_rule id) { range = Some (record { start_inclusive
 abbrev pub create_app : Text → App
 create_app name = with_rule (table_app name) (repeated_rule (codes "FIELD"))
 
--- one that takes the form of the input, which is a stream where no option says another, and the text of null
+-- a command that takes the form of its input, by default a stream, and the text of null
 abbrev pub form_rule : ValueParser → Rule
 form_rule forms = record (option_rule (codes "as")) { parser = Some forms; defaults = codes "stream" ∷ [] }
 
@@ -91,7 +91,7 @@ null_rule = record (option_rule (codes "null")) { defaults = [] ∷ [] }
 abbrev pub append_app : ValueParser → Text → App
 append_app forms name = with_rule (with_rule (table_app name) (form_rule forms)) null_rule
 
--- one that takes a query, and a name to save it under
+-- a command that takes a query, and a name to save it under
 abbrev pub limit_rule : Rule
 limit_rule = record (option_rule (codes "limit")) { parser = Some (parsers.Unsigned 0 18446744073709551615) }
 
@@ -130,7 +130,7 @@ is_form word = bytes_eq (codes "stream") word || (bytes_eq (codes "csv") word ||
 abbrev pub AreForms : ValueParser → Type 0
 AreForms forms = (word : Text) → accepts false forms word ≡ is_form word
 
--- the command of a name, by what it takes
+-- the command of this name with these parameters
 abbrev pub IsAppWith : Text → Parameters → App → Type 0
 IsAppWith name parameters.Nothing command = command ≡ store_app name
 IsAppWith name parameters.FileAndForm command = command ≡ info_app name
@@ -143,7 +143,7 @@ IsAppWith name parameters.TableAndRows command = (forms : ValueParser) × AreFor
 IsAppWith name parameters.TableAndQuery command = command ≡ query_app name
 IsAppWith name parameters.ScriptAndFaults command = command ≡ replay_app name
 
--- what the command of a word takes
+-- the parameters of a command
 unfoldable pub other_parameters : Text → Parameters
 other_parameters word =
     if bytes_eq (codes "format") word then parameters.Sectors
@@ -156,11 +156,11 @@ parameters_of word =
     if names_file word then parameters.Nothing
     else (if names_table word then parameters.Table else (if bytes_eq (codes "rename") word then parameters.TableAndNewName else other_parameters word))
 
--- what is read of it
+-- the command of a word, as it is parsed by itself
 abbrev pub IsOwnApp : Text → App → Type 0
 IsOwnApp word command = IsAppWith word (parameters_of word) command
 
--- the first value of an argument; empty where there is none
+-- the first value of an argument; empty if there is none
 abbrev pub value_of : Found → Text → Text
 value_of found id = unwrap_or (first_value found id) []
 
@@ -175,17 +175,17 @@ pub record HasQuery (found : Found) (query : QueryWords) : Type 0 where
   pub is_limit : is_number_if_any (first_value found (codes "limit")) ≡ true
   pub limit : query.limit ≡ option_map (digits_value 10) (first_value found (codes "limit"))
 
--- rows are objects where the option stands
+-- rows are objects if the option is given
 pub record HasForm (found : Found) (form : RowForm) : Type 0 where
   pub arrays : one_text found (codes "objects") ≡ Some (codes "false") → form ≡ Array
   pub objects : one_text found (codes "objects") ≡ Some (codes "true") → form ≡ Object
 
--- numbers are printed as JSON where the option stands
+-- the summary is printed as JSON if the option is given
 pub record HasJson (found : Found) (as_json : Bool) : Type 0 where
   pub lines : one_text found (codes "json") ≡ Some (codes "false") → as_json ≡ false
   pub object : one_text found (codes "json") ≡ Some (codes "true") → as_json ≡ true
 
--- the form of a text is the one that was found; in CSV that text stands for null
+-- the form of a text is the one that was found, and in CSV the text that was found stands for null
 abbrev pub HasTextForm : Found → TextForm → Type 0
 HasTextForm found (text_forms.Csv null_text) = (value_of found (codes "as") ≡ codes "csv") × (null_text.now ≡ value_of found (codes "null"))
 HasTextForm found text_forms.JsonLines = value_of found (codes "as") ≢ codes "csv"
@@ -207,12 +207,12 @@ HasNames found (commands.Info as_json) = HasJson found as_json
 HasNames found (commands.Rename from to) = (from.now ≡ value_of found (codes "NAME")) × (to.now ≡ value_of found (codes "NEW"))
 HasNames found _ = Unit {0}
 
--- the version of a store that is made, in the word of its option if there is one
+-- the version of the store to be made is that of its option, if it is given
 abbrev pub HasVersion : Found → FormatVersion → Type 0
 HasVersion found version =
     (is_number_if_any (first_value found (codes "format-version")) ≡ true) × (version ≡ version_named (first_value found (codes "format-version")))
 
--- what is played, and what goes wrong then
+-- the script and what goes wrong while it is played are those that were found
 pub record HasScript (found : Found) (words : ReplayWords) : Type 0 where
   pub script : words.script.now ≡ value_of found (codes "SCRIPT")
   pub sectors : IsNumberOrZero (first_value found (codes "sectors")) words.sectors
@@ -221,7 +221,7 @@ pub record HasScript (found : Found) (words : ReplayWords) : Type 0 where
   pub choice : IsChoice (value_of found (codes "choice")) words.choice
   pub version : HasVersion found words.version
 
--- a request has all that was found
+-- a request has everything that was found
 abbrev pub HasFound : Found → StoreRequest → Type 0
 HasFound found (requests.Command path command) = (path.now ≡ value_of found (codes "STORE")) × HasNames found command
 HasFound found (requests.Format path sectors version) =

@@ -6,7 +6,7 @@ use Rattle.cli_requests.specs.declared.store_words.StoreCommand.TheVariants as c
 use Rattle.cli_requests.specs.declared.store_words.StoreRequest.{StoreRequest}
 use Rattle.cli_requests.specs.declared.store_words.StoreRequest.TheVariants as requests
 
--- rows are appended of a stream or of a text, and a query is printed or saved
+-- `append` takes the rows of a stream or of a text, and `query` prints or saves
 abbrev pub command_word : StoreCommand → Text
 command_word (commands.Create name fields) = codes "create"
 command_word (commands.Import name) = codes "import"

@@ -5,7 +5,7 @@ use Rattle.cli_requests.specs.Numbers.{IsNumber}
 use Rattle.sector_dev.specs.declared.crash_choice.CrashChoice.{CrashChoice}
 use Rattle.sector_dev.specs.declared.crash_choice.CrashChoice.TheVariants.{Old, New, Bits, Lost}
 
--- the bits of the sectors that are new, or after `lost:` of those that are lost; `lost` alone is of all
+-- a number has the bits of the sectors that are new, and after `lost:` of those that are lost; `lost` alone means all
 abbrev pub IsChoice : Text → CrashChoice → Type 0
 IsChoice word Old = word ≡ codes "old"
 IsChoice word New = word ≡ codes "new"

@@ -1,4 +1,5 @@
--- Command lines with options, and what is found of them: an option stands before, among or after the operands, its value in the same word or the next one.
+-- Command lines with options, and what is found in them: an option comes before, among or after the operands, with its value in the same word or
+-- the next one.
 use Rattle.std.specs.Prelude.{◌≡◌, ◌⊎◌, ◌≤◌, ◌++◌, true, List, [], ◌∷◌, drop, length, codes, unwrap_or}
 use Rattle.clap.specs.Lexer.{usize_max}
 use Rattle.clap.specs.Words.{App, Row, Text, all_of, matches_of}
@@ -7,7 +8,7 @@ use Rattle.cli_requests.specs.Numbers.{is_number}
 use Rattle.cli_requests.specs.Right.{AreTaken, NamesChoice}
 use Rattle.cli_requests.specs.StoreWords.{first_word}
 
--- an argument, and its values
+-- an argument with its values
 abbrev pub Valued : Type 0
 Valued = Text × List Text
 
@@ -15,7 +16,7 @@ abbrev pub AreFound : List Row → List Valued → Type 0
 AreFound rows [] = Unit {0}
 AreFound rows (argument ∷ rest) = (unwrap_or (all_of argument.0 rows) [] ≡ argument.1) × AreFound rows rest
 
--- `clap` takes the words, and finds these values of these arguments
+-- `clap` accepts the words, and finds these values for these arguments
 pub record AreReadAs (arguments : List Text) (values : List Valued) : Type 0 where
   pub taken : AreTaken arguments
   pub found : (command : App) → IsOwnApp (first_word arguments) command → AreFound (matches_of command (drop 1 arguments)) values

@@ -14,10 +14,10 @@ is_number word = nat_lt 0 (length word) && (list_all (λ c. nat_lt (digit_value 
 abbrev pub IsNumber : Text → ℕ → Type 0
 IsNumber word number = (is_number word ≡ true) × (digits_value 10 word ≡ number)
 
--- the word of an option, if there is one, is a number
+-- the word of an option, if it is given, is a number
 abbrev pub is_number_if_any : Option Text → Bool
 is_number_if_any word = option_map_or is_number word true
 
--- it is this one; 0 where there is none
+-- the word of an option is this number; without the word the number is 0
 abbrev pub IsNumberOrZero : Option Text → ℕ → Type 0
 IsNumberOrZero word number = (is_number_if_any word ≡ true) × (unwrap_or (option_map (digits_value 10) word) 0 ≡ number)

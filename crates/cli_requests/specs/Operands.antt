@@ -1,4 +1,4 @@
--- The operands of a command, by the conventions of utilities (POSIX.1, Base Definitions 12.2, guidelines 9 and 10), and the names that they are.
+-- The operands of a command, by the conventions for utilities (POSIX.1, Base Definitions 12.2, guidelines 9 and 10), and what they name.
 use Rattle.std.specs.Prelude.{◌≡◌, ◌==◌, ◌||◌, Bool, false, if◌then◌else◌, List, [], ◌∷◌, drop, codes, Option, Some, None, IfSome, option_map}
 use Rattle.std.specs.Str.{bytes_eq}
 use Rattle.std.specs.Str.Parse.{digits_value}
@@ -13,13 +13,13 @@ use Rattle.cli_requests.specs.declared.store_words.StoreCommand.TheVariants as c
 use Rattle.cli_requests.specs.declared.store_words.StoreRequest.{StoreRequest}
 use Rattle.cli_requests.specs.declared.store_words.StoreRequest.TheVariants as requests
 
--- a hyphen (45), and more after it
+-- a hyphen (45) with more after it
 abbrev pub is_option : Text → Bool
 is_option [] = false
 is_option (c ∷ []) = false
 is_option (c ∷ d ∷ rest) = c == 45
 
--- the operands among the words after a command, where these have no options; what follows a first `--` is an operand, whatever it looks like
+-- the operands among the words after a command, if these have no options; what follows the first `--` is an operand, whatever it looks like
 unfoldable pub operands : List Text → Option (List Text)
 operands [] = Some []
 operands (word ∷ rest) = if bytes_eq word (codes "--") then Some rest else (if is_option word then None else option_map (λ others. word ∷ others)
@@ -39,7 +39,7 @@ names_table word =
     bytes_eq (codes "import") word || (bytes_eq (codes "drop") word || (bytes_eq (codes "schema") word || (bytes_eq (codes "export") word
     || bytes_eq (codes "salvage") word)))
 
--- the version of a store that a word of an option names; without the option the newest
+-- the version of a store that the word of an option names; without the option, the newest
 abbrev pub version_named : Option Text → FormatVersion
 version_named None = Two
 version_named (Some word) = if digits_value 10 word == 1 then One else Two
@@ -62,7 +62,7 @@ names_in (commands.Info as_json) = []
 names_in commands.Compact = []
 names_in commands.Upgrade = []
 
--- what it is without options: rows are appended of a stream, all columns of all rows are printed as arrays, and numbers as lines
+-- a command without options: rows are appended from a stream, all columns of all rows are printed as arrays, and the summary as lines
 abbrev pub IsWithoutOptions : StoreCommand → Type 0
 IsWithoutOptions (commands.AppendText name form) = ⊥
 IsWithoutOptions (commands.Query name query form) = (query.columns ≡ None) × (query.limit ≡ None) × (form ≡ Array)
@@ -70,16 +70,16 @@ IsWithoutOptions (commands.SaveAs from to query) = ⊥
 IsWithoutOptions (commands.Info as_json) = as_json ≡ false
 IsWithoutOptions _ = Unit {0}
 
--- a request that names its files and its tables, or how many sectors, by these words; without its option a store is made in the newest version
+-- these words name the request's files and tables, or its number of sectors; without its option a store is made in the newest version
 unfoldable pub IsNamedBy : StoreRequest → List Text → Type 0
 IsNamedBy (requests.Command path command) words = (words ≡ path.now ∷ names_in command) × IsWithoutOptions command
 IsNamedBy (requests.Format path sectors version) words =
     (number : Text) × (words ≡ path.now ∷ number ∷ []) × IsNumber number sectors × (version ≡ Two)
 IsNamedBy (requests.Copy path new sectors) words = (number : Text) × (words ≡ path.now ∷ new.now ∷ number ∷ []) × IsNumber number sectors
 IsNamedBy (requests.Salvage path name) words = words ≡ path.now ∷ name.now ∷ []
--- a script is played with options, which are no operands
+-- a script is played with options, which are not operands
 IsNamedBy (requests.Replay script) words = Unit {0}
 
--- what the arguments ask for, where the words after the command are operands
+-- what the arguments ask for, if the words after the command are operands
 abbrev pub Names : List Text → StoreRequest → Type 0
 Names arguments request = IfSome (operands (words_after_command arguments)) (IsNamedBy request)

@@ -1,4 +1,4 @@
--- The command lines that are right, and what is read of them.
+-- The command lines that are right, and what is read from them.
 use Rattle.std.specs.Prelude.{◌≡◌, ◌⊎◌, ◌==◌, ◌&&◌, ◌++◌, Bool, true, false, List, [], ◌∷◌, length, drop, nat_le, codes, Option, Some, None, unwrap_or}
 use Rattle.std.specs.Option.{option_map_or}
 use Rattle.std.specs.Str.{bytes_eq}
@@ -12,7 +12,7 @@ use Rattle.cli_requests.specs.declared.command_parameters.Parameters.{Parameters
 use Rattle.cli_requests.specs.declared.command_parameters.Parameters.TheVariants as parameters
 use Rattle.cli_requests.specs.declared.store_words.StoreRequest.{StoreRequest}
 
--- a file and how many sectors, and two files and how many
+-- a file and a number of sectors; two files and a number of sectors
 abbrev pub are_file_and_number : List Text → Bool
 are_file_and_number (file ∷ number ∷ []) = is_number number
 are_file_and_number _ = false
@@ -21,7 +21,7 @@ abbrev pub are_files_and_number : List Text → Bool
 are_files_and_number (file ∷ new ∷ number ∷ []) = is_number number
 are_files_and_number _ = false
 
--- the operands that a command takes; a script is not played without an option
+-- the operands that a command takes; no script is played without an option
 abbrev pub takes : Parameters → List Text → Bool
 takes parameters.Nothing words = length words == 1
 takes parameters.FileAndForm words = length words == 1
@@ -40,14 +40,15 @@ are_right [] = false
 are_right (name ∷ []) = false
 are_right (name ∷ word ∷ rest) = is_store_word word && option_map_or (takes (parameters_of word)) (operands rest) false
 
--- what a crash leaves, as a word: the bits of the sectors that are new, or after `lost:` of those that are lost; `lost` alone is of all
+-- what a crash leaves, as a word: a number has the bits of the sectors that are new, and after `lost:` of those that are lost; `lost` alone means
+-- all
 abbrev pub IsLost : Text → Type 0
 IsLost word = (word ≡ codes "lost") ⊎ ((number : Text) × (word ≡ codes "lost:" ++ number) × (is_number number ≡ true))
 
 abbrev pub NamesChoice : Text → Type 0
 NamesChoice word = (word ≡ codes "old") ⊎ ((word ≡ codes "new") ⊎ ((is_number word ≡ true) ⊎ IsLost word))
 
--- what is found of a command can be asked for: numbers have digits alone, rows that are saved are not asked for as objects, and the choice is one
+-- what is found for a command can be asked for: numbers have digits alone, saved rows are not asked for as objects, and the choice is valid
 pub record IsTakable (word : Text) (first : Text → Option Text) (objects : Option Text) : Type 0 where
   pub sectors : makes_word word ≡ true → is_number (unwrap_or (first (codes "SECTORS")) []) ≡ true
   pub version : bytes_eq (codes "format") word ≡ true → is_number_if_any (first (codes "format-version")) ≡ true
@@ -65,16 +66,16 @@ IsFoundTakable word found = IsTakable word (first_value found) (one_text found (
 abbrev pub AreRowsTakable : Text → List Row → Type 0
 AreRowsTakable word rows = IsTakable word (λ id. first_of id rows) (one_of (codes "objects") rows)
 
--- `clap` has no fault to find in the words of the command, by its own definition, and what it finds can be asked for
+-- `clap` finds no fault in the words of the command, by its own definition, and what it finds can be asked for
 abbrev pub AreTaken : List Text → Type 0
 AreTaken arguments = (command : App) → IsOwnApp (first_word arguments) command
     → (fault_of command (drop 1 arguments) ≡ []) × AreRowsTakable (first_word arguments) (matches_of command (drop 1 arguments))
 
--- the right words of a command: operands alone that it takes, and whatever `clap` takes, with options too
+-- the right words of a command: only operands, which it takes, or whatever `clap` accepts, with options too
 abbrev pub AreRightWords : List Text → Type 0
 AreRightWords arguments = (are_right arguments ≡ true) ⊎ AreTaken arguments
 
--- the request is what `clap` reads, by its own definitions: it has no fault to find in the words, and the request has all that it finds
+-- the request is what `clap` reads by its own definitions: it finds no fault in the words, and the request has everything that it finds
 pub record IsReadFrom (arguments : List Text) (request : StoreRequest) : Type 0 where
   pub command : App
   pub own : IsOwnApp (first_word arguments) command

@@ -4,40 +4,40 @@ use Rattle.std.specs.List.{list_any, starts_with}
 use Rattle.std.specs.Str.{bytes_eq}
 use Rattle.clap.specs.Words.{Text}
 
--- those that read standard input
+-- commands that read standard input
 unfoldable pub takes_input_word : Text → Bool
 takes_input_word word = bytes_eq (codes "import") word || bytes_eq (codes "append") word
 
--- those that change the tables, or where their rows lie
+-- commands that change the tables, or where their rows lie
 unfoldable pub changes_word : Text → Bool
 changes_word word =
     takes_input_word word
     || (bytes_eq (codes "create") word || (bytes_eq (codes "rename") word || (bytes_eq (codes "drop") word
     || (bytes_eq (codes "compact") word || bytes_eq (codes "upgrade") word))))
 
--- those that read one table; a query may be saved as another one
+-- commands that read one table; a query may be saved as another one
 unfoldable pub reads_table_word : Text → Bool
 reads_table_word word =
     bytes_eq (codes "schema") word || (bytes_eq (codes "export") word || (bytes_eq (codes "salvage") word || bytes_eq (codes "query") word))
 
--- those that read tables
+-- commands that read tables
 unfoldable pub reads_word : Text → Bool
 reads_word word = reads_table_word word || (bytes_eq (codes "tables") word || (bytes_eq (codes "check") word || bytes_eq (codes "info") word))
 
--- those that make a store in a new file
+-- commands that make a store in a new file
 unfoldable pub makes_word : Text → Bool
 makes_word word = bytes_eq (codes "format") word || bytes_eq (codes "copy") word
 
 unfoldable pub is_store_word : Text → Bool
 is_store_word word = changes_word word || (makes_word word || (bytes_eq (codes "replay") word || reads_word word))
 
--- the program's name, and a command of a store
+-- the program's name and a command of a store
 unfoldable pub is_of_store : List Text → Bool
 is_of_store [] = false
 is_of_store (name ∷ []) = false
 is_of_store (name ∷ word ∷ rest) = is_store_word word
 
--- the program's name, and one that reads standard input
+-- the program's name and a command that reads standard input
 unfoldable pub takes_input : List Text → Bool
 takes_input [] = false
 takes_input (name ∷ []) = false
@@ -51,7 +51,7 @@ is_help_word word = bytes_eq (codes "--help") word || starts_with nat_eq word (c
 unfoldable pub ask_for_help : List Text → Bool
 ask_for_help arguments = list_any is_help_word arguments
 
--- the first word after the program's name; empty where there is none
+-- the first word after the program's name; empty if there is none
 unfoldable pub first_word : List Text → Text
 first_word [] = []
 first_word (name ∷ []) = []

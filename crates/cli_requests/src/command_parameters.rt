@@ -1,4 +1,4 @@
-// What each command of a store takes, as `clap` reads it.
+// The parameters of each command of a store, as `clap` parses them.
 ghost use Rattle.std.specs.Prelude.{◌≡◌, false, codes, IfOk};
 ghost use Rattle.clap.specs.Words.{app_of, new_app, rule_of, with_rule};
 ghost use Rattle.clap.specs.declared.builder.value_parser.ValueParser.{ValueParser};
@@ -13,7 +13,7 @@ use clap::builder::ValueParser;
 use clap::{Arg, ArgAction, Command};
 use std::alloc::{AllocError, Global};
 
-// The forms that `append` takes rows in.
+// The input forms of `append`.
 const FORMS: [&str; 3] = ["stream", "csv", "jsonl"];
 
 // What a command takes after the file of the store.
@@ -37,14 +37,13 @@ pub(crate) fn required<'a>(alloc: Global, id: &'a str, help: &'a str) -> Arg<'a>
     Arg::new(alloc, id).required(true).help(help)
 }
 
-// A word that may stand any number of times.
+// Makes a parameter that takes any number of words.
 fn repeated<'a>(alloc: Global, id: &'a str, help: &'a str) -> Arg<'a>
     ensures { (rule_of result ≡ repeated_rule id.entry.now) × (result.global ≡ false) }
 {
     Arg::new(alloc, id).num_args(0..).help(help)
 }
 
-// An option with a value.
 pub(crate) fn option<'a>(alloc: Global, id: &'a str, value: &'a str, help: &'a str) -> Arg<'a>
     ensures { (rule_of result ≡ option_rule id.entry.now) × (result.global ≡ false) }
 {
@@ -171,7 +170,7 @@ fn parameters_of(word: &str) -> Parameters
     }
 }
 
-// A command with its help, and its first operand.
+// Makes a command with its help and its first operand.
 pub(crate) fn with_operand<'a>(
     alloc: Global,
     name: &'a str,
@@ -187,21 +186,19 @@ pub(crate) fn with_operand<'a>(
         .arg(required(alloc, id, help))
 }
 
-// A command that names the store's file.
 fn with_file<'a>(alloc: Global, name: &'a str) -> Result<Command<'a>, AllocError>
     ensures { IfOk result (λ c. app_of c ≡ store_app name.now) }
 {
     with_operand(alloc, name, "STORE", "The file of the store")
 }
 
-// One that takes a form of numbers.
+// Makes a command that takes `--json`.
 fn with_form<'a>(alloc: Global, name: &'a str) -> Result<Command<'a>, AllocError>
     ensures { IfOk result (λ c. app_of c ≡ info_app name.now) }
 {
     with_file(alloc, name)?.arg(json(alloc))
 }
 
-// One that names a table too.
 fn with_table<'a>(alloc: Global, name: &'a str) -> Result<Command<'a>, AllocError>
     ensures { IfOk result (λ c. app_of c ≡ table_app name.now) }
 {
@@ -214,7 +211,7 @@ fn with_new_name<'a>(alloc: Global, name: &'a str) -> Result<Command<'a>, AllocE
     with_table(alloc, name)?.arg(required(alloc, "NEW", "Its new name"))
 }
 
-// One that takes how many sectors its store has, and its version.
+// Makes a command that takes a number of sectors and a format version.
 fn with_sectors<'a>(alloc: Global, name: &'a str) -> Result<Command<'a>, AllocError>
     ensures { IfOk result (λ c. app_of c ≡ format_app name.now) }
 {
@@ -235,7 +232,6 @@ fn with_new_store<'a>(alloc: Global, name: &'a str) -> Result<Command<'a>, Alloc
     with_new_file(alloc, name)?.arg(sectors(alloc))
 }
 
-// One that takes the fields of a new table.
 fn with_fields<'a>(alloc: Global, name: &'a str) -> Result<Command<'a>, AllocError>
     ensures { IfOk result (λ c. app_of c ≡ create_app name.now) }
 {
@@ -246,7 +242,7 @@ fn with_fields<'a>(alloc: Global, name: &'a str) -> Result<Command<'a>, AllocErr
     ))
 }
 
-// One that takes the form of its input.
+// Makes a command that takes the form of its input.
 fn with_rows<'a>(alloc: Global, name: &'a str) -> Result<Command<'a>, AllocError>
     ensures { IfOk result (λ c. (forms : ValueParser) × AreForms forms × (app_of c ≡ append_app forms name.now)) }
 {
@@ -255,7 +251,6 @@ fn with_rows<'a>(alloc: Global, name: &'a str) -> Result<Command<'a>, AllocError
         .arg(null_text(alloc))
 }
 
-// One that takes conditions.
 fn with_conditions<'a>(alloc: Global, name: &'a str) -> Result<Command<'a>, AllocError>
     ensures { IfOk result (λ c. app_of c ≡ conditions_app name.now) }
 {
@@ -266,7 +261,7 @@ fn with_conditions<'a>(alloc: Global, name: &'a str) -> Result<Command<'a>, Allo
     ))
 }
 
-/// One that takes a query, and how it is printed or a name to save it under.
+/// Makes a command that takes a query, and how to print the rows or a name to save them under.
 pub(crate) fn with_query<'a>(alloc: Global, name: &'a str) -> Result<Command<'a>, AllocError>
     ensures { IfOk result (λ c. app_of c ≡ query_app name.now) }
 {
@@ -289,7 +284,6 @@ pub(crate) fn with_query<'a>(alloc: Global, name: &'a str) -> Result<Command<'a>
         .arg(objects(alloc))
 }
 
-// A command of a store.
 fn command<'a>(alloc: Global, name: &'a str) -> Result<Command<'a>, AllocError>
     ensures { IfOk result (λ c. IsOwnApp name.now (app_of c)) }
 {
@@ -307,7 +301,7 @@ fn command<'a>(alloc: Global, name: &'a str) -> Result<Command<'a>, AllocError>
     }
 }
 
-// A command by itself, as the program that was called by that name has it.
+// Makes one command by itself, whose usage shows the name that the program was called by.
 pub(crate) fn own_command<'a>(
     alloc: Global,
     program: &str,
@@ -323,7 +317,7 @@ fn command_of_usage<'a>(alloc: Global, usage: &Usage) -> Result<Command<'a>, All
     command(alloc, usage.name)
 }
 
-// In the order of the help.
+// Returns the commands in the order of the help.
 fn commands_of_stores<'a>(alloc: Global) -> Result<Vec<Command<'a>>, AllocError> {
     let mut commands = Vec::new(alloc);
     for usage in &COMMANDS {
@@ -332,10 +326,10 @@ fn commands_of_stores<'a>(alloc: Global) -> Result<Vec<Command<'a>>, AllocError>
     Ok(commands)
 }
 
-/// The program with all commands of a store.
+/// Returns the program with all commands of stores.
 ///
 /// # Errors
-/// Memory is refused.
+/// `AllocError` if memory is refused.
 pub fn cli_commands<'a>(alloc: Global) -> Result<Command<'a>, AllocError> {
     let commands = commands_of_stores(alloc)?;
     Command::new(alloc, "arrowstore")

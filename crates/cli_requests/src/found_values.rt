@@ -1,4 +1,4 @@
-// The values that `clap` has found of the arguments of a command.
+// Reads the values that `clap` has found for the arguments of a command.
 ghost use Rattle.std.specs.Prelude.{◌≡◌, ◌==◌, true, codes, option_map, IfOk, IfSome, IsOk, IsSome, if◌then◌else◌};
 ghost use Rattle.std.specs.Str.Parse.{digits_value};
 ghost use Rattle.clap.specs.Walk.{texts};
@@ -12,7 +12,7 @@ use clap::ArgMatches;
 use commit::FormatVersion;
 use std::alloc::{AllocError, Global};
 
-/// A number in decimal digits alone.
+/// Parses a number of decimal digits, without a sign.
 pub(crate) fn number_of(text: &str) -> Option<u64>
     ensures read { IfSome result (IsNumber text.now) }
     ensures taken { is_number text.now ≡ true → IsSome result }
@@ -26,7 +26,7 @@ pub(crate) fn number_of(text: &str) -> Option<u64>
     }
 }
 
-// `clap` takes a plus sign before a number, and has refused all else.
+// `clap` accepts a plus sign before a number, and has refused everything else.
 fn number(text: &str) -> Result<u64, Mistake>
     ensures read { IfOk result (IsNumber text.now) }
     ensures taken { is_number text.now ≡ true → IsOk result }
@@ -37,7 +37,7 @@ fn number(text: &str) -> Result<u64, Mistake>
     }
 }
 
-// A required word is always there: `clap` refuses a command line that lacks one.
+// Returns the word of an argument that is required or has a default, or an empty one if the command has no such argument.
 pub(crate) fn word<'a>(matches: &ArgMatches<'a>, id: &str) -> &'a str
     ensures { result.now ≡ value_of (found_of matches.now) id.now }
 {
@@ -67,7 +67,7 @@ pub(crate) fn sectors_of(words: &ArgMatches<'_>) -> Result<u64, Mistake>
     number(word(words, "SECTORS"))
 }
 
-/// The number of an argument; 0 where there is none.
+/// Returns the number of an argument, or 0 if it is not given.
 pub(crate) fn number_in(words: &ArgMatches<'_>, id: &str) -> Result<u64, Mistake>
     ensures read { IfOk result (IsNumberOrZero (first_value (found_of words.now) id.now)) }
     ensures taken { is_number_if_any (first_value (found_of words.now) id.now) ≡ true → IsOk result }
@@ -99,7 +99,7 @@ fn version_of(number: u64) -> FormatVersion
     }
 }
 
-/// The version of a store that is made; without the option the newest.
+/// Returns the version of the store to be made; without the option, the newest.
 pub(crate) fn version_in(words: &ArgMatches<'_>) -> Result<FormatVersion, Mistake>
     ensures read { IfOk result (HasVersion (found_of words.now)) }
     ensures taken { is_number_if_any (first_value (found_of words.now) (codes "format-version")) ≡ true → IsOk result }

@@ -1,11 +1,11 @@
-//! What a command line asks of a store, and which of its words a refusal is of.
+//! What a command line asks of a store, and which of its words a refusal is about.
 //!
-//! [`is_of_store`], [`takes_input`] and [`ask_for_help`] say which command lines are for a store, which of these read the input, and which ask for help,
-//! whatever the other words are. [`request_of`] gives the command of the first word. Where the words after it are operands alone, these are the files,
-//! names, fields, conditions and numbers of the request, in order (`specs/Operands.antt`); with options it has what `clap` finds by its own definitions.
-//! Operands that a command takes are right, and so are words that `clap` takes (`specs/Right.antt`); [`options_are_read`] says of which words with options
-//! this is so. [`refused_word`] gives the word that a refusal is of.
-//! [`help_of_command`] gives the help of a command that follows `help` ([`ask_help_of_command`]); [`cli_commands`] gives all commands.
+//! [`is_of_store`], [`takes_input`] and [`ask_for_help`] say which command lines are for a store, which of these read the input, and which ask for
+//! help, whatever the other words are. [`request_of`] parses the command of the first word. If only operands follow it, these are the files, names,
+//! fields, conditions and numbers of the request, in order (`specs/Operands.antt`); with options the request has what `clap` finds by its own
+//! definitions. Operands that a command takes are right, and so are words that `clap` accepts (`specs/Right.antt`); [`options_are_read`] says for
+//! which words with options this holds. [`refused_word`] returns the word that a refusal is about.
+//! [`help_of_command`] looks for the help of a command that follows `help` ([`ask_help_of_command`]); [`cli_commands`] returns all commands.
 //!
 //! ```
 //! let request = request_of(alloc, &["arrowstore", "drop", "store", "t"])?; // `StoreCommand::Drop`, of the store at `store`

@@ -1,4 +1,4 @@
-// Which word of a command line a refusal is of.
+// Finds the word of a command line that a refusal is about.
 use crate::{QueryWords, StoreCommand, StoreRequest};
 use cli_refusals::{MOST_SHOWN, Refusal, Role, Word, has_unshown};
 use field_texts::ParseError;
@@ -7,7 +7,7 @@ use std::alloc::{AllocError, Global};
 use tables::QueryRefusal;
 use values::Table;
 
-// The name of the table that has to be there.
+// Returns the name of the table that must exist.
 fn name_of<'a>(command: &StoreCommand<'a>) -> Option<&'a str> {
     match command {
         StoreCommand::Append { name }
@@ -21,7 +21,7 @@ fn name_of<'a>(command: &StoreCommand<'a>) -> Option<&'a str> {
     }
 }
 
-// The name that a table is to have.
+// Returns the name that a table is to get.
 fn new_name_of<'a>(command: &StoreCommand<'a>) -> Option<&'a str> {
     match command {
         StoreCommand::Create { name, .. } | StoreCommand::Import { name } => Some(name),
@@ -30,7 +30,7 @@ fn new_name_of<'a>(command: &StoreCommand<'a>) -> Option<&'a str> {
     }
 }
 
-// The text of the field at a place, counted from 1.
+// Returns the text of a field, counted from 1.
 fn field_of<'a>(command: &StoreCommand<'a>, number: usize) -> Option<&'a str> {
     match command {
         StoreCommand::Create { fields, .. } => fields.get(number.checked_sub(1)?).copied(),
@@ -45,7 +45,7 @@ fn query_in<'r, 'a>(command: &'r StoreCommand<'a>) -> Option<&'r QueryWords<'a>>
     }
 }
 
-// The first text that has not the form of a condition.
+// Returns the first text that does not have the form of a condition.
 fn formless<'a>(alloc: Global, texts: &[&'a str]) -> Option<&'a str> {
     for text in texts {
         if let Err(QueryError::BadCondition) = Condition::parse(alloc, text) {
@@ -55,7 +55,6 @@ fn formless<'a>(alloc: Global, texts: &[&'a str]) -> Option<&'a str> {
     None
 }
 
-// Whether a table refuses a query for this reason.
 fn refuses(
     alloc: Global,
     table: &Table,
@@ -84,7 +83,7 @@ fn refuses_condition(
     text: &str,
     reason: QueryRefusal,
 ) -> Result<bool, AllocError> {
-    // It has the form of a condition, unless memory was refused before.
+    // The texts were parsed before, unless memory was refused then.
     let Ok(condition) = Condition::parse(alloc, text) else {
         return Err(AllocError);
     };
@@ -96,7 +95,7 @@ fn refuses_condition(
     refuses(alloc, table, &query, reason)
 }
 
-// The first column of a list that a table refuses, or that stands in the list before.
+// Returns the first column of a list that a table refuses, or that the list has twice.
 fn refused_column<'a>(
     alloc: Global,
     table: &Table,
@@ -112,7 +111,6 @@ fn refused_column<'a>(
     Ok(None)
 }
 
-// The first condition that a table refuses for this reason.
 fn refused_condition<'a>(
     alloc: Global,
     table: &Table,
@@ -127,7 +125,7 @@ fn refused_condition<'a>(
     Ok(None)
 }
 
-// The first column of a table whose name one before it has, where a terminal may be shown it.
+// Returns the first column whose name an earlier one has, if a terminal may be shown it.
 fn column_named_again(table: &Table) -> Option<&str> {
     let fields = &table.schema().fields;
     for (place, field) in fields.iter().enumerate() {
@@ -142,7 +140,7 @@ fn column_named_again(table: &Table) -> Option<&str> {
     None
 }
 
-// What of a query a table refuses: the columns that are asked for are tested first, then the conditions, and last whether rows can be objects.
+// Returns what a table refuses of a query: the columns asked for are tested first, then the conditions, and last whether rows can be objects.
 fn word_on_table<'a>(
     alloc: Global,
     query: &QueryWords<'a>,
@@ -164,7 +162,7 @@ fn word_on_table<'a>(
     Ok(named(Role::Column, column_named_again(table)))
 }
 
-// A query does not say which of its texts it refuses: they are tried one by one, first whether they are conditions, which no table is asked for.
+// A query does not say which of its texts is refused, so they are tried one by one, first for the form of a condition, which needs no table.
 fn word_of_query<'a>(
     alloc: Global,
     query: &QueryWords<'a>,
@@ -216,7 +214,7 @@ fn word_of<'a>(
             | StoreRequest::Command { path, .. },
             Refusal::Opening(_),
         )
-        // the number of sectors is what `format` is refused for
+        // `format` is refused for its number of sectors
         | (
             StoreRequest::Salvage { path, .. } | StoreRequest::Command { path, .. },
             Refusal::BadSize,
@@ -231,8 +229,8 @@ fn word_of<'a>(
     }
 }
 
-/// The word of a request that a refusal is of, where that is known: of a query a condition without form, or else what `table` refuses, which has the schema
-/// of the table that the query was refused for. A word with a character that a terminal is not shown is none.
+/// Returns the word of a request that a refusal is about, if it is known: for a query a condition of another form, or else what `table` refuses,
+/// which has the schema of the queried table. A word with a character that is not shown on a terminal is not returned.
 pub fn refused_word<'a>(
     alloc: Global,
     request: &StoreRequest<'a>,

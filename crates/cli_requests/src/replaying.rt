@@ -1,4 +1,4 @@
-// A script that is played on a device in memory, as words of a command line.
+// The words of a `replay` command line.
 ghost use Rattle.std.specs.Prelude.{◌≡◌, false, codes, IfSome, IsSome, IfOk, IfErr};
 ghost use Rattle.clap.specs.Words.{app_of, found_of, rule_of};
 ghost use Rattle.cli_requests.specs.Apps.{HasFound, IsOfMemory, number_rule, size_rule, choice_rule, script_app, replay_app};
@@ -19,21 +19,21 @@ use std::alloc::{AllocError, Global};
 /// A script to be played on a device in memory, as words of a command line.
 #[derive(Clone, Copy)]
 pub struct ReplayWords<'a> {
-    /// The path of its file.
+    /// The path of the script.
     pub script: &'a str,
-    /// How many sectors of 512 bytes the device has.
+    /// The number of sectors of the device, of 512 bytes each.
     pub sectors: u64,
-    /// The write or sync that fails once, counted from 1; 0: none.
+    /// The write or sync that fails once, counted from 1; 0 means none.
     pub fail: u64,
-    /// The one in which the device stops; 0: none.
+    /// The write or sync in which the device stops; 0 means none.
     pub stop: u64,
-    /// What a crash leaves then.
+    /// What a crash then leaves.
     pub choice: CrashChoice,
-    /// The version of the store on it.
+    /// The version of the store on the device.
     pub version: FormatVersion,
 }
 
-// The sectors that are lost: all, or those of the bits.
+// Parses which sectors are lost: all, or those whose bits are set.
 fn lost_of(text: &str) -> Option<CrashChoice>
     ensures read { IfSome result (IsChoice text.now) }
     ensures taken { IsLost text.now → IsSome result }
@@ -44,7 +44,7 @@ fn lost_of(text: &str) -> Option<CrashChoice>
     Some(CrashChoice::Lost(number_of(text.strip_prefix("lost:")?)?))
 }
 
-// What a word says that a crash leaves.
+// Parses what a crash leaves.
 fn choice_of(text: &str) -> Option<CrashChoice>
     ensures read { IfSome result (IsChoice text.now) }
     ensures taken { NamesChoice text.now → IsSome result }
@@ -68,10 +68,10 @@ fn wrong_choice(alloc: Global) -> Result<Mistake, AllocError> {
     Ok(Mistake::Words(error))
 }
 
-/// The script that the words name, and what goes wrong while it is played.
+/// Returns the script that the words name, and what goes wrong while it is played.
 ///
 /// # Errors
-/// `Words` where the choice is none, `SignedNumber` where a number has a sign.
+/// `Words` if the choice is invalid or memory is refused; `SignedNumber` if a number has a sign.
 pub(crate) fn replay_request<'a>(
     alloc: Global,
     words: &ArgMatches<'a>,
@@ -129,7 +129,7 @@ fn with_script<'a>(alloc: Global, name: &'a str) -> Result<Command<'a>, AllocErr
     with_operand(alloc, name, "SCRIPT", "The file of the script")?.arg(size(alloc))
 }
 
-/// The command with its script, the size of the device, and what goes wrong on it.
+/// Makes the command with its script, the size of the device, and what goes wrong on it.
 pub(crate) fn with_faults<'a>(alloc: Global, name: &'a str) -> Result<Command<'a>, AllocError>
     ensures { IfOk result (λ c. app_of c ≡ replay_app name.now) }
 {

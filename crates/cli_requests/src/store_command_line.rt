@@ -1,4 +1,4 @@
-// How `clap` reads a command line of a store.
+// Parses a command line of a store with `clap`.
 ghost use Rattle.std.specs.Prelude.{◌≡◌, true, false, codes, map, drop, IfOk, IfErr, IsOk};
 ghost use Rattle.std.specs.Str.{bytes_eq};
 ghost use Rattle.clap.specs.Words.{first_value, found_of};
@@ -22,10 +22,10 @@ use std::alloc::{AllocError, Global};
 use std::convert::AsStr;
 use text_import::TextForm;
 
-/// Why a command line asks for nothing.
+/// Why a command line has no request.
 #[derive(Drop)]
 pub enum Mistake {
-    /// What `clap` says: it may also ask for help.
+    /// The error of `clap`, which may also be a request for help.
     Words(Error),
     /// A number has a sign.
     SignedNumber,
@@ -47,23 +47,24 @@ impl From<AllocError> for Mistake {
     }
 }
 
-/// Reads a command line of a store.
+/// Parses a command line of a store.
 ///
 /// # Errors
-/// [`Mistake::Words`] where `clap` refuses the words, one of them asks for help, or memory is refused; [`Mistake::SignedNumber`] where a number has a sign.
+/// [`Mistake::Words`] if `clap` refuses the words, one of them asks for help, or memory is refused; [`Mistake::SignedNumber`] if a number has a
+/// sign.
 #[tactic(auto, using(crate::proofs::WordLemmas::first_of_store))]
 pub fn request_of<'a, S: AsStr>(
     alloc: Global,
     arguments: &'a [S],
 ) -> Result<StoreRequest<'a>, Mistake>
-    // It asks for the command of its first word, whatever the words after it are.
+    // It asks for the command of its first word, whatever words follow.
     ensures asked { is_of_store (map S.text arguments.now) ≡ true
         → IfOk result (λ request. request_word request ≡ first_word (map S.text arguments.now)) }
-    // Where these are operands alone, they are its files, names, fields, conditions and numbers, and it has no option.
+    // If only operands follow, they are its files, names, fields, conditions and numbers, and it has no option.
     ensures named { is_of_store (map S.text arguments.now) ≡ true → IfOk result (Names (map S.text arguments.now)) }
-    // It has just what `clap` finds by its own definitions, options too; words that `clap` has a fault to find in are refused.
+    // It has exactly what `clap` finds by its own definitions, options too; words in which `clap` finds a fault are refused.
     ensures read { IfOk result (IsReadFrom (map S.text arguments.now)) }
-    // Operands alone that the command takes are right, and so are all words that `clap` takes, with options too, where each number has digits alone.
+    // Operands that the command takes are right, and so are all words that `clap` accepts, with options too, if each number has digits alone.
     ensures taken { AreRightWords (map S.text arguments.now) → IfErr result IsOfMemory }
 {
     let word = first_word(arguments);
@@ -72,10 +73,10 @@ pub fn request_of<'a, S: AsStr>(
     asked(alloc, word, &matches)
 }
 
-/// Looks for the help of the command that follows `help`, or of `help` itself where a word follows that asks for help.
+/// Looks for the help of the command that follows `help`, or of `help` itself if the word after it asks for help.
 ///
 /// # Errors
-/// Always where such a word follows: `clap` gives the help as an error, or memory is refused.
+/// Always if such a word follows: `clap` gives the help as an error, or memory is refused.
 pub fn help_of_command<S: AsStr>(alloc: Global, arguments: &[S]) -> Result<(), Error> {
     if let [name, _, command, ..] = arguments {
         let words = words_for_help(name.as_str(), command.as_str());
@@ -84,7 +85,7 @@ pub fn help_of_command<S: AsStr>(alloc: Global, arguments: &[S]) -> Result<(), E
     Ok(())
 }
 
-// As `clap` is asked for the help of a command; `help` takes no `--help`.
+// Returns the words that ask `clap` for the help of a command; `help` takes no `--help`.
 fn words_for_help<'a>(name: &'a str, command: &'a str) -> [&'a str; 3] {
     if is_help_word(command) {
         [name, "help", "help"]
@@ -93,7 +94,7 @@ fn words_for_help<'a>(name: &'a str, command: &'a str) -> [&'a str; 3] {
     }
 }
 
-// What a word asks for, with the words after it.
+// Returns the request of a command with the words after it.
 fn asked<'a>(
     alloc: Global,
     command: &str,
@@ -113,7 +114,7 @@ fn asked<'a>(
     }
 }
 
-// A request of a store that is there.
+// Returns a request for an existing store.
 fn command_request<'a>(
     alloc: Global,
     path: &'a str,
@@ -131,7 +132,6 @@ fn command_request<'a>(
     Ok(StoreRequest::Command { path, command })
 }
 
-// The word of the command.
 #[tactic(auto, unfolding(crate::specs::StoreWords::first_word))]
 fn first_word<S: AsStr>(arguments: &[S]) -> &str
     ensures { result.now ≡ first_word (map S.text arguments.now) }
@@ -142,7 +142,7 @@ fn first_word<S: AsStr>(arguments: &[S]) -> &str
     }
 }
 
-// The name that the program was called by, without its folder.
+// Returns the name that the program was called by, without its folder.
 fn program_name<S: AsStr>(arguments: &[S]) -> &str {
     match arguments {
         [name, ..] => match name.as_str().rsplit_once('/') {
@@ -153,7 +153,6 @@ fn program_name<S: AsStr>(arguments: &[S]) -> &str {
     }
 }
 
-// The words after the program's name.
 fn words_from_command<S: AsStr>(arguments: &[S]) -> &[S]
     ensures { map S.text result.now ≡ drop 1 (map S.text arguments.now) }
 {
@@ -213,7 +212,7 @@ fn text_form<'a>(form: &str, words: &ArgMatches<'a>) -> TextForm<'a>
     }
 }
 
-// Rows are appended from a stream, or from a text.
+// Rows are appended from a stream or from a text.
 fn append_command<'a>(name: &'a str, words: &ArgMatches<'a>) -> StoreCommand<'a>
     requires { name.now ≡ value_of (found_of words.now) (codes "NAME") }
     ensures word { command_word result ≡ codes "append" }
@@ -279,7 +278,7 @@ fn query_command<'a>(
             to,
             query,
         }),
-        // A table that is saved is not printed.
+        // A saved table is not printed.
         (Some(_), RowForm::Object) => Err(saved_objects(alloc)?),
     }
 }
@@ -299,7 +298,6 @@ fn create_command<'a>(
     })
 }
 
-// Whether numbers are printed as JSON.
 fn asks_json(words: &ArgMatches<'_>) -> bool
     ensures { HasJson (found_of words.now) result }
 {

@@ -9,7 +9,7 @@ use query::RowForm;
 use std::convert::AsStr;
 use text_import::TextForm;
 
-/// Which rows and columns of a table are asked for, as words of a command line.
+/// A query, as words of a command line.
 #[derive(Drop)]
 pub struct QueryWords<'a> {
     pub conditions: Vec<&'a str>,
@@ -20,98 +20,98 @@ pub struct QueryWords<'a> {
 /// What is asked of the store in the file at a path.
 #[derive(Drop)]
 pub enum StoreRequest<'a> {
-    /// An empty store of `sectors` sectors of 512 bytes in a version of the format, in a new file.
+    /// Makes a new file with an empty store of `sectors` sectors of 512 bytes, in this version of the format.
     Format {
         path: &'a str,
         sectors: u64,
         version: FormatVersion,
     },
-    /// A store of `sectors` sectors of 512 bytes in a new file at `new`, with the tables of the one at `path`.
+    /// Makes a new file at `new` with a store of `sectors` sectors of 512 bytes and the tables of the store at `path`.
     Copy {
         path: &'a str,
         new: &'a str,
         sectors: u64,
     },
-    /// The stream of the rows of a table that can be read, where some may be damaged.
+    /// Writes the stream of those rows of a table that can be read, if some are damaged.
     Salvage {
         path: &'a str,
         name: &'a str,
     },
-    /// A script, played on a device in memory.
+    /// Plays a script on a device in memory.
     Replay(ReplayWords<'a>),
-    /// A command of the store that stands there.
+    /// Executes a command on an existing store.
     Command {
         path: &'a str,
         command: StoreCommand<'a>,
     },
 }
 
-/// What is asked of a store, as words of a command line.
+/// A command of a store, as words of a command line.
 #[derive(Drop)]
 pub enum StoreCommand<'a> {
-    /// A table without rows, of the fields that the texts state.
+    /// Makes an empty table with the fields that the texts state.
     Create {
         name: &'a str,
         fields: Vec<&'a str>,
     },
-    /// The table that a stream means, in place of one of this name.
+    /// Makes the table of a stream, in place of one of this name.
     Import {
         name: &'a str,
     },
-    /// The rows that a stream means, after those of the table.
+    /// Appends the rows of a stream to the table.
     Append {
         name: &'a str,
     },
-    /// The same of a text.
+    /// Appends the rows of a text to the table.
     AppendText {
         name: &'a str,
         form: TextForm<'a>,
     },
-    /// The rows that a query selects, as lines in a form.
+    /// Prints the rows that a query selects, a line each, in this form.
     Query {
         name: &'a str,
         query: QueryWords<'a>,
         form: RowForm,
     },
-    /// The same, as a new table.
+    /// Saves the rows that a query selects as a new table.
     SaveAs {
         from: &'a str,
         to: &'a str,
         query: QueryWords<'a>,
     },
-    /// Another name for a table.
+    /// Gives a table another name.
     Rename {
         from: &'a str,
         to: &'a str,
     },
-    /// No table of this name.
+    /// Removes the table of this name.
     Drop {
         name: &'a str,
     },
-    /// The names of its tables, and how many rows each has.
+    /// Prints the name and the number of rows of each table.
     Tables,
-    /// The fields of a table.
+    /// Prints the fields of a table.
     Schema {
         name: &'a str,
     },
-    /// The stream of a table.
+    /// Writes the stream of a table.
     Export {
         name: &'a str,
     },
-    /// Whether all tables can be read.
+    /// Checks that all tables can be read.
     Check,
-    /// The store in numbers, as lines or as JSON.
+    /// Prints the summary of the store, as lines or as JSON.
     Info {
         as_json: bool,
     },
-    /// Small segments are joined, and moved to the lowest free sectors.
+    /// Joins small segments and moves them to the lowest free sectors.
     Compact,
-    /// Each segment gets the digest of its bytes.
+    /// Gives each segment the digest of its bytes.
     Upgrade,
 }
 
 impl StoreCommand<'_> {
-    /// Whether it writes nothing to the store.
+    /// Returns whether the command writes nothing to the store.
     #[tactic(auto, unfolding(crate::specs::StoreWords::reads_word, crate::specs::StoreWords::reads_table_word))]
     pub fn only_reads(&self) -> bool
         ensures { result ≡ true → reads_word (command_word self.now) ≡ true }
@@ -170,7 +170,7 @@ fn is_store_word(word: &str) -> bool
     changes_word(word) || makes_word(word) || word == "replay" || reads_word(word)
 }
 
-/// Whether the arguments, of which the program's name is the first, name a command of a store.
+/// Returns whether the arguments, the first of which is the program's name, name a command of a store.
 #[tactic(auto, unfolding(crate::specs::StoreWords::is_of_store))]
 pub fn is_of_store<S: AsStr>(arguments: &[S]) -> bool
     ensures { result ≡ is_of_store (map S.text arguments.now) }
@@ -181,7 +181,7 @@ pub fn is_of_store<S: AsStr>(arguments: &[S]) -> bool
     }
 }
 
-/// Whether they name one that reads standard input.
+/// Returns whether the arguments name a command that reads standard input.
 #[tactic(auto, unfolding(crate::specs::StoreWords::takes_input))]
 pub fn takes_input<S: AsStr>(arguments: &[S]) -> bool
     ensures { result ≡ takes_input (map S.text arguments.now) }
@@ -199,7 +199,7 @@ pub(crate) fn is_help_word(word: &str) -> bool
     word == "--help" || word.as_bytes().starts_with(b"-h")
 }
 
-/// Whether some word asks for help.
+/// Returns whether some word asks for help.
 #[tactic(auto, unfolding(crate::specs::StoreWords::ask_for_help))]
 pub fn ask_for_help<S: AsStr>(arguments: &[S]) -> bool
     ensures { result ≡ ask_for_help (map S.text arguments.now) }
@@ -212,7 +212,7 @@ pub fn ask_for_help<S: AsStr>(arguments: &[S]) -> bool
     false
 }
 
-/// Whether they ask by `help` for the help of a command of a store, or of `help` itself.
+/// Returns whether the arguments ask by `help` for the help of a command of a store, or of `help` itself.
 #[tactic(auto, unfolding(crate::specs::StoreWords::ask_help_of_command))]
 pub fn ask_help_of_command<S: AsStr>(arguments: &[S]) -> bool
     ensures { result ≡ ask_help_of_command (map S.text arguments.now) }

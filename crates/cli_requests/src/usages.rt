@@ -1,4 +1,4 @@
-// What the help says of each command of a store: its name, what it does, and an example.
+// What the help says about each command of a store: its name, what it does, and an example.
 use cli_texts::abouts;
 
 // A command as its help shows it.
@@ -136,7 +136,7 @@ the device are counted from 1, the first one after the formatting. No line is em
     },
 ];
 
-// What the help of a command says it does, and an example.
+// Returns what the help of a command says it does, and an example.
 pub(crate) fn texts_of(name: &str) -> (&'static str, &'static str) {
     for usage in &COMMANDS {
         if usage.name == name {

@@ -12,7 +12,7 @@ use Rattle.cli_texts.specs.LeftOut.{left_out_text}
 use Rattle.cli_texts.specs.Reported.{IfRefused}
 use Rattle.cli_texts.specs.Told.{told}
 
--- why a text of the program's own is not written: the output failed, or memory was refused
+-- why one of the program's own texts is not written: the output failed, or memory was refused
 abbrev pub IsOfOutput : Refusal → Type 0
 IsOfOutput Io = Unit {0}
 IsOfOutput OutOfMemory = Unit {0}
@@ -25,11 +25,11 @@ GivesText given PartlyDone = ⊥
 GivesText given (Refused refusal) = IsOfOutput refusal
 GivesText given WrongArguments = ⊥
 
--- a text is written, and nothing else
+-- some text is written, and nothing else
 abbrev pub GivesSome : (contents contents' : Option (List ℕ)) → Type 0
 GivesSome contents contents' = (text : List ℕ) × (0 < length text) × Appends contents contents' text
 
--- what is reported of a refusal, where standard error takes what it is given
+-- what is reported of a refusal, if standard error takes it
 abbrev pub TellsRefusal : (tells : Refusal → List ℕ) → Ended → Option (List ℕ) → Option (List ℕ) → Type 0
 TellsRefusal tells ended errors errors' = IfRefused ended.status (λ refusal. IsTrue ended.is_reported → Appends errors errors' (tells refusal))
 
@@ -37,15 +37,15 @@ TellsRefusal tells ended errors errors' = IfRefused ended.status (λ refusal. Is
 abbrev pub IsIo : Refusal → Type 0
 IsIo refusal = refusal ≡ Io
 
--- a run that has ended, whatever it was asked for: what was reported to an audience, with a hint, which segments were left out, and after which refusals some
--- output may be written
+-- a run that has ended, whatever it was asked for: what was reported to an audience, with a hint; which segments were left out; and after which
+-- refusals some output may be written
 pub record HasReported {W E : Type 0} (contents : E → Option (List ℕ)) (audience : Audience) (hint : Option Hint) (left : List (ℕ × ℕ))
     (writes_part : Refusal → Type 0) (output output' : W) (errors errors' : E) (ended : Ended) : Type 0 where
-  -- of what is done nothing is left out and nothing is reported, and so all of it is
+  -- a run that is done leaves nothing out and reports nothing, which counts as reported
   pub silent : ended.status ≡ Done → (left ≡ []) × (errors' ≡ errors) × IsTrue ended.is_reported
-  -- of what is partly done that which is left out is reported
+  -- a run that is partly done reports what it leaves out
   pub listed : ended.status ≡ PartlyDone → (left ≢ []) × (IsTrue ended.is_reported → Appends (contents errors) (contents errors') (left_out_text audience left))
   pub nothing_written : ended.status ≡ WrongArguments → output' ≡ output
-  -- what is refused has written nothing, but after these refusals
+  -- a refused run has written nothing, except after these refusals
   pub quiet : IfRefused ended.status (λ refusal. ¬ writes_part refusal → output' ≡ output)
   pub line : TellsRefusal (told audience hint) ended (contents errors) (contents errors')

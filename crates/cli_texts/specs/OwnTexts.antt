@@ -1,4 +1,4 @@
--- Texts of the program's own: its version, what each refusal means, and the help that lists all commands.
+-- The program's own texts: its version, the meaning of each refusal, and the help that lists all commands.
 use Rattle.std.specs.Prelude.{ℕ, Bool, false, ◌||◌, ◌&&◌, if◌then◌else◌, List, [], ◌∷◌, Option, Some, None, codes, flat_map, slice_get}
 use Rattle.std.specs.Str.{bytes_eq}
 use Rattle.clap.specs.Words.{Text}
@@ -10,7 +10,7 @@ abbrev pub word_or_none : Option Text → Text
 word_or_none None = []
 word_or_none (Some word) = word
 
--- the word at a place of a command line, which is empty where there is none
+-- the word at a place of a command line; empty if there is none
 abbrev pub word_at : List Text → ℕ → Text
 word_at arguments place = word_or_none (slice_get arguments place)
 
@@ -24,7 +24,7 @@ is_refusals_topic word topic = bytes_eq (codes "help") word && bytes_eq (codes "
 unfoldable pub asks_version : List Text → Bool
 asks_version arguments = is_version_word (word_at arguments 1)
 
--- after the program's name these two words, and nothing more
+-- after the program's name exactly these two words
 unfoldable pub asks_refusals : List Text → Bool
 asks_refusals [] = false
 asks_refusals (name ∷ []) = false
@@ -39,7 +39,7 @@ help_page = flat_map (λ piece. piece.now) HELP
 unfoldable pub is_help_alone : Text → Bool
 is_help_alone word = bytes_eq (codes "help") word || (bytes_eq (codes "--help") word || bytes_eq (codes "-h") word)
 
--- after the program's name such a word, or `help` and such a word, and nothing more
+-- after the program's name only such a word, or only `help` and such a word
 unfoldable pub asks_commands : List Text → Bool
 asks_commands [] = false
 asks_commands (name ∷ []) = false
@@ -50,6 +50,6 @@ asks_commands (name ∷ word ∷ topic ∷ more ∷ rest) = false
 unfoldable pub is_own : List Text → Bool
 is_own arguments = asks_version arguments || (asks_refusals arguments || asks_commands arguments)
 
--- the text that they ask for
+-- the text that the arguments ask for
 unfoldable pub own_text : List Text → Text
 own_text arguments = if asks_version arguments then VERSION.now else (if asks_refusals arguments then refusals_page else help_page)

@@ -1,4 +1,4 @@
--- How a run is reported to have ended.
+-- How the end of a run is reported.
 use Rattle.std.specs.Prelude.{◌≡◌, ◌⊎◌, ℕ, max, if◌then◌else◌, List, [], ◌∷◌, ◌++◌, codes}
 use Rattle.clap.specs.declared.error.kind.ErrorKind.{ErrorKind}
 use Rattle.clap.specs.declared.error.kind.ErrorKind.TheVariants as kinds
@@ -20,7 +20,7 @@ status_code PartlyDone = 1
 status_code (Refused refusal) = 1
 status_code WrongArguments = 2
 
--- where what is reported was not taken, at least that of a refusal
+-- if the report was not taken, at least the status of a refusal
 abbrev pub ended_code : Ended → ℕ
 ended_code ended = if ended.is_reported then status_code ended.status else max 1 (status_code ended.status)
 
@@ -37,6 +37,6 @@ IsRefused status = (refusal : Refusal) × (status ≡ Refused refusal)
 abbrev pub IsWrong : Status → Type 0
 IsWrong status = (status ≡ WrongArguments) ⊎ (status ≡ Refused OutOfMemory)
 
--- the arguments ask for a text of the program's own
+-- the arguments ask for help or the version
 abbrev pub IsRequest : ErrorKind → Type 0
 IsRequest kind = (kind ≡ kinds.DisplayHelp) ⊎ (kind ≡ kinds.DisplayVersion)

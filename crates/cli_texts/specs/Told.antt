@@ -9,7 +9,7 @@ use Rattle.cli_refusals.specs.Hint.{hint_text}
 use Rattle.cli_refusals.specs.Remedies.{remedy}
 use Rattle.cli_texts.specs.Reported.{refusal_line}
 
--- what to do; before it what is refused, where that is known
+-- what to do; before it what is refused, if that is known
 unfoldable pub remedy_line : Option Hint → Refusal → List ℕ
 remedy_line None refusal = remedy refusal ++ 10 ∷ []
 remedy_line (Some hint) refusal = hint_text hint ++ remedy refusal ++ 10 ∷ []
@@ -19,13 +19,13 @@ abbrev pub is_io : Refusal → Bool
 is_io Io = true
 is_io _ = false
 
--- to a program the line of the refusal, and nothing else; at a terminal it is not told that an output failed whose reader is gone
+-- a program gets the line of the refusal and nothing else; a terminal is not told that an output failed whose reader is gone
 unfoldable pub told : Audience → Option Hint → Refusal → List ℕ
 told Program hint refusal = refusal_line refusal
 told Terminal hint refusal = refusal_line refusal ++ remedy_line hint refusal
 told Departed hint refusal = if is_io refusal then [] else refusal_line refusal
 
--- who reads the report of a run: at a terminal nobody, where the reader of its output is gone
+-- who reads the report of a run: at a terminal, somebody who has departed if the reader of its output is gone
 abbrev pub heard : Audience → (is_unread : Bool) → Audience
 heard Terminal true = Departed
 heard audience _ = audience

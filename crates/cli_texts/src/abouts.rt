@@ -1,4 +1,4 @@
-//! What each command does: a line of the help of the program, and the first line of the help of the command.
+//! What each command does: its line in the help of the program, and the first line of its own help.
 
 pub const FORMAT: &str = "Makes a file of the given number of sectors, and an empty store in it";
 

@@ -5,7 +5,7 @@ ghost use Rattle.cli_texts.specs.OwnTexts.{help_page};
 use crate::abouts;
 use std::alloc::{AllocError, Global};
 
-/// The help of the program: strings one after another, among them what each command does.
+/// The help of the program: strings to be joined, among them what each command does.
 pub const HELP: [&str; 37] = [
     "A crash-safe store of named tables in the Apache Arrow format
 
@@ -77,10 +77,10 @@ The version: arrowstore --version
 ",
 ];
 
-/// The strings of [`HELP`] one after another.
+/// Returns the strings of [`HELP`], joined.
 ///
 /// # Errors
-/// `AllocError` where memory was refused.
+/// `AllocError` if memory is refused.
 #[tactic(auto, unfolding(crate::specs::OwnTexts::help_page))]
 pub fn help_page(alloc: Global) -> Result<String, AllocError>
     ensures { IfOk result (λ text. string_bytes text ≡ help_page) }

@@ -1,4 +1,4 @@
-// What is reported of the segments that a salvage leaves out.
+// Reports the segments that a salvage leaves out.
 ghost use Rattle.std.specs.Prelude.{OnOk};
 ghost use Rattle.std.specs.Io.KnownBytes.{Appends};
 ghost use Rattle.cli_texts.specs.LeftOut.{left_out_line, lacking_line};
@@ -10,10 +10,10 @@ use std::io::{self, Write};
 pub const STREAM_LACKS_THEM: &str =
     "The stream has all rows of the table but these. Take them from a copy of the file from before.";
 
-/// Reports a segment that is left out: its place among those of its table, counted from 0, and how many rows it is said to have.
+/// Reports a segment that is left out: its place in its table, counted from 0, and the number of rows that it is said to have.
 ///
 /// # Errors
-/// That of the writer.
+/// Those of the writer.
 pub fn tell_left_out<E: Write>(place: u64, rows: u64, errors: &mut E) -> io::Result<()>
     ensures { OnOk result (Appends (E.contents errors.old) (E.contents errors.new) (left_out_line place rows)) }
 {
@@ -23,7 +23,7 @@ pub fn tell_left_out<E: Write>(place: u64, rows: u64, errors: &mut E) -> io::Res
 /// Reports to a person, after the segments that are left out, what the stream lacks.
 ///
 /// # Errors
-/// That of the writer.
+/// Those of the writer.
 pub fn tell_lacking<E: Write>(audience: Audience, errors: &mut E) -> io::Result<()>
     ensures { OnOk result (Appends (E.contents errors.old) (E.contents errors.new) (lacking_line audience)) }
 {

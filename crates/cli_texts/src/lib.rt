@@ -1,10 +1,9 @@
-//! What the program says, and how it ends: its status, what it reports of a refusal and to whom, and its own texts.
+//! What the program says and how it ends: its status, what it reports of a refusal and to whom, and its own texts.
 //!
-//! [`end`] and [`report_arguments`] report on any writer how a run ended, and say which bytes are written: to a program the
-//! line of a refusal, and on a terminal after it what to do. [`end_output`] does so of a run with an output, whose reader may be gone ([`Output`],
-//! [`WatchedOutput`]).
+//! [`end`] and [`report_arguments`] report on any writer how a run ended, and say which bytes are written: for a program the line of a refusal, and
+//! on a terminal also what to do. [`end_output`] does the same for a run with an output, whose reader may be gone ([`Output`], [`WatchedOutput`]).
 //! [`tell_left_out`] and [`tell_lacking`] report what a salvage leaves out.
-//! [`write_own_text`] writes the version, what each refusal means, or the help that lists all commands.
+//! [`write_own_text`] writes the version, the meaning of each refusal, or the help that lists all commands.
 //!
 //! ```
 //! let ended = end(Err(Refusal::Io), None, Audience::Program, &mut errors); // `errors` has the line `refused G1 Io`

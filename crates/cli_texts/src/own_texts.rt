@@ -1,4 +1,4 @@
-// Texts of the program's own: its version, what each refusal means, and the help that lists all commands.
+// The program's own texts: its version, the meaning of each refusal, and the help that lists all commands.
 ghost use Rattle.std.specs.Prelude.{◌≡◌, ◌≢◌, map, IfErr, OnOk};
 ghost use Rattle.std.specs.Io.KnownBytes.{Appends};
 ghost use Rattle.cli_texts.specs.Ending.{IsOfOutput};
@@ -11,7 +11,7 @@ use std::alloc::Global;
 use std::convert::AsStr;
 use std::io::Write;
 
-/// The line of `--version`.
+/// The line that `--version` prints.
 pub const VERSION: &str = "arrowstore 0.1.0\n";
 
 #[tactic(auto, unfolding(crate::specs::OwnTexts::is_version_word))]
@@ -28,7 +28,7 @@ fn is_refusals_topic(word: &str, topic: &str) -> bool
     word == "help" && topic == "refusals"
 }
 
-// The word at a place of a command line, which is empty where there is none.
+// Returns the word at a place of a command line, or an empty one if there is none.
 fn word_at<S: AsStr>(arguments: &[S], place: usize) -> &str
     ensures { result.now ≡ word_at (map S.text arguments.now) place }
 {
@@ -73,7 +73,7 @@ fn asks_commands<S: AsStr>(arguments: &[S]) -> bool
     }
 }
 
-/// Whether the arguments, of which the program's name is the first, ask for a text of the program's own.
+/// Returns whether the arguments, the first of which is the program's name, ask for one of the program's own texts.
 #[tactic(auto, unfolding(crate::specs::OwnTexts::is_own))]
 pub fn is_own<S: AsStr>(arguments: &[S]) -> bool
     ensures { result ≡ is_own (map S.text arguments.now) }
@@ -84,7 +84,7 @@ pub fn is_own<S: AsStr>(arguments: &[S]) -> bool
 /// Writes the text that such arguments ask for, and nothing else.
 ///
 /// # Errors
-/// `OutOfMemory`, and then nothing is written; `Io` where the output fails: some may be written.
+/// `OutOfMemory`: nothing is written; `Io` if the output fails: some of the text may be written.
 #[tactic(auto, unfolding(crate::specs::OwnTexts::own_text))]
 pub fn write_own_text<S: AsStr, W: Write>(
     alloc: Global,

@@ -1,4 +1,4 @@
-// What is reported of a run that was refused, of wrong arguments and of a request for help.
+// Reports refusals, wrong arguments and requests for help.
 ghost use Rattle.std.specs.Prelude.{◌≡◌, ◌≢◌, ◌⊎◌, [], None, IsOk, IsTrue, IfErr, OnOk};
 ghost use Rattle.clap.specs.Words.{kind_of};
 ghost use Rattle.cli_texts.specs.Reported.{IsRequest, IsWrong};
@@ -12,7 +12,7 @@ use cli_refusals::{Hint, Refusal, write_whole};
 use std::alloc::Global;
 use std::io::Write;
 
-// Writes a text of help. `clap` promises no text, so that there is one is tested.
+// Writes a help text. `clap` does not promise that there is one, so an empty text is an error.
 fn write_help<W: Write>(alloc: Global, error: &clap::Error, output: &mut W) -> Result<(), Refusal>
     ensures written { OnOk result (GivesSome (W.contents output.old) (W.contents output.new)) }
     ensures refused { IfErr result IsOfOutput }
@@ -25,7 +25,7 @@ fn write_help<W: Write>(alloc: Global, error: &clap::Error, output: &mut W) -> R
     write_whole(output, help.as_bytes())
 }
 
-/// Reports why the arguments ask for nothing: what is wrong with them goes to `errors`, and help to `output`.
+/// Reports an error of `clap`: a mistake goes to `errors`, and help to `output`.
 pub fn report_arguments<W: Write + Output, E: Write>(
     alloc: Global,
     error: &clap::Error,
@@ -34,7 +34,7 @@ pub fn report_arguments<W: Write + Output, E: Write>(
     audience: Audience,
 ) -> Ended
     ensures request { IsRequest (kind_of error.now) ⊎ (IsWrong result.status × (output.new ≡ output.old)) }
-    // Help that is asked for is written, and nothing else.
+    // Help that was asked for is written, and nothing else.
     ensures helps { result.status ≡ Status.Done → GivesSome (W.contents output.old) (W.contents output.new) }
     ensures memory { kind_of error.now ≡ ErrorKind.OutOfMemory → (result.status ≡ Status.Refused Refusal.OutOfMemory) × (output.new ≡ output.old) }
     ensures reports { HasReported E.contents (heard audience (W.unread output.new)) None [] IsIo output.old output.new errors.old errors.new result }
@@ -48,7 +48,7 @@ pub fn report_arguments<W: Write + Output, E: Write>(
     }
 }
 
-/// Reports that arguments are wrong, or that memory for what is wrong with them is refused.
+/// Reports that the arguments are wrong, or that memory for the message is refused.
 pub fn report_wrong_arguments<W: Output, E: Write>(
     error: &clap::Error,
     output: &W,
@@ -70,7 +70,7 @@ pub fn report_wrong_arguments<W: Output, E: Write>(
     }
 }
 
-/// Reports that a number has a sign, which is a wrong argument.
+/// Reports that a number has a sign, which makes the arguments wrong.
 pub fn report_signed_number<E: Write>(errors: &mut E) -> Ended
     ensures { result.status ≡ Status.WrongArguments }
 {
@@ -80,7 +80,7 @@ pub fn report_signed_number<E: Write>(errors: &mut E) -> Ended
     }
 }
 
-/// The same of a run that has written to an output: where the reader of that is gone, nobody is told that it failed.
+/// `end` for a run that has written to an output: if its reader is gone, a person is not told that the output failed.
 pub fn end_output<W: Output, E: Write>(
     done: Result<(), Refusal>,
     hint: Option<Hint<'_>>,
@@ -95,7 +95,7 @@ pub fn end_output<W: Output, E: Write>(
     end(done, hint, heard(audience, output), errors)
 }
 
-/// Reports a refusal, with what is refused where more of it is known.
+/// Reports how a run ended: a refusal, with a hint at what is refused if there is one.
 pub fn end<E: Write>(
     done: Result<(), Refusal>,
     hint: Option<Hint<'_>>,

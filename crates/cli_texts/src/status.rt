@@ -1,4 +1,3 @@
-// How a run ended.
 ghost use Rattle.std.specs.Prelude.{◌≡◌};
 ghost use Rattle.cli_texts.specs.Reported.{status_code, ended_code};
 
@@ -7,18 +6,18 @@ use cli_refusals::Refusal;
 /// How a run ended.
 #[derive(Clone, Copy)]
 pub enum Status {
-    /// What the arguments ask for is done.
+    /// Everything that the arguments ask for is done.
     Done,
-    /// It is done but for what is left out, which is reported.
+    /// Everything is done except what is left out, which is reported.
     PartlyDone,
-    /// It was refused, for this reason.
+    /// The run was refused, for this reason.
     Refused(Refusal),
     /// The arguments ask for nothing that the program does.
     WrongArguments,
 }
 
 impl Status {
-    /// What the process exits with.
+    /// Returns the exit status of the process.
     pub fn code(self) -> u8
         ensures { result ≡ status_code self }
     {
@@ -30,7 +29,7 @@ impl Status {
     }
 }
 
-/// How a run ended, and whether all that is reported of it on standard error was taken there.
+/// How a run ended, and whether standard error took the whole report.
 #[derive(Clone, Copy)]
 pub struct Ended {
     pub status: Status,
@@ -38,7 +37,7 @@ pub struct Ended {
 }
 
 impl Ended {
-    /// What the process exits with: 0 only where all is done, and all that is reported of it was taken.
+    /// Returns the exit status of the process: 0 only if everything is done and the whole report was taken.
     pub fn code(self) -> u8
         ensures { result ≡ ended_code self }
     {

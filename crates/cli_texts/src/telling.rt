@@ -1,4 +1,4 @@
-// What is reported of a refusal, and to whom.
+// Reports a refusal to its audience.
 ghost use Rattle.std.specs.Prelude.{◌≡◌, Bool, [], if◌then◌else◌, OnOk};
 ghost use Rattle.std.specs.Io.KnownBytes.{Appends};
 ghost use Rattle.cli_texts.specs.Reported.{refusal_line};
@@ -10,16 +10,17 @@ use std::io::{self, IsTerminal, Write};
 /// Who reads the report of a refusal.
 #[derive(Clone, Copy, PartialEq, Eq)]
 pub enum Audience {
-    /// A program or a file: the line of the refusal alone.
+    /// A program or a file, which gets only the line of the refusal.
     Program,
-    /// A person at a terminal: after it a line with what to do.
+    /// A person at a terminal, who also gets a line that says what to do.
     Terminal,
-    /// A person at a terminal, where the reader of the output is gone: nothing of a read or a write that failed, and of all else the line alone.
+    /// A person at a terminal where the reader of the output is gone: gets nothing about a failed read or write, and only the line of any other
+    /// refusal.
     Departed,
 }
 
 impl Audience {
-    /// Who reads what is written to a standard stream.
+    /// Returns who reads what is written to a standard stream.
     pub fn of<T: IsTerminal>(stream: &T) -> Audience {
         if stream.is_terminal() {
             Audience::Terminal
@@ -34,12 +35,12 @@ pub trait Output {
     /// Its reader is gone.
     ghost unread: { Self → Bool };
 
-    /// Whether its reader is gone: a write was answered so, as by a pipe that its reader has closed.
+    /// Returns whether its reader is gone: a write was answered so, as by a pipe that its reader has closed.
     fn is_unread(&self) -> bool
         ensures { result ≡ unread self.now };
 }
 
-/// Who reads the report of a run that has written to an output: a person who has closed it, as by `head`, knows that it failed.
+/// Returns who reads the report of a run that has written to an output: a person who has closed it, as by `head`, knows that it failed.
 pub fn heard<W: Output>(audience: Audience, output: &W) -> Audience
     ensures { result ≡ heard audience (W.unread output.now) }
 {
@@ -62,7 +63,7 @@ fn tell_line<E: Write>(refusal: Refusal, errors: &mut E) -> io::Result<()>
     writeln!(errors, "refused {refusal}")
 }
 
-// All but a read or a write that failed.
+// Reports any refusal except a failed read or write.
 fn tell_unless_io<E: Write>(refusal: Refusal, errors: &mut E) -> io::Result<()>
     ensures { OnOk result (Appends (E.contents errors.old) (E.contents errors.new) (if is_io refusal then [] else refusal_line refusal)) }
 {
@@ -73,7 +74,7 @@ fn tell_unless_io<E: Write>(refusal: Refusal, errors: &mut E) -> io::Result<()>
     }
 }
 
-/// Reports a refusal, with what is refused where more of it is known.
+/// Reports a refusal, with a hint at what is refused if there is one.
 #[tactic(auto, unfolding(crate::specs::Told::told, crate::specs::Told::remedy_line, crate::specs::Reported::refusal_line))]
 pub(crate) fn tell<E: Write>(
     refusal: Refusal,

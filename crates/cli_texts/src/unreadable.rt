@@ -1,4 +1,4 @@
-// Arguments that can't be read.
+// Reports arguments that can't be read.
 ghost use Rattle.std.specs.Prelude.{◌≡◌, ◌≢◌, None};
 ghost use Rattle.std.specs.IoError.{error_kind};
 ghost use Rattle.cli_texts.specs.Ending.{TellsRefusal};
@@ -10,7 +10,7 @@ use cli_refusals::Refusal;
 use std::io;
 use std::io::{ErrorKind, Write};
 
-/// Reports that the arguments could not be read: memory is out, or one is not UTF-8.
+/// Reports that the arguments could not be read: memory is refused, or one of them is not UTF-8.
 pub fn report_unreadable_arguments<E: Write>(
     error: &io::Error,
     errors: &mut E,

@@ -1,4 +1,4 @@
-// An output that is watched for its reader.
+// An output that notices when its reader is gone.
 ghost use Rattle.std.specs.Prelude.{◌≡◌, ◌⊎◌, Bool, true, false, IsErrAnd};
 ghost use Rattle.std.specs.IoError.{error_kind};
 ghost use Rattle.std.specs.Io.{WritesAtMost};
@@ -7,7 +7,7 @@ ghost use Rattle.std.specs.Io.KnownBytes.{Keeps, WriteAppends};
 use crate::Output;
 use std::io::{self, ErrorKind, Write};
 
-/// Writes to `output`, and knows whether its reader is gone.
+/// Writes to `output`, and notices when its reader is gone.
 #[derive(Drop)]
 pub struct WatchedOutput<W: Write> {
     output: W,
@@ -15,7 +15,7 @@ pub struct WatchedOutput<W: Write> {
 }
 
 impl<W: Write> WatchedOutput<W> {
-    /// The reader of an output is taken to be there until a write tells otherwise.
+    /// Wraps an output whose reader is taken to be there until a write says otherwise.
     pub fn new(output: W) -> WatchedOutput<W>
         ensures { (result.output ≡ output) × (result.is_unread ≡ false) }
     {
@@ -26,7 +26,7 @@ impl<W: Write> WatchedOutput<W> {
     }
 }
 
-// A pipe answers so whose reader has closed it.
+// A pipe whose reader has closed it answers so.
 fn finds_no_reader<T>(written: &io::Result<T>) -> bool
     ensures gone { result ≡ true → IsErrAnd written.now (λ e. error_kind e ≡ ErrorKind.BrokenPipe) }
     ensures found { IsErrAnd written.now (λ e. error_kind e ≡ ErrorKind.BrokenPipe) → result ≡ true }
@@ -51,7 +51,7 @@ impl<W: Write> Write for WatchedOutput<W> {
     fn write(&mut self, buf: &[u8]) -> io::Result<usize>
         ensures bound { WritesAtMost result buf.now }
         ensures bytes { WriteAppends (W.contents self.old.output) (W.contents self.new.output) result buf.now }
-        // Its reader is gone where a write was answered so, and for no other reason.
+        // The reader is gone if a write was answered so, and for no other reason.
         ensures gone { self.new.is_unread ≡ true
             → (self.old.is_unread ≡ true) ⊎ IsErrAnd result (λ e. error_kind e ≡ ErrorKind.BrokenPipe) }
         ensures found { IsErrAnd result (λ e. error_kind e ≡ ErrorKind.BrokenPipe) → self.new.is_unread ≡ true }

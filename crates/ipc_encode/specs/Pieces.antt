@@ -1,4 +1,4 @@
--- The pieces of a table, each by itself: a stream of its own.
+-- The pieces of a table, each as a stream of its own.
 use Rattle.std.specs.Prelude.{◌≡◌, ◌≤◌, ℕ, true, nat_eq, List, map, length, Ok}
 use Rattle.std.specs.List.{starts_with}
 use Rattle.arrow_schema.specs.Column.{PlainSchema}
@@ -15,14 +15,14 @@ use Rattle.values.specs.PlainTables.{plain_table}
 abbrev pub piece_stream : PlainSchema → List (List Cell) → List ℕ
 piece_stream s rows = canonical (plain_table s rows)
 
--- the streams of a table's pieces, and how many rows each has
+-- the streams of a table's pieces, and the number of rows of each
 unfoldable pub piece_streams : PlainTable → List (List ℕ)
 piece_streams t = map (piece_stream t.schema) (pieces_of t)
 
 unfoldable pub piece_counts : PlainTable → List ℕ
 piece_counts t = map length (pieces_of t)
 
--- rows that are a piece: few, and a table by themselves, which their stream means. It begins with the message of the schema
+-- rows that are a piece: few, and a table by themselves, which their stream means; the stream begins with the schema's message
 pub record IsPiece (s : PlainSchema) (rows : List (List Cell)) : Type 0 where
   pub table : IsTable (plain_table s rows)
   pub some : 1 ≤ length rows

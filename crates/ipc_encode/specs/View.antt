@@ -1,4 +1,4 @@
--- What the values of the code are, whatever memory they take.
+-- The plain form of the values of the code, whatever memory they take.
 use Rattle.std.specs.Prelude.{ℕ, List, ◌++◌, map}
 use Rattle.std.specs.Global.{Vec}
 use Rattle.std.specs.List.{flat_map}
@@ -12,7 +12,7 @@ use Rattle.cells.specs.Cell.{PlainTable}
 abbrev pub joined_parts : List Buffer → List ℕ
 joined_parts parts = flat_map buffer_bytes parts
 
--- streams that begin with the same bytes, and go on with parts
+-- streams that begin with the same bytes and go on with parts
 abbrev pub streams_behind : (front : List ℕ) → List (Vec Buffer) → List (List ℕ)
 streams_behind front streams = map (λ (parts : Vec Buffer). front ++ joined_parts parts.items) streams
 

@@ -1,4 +1,4 @@
-// The streams of rows that are kept in record batches, and of the pieces of a table of such rows, by runs of slots.
+// Encodes rows that are kept in record batches by runs of slots, as one stream or in pieces.
 ghost use Rattle.std.specs.Prelude.{◌≡◌, ◌<◌, ◌^◌, ◌∷◌, ◌++◌, [], true, length, IfOk, OnOk};
 ghost use Rattle.std.specs.List.{AllByRecursion};
 ghost use Rattle.arrow_schema.specs.Column.{columns_of};
@@ -28,8 +28,8 @@ use std::alloc::{AllocError, Global};
 use table_cut::{RowRun, RowsLeft, RunPiece};
 use values::TablePart;
 
-// Writes the messages of the rows that are left, of which there are n. The front that is kept for the next piece is the caller's, so that no turn of the
-// loop owns it.
+// Writes the messages of the remaining rows, of which there are `rows`. The caller owns the front that is kept for the next piece, so that no
+// iteration does.
 fn write_runs<'k, 'a: 'k>(
     alloc: Global,
     schema: &'k Schema,
@@ -55,7 +55,7 @@ fn write_runs<'k, 'a: 'k>(
     Ok(())
 }
 
-// The one stream of the rows that are left, of which there are n.
+// Encodes the remaining rows, of which there are `rows`, as one stream.
 fn encode_left<'a>(
     alloc: Global,
     schema: &Schema,
@@ -83,7 +83,7 @@ fn encode_left<'a>(
     Ok(stream)
 }
 
-/// The one stream of the rows of record batches, of which there are n.
+/// Encodes the rows of record batches, of which there are `rows`, as one stream.
 pub(crate) fn encode_parts<'a>(
     alloc: Global,
     schema: &Schema,
@@ -99,7 +99,7 @@ pub(crate) fn encode_parts<'a>(
     encode_left(alloc, schema, left, rows)
 }
 
-/// The messages of the rows of record batches, of which there are n.
+/// Encodes the rows of record batches, of which there are `rows`, as messages.
 pub(crate) fn messages_of_parts<'a>(
     alloc: Global,
     schema: &Schema,
@@ -126,14 +126,14 @@ pub(crate) fn messages_of_parts<'a>(
     Ok(stream)
 }
 
-/// The one stream of the rows of some runs, `rows` in all: that of [`crate::encode`] of a table that has these rows.
+/// Encodes the rows of some runs, `rows` in all, as one stream: that of [`crate::encode`] for a table with these rows.
 ///
-/// The caller sees to it that the rows are a table. Refused only where a growth was. It takes the memory of the stream, and of the buffers that had to be
-/// made, and time linear in the stream and in the runs; and in the cells of the pieces that have rows under several dictionaries of 8 or 16 bit indices,
-/// which are gone through for each of their first such runs, to find where the pieces end.
+/// The caller makes sure that the rows are a table. Fails only if memory is refused. Takes the memory of the stream and of the buffers that have to
+/// be made, and time linear in the stream and in the runs; and in the cells of the pieces that have rows under several dictionaries of 8 or 16 bit
+/// indices, which are gone through for each of their first such runs, to find where the pieces end.
 ///
 /// # Errors
-/// `AllocError` where memory was refused. The runs are freed.
+/// `AllocError` if memory is refused. The runs are freed.
 pub fn encode_runs(
     alloc: Global,
     schema: &Schema,
@@ -149,7 +149,7 @@ pub fn encode_runs(
     into_bytes(alloc, stream)
 }
 
-// The stream of a piece, as a table of its own, but for the message of the schema, which has n bytes.
+// Encodes a piece as a stream of its own, without the schema's message, which has `before` bytes.
 fn encode_run_piece<'k, 'a: 'k>(
     alloc: Global,
     schema: &'k Schema,
@@ -174,8 +174,8 @@ fn encode_run_piece<'k, 'a: 'k>(
     into_parts(before, stream)
 }
 
-// Adds the streams of the pieces of the rows that are left, of which there are n, and counts the rows of each. Nothing was added before. The front that
-// is kept for the next piece is the caller's here too.
+// Appends the streams of the pieces of the remaining rows, of which there are `rows`, and the number of rows of each. Nothing was appended before.
+// The caller owns the kept front here too.
 fn push_left<'k, 'a: 'k>(
     alloc: Global,
     schema: &'k Schema,
@@ -210,7 +210,7 @@ fn push_left<'k, 'a: 'k>(
     Ok(())
 }
 
-/// The streams of their pieces.
+/// Encodes the pieces of the rows of record batches as a stream each.
 pub(crate) fn encode_parts_pieces<'a>(
     alloc: Global,
     schema: &Schema,

@@ -1,4 +1,4 @@
-// The stream of a table, and the streams of its pieces.
+// Encodes a table as one stream, and its pieces as a stream each.
 ghost use Rattle.std.specs.Prelude.{◌≡◌, ◌<◌, ◌^◌, ◌∷◌, ◌++◌, [], true, IfOk, OnOk, length, map};
 ghost use Rattle.std.specs.List.{AllByRecursion};
 ghost use Rattle.arrow_schema.specs.Limits.{IsWithinLimits};
@@ -26,8 +26,8 @@ use std::alloc::{AllocError, Global};
 use table_cut::next_piece;
 use values::{Table, Values};
 
-/// The streams of a table's pieces, in order, and how many rows each has. All begin with the message of the schema, which is kept once; what comes after it
-/// is parts one after another, made for the stream or where they stand in the table.
+/// The streams of a table's pieces, in order, and the number of rows of each. All begin with the schema's message, which is kept once; the rest is
+/// parts one after another, made for the stream or borrowed from the table.
 #[derive(Drop)]
 pub struct EncodedPieces<'a> {
     pub schema_message: Vec<u8>,
@@ -35,7 +35,7 @@ pub struct EncodedPieces<'a> {
     pub rows: Vec<u64>,
 }
 
-/// No piece yet.
+/// Makes a list of no pieces.
 pub(crate) fn no_pieces<'a>(alloc: Global, schema: &Schema) -> Result<EncodedPieces<'a>, AllocError>
     requires { IsWithinLimits (schema_of schema.now) }
     ensures message { IfOk result (λ pieces. pieces.schema_message.items ≡ schema_message (schema_of schema.now)) }
@@ -49,7 +49,7 @@ pub(crate) fn no_pieces<'a>(alloc: Global, schema: &Schema) -> Result<EncodedPie
     })
 }
 
-// Writes the messages of the rows of a table, under a schema. The front that is kept for the next piece is the caller's, so that no turn of the loop owns it.
+// Writes the messages of the rows of a table, under a schema. The caller owns the front that is kept for the next piece, so that no iteration does.
 fn write_rows(
     alloc: Global,
     schema: &Schema,
@@ -70,7 +70,7 @@ fn write_rows(
     Ok(())
 }
 
-// The one stream of the rows of a table, under a schema.
+// Encodes the rows of a table, under a schema, as one stream.
 fn encode_rows<'a>(alloc: Global, schema: &Schema, table: &Table) -> Result<Stream<'a>, AllocError>
     requires { IsTable (with_schema (schema_of schema.now) (table_of table.now)) }
     ensures { IfOk result (λ stream. stream_in stream ≡ canonical (with_schema (schema_of schema.now) (table_of table.now))) }
@@ -82,7 +82,7 @@ fn encode_rows<'a>(alloc: Global, schema: &Schema, table: &Table) -> Result<Stre
     Ok(stream)
 }
 
-/// The one stream of a table.
+/// Encodes a table as one stream.
 pub(crate) fn encode_table<'a>(alloc: Global, table: &'a Table) -> Result<Stream<'a>, AllocError>
     ensures { IfOk result (λ stream. stream_in stream ≡ canonical (table_of table.now)) }
 {
@@ -93,14 +93,14 @@ pub(crate) fn encode_table<'a>(alloc: Global, table: &'a Table) -> Result<Stream
     encode_rows(alloc, schema, table)
 }
 
-/// The one stream of a table of any types: its schema, the dictionaries and the record batch of each of its pieces, and the end of stream
+/// Encodes a table of any types as one stream: its schema, the dictionaries and the record batch of each of its pieces, and the end of stream
 /// (docs/formats/writing.md).
 ///
-/// Refused only where a growth was. It takes the memory of the stream, and of the buffers that had to be made, and time linear in the stream
-/// and in the cells of the table. [`crate::encode_to`] takes that of these buffers alone.
+/// Fails only if memory is refused. Takes the memory of the stream and of the buffers that have to be made, and time linear in the stream and in
+/// the cells of the table. [`crate::encode_to`] takes only the memory of these buffers.
 ///
 /// # Errors
-/// `AllocError` where memory was refused.
+/// `AllocError` if memory is refused.
 pub fn encode(alloc: Global, table: &Table) -> Result<Vec<u8>, AllocError>
     ensures { IfOk result (λ out. out.items ≡ canonical (table_of table.now)) }
 {
@@ -108,7 +108,6 @@ pub fn encode(alloc: Global, table: &Table) -> Result<Vec<u8>, AllocError>
     into_bytes(alloc, stream)
 }
 
-// The messages of the rows of a table.
 fn messages_of<'a>(alloc: Global, table: &'a Table) -> Result<Stream<'a>, AllocError>
     ensures { IfOk result (λ stream. stream_in stream ≡ rows_messages (table_of table.now).schema (table_of table.now).rows) }
 {
@@ -121,12 +120,12 @@ fn messages_of<'a>(alloc: Global, table: &'a Table) -> Result<Stream<'a>, AllocE
     Ok(stream)
 }
 
-/// The messages of the rows of a table, as they stand in its stream: without the message of the schema before them and the end of stream after them.
+/// Encodes the rows of a table as messages, as they stand in its stream: without the schema's message before them and the end of stream after them.
 ///
-/// Memory and time are those of [`encode`].
+/// Takes the memory and the time of [`encode`].
 ///
 /// # Errors
-/// `AllocError` where memory was refused.
+/// `AllocError` if memory is refused.
 pub fn encode_messages(alloc: Global, table: &Table) -> Result<Vec<u8>, AllocError>
     ensures { IfOk result (λ out. out.items ≡ rows_messages (table_of table.now).schema (table_of table.now).rows) }
 {
@@ -134,7 +133,7 @@ pub fn encode_messages(alloc: Global, table: &Table) -> Result<Vec<u8>, AllocErr
     into_bytes(alloc, stream)
 }
 
-// The stream of a piece, as a table of its own, but for the message of the schema, which has n bytes.
+// Encodes a piece as a stream of its own, without the schema's message, which has `before` bytes.
 fn encode_piece<'a>(
     alloc: Global,
     schema: &Schema,
@@ -155,7 +154,6 @@ fn encode_piece<'a>(
     into_parts(before, stream)
 }
 
-// Whether fields are equal, one by one.
 fn are_same_fields(fields: &[Field], others: &[Field]) -> bool
     ensures { result ≡ true → map column_of fields.now ≡ map column_of others.now }
 {
@@ -170,7 +168,7 @@ fn are_same_fields(fields: &[Field], others: &[Field]) -> bool
     true
 }
 
-/// Adds the stream of a piece, and counts its rows.
+/// Appends the stream of a piece and its number of rows.
 pub(crate) fn push_stream<'a>(
     pieces: &mut EncodedPieces<'a>,
     stream: Vec<Buffer<'a>>,
@@ -185,8 +183,8 @@ pub(crate) fn push_stream<'a>(
     Ok(())
 }
 
-// Adds the streams of the pieces of rows that are borrowed one by one, and counts the rows of each. Nothing was added before. The front that is kept for the
-// next piece is the caller's here too.
+// Appends the streams of the pieces of rows that are borrowed one by one, and the number of rows of each. Nothing was appended before. The caller
+// owns the kept front here too.
 fn push_table<'a>(
     alloc: Global,
     schema: &Schema,
@@ -217,7 +215,7 @@ fn push_table<'a>(
     Ok(())
 }
 
-// The pieces of rows that are borrowed one by one.
+// Encodes the pieces of rows that are borrowed one by one as a stream each.
 fn encode_rows_pieces<'a>(
     alloc: Global,
     schema: &Schema,
@@ -234,16 +232,16 @@ fn encode_rows_pieces<'a>(
     Ok(pieces)
 }
 
-/// The pieces of the rows of a table of any types, under a schema, each as a stream of its own. Under the table's own schema they are cut where [`encode`]
-/// cuts them.
+/// Encodes the pieces of the rows of a table of any types, under a schema, each as a stream of its own. Under the table's own schema they are cut
+/// where [`encode`] cuts them.
 ///
-/// The caller sees to it that the rows are a table under this schema, as they are under the table's own. Refused only where a growth was. No copy is made of
-/// a buffer that stands in the table's bytes as it is written, but of small ones: it takes the memory of all others, and that of the schema's message once;
-/// and time linear in these and in the cells of the table where it is not kept in record batches of just these columns, or of pieces that have rows under
-/// several dictionaries of 8 or 16 bit indices. The law [`crate::pieces_are_tables`] says what the streams mean.
+/// The caller makes sure that the rows are a table under this schema, as they are under the table's own. Fails only if memory is refused. A buffer
+/// that stands in the table's bytes as it is written is not copied unless it is small. This takes the memory of all other buffers, and that of the
+/// schema's message once; and time linear in these and in the cells of the table if it is not kept in record batches of exactly these columns, or
+/// of pieces that have rows under several dictionaries of 8 or 16 bit indices. The law [`crate::pieces_are_tables`] says what the streams mean.
 ///
 /// # Errors
-/// `AllocError` where memory was refused.
+/// `AllocError` if memory is refused.
 pub fn encode_pieces<'a>(
     alloc: Global,
     schema: &Schema,
@@ -262,10 +260,10 @@ pub fn encode_pieces<'a>(
     encode_rows_pieces(alloc, schema, table)
 }
 
-/// The pieces of the rows of a table of any types, under its own schema: those of [`encode_pieces`].
+/// Encodes the pieces of the rows of a table of any types under its own schema, as [`encode_pieces`] does.
 ///
 /// # Errors
-/// `AllocError` where memory was refused.
+/// `AllocError` if memory is refused.
 pub fn encode_own_pieces<'a>(
     alloc: Global,
     table: &'a Table,

@@ -1,5 +1,5 @@
-// The front of a record batch's message: all of it but its body. Most pieces of a table have as many rows, the same nodes and buffers as long as those of the
-// piece before, and so its front.
+// The front of a record batch's message: all of it but its body. Most pieces of a table have as many rows, the same nodes and buffers of the same
+// lengths as the piece before, and so the same front.
 ghost use Rattle.std.specs.Prelude.{◌≡◌, ℕ, List, true, IfOk, length, map};
 ghost use Rattle.batch_build.specs.Batch.{buffers_in, node_in};
 ghost use Rattle.ipc_encode.specs.inner.Messages.{AreFew, IsFront};
@@ -8,7 +8,7 @@ use batch_build::Buffer;
 use ipc_write::{BatchContents, fronts_depend_on_lengths, write_batch_front};
 use std::alloc::{AllocError, Global};
 
-/// Buffers as they are handed to a message.
+/// Borrows buffers as a message takes them.
 pub(crate) fn borrowed<'a>(
     alloc: Global,
     buffers: &'a [Buffer<'_>],
@@ -22,7 +22,6 @@ pub(crate) fn borrowed<'a>(
     Ok(slices)
 }
 
-// How long each buffer is.
 fn lengths_of(alloc: Global, buffers: &[Buffer<'_>]) -> Result<Vec<usize>, AllocError>
     ensures { IfOk result (λ lengths. lengths.items ≡ map length (buffers_in buffers.now)) }
 {
@@ -33,7 +32,6 @@ fn lengths_of(alloc: Global, buffers: &[Buffer<'_>]) -> Result<Vec<usize>, Alloc
     Ok(lengths)
 }
 
-// Whether the buffers are so long, one by one.
 fn have_lengths(buffers: &[Buffer<'_>], lengths: &[usize]) -> bool
     ensures { result ≡ true → map length (buffers_in buffers.now) ≡ lengths.now }
 {
@@ -48,14 +46,13 @@ fn have_lengths(buffers: &[Buffer<'_>], lengths: &[usize]) -> bool
     true
 }
 
-// Whether nodes are equal, one by one.
 fn are_same_nodes(nodes: &[(u64, u64)], others: &[(u64, u64)]) -> bool
     ensures { result ≡ true → nodes.now ≡ others.now }
 {
     nodes == others
 }
 
-// All but the body of the record batch of n rows.
+// Returns all but the body of the record batch of `rows` rows.
 fn front_bytes(
     alloc: Global,
     rows: usize,
@@ -87,7 +84,7 @@ pub(crate) struct BatchFront {
 }
 
 impl BatchFront {
-    /// That of the record batch of n rows, with these nodes and buffers.
+    /// Makes the front of the record batch of `rows` rows, with these nodes and buffers.
     pub(crate) fn new(
         alloc: Global,
         rows: usize,
@@ -109,7 +106,7 @@ impl BatchFront {
         })
     }
 
-    /// Whether it is that of the record batch of n rows, with these nodes and buffers.
+    /// Returns whether this is the front of the record batch of `rows` rows, with these nodes and buffers.
     pub(crate) fn is_of(&self, rows: usize, nodes: &[(u64, u64)], buffers: &[Buffer<'_>]) -> bool
         ensures { result ≡ true → IsFront self.now.bytes.items rows (map node_in nodes.now) (buffers_in buffers.now) }
     {

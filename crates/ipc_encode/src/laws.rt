@@ -1,4 +1,4 @@
-// What the streams of pieces mean. The function does nothing: its contract is the law.
+// A law about the streams of pieces. The function does nothing: its contract is the law.
 ghost use Rattle.std.specs.Prelude.{◌≡◌};
 ghost use Rattle.std.specs.List.{AllByRecursion};
 ghost use Rattle.ipc_encode.specs.Pieces.{IsPiece};
@@ -9,8 +9,8 @@ ghost use Rattle.values.specs.Table.{IsTable};
 
 use ipc_canonical::{canonical_means_its_table, pieces_can_be_built};
 
-/// The pieces of a table. `each`: a piece is few rows, a table by itself, which its stream means (`IsPiece`); `whole`: joined the pieces are the table's
-/// rows.
+/// The pieces of a table. `each`: a piece has few rows and is a table by itself, which its stream means (`IsPiece`); `whole`: the pieces joined are
+/// the table's rows.
 pub fn pieces_are_tables()
     ensures each { (t : PlainTable) → IsTable t → AllByRecursion (IsPiece t.schema) (pieces_of t) }
     ensures whole { (t : PlainTable) → joined (pieces_of t) ≡ t.rows }

@@ -1,7 +1,8 @@
-//! Writing tables of any types (docs/formats/writing.md): the one stream of a table, and the stream of each of its pieces.
+//! Writes tables of any types (docs/formats/writing.md): a table as one stream, and each of its pieces as a stream.
 //!
-//! A stream is made a piece at a time: the next rows of the table, the arrays of these rows, and then the messages of the arrays. All of it is made before its
-//! first byte is written. What its bytes are is a definition (`ipc_canonical`, `specs/Canonical.antt`), and a law says what each piece means.
+//! A stream is made piece by piece: the next rows of the table, the arrays of these rows, and then the messages of the arrays. All of it is made
+//! before its first byte is written. A definition says what its bytes are (`ipc_canonical`, `specs/Canonical.antt`), and a law what each piece
+//! means.
 //!
 //! ```ignore
 //! let stream = encode(alloc, &table)?;

@@ -1,4 +1,4 @@
-// The messages of a piece: those of its dictionaries, and then its record batch.
+// Writes the messages of a piece: those of its dictionaries, and then its record batch.
 ghost use Rattle.std.specs.Prelude.{◌≡◌, ◌++◌, true, IfOk, OnOk, length, map};
 ghost use Rattle.std.specs.List.{AllByRecursion};
 ghost use Rattle.arrow_schema.specs.View.{schema_of};
@@ -25,7 +25,7 @@ use std::alloc::{AllocError, Global};
 use table_cut::{RowRun, RunPiece, column_runs};
 use values::Values;
 
-// All but the body of the message of a dictionary's entries.
+// Writes all but the body of the message of a dictionary's entries.
 fn write_entries_front(
     alloc: Global,
     out: &mut Vec<u8>,
@@ -47,7 +47,6 @@ fn write_entries_front(
     write_dictionary_front(alloc, out, id, false, contents)
 }
 
-// All entries of the dictionary with this id.
 fn write_entries<'a>(
     alloc: Global,
     stream: &mut Stream<'a>,
@@ -66,7 +65,7 @@ fn write_entries<'a>(
     push_body(alloc, stream, buffers)
 }
 
-// Those of the dictionaries with the ids 0, 1, ..
+// Writes all entries of the dictionaries with the ids 0, 1, ..
 fn write_all_entries<'a>(
     alloc: Global,
     stream: &mut Stream<'a>,
@@ -83,7 +82,7 @@ fn write_all_entries<'a>(
     Ok(())
 }
 
-// All but the body of the record batch of n rows: the front that is kept where it is the same, and else it is made and kept.
+// Writes all but the body of the record batch of `rows` rows: the kept front if it is the same, or else a new one, which is then kept.
 fn write_rows_front(
     alloc: Global,
     out: &mut Vec<u8>,
@@ -107,7 +106,7 @@ fn write_rows_front(
     written
 }
 
-// The record batch of n rows.
+// Writes the record batch of `rows` rows.
 fn write_rows<'a>(
     alloc: Global,
     stream: &mut Stream<'a>,
@@ -124,7 +123,7 @@ fn write_rows<'a>(
     push_body(alloc, stream, buffers)
 }
 
-// The messages of what was built of n rows.
+// Writes the messages of what was built from `rows` rows.
 fn write_built<'a>(
     alloc: Global,
     stream: &mut Stream<'a>,
@@ -146,7 +145,7 @@ fn write_built<'a>(
     write_rows(alloc, stream, kept, rows, nodes, buffers)
 }
 
-// The arrays of a piece, which messages have room for.
+// Builds the arrays of a piece, for which messages have room.
 fn build_piece<'a>(
     alloc: Global,
     schema: &Schema,
@@ -167,8 +166,8 @@ fn build_piece<'a>(
     build(alloc, &schema.fields, rows)
 }
 
-/// Appends the messages of a piece: a dictionary batch for each column with a dictionary, and the record batch of these rows. The front of that is kept for the
-/// next piece.
+/// Appends the messages of a piece: a dictionary batch for each column with a dictionary, and the record batch of these rows, whose front is kept
+/// for the next piece.
 #[tactic(auto, unfolding(ipc_canonical::specs::Canonical::piece_messages))]
 pub(crate) fn write_piece(
     alloc: Global,
@@ -184,7 +183,7 @@ pub(crate) fn write_piece(
     write_built(alloc, stream, kept, rows.len(), built)
 }
 
-// The arrays of a piece whose rows are runs, which messages have room for.
+// Builds the arrays of a piece whose rows are runs, for which messages have room.
 fn build_run_piece<'k, 'a: 'k>(
     alloc: Global,
     entries: &mut KnownEntries<'k>,
@@ -208,7 +207,8 @@ fn build_run_piece<'k, 'a: 'k>(
     build_runs(alloc, entries, &schema.fields, &columns)
 }
 
-/// The same of a piece whose rows are runs: no row is borrowed. What is known of the entries of dictionaries is kept for the next piece too.
+/// [`write_piece`] for a piece whose rows are runs: no row is borrowed. What is known of the entries of dictionaries is kept for the next piece
+/// too.
 #[tactic(auto, unfolding(ipc_canonical::specs::Canonical::piece_messages))]
 pub(crate) fn write_run_piece<'k, 'a: 'k>(
     alloc: Global,

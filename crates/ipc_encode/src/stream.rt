@@ -1,4 +1,4 @@
-// A stream as it is written: buffers of some size are parts of it by themselves, so that none is copied, and all else is put together.
+// A stream as it is written: large buffers are parts of their own, which are not copied, and everything else is joined.
 ghost use Rattle.std.specs.Prelude.{◌≡◌, ◌+◌, ◌++◌, ◌<◌, ◌^◌, [], OnOk, IfOk, IfSome, length};
 ghost use Rattle.batch_build.specs.Batch.{buffer_bytes, buffers_in};
 ghost use Rattle.ipc_encode.specs.View.{joined_parts};
@@ -13,7 +13,7 @@ use ipc_write::{write_end, write_padding, write_schema};
 use std::alloc::{AllocError, Global};
 use std::mem;
 
-/// The least size of a part by itself: below it a copy costs less than a part.
+/// The minimum length of a part of its own: copying a shorter buffer costs less than a part.
 const LEAST_PART: usize = 4096;
 
 /// The parts so far, and the bytes after them.
@@ -23,7 +23,7 @@ pub(crate) struct Stream<'a> {
     pub(crate) last: Vec<u8>,
 }
 
-/// The message of a schema.
+/// Returns the message of a schema.
 pub(crate) fn schema_bytes(alloc: Global, schema: &Schema) -> Result<Vec<u8>, AllocError>
     requires { IsWithinLimits (schema_of schema.now) }
     ensures { IfOk result (λ bytes. bytes.items ≡ schema_message (schema_of schema.now)) }
@@ -33,7 +33,7 @@ pub(crate) fn schema_bytes(alloc: Global, schema: &Schema) -> Result<Vec<u8>, Al
     Ok(bytes)
 }
 
-/// A stream that begins with these bytes.
+/// Begins a stream with these bytes.
 #[tactic(auto, unfolding(crate::specs::inner::Stream::stream_in))]
 pub(crate) fn begin_stream<'a>(alloc: Global, first: Vec<u8>) -> Stream<'a>
     ensures { stream_in result ≡ first.items }
@@ -44,7 +44,7 @@ pub(crate) fn begin_stream<'a>(alloc: Global, first: Vec<u8>) -> Stream<'a>
     }
 }
 
-/// Adds the end of stream.
+/// Appends the end of stream.
 #[tactic(auto, unfolding(crate::specs::inner::Stream::stream_in))]
 pub(crate) fn end_stream(stream: &mut Stream<'_>) -> Result<(), AllocError>
     ensures { OnOk result (stream_in stream.new ≡ stream_in stream.old ++ end_of_stream) }
@@ -52,7 +52,7 @@ pub(crate) fn end_stream(stream: &mut Stream<'_>) -> Result<(), AllocError>
     write_end(&mut stream.last)
 }
 
-// Adds a part, after the bytes put together so far.
+// Appends a part, after the bytes joined so far.
 #[tactic(auto, unfolding(crate::specs::inner::Stream::stream_in))]
 fn push_part<'a>(
     alloc: Global,
@@ -67,7 +67,6 @@ fn push_part<'a>(
     Ok(())
 }
 
-// Adds a buffer.
 #[tactic(auto, unfolding(crate::specs::inner::Stream::stream_in))]
 fn push_buffer<'a>(
     alloc: Global,
@@ -82,7 +81,7 @@ fn push_buffer<'a>(
     push_part(alloc, stream, buffer)
 }
 
-// Adds a buffer, and zeros up to a multiple of 8.
+// Appends a buffer, and zeros up to a multiple of 8.
 #[tactic(auto, unfolding(crate::specs::inner::Stream::stream_in))]
 fn push_padded<'a>(
     alloc: Global,
@@ -96,7 +95,7 @@ fn push_padded<'a>(
     write_padding(&mut stream.last, length)
 }
 
-/// Adds the body of a message.
+/// Appends the body of a message.
 pub(crate) fn push_body<'a>(
     alloc: Global,
     stream: &mut Stream<'a>,
@@ -110,7 +109,7 @@ pub(crate) fn push_body<'a>(
     Ok(())
 }
 
-// How many bytes the parts have after n others, where a number of 64 bits says it.
+// Returns how many bytes the parts have after `before` others, if that fits into 64 bits.
 fn count_bytes(before: usize, parts: &[Buffer<'_>]) -> Option<usize>
     ensures { IfSome result (λ count. count ≡ before + length (joined_parts parts.now)) }
 {
@@ -124,7 +123,6 @@ fn count_bytes(before: usize, parts: &[Buffer<'_>]) -> Option<usize>
     Some(count)
 }
 
-// Parts one after another, and then more bytes.
 fn join(alloc: Global, parts: &[Buffer<'_>], last: &[u8]) -> Result<Vec<u8>, AllocError>
     ensures { IfOk result (λ bytes. bytes.items ≡ joined_parts parts.now ++ last.now) }
 {
@@ -139,7 +137,7 @@ fn join(alloc: Global, parts: &[Buffer<'_>], last: &[u8]) -> Result<Vec<u8>, All
     Ok(bytes)
 }
 
-/// The whole stream in one.
+/// Joins the whole stream.
 #[tactic(auto, unfolding(crate::specs::inner::Stream::stream_in))]
 pub(crate) fn into_bytes(alloc: Global, stream: Stream<'_>) -> Result<Vec<u8>, AllocError>
     ensures { IfOk result (λ bytes. bytes.items ≡ stream_in stream.entry) }
@@ -151,7 +149,7 @@ pub(crate) fn into_bytes(alloc: Global, stream: Stream<'_>) -> Result<Vec<u8>, A
     join(alloc, &parts, &last)
 }
 
-/// The parts of the whole stream, which stands after n other bytes. Bytes that a number of 64 bits cannot count are refused as a growth is.
+/// Returns the parts of the whole stream, which comes after `before` other bytes. A length that does not fit into 64 bits is an `AllocError` too.
 #[tactic(auto, unfolding(crate::specs::inner::Stream::stream_in))]
 pub(crate) fn into_parts<'a>(
     before: usize,

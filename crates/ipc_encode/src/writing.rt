@@ -1,4 +1,4 @@
-// The stream of a table is written to a writer.
+// Writes the stream of a table to a writer.
 ghost use Rattle.std.specs.Prelude.{◌≡◌, ◌≢◌, IfErr, OnOk};
 ghost use Rattle.std.specs.Io.KnownBytes.{Appends};
 ghost use Rattle.ipc_canonical.specs.Canonical.{canonical};
@@ -17,9 +17,9 @@ use values::Table;
 /// Why a stream was not written.
 #[derive(Clone, Copy, Debug, PartialEq, Eq)]
 pub enum WriteError {
-    /// The writer failed, also a `Vec` that finds no memory. Some of the stream may be written.
+    /// The writer failed, which includes a `Vec` that gets no memory. Part of the stream may be written.
     Io,
-    /// A growth was refused, before anything was written.
+    /// Memory was refused, before anything was written.
     OutOfMemory,
 }
 
@@ -39,7 +39,6 @@ impl From<AllocError> for WriteError {
     }
 }
 
-// Writes all of the bytes, and nothing else.
 fn write_part<W: Write>(writer: &mut W, bytes: &[u8]) -> Result<(), WriteError>
     ensures written { OnOk result (Appends (W.contents writer.old) (W.contents writer.new) bytes.now) }
     ensures io { IfErr result (λ e. e ≡ WriteError.Io) }
@@ -48,7 +47,6 @@ fn write_part<W: Write>(writer: &mut W, bytes: &[u8]) -> Result<(), WriteError>
     Ok(())
 }
 
-// Writes all parts one after another, and nothing else.
 fn write_parts<W: Write>(writer: &mut W, parts: &[Buffer<'_>]) -> Result<(), WriteError>
     ensures written { OnOk result (Appends (W.contents writer.old) (W.contents writer.new) (joined_parts parts.now)) }
     ensures io { IfErr result (λ e. e ≡ WriteError.Io) }
@@ -59,7 +57,7 @@ fn write_parts<W: Write>(writer: &mut W, parts: &[Buffer<'_>]) -> Result<(), Wri
     Ok(())
 }
 
-// Writes all of a stream, and nothing else, and flushes.
+// Writes a whole stream and nothing else, and flushes.
 #[tactic(auto, unfolding(crate::specs::inner::Stream::stream_in))]
 fn write_stream<W: Write>(writer: &mut W, stream: &Stream<'_>) -> Result<(), WriteError>
     ensures written { OnOk result (Appends (W.contents writer.old) (W.contents writer.new) (stream_in stream.now)) }
@@ -71,13 +69,13 @@ fn write_stream<W: Write>(writer: &mut W, stream: &Stream<'_>) -> Result<(), Wri
     Ok(())
 }
 
-/// Writes the one stream of a table, that of [`crate::encode`], and flushes.
+/// Writes a table as one stream, that of [`crate::encode`], and flushes.
 ///
-/// A buffer of a piece that stands in the table's bytes as it is written is written from where it stands, and no copy of it is made, but for small ones.
-/// All others are made before the first byte is written: it takes the memory of these, and time linear in the stream and in the cells of the table.
+/// A buffer of a piece that stands in the table's bytes as it is written is written from where it stands, without a copy unless it is small. All
+/// others are made before the first byte is written: this takes their memory, and time linear in the stream and in the cells of the table.
 ///
 /// # Errors
-/// `OutOfMemory` only where a growth was refused, and then nothing is written; `Io` where the writer fails.
+/// `OutOfMemory` only if memory was refused: nothing is written; `Io` if the writer fails.
 pub fn encode_to<W: Write>(alloc: Global, table: &Table, writer: &mut W) -> Result<(), WriteError>
     ensures written { OnOk result (Appends (W.contents writer.old) (W.contents writer.new) (canonical (table_of table.now))) }
     ensures silent { IfErr result (λ e. e ≢ WriteError.Io → writer.new ≡ writer.old) }

@@ -1,5 +1,5 @@
 //! Keeps a table in a store: on a device in memory, and then in the new file that the argument names.
-//! The table is the Arrow stream that standard input has.
+//! The table is the Arrow stream on standard input.
 #![tactic(auto)]
 
 use anyhow::{Error, Result, bail};
@@ -8,7 +8,7 @@ use std::env;
 use std::io::Read;
 use store::Store;
 
-// Each change is safe once its call has answered Ok.
+// Each change is safe once its call has returned Ok.
 fn keep<D: SectorDevice + Drop>(rt: &HostRuntime, device: D, stream: &[u8]) -> Result<()> {
     let alloc = rt.alloc();
     let mut store = match Store::format(alloc, device) {

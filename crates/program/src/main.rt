@@ -1,8 +1,8 @@
-//! The program `arrowstore`: hands the process's arguments and streams to the library of that name, and exits with its status.
-//! On a terminal one line shows meanwhile what goes on, where the work takes more than a second.
+//! The program `arrowstore`: passes the process's arguments, streams and files to the library of that name, and exits with its status. On a
+//! terminal, work that takes more than a second shows a line of progress.
 //!
-//! Status 0 is done, 1 refused, with a line `refused CODE NAME ..` on standard error, and 2 wrong arguments. On a terminal
-//! the line is left out where the reader of the output is gone, as `head` when it has its lines.
+//! Status 0 means done, 1 refused, with a line `refused CODE NAME ..` on standard error, or done in part, and 2 wrong arguments. On a terminal the
+//! line is left out if the reader of the output is gone, as when `head` has its lines.
 #![tactic(auto)]
 
 mod progress;
@@ -16,7 +16,7 @@ use std::process::ExitCode;
 use std::{env, io};
 
 fn main(rt: HostRuntime) -> ExitCode {
-    // Told before a file is opened, which may take the place of a stream that is closed.
+    // Asked before a file is opened, which may take the descriptor of a closed stream.
     let audience = Audience::of(&rt.stderr());
     let line = ProgressLine::begin(&rt, rt.stderr(), audience);
     let failures = Failures::new();
@@ -46,7 +46,7 @@ fn main(rt: HostRuntime) -> ExitCode {
     ExitCode::from(ended.code())
 }
 
-// Where the failures of files are noted: they are told a person alone.
+// Returns where failed calls on files are noted: only a person is told of them.
 fn noted_at(audience: Audience, failures: &Failures) -> Option<&Failures> {
     match audience {
         Audience::Terminal => Some(failures),

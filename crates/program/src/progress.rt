@@ -1,4 +1,4 @@
-// What goes on while work takes more than a second, shown on a terminal.
+// The line of progress on a terminal, for work that takes more than a second.
 use arrowstore::Audience;
 use std::cell::Cell;
 use std::io::{self, Write};
@@ -12,41 +12,41 @@ pub use files::ProgressFiles;
 pub use reader::ProgressReader;
 pub use writer::ProgressWriter;
 
-// Fewer bytes are 0 MB, and none to report.
+// Fewer bytes would be shown as 0 MB.
 const LEAST_TOLD: u64 = 1_000_000;
 
-// n bytes are reported, however fast they were read: what is made of them may take longer.
+// This many bytes are reported however fast they were read: what is made of them may take longer.
 const LONG_WORK: u64 = 32_000_000;
 
 /// What the line reports.
 #[derive(Clone, Copy, Debug, PartialEq, Eq)]
 pub enum Stage {
-    /// The input is read.
+    /// The input is being read.
     Reading,
-    /// All of the input was read, and nothing is written yet.
+    /// The whole input was read, and nothing is written yet.
     Working,
-    /// The file of a store is read.
+    /// The file of a store is being read.
     ReadingStore,
-    /// The file of a store is written.
+    /// The file of a store is being written.
     WritingStore,
-    /// The output is written.
+    /// The output is being written.
     Writing,
 }
 
-/// One line on a terminal, written over itself about once a second, and cleared before anything else is written there.
+/// A line on a terminal that is overwritten about once a second, and cleared before anything else is written there.
 ///
-/// That it can't be written, or the clock not be read, is no fault of the work: nothing is reported then.
+/// A failure to write it or to read the clock does not fail the work: the line is not shown then.
 #[derive(Drop)]
 pub struct ProgressLine<'a, C: Clock, T> {
     clock: &'a C,
     terminal: T,
-    // When the work began, or the line was last written.
+    // When the work began or the line was last written.
     last_told: Cell<Instant>,
     shown: Cell<Option<Stage>>,
 }
 
 impl<'a, C: Clock, T: Write + Copy> ProgressLine<'a, C, T> {
-    /// The line of an audience at a terminal, which is `terminal`. Another audience has none.
+    /// Makes the line for a person at a terminal, which is `terminal`. Any other audience has none.
     pub fn begin(clock: &'a C, terminal: T, audience: Audience) -> Option<ProgressLine<'a, C, T>> {
         if audience != Audience::Terminal {
             return None;
@@ -60,29 +60,29 @@ impl<'a, C: Clock, T: Write + Copy> ProgressLine<'a, C, T> {
         })
     }
 
-    /// Reports n bytes, where a second has passed since the line was last written.
+    /// Shows a number of bytes, if a second has passed since the line was last written.
     pub fn tell(&self, stage: Stage, bytes: u64) {
         if self.is_due() {
             self.show(stage, bytes);
         }
     }
 
-    /// Reports n bytes.
+    /// Shows a number of bytes.
     pub fn show(&self, stage: Stage, bytes: u64) {
         let _ = self.write_line(stage, bytes / 1_000_000);
     }
 
-    /// Whether the work has taken more than a second up to now.
+    /// Returns whether the work has taken more than a second so far.
     pub fn is_long(&self) -> bool {
         self.shown.get().is_some() || self.is_due()
     }
 
-    /// Leaves the line of the terminal empty.
+    /// Clears the line.
     pub fn clear(&self) {
         let _ = self.write_blanks();
     }
 
-    // Whether a second has passed since the line was last written.
+    // Returns whether a second has passed since the line was last written.
     fn is_due(&self) -> bool {
         match Instant::now(self.clock) {
             Ok(now) => now.duration_since(self.last_told.get()).as_secs() > 0,

@@ -1,4 +1,4 @@
--- A condition on the columns of a table, and whether it holds of a row.
+-- A condition on the columns of a table, and whether it holds for a row.
 use Rattle.std.specs.Prelude.{ℕ, ◌==◌, Bool, false, List, position, count_by, slice_get, bytes_eq, Option, Some, None, Result, Ok, Err, if◌then◌else◌}
 use Rattle.std.specs.declared.cmp.Ordering.{Ordering}
 use Rattle.std.specs.Ordering.{nat_cmp, int_cmp, bool_cmp, is_eq, is_ne, is_lt, is_le, is_gt, is_ge, is_some_and}
@@ -12,8 +12,8 @@ use Rattle.query.specs.declared.operator.Operator.TheVariants as operators
 use Rattle.query.specs.Query.{PlainTest, null_test, value_test, comparison, PlainCondition}
 use Rattle.query.specs.Literal.{is_comparable, literal_of}
 
--- why a query is refused: a column that no table column is, or more than one, or that is asked for twice; a condition of
--- another shape or with a bad literal; a comparison of a type that has none
+-- why a query is refused: a name that no column has, or more than one, or that is asked for twice; a condition of another form or with a bad
+-- literal; a comparison of a type that has none
 pub data Refusal : Type 0 where
   unknown_column : Refusal
   bad_condition : Refusal
@@ -22,7 +22,7 @@ pub data Refusal : Type 0 where
 abbrev pub has_name : List ℕ → Column → Bool
 has_name wanted c = bytes_eq (name_of_column c) wanted
 
--- the place of the one column that has this name
+-- the place of the only column that has this name
 unfoldable pub place_of : List Column → List ℕ → Option ℕ
 place_of cs name = if count_by (has_name name) cs == 1 then position (has_name name) cs else None
 
@@ -57,7 +57,7 @@ abbrev pub bound_to : List Column → Option ℕ → PlainTest → Result Bound 
 bound_to cs None test = Err unknown_column
 bound_to cs (Some place) test = bound_in place (slice_get cs place) test
 
--- a condition on these columns, or the first reason why there is none: its column, whether it is compared, its literal
+-- a condition on these columns, or the first reason why there is none: its column, whether it can be compared, its literal
 unfoldable pub bound : List Column → PlainCondition → Result Bound Refusal
 bound cs c = bound_to cs (place_of cs c.column) c.test
 
@@ -87,6 +87,6 @@ abbrev pub meets_at : Predicate → Option Cell → Bool
 meets_at d None = false
 meets_at d (Some c) = meets d c
 
--- whether a condition holds of a row
+-- whether a condition holds for a row
 abbrev pub holds : Bound → List Cell → Bool
 holds b row = meets_at b.predicate (slice_get row b.place)

@@ -1,4 +1,4 @@
--- The condition that a text states: `NAME OP LITERAL`, `NAME is null` or `NAME is not null`, split by single spaces.
+-- The condition that a text states: `NAME OP LITERAL`, `NAME is null` or `NAME is not null`, with single spaces between the parts.
 use Rattle.std.specs.Prelude.{ℕ, Bool, ◌==◌, bytes_eq, List, [], ◌∷◌, codes, Option, Some, None, is_some, option_map, find, position, if◌then◌else◌}
 use Rattle.std.specs.List.{before_first, after_first}
 use Rattle.std.specs.Option.{option_and_then}
@@ -9,7 +9,7 @@ use Rattle.query.specs.Query.{PlainTest, null_test, value_test, comparison, Plai
 abbrev pub is_space : ℕ → Bool
 is_space b = b == 32
 
--- what stands before the first space, and what after it
+-- the text before the first space, and the text after it
 unfoldable pub split_at_space : List ℕ → Option (List ℕ × List ℕ)
 split_at_space text = if is_some (position is_space text) then Some (before_first is_space text, after_first is_space text) else None
 
@@ -28,7 +28,7 @@ every_operator = Equal ∷ NotEqual ∷ Less ∷ AtMost ∷ Greater ∷ AtLeast 
 unfoldable pub operator_of : List ℕ → Option Operator
 operator_of text = find (λ o. bytes_eq (operator_text o) text) every_operator
 
--- an operator, and a literal, which is all that follows and may be empty
+-- an operator and a literal, which is all that follows and may be empty
 unfoldable pub comparison_of : List ℕ → Option PlainTest
 comparison_of text = option_and_then (λ p. option_map (λ o. comparison o p.1) (operator_of p.0)) (split_at_space text)
 

@@ -5,7 +5,7 @@ use Rattle.json.specs.Print.{quoted}
 use Rattle.hex.specs.Hex.{encode_lower}
 use Rattle.cells.specs.Cell.{Cell, Cells, null, boolean, number, text, bytes, items, parts, no_cell, and_cell, cells_of}
 
--- `quoted` is a JSON text with the shortest escapes; bytes are a text of hexadecimal digits in lower case; lists and structs are arrays
+-- `quoted` is a JSON string with the shortest escapes; bytes are a string of hexadecimal digits in lower case; lists and structs are arrays
 unfoldable mutual
   pub json_of : Cell → List ℕ
   json_of null = codes "null"
@@ -25,6 +25,6 @@ unfoldable mutual
   json_of_others no_cell = []
   json_of_others (and_cell c cs) = codes "," ++ json_of c ++ json_of_others cs
 
--- the line of a row, without its end
+-- the line of a row, without its line feed
 abbrev pub line : List Cell → List ℕ
 line row = codes "[" ++ json_of_all (cells_of row) ++ codes "]"

@@ -10,7 +10,7 @@ use Rattle.cells.specs.Typed.{typed_integer, typed_boolean}
 unfoldable pub boolean_in : List ℕ → Option Cell
 boolean_in t = option_map boolean (typed_boolean t)
 
--- a literal is a number that 64 bits hold, with a sign or without
+-- a literal is a number of 64 bits, signed or unsigned
 abbrev pub is_of_64_bits : ℤ → Bool
 is_of_64_bits n = int_le (neg_ℤ (pos (2 ^ 63))) n && int_lt n (pos (2 ^ 64))
 
@@ -24,7 +24,7 @@ number_in t = option_and_then where_of_64_bits (typed_integer t)
 abbrev pub bytes_in : List ℕ → Option Cell
 bytes_in t = option_map bytes (result_ok (decode_of t))
 
--- the types whose values are compared
+-- the types whose values can be compared
 abbrev pub is_comparable : Kind → Bool
 is_comparable nulls = false
 is_comparable booleans = true
@@ -41,7 +41,7 @@ is_comparable (large_lists item) = false
 is_comparable (fixed_lists size item) = false
 is_comparable (structs parts) = false
 
--- the value of a literal: dates and timestamps are numbers, and a text stands for itself. Whether the column may have the value isn't asked
+-- the value of a literal: dates and timestamps are numbers, and a text stands for itself. Whether the column may have the value is not asked
 abbrev pub literal_of : Kind → List ℕ → Option Cell
 literal_of nulls = λ t. None
 literal_of booleans = boolean_in

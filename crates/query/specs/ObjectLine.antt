@@ -1,4 +1,4 @@
--- A row as an object of JSON (RFC 8259, section 4): its values by the names of their columns, in the order of the columns, without spaces.
+-- A row as a JSON object (RFC 8259, section 4): its values with the names of their columns, in the order of the columns, without spaces.
 use Rattle.std.specs.Prelude.{ℕ, ◌==◌, Bool, List, [], ◌∷◌, ◌++◌, codes, map, count_by}
 use Rattle.std.specs.List.{list_all}
 use Rattle.json.specs.Print.{quoted}
@@ -10,7 +10,7 @@ use Rattle.query.specs.Line.{json_of, line}
 use Rattle.query.specs.declared.row_form.RowForm.{RowForm}
 use Rattle.query.specs.declared.row_form.RowForm.TheVariants.{Array, Object}
 
--- the name as a text, a colon and the value
+-- the name as a string, a colon and the value
 abbrev pub member : List ℕ → Cell → List ℕ
 member name c = quoted name ++ codes ":" ++ json_of c
 
@@ -19,16 +19,16 @@ unfoldable pub other_members : List (List ℕ) → List Cell → List ℕ
 other_members (name ∷ names) (c ∷ cs) = codes "," ++ member name c ++ other_members names cs
 other_members names cs = []
 
--- with a comma between two
+-- the members, with a comma between two
 unfoldable pub members : List (List ℕ) → List Cell → List ℕ
 members (name ∷ names) (c ∷ cs) = member name c ++ other_members names cs
 members names cs = []
 
--- the line of a row with columns of these names, without its end
+-- the line of a row with columns of these names, without its line feed
 abbrev pub object_line : List (List ℕ) → List Cell → List ℕ
 object_line names row = codes "{" ++ members names row ++ codes "}"
 
--- one column has this name, and no other
+-- exactly one column has this name
 abbrev pub is_of_one : List Column → List ℕ → Bool
 is_of_one cs name = count_by (has_name name) cs == 1
 

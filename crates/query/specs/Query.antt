@@ -1,8 +1,8 @@
--- What is asked of a table, without where it lies in memory.
+-- A query of a table, without where it lies in memory.
 use Rattle.std.specs.Prelude.{ℕ, List, Option}
 use Rattle.query.specs.declared.operator.Operator.{Operator}
 
--- what a condition asks of one cell: a literal is the text as it was typed
+-- what a condition asks of one cell; a literal is the text as it was typed
 pub data PlainTest : Type 0 where
   null_test : PlainTest
   value_test : PlainTest
@@ -13,7 +13,7 @@ pub record PlainCondition : Type 0 where
   pub column : List ℕ
   pub test : PlainTest
 
--- the columns asked for, where none means all; the conditions that each row must meet; and how many rows at most
+-- the columns asked for, where none means all; the conditions that each row must meet; and the maximum number of rows
 pub record PlainQuery : Type 0 where
   pub columns : List (List ℕ)
   pub conditions : List PlainCondition

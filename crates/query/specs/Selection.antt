@@ -1,4 +1,4 @@
--- The selection of a table: the rows of which all conditions hold, then the columns asked for, then the first rows.
+-- The selection of a table: the rows for which all conditions hold, then the columns asked for, then the first rows.
 use Rattle.std.specs.Prelude.{ℕ, ◌==◌, Bool, true, not, ◌&&◌, List, [], ◌∷◌, map, filter, take, length, slice_get, Option, Some, None, option_map, Result, Ok, Err, if◌then◌else◌}
 use Rattle.std.specs.List.{filter_map, range_with_len, list_all, list_any}
 use Rattle.std.specs.Option.{option_and_then}
@@ -7,11 +7,11 @@ use Rattle.cells.specs.Cell.{Cell, PlainTable}
 use Rattle.query.specs.Query.{PlainQuery}
 use Rattle.query.specs.Bound.{Refusal, unknown_column, place_of, Bound, bound, holds}
 
--- what stands at these places
+-- the elements at these places
 abbrev pub pick : {X : Type 0} → List ℕ → List X → List X
 pick places xs = filter_map (slice_get xs) places
 
--- all of them, where each is there
+-- all of them, if each is there
 abbrev pub joined : {X : Type 0} → Option X → Option (List X) → Option (List X)
 joined None rest = None
 joined (Some x) rest = option_map (λ xs. x ∷ xs) rest
@@ -27,7 +27,8 @@ is_distinct (x ∷ xs) = not (list_any (λ y. x == y) xs) && is_distinct xs
 abbrev pub where_distinct : List ℕ → Option (List ℕ)
 where_distinct places = if is_distinct places then Some places else None
 
--- the places of the columns asked for, in the order asked: each name is that of one column, and none is asked for twice. An empty list asks for all
+-- the places of the columns asked for, in that order: each name is that of exactly one column, and none is asked for twice; an empty list asks for
+-- all
 unfoldable pub chosen : List Column → List (List ℕ) → Option (List ℕ)
 chosen cs [] = Some (range_with_len 0 (length cs))
 chosen cs (name ∷ names) = option_and_then where_distinct (all_some (map (place_of cs) (name ∷ names)))
@@ -61,6 +62,6 @@ selected_where None bounds most t = Err unknown_column
 selected_where (Some places) (Err e) most t = Err e
 selected_where (Some places) (Ok bounds) most t = Ok (selected places bounds most t)
 
--- the selection, or the first refusal: the columns asked for come first, and then the conditions in order
+-- the selection, or the first refusal: the columns asked for are tested first, and then the conditions in order
 unfoldable pub selection : PlainTable → PlainQuery → Result PlainTable Refusal
 selection t q = selected_where (chosen t.schema.columns q.columns) (all_ok (map (bound t.schema.columns) q.conditions)) q.limit t

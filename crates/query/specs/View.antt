@@ -1,4 +1,4 @@
--- What a query of the code is, and how an answer reports a refusal.
+-- The plain form of a query of the code, and how an error reports a refusal.
 use Rattle.std.specs.Prelude.{◌≡◌, ℕ, List, map, string_bytes, Option, None, Result, Err}
 use Rattle.query.specs.declared.condition.Test.{Test}
 use Rattle.query.specs.declared.condition.Test.TheVariants.{IsNull, IsNotNull, Compared}
@@ -20,21 +20,21 @@ condition_in c = record { column = string_bytes c.column; test = test_in c.test 
 abbrev pub query_in : Query → PlainQuery
 query_in q = record { columns = map string_bytes q.columns.items; conditions = map condition_in q.conditions.items; limit = q.limit }
 
--- the code reports what is: memory may be wanting whatever it is
+-- an error reports the refusal that there is; memory may be refused in any case
 abbrev pub Reports : {X : Type 0} → QueryError → Result X Refusal → Type 0
 Reports UnknownColumn r = r ≡ Err unknown_column
 Reports BadCondition r = r ≡ Err bad_condition
 Reports NotComparable r = r ≡ Err not_comparable
 Reports OutOfMemory r = Unit {0}
 
--- there is no such condition, or memory is wanting
+-- there is no such condition, or memory is refused
 abbrev pub IsNoCondition : QueryError → Option PlainCondition → Type 0
 IsNoCondition UnknownColumn o = ⊥
 IsNoCondition BadCondition o = o ≡ None
 IsNoCondition NotComparable o = ⊥
 IsNoCondition OutOfMemory o = Unit {0}
 
--- the columns asked for are not there, or memory is wanting
+-- the columns asked for are not there, or memory is refused
 abbrev pub Unchosen : QueryError → Option (List ℕ) → Type 0
 Unchosen UnknownColumn o = o ≡ None
 Unchosen BadCondition o = ⊥

@@ -1,4 +1,4 @@
-// Answers of the integers in 64 bytes at once.
+// Compares the integers in 64 bytes at once.
 ghost use Rattle.std.specs.Prelude.{◌≡◌, ℕ, ◌≤◌, ◌<◌, ◌+◌, ◌*◌, ◌/◌, ◌%◌, ◌^◌, ◌==◌, length, map};
 ghost use Rattle.std.specs.Int.{bit_at};
 ghost use Rattle.std.specs.List.{range_with_len};
@@ -12,7 +12,7 @@ use arrow_schema::BitWidth;
 use byteorder::{ByteOrder, LittleEndian};
 use std::simd::prelude::*;
 
-/// How many integers of a width 64 bytes hold.
+/// Returns how many integers of a width are in 64 bytes.
 pub(crate) fn slots_in_block(width: BitWidth) -> usize
     ensures value { result ≡ block_slots width }
     ensures size { result * (bits_of width / 8) ≡ 64 }
@@ -28,7 +28,7 @@ pub(crate) fn slots_in_block(width: BitWidth) -> usize
     }
 }
 
-/// A bit for each slot of a block, from a slot on.
+/// Returns the answers for the slots of a block, from a slot on, a bit each.
 pub(crate) fn answers_of_block(width: BitWidth, cut: Cut, values: &[u8], first: usize) -> u64
     requires room { (first + block_slots width) * (bits_of width / 8) ≤ length values.now }
     requires bias { cut.bias < 256 ^ (bits_of width / 8) }
@@ -43,7 +43,7 @@ pub(crate) fn answers_of_block(width: BitWidth, cut: Cut, values: &[u8], first: 
     }
 }
 
-/// A bit for each slot of a block, from a slot on, that is not null; further bits may be set.
+/// Returns the validity of the slots of a block, from a slot on, a bit each; further bits may be set.
 pub(crate) fn valid_slots(validity: &[u8], first: usize, slots: usize) -> u64
     requires least { 8 ≤ slots }
     requires most { slots ≤ 64 }
@@ -58,7 +58,7 @@ pub(crate) fn valid_slots(validity: &[u8], first: usize, slots: usize) -> u64
     LittleEndian::read_uint(&validity[first / 8..], slots / 8)
 }
 
-// A bit for each of 16 numbers of 32 bits from a slot on.
+// Returns the answers for 16 numbers of 32 bits, from a slot on, a bit each.
 fn of_32_bits(cut: Cut, values: &[u8], first: usize) -> u64
     requires room { 4 * (first + 16) ≤ length values.now }
     requires bias { cut.bias < 2 ^ 32 }
@@ -76,7 +76,7 @@ fn of_32_bits(cut: Cut, values: &[u8], first: usize) -> u64
     answers.simd_eq(u32x16::splat(1)).to_bitmask()
 }
 
-// The same of 8 numbers of 64 bits.
+// `of_32_bits` for 8 numbers of 64 bits.
 fn of_64_bits(cut: Cut, values: &[u8], first: usize) -> u64
     requires { 8 * (first + 8) ≤ length values.now }
     ensures { result ≡ mask_l (map (answer_at cut 8 values.now) (range_with_len first 8)) }
@@ -92,7 +92,7 @@ fn of_64_bits(cut: Cut, values: &[u8], first: usize) -> u64
     answers.simd_eq(u64x8::splat(1)).to_bitmask()
 }
 
-// The same of 32 numbers of 16 bits.
+// `of_32_bits` for 32 numbers of 16 bits.
 fn of_16_bits(cut: Cut, values: &[u8], first: usize) -> u64
     requires room { 2 * (first + 32) ≤ length values.now }
     requires bias { cut.bias < 2 ^ 16 }
@@ -110,7 +110,7 @@ fn of_16_bits(cut: Cut, values: &[u8], first: usize) -> u64
     answers.simd_eq(u16x32::splat(1)).to_bitmask()
 }
 
-// The same of 64 numbers of 8 bits.
+// `of_32_bits` for 64 numbers of 8 bits.
 fn of_8_bits(cut: Cut, values: &[u8], first: usize) -> u64
     requires room { first + 64 ≤ length values.now }
     requires bias { cut.bias < 2 ^ 8 }

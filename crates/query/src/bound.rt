@@ -1,4 +1,4 @@
-// A condition on the columns of a table.
+// A condition that is bound to the columns of a table.
 ghost use Rattle.std.specs.Prelude.{◌≡◌, IfOk, IfErr, map, option_map, position, count_by, slice_get};
 ghost use Rattle.std.specs.Option.{option_copied};
 ghost use Rattle.arrow_schema.specs.View.{kind_of, column_of};
@@ -18,7 +18,7 @@ use std::alloc::Global;
 use std::cmp::Ordering;
 use values::{ValueRef, Values};
 
-/// What is asked of a value.
+/// What a condition asks of a value.
 #[derive(Drop)]
 pub(crate) enum Predicate {
     IsNull,
@@ -26,7 +26,7 @@ pub(crate) enum Predicate {
     Compares(Operator, Value),
 }
 
-/// A condition whose column is known by its place, and whose literal by its value.
+/// A condition with the place of its column and the value of its literal.
 #[derive(Drop)]
 pub(crate) struct Bound {
     pub(crate) place: usize,
@@ -39,7 +39,6 @@ fn has_name(field: &Field, name: &str) -> bool
     field.name.as_str() == name
 }
 
-// How many of the fields have this name.
 pub(crate) fn count_named(fields: &[Field], name: &str) -> usize
     ensures { result ≡ count_by (λ f. has_name name.now (column_of f)) fields.now }
 {
@@ -52,7 +51,7 @@ fn first_named(fields: &[Field], name: &str) -> Option<usize>
     fields.iter().position(|field| has_name(field, name))
 }
 
-/// The place of the one column that has this name.
+/// Returns the place of the only column that has this name.
 pub(crate) fn place_of(fields: &[Field], name: &str) -> Option<usize>
     ensures { result ≡ place_of (map column_of fields.now) name.now }
 {
@@ -69,7 +68,7 @@ fn get_field(fields: &[Field], place: usize) -> Option<&Field>
     fields.get(place)
 }
 
-/// The field at a place.
+/// Returns the field at a place.
 pub(crate) fn field_at(fields: &[Field], place: usize) -> Option<&Field>
     ensures { option_map (λ f. column_of f.now) result ≡ slice_get (map column_of fields.now) place }
 {
@@ -95,7 +94,7 @@ fn predicate_of(alloc: Global, data_type: &DataType, test: &Test) -> Result<Pred
     }
 }
 
-/// A condition on the columns of a table, or why there is none.
+/// Binds a condition to the columns of a table.
 #[tactic(auto, unfolding(crate::specs::Bound::bound))]
 pub(crate) fn bind(
     alloc: Global,
@@ -115,7 +114,7 @@ pub(crate) fn bind(
     Ok(Bound { place, predicate })
 }
 
-// How a value compares with a literal, where both are of one form.
+// Returns how a value compares with a literal, if both are of one form.
 fn order(value: ValueRef<'_>, literal: &Value) -> Option<Ordering>
     ensures { result ≡ order (borrowed_cell value.entry) (cell literal.now) }
 {
@@ -128,7 +127,6 @@ fn order(value: ValueRef<'_>, literal: &Value) -> Option<Ordering>
     }
 }
 
-// Whether a value meets a predicate.
 fn meets(predicate: &Predicate, value: ValueRef<'_>) -> bool
     ensures { result ≡ meets (predicate_in predicate.now) (borrowed_cell value.entry) }
 {
@@ -142,7 +140,7 @@ fn meets(predicate: &Predicate, value: ValueRef<'_>) -> bool
     }
 }
 
-/// Whether a condition holds of a row.
+/// Returns whether a condition holds for a row.
 pub(crate) fn holds(bound: &Bound, row: Values<'_>) -> bool
     ensures { result ≡ holds (bound_in bound.now) (borrowed_cells row.entry) }
 {

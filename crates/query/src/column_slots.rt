@@ -1,4 +1,4 @@
-// The columns of a batch, as they are printed: what is asked of a field and of its array is asked once for all slots.
+// The columns of a batch for printing: what depends on a field and its array is found once for all slots.
 ghost use Rattle.std.specs.Prelude.{◌≡◌, ◌+◌, ◌*◌, ◌/◌, ◌<◌, ◌≤◌, length, take, IfOk, IfSome, if◌then◌else◌};
 ghost use Rattle.arrow_schema.specs.View.{bits_of, kind_of, column_of};
 ghost use Rattle.cells.specs.Cell.{null, number};
@@ -24,7 +24,7 @@ pub(crate) struct IntegerBuffers<'a> {
     values: &'a [u8],
 }
 
-/// The buffers of strings, whose offsets are of a width.
+/// The buffers of strings, with offsets of a width.
 #[derive(Clone, Copy)]
 pub(crate) struct TextBuffers<'a> {
     width: BitWidth,
@@ -33,14 +33,14 @@ pub(crate) struct TextBuffers<'a> {
     contents: &'a [u8],
 }
 
-/// The first bytes of some.
+/// Bytes of which the first `size` are meant.
 #[derive(Clone, Copy)]
 pub(crate) struct FirstBytes<'a> {
     pub(crate) bytes: &'a [u8],
     pub(crate) size: usize,
 }
 
-/// The buffers that the values of a column are printed from, where they need not be borrowed.
+/// The buffers that the values of a column are printed from, if they need not be borrowed.
 #[derive(Clone, Copy)]
 pub(crate) enum Buffers<'a> {
     Integers(IntegerBuffers<'a>),
@@ -56,7 +56,7 @@ pub(crate) struct ColumnSlots<'a> {
     pub(crate) buffers: Buffers<'a>,
 }
 
-// How wide the offsets of strings are.
+// Returns the width of the offsets of a type's strings.
 #[tactic(auto, unfolding(columns::specs::CellAt::kind_cell))]
 fn text_width(data_type: &DataType) -> Option<BitWidth>
     ensures { IfSome result (λ w. IsTextKind (kind_of data_type.now) (bits_of w / 8)) }
@@ -68,7 +68,7 @@ fn text_width(data_type: &DataType) -> Option<BitWidth>
     }
 }
 
-// The same of a field, where it has no dictionary.
+// `text_width` for a field without a dictionary.
 fn field_text_width(field: &Field) -> Option<BitWidth>
     ensures { IfSome result (λ w. IsTextColumn (column_of field.now) (bits_of w / 8)) }
 {
@@ -105,7 +105,6 @@ fn buffers_of<'a>(field: &Field, view: ArrayView<'a>) -> Buffers<'a>
     }
 }
 
-// The column of a field, whose array is at a place.
 fn column_at<'a>(
     field: &'a Field,
     part: &'a TablePart,
@@ -128,7 +127,7 @@ fn column_at<'a>(
     }
 }
 
-/// The columns of a batch.
+/// Returns the columns of a batch.
 pub(crate) fn columns_of<'a>(
     alloc: Global,
     fields: &'a [Field],
@@ -155,7 +154,7 @@ fn is_valid(validity: &[u8], slot: usize) -> bool
 }
 
 impl IntegerBuffers<'_> {
-    /// The number of a slot, unless it is null.
+    /// Returns the number at a slot, unless it is null.
     #[inline]
     pub(crate) fn number(self, slot: usize) -> Option<i128>
         requires valid { 0 < length self.validity.now → slot < 8 * length self.validity.now }
@@ -171,7 +170,7 @@ impl IntegerBuffers<'_> {
     }
 }
 
-// The bytes of a slot, by these offsets, with those after them.
+// Returns the bytes of a slot by these offsets, followed by those after them.
 #[inline]
 fn first_bytes<'a>(
     width: BitWidth,
@@ -193,7 +192,7 @@ fn first_bytes<'a>(
 }
 
 impl<'a> TextBuffers<'a> {
-    /// The bytes of a string at a slot, where none of them is to be escaped.
+    /// Returns the bytes of the string at a slot, unless it is null or has a byte to be escaped.
     #[inline]
     pub(crate) fn plain_text(self, slot: usize) -> Option<FirstBytes<'a>>
         requires valid { 0 < length self.validity.now → slot < 8 * length self.validity.now }

@@ -1,9 +1,9 @@
-// Conditions, and the strings that state them.
+// Conditions and the strings that state them.
 use crate::errors::QueryError;
 use crate::operator::{Operator, operator_of};
 use std::alloc::{AllocError, Global};
 
-/// What a condition asks of a value: a literal is the string as it was typed, which [`crate::choose`] reads by the column's type.
+/// What a condition asks of a value. A literal is the string as it was typed; [`crate::choose`] reads it by the column's type.
 #[derive(Drop)]
 pub enum Test {
     IsNull,
@@ -23,15 +23,15 @@ impl Condition {
     ghost use Rattle.query.specs.ConditionText.{condition_of};
     ghost use Rattle.query.specs.View.{condition_in, IsNoCondition};
 
-    /// The condition of a string `NAME OP LITERAL`, `NAME is null` or `NAME is not null`, split by single spaces. A name has
-    /// no space and may be empty; a literal is all that follows, and may be empty.
+    /// Parses a condition `NAME OP LITERAL`, `NAME is null` or `NAME is not null`, with single spaces between the parts. A name has no space and
+    /// may be empty; a literal is all that follows, and may be empty.
     ///
     /// ```
     /// let condition = Condition::parse(alloc, "day >= 20003")?;
     /// ```
     ///
     /// # Errors
-    /// `BadCondition` where the string has none of these shapes; `OutOfMemory`.
+    /// `BadCondition` if the string has none of these forms; `OutOfMemory`.
     #[tactic(auto, unfolding(crate::specs::ConditionText::condition_of))]
     pub fn parse(alloc: Global, text: &str) -> Result<Condition, QueryError>
         ensures ok { IfOk result (λ c. condition_of text.now ≡ Some (condition_in c)) }
@@ -55,7 +55,7 @@ ghost use Rattle.query.specs.ConditionText.{split_at_space, test_of, comparison_
 ghost use Rattle.facts.specs.Outcomes.{Reads};
 ghost use Rattle.query.specs.View.{test_in};
 
-// What stands before the first space, and what after it.
+// Splits a text at its first space.
 fn split_at_space(text: &str) -> Option<(&str, &str)>
     ensures { Reads (λ p. (p.0.now, p.1.now)) result (split_at_space text.now) }
 {

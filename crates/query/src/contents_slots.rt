@@ -1,4 +1,4 @@
-// Comparisons with strings and binaries, made with the bytes of the arrays of record batches: no value is borrowed.
+// Compares strings and binaries in the bytes of the arrays of record batches, without borrowing a value.
 ghost use Rattle.std.specs.Prelude.{◌≡◌, ◌≤◌, ◌<◌, ◌+◌, ◌*◌, ◌/◌, ◌++◌, true, length, map, IfSome, OnOk};
 ghost use Rattle.std.specs.Cmp.Lexicographic.{slice_cmp};
 ghost use Rattle.std.specs.List.{range_with_len};
@@ -20,7 +20,7 @@ use cells::Value;
 use columns::{ArrayView, Span, bytes_at};
 use std::alloc::AllocError;
 
-/// What is asked of the strings or binaries of the column at a place, whose offsets are of a width.
+/// A comparison with the strings or binaries of the column at a place, with offsets of a width.
 #[derive(Clone, Copy)]
 pub(crate) struct ContentsComparison<'a> {
     pub(crate) place: usize,
@@ -29,14 +29,14 @@ pub(crate) struct ContentsComparison<'a> {
     literal: &'a [u8],
 }
 
-// The bytes of a literal.
+// The bytes of a literal, and the width of the offsets of the values that it is compared with.
 #[derive(Clone, Copy)]
 pub(crate) struct ContentsLiteral<'a> {
     width: BitWidth,
     bytes: &'a [u8],
 }
 
-// The bytes of a literal that values of a type are compared with.
+// Returns the bytes of a literal that values of a type are compared with.
 fn literal_of<'a>(data_type: &DataType, literal: &'a Value) -> Option<ContentsLiteral<'a>>
     ensures { IfSome result (λ l. IsContentsKind (kind_of data_type.now) l.width (cell literal.now) l.bytes.now) }
 {
@@ -61,7 +61,7 @@ fn literal_of<'a>(data_type: &DataType, literal: &'a Value) -> Option<ContentsLi
     }
 }
 
-// The same of a field, where it has no dictionary.
+// `literal_of` for a field without a dictionary.
 fn field_literal<'a>(field: &Field, literal: &'a Value) -> Option<ContentsLiteral<'a>>
     ensures { IfSome result (λ l. IsContentsColumn (column_of field.now) l.width (cell literal.now) l.bytes.now) }
 {
@@ -71,7 +71,7 @@ fn field_literal<'a>(field: &Field, literal: &'a Value) -> Option<ContentsLitera
     }
 }
 
-/// The comparison that a condition is, where its column has strings or binaries and no dictionary.
+/// Returns the comparison that a condition is, if its column has strings or binaries and no dictionary.
 pub(crate) fn contents_comparison_of<'a>(
     fields: &[Field],
     bound: &'a Bound,
@@ -94,7 +94,7 @@ pub(crate) fn contents_comparison_of<'a>(
 }
 
 impl ContentsComparison<'_> {
-    // Whether it holds of these bytes. Where they need only be told apart, their lengths are compared first.
+    // Returns whether the comparison holds for these bytes. Where only equality matters, lengths are compared first.
     #[inline]
     fn accepts(self, bytes: &[u8]) -> bool
         ensures { result ≡ accepts self.entry.operator (slice_cmp nat_cmp bytes.now self.entry.literal.now) }
@@ -106,7 +106,7 @@ impl ContentsComparison<'_> {
         }
     }
 
-    // Whether it holds of a slot: never of a null.
+    // Returns whether the comparison holds for a slot, which it never does for a null.
     #[inline]
     fn holds(self, validity: &[u8], offsets: &[u8], contents: &[u8], i: usize) -> bool
         requires valid { 0 < length validity.now → i < 8 * length validity.now }
@@ -125,7 +125,7 @@ impl ContentsComparison<'_> {
         self.accepts(bytes_at(contents, span))
     }
 
-    // A bit for each of some slots from one on.
+    // Returns the answers for `count` slots from `first` on, a bit each.
     fn answers(
         self,
         validity: &[u8],
@@ -147,7 +147,7 @@ impl ContentsComparison<'_> {
         answers
     }
 
-    /// Adds whether it holds of each of the first slots, 64 at a time.
+    /// Appends whether the comparison holds for each of the first slots, 64 at a time.
     pub(crate) fn push_slots(
         self,
         flags: &mut MaskBuilder,

@@ -1,4 +1,4 @@
-// Copies of values that are borrowed.
+// Copies borrowed values.
 ghost use Rattle.std.specs.Prelude.{◌≡◌, List, IfOk, map};
 ghost use Rattle.cells.specs.Cell as plain;
 ghost use Rattle.cells.specs.Cell.{Cell, cells_of};
@@ -22,7 +22,6 @@ fn copy_bytes(alloc: Global, bytes: &[u8]) -> Result<Value, AllocError>
     Ok(Value::Bytes(Vec::from_slice(alloc, bytes)?))
 }
 
-// The list of values that were copied.
 fn list_of(copies: Result<Vec<Value>, AllocError>) -> Result<Value, AllocError>
     ensures { (cells : List Cell) → IfOk copies (λ v. map cell v.items ≡ cells) → IfOk result (λ v. cell v ≡ plain.items (cells_of cells)) }
 {
@@ -32,7 +31,6 @@ fn list_of(copies: Result<Vec<Value>, AllocError>) -> Result<Value, AllocError>
     }
 }
 
-// The same of a struct.
 fn struct_of(copies: Result<Vec<Value>, AllocError>) -> Result<Value, AllocError>
     ensures { (cells : List Cell) → IfOk copies (λ v. map cell v.items ≡ cells) → IfOk result (λ v. cell v ≡ plain.parts (cells_of cells)) }
 {
@@ -42,7 +40,7 @@ fn struct_of(copies: Result<Vec<Value>, AllocError>) -> Result<Value, AllocError
     }
 }
 
-/// The value in memory of its own.
+/// Copies a value into memory of its own.
 #[cycle(copy)]
 pub(crate) fn copy_value(alloc: Global, value: ValueRef<'_>) -> Result<Value, AllocError>
     ensures { IfOk result (λ v. cell v ≡ borrowed_cell value.entry) }
@@ -69,10 +67,10 @@ fn copy_values(alloc: Global, values: Values<'_>) -> Result<Vec<Value>, AllocErr
     Ok(copies)
 }
 
-/// A row of a table, as one in memory of its own.
+/// Copies a row of a table into memory of its own.
 ///
 /// # Errors
-/// `AllocError` where memory was refused.
+/// `AllocError` if memory is refused.
 pub fn copy_row(alloc: Global, row: Values<'_>) -> Result<Row, AllocError>
     ensures { IfOk result (λ copy. row_of copy ≡ borrowed_cells row.entry) }
 {

@@ -1,4 +1,4 @@
-// Answers of a comparison by the order of numbers to a key.
+// Answers a comparison by the order of a number to a key.
 ghost use Rattle.std.specs.Prelude.{◌≡◌, ◌<◌, ◌≤◌, ◌*◌, ◌^◌, ◌<ℤ◌, ◌≤ℤ◌, pos, MatchResult};
 ghost use Rattle.query.specs.inner.Slots.{width_of};
 ghost use Rattle.query.specs.inner.Cuts.{bias_in, IsKey, AllStand, IsCut};
@@ -8,7 +8,7 @@ use arrow_schema::IntegerType;
 use columns::least_negative;
 use std::cmp::Ordering;
 
-/// What is answered of a number by its order to a key. The bias is added to each number first, and makes 0 of the least.
+/// The answers of a comparison by the order of a number to a key. The bias is added to each number first, and moves the least one to 0.
 #[derive(Clone, Copy)]
 pub(crate) struct Cut {
     pub(crate) bias: u64,
@@ -36,7 +36,7 @@ fn unsigned(number: i128) -> u64
     number as u64
 }
 
-// The key of a literal, or how all numbers stand to it.
+// Returns the key of a literal, or how all numbers compare with it.
 fn key_of(literal: i128, bias: u64, half: u64) -> Result<u64, Ordering>
     requires { half ≤ 2 ^ 63 }
     ensures { MatchResult result (IsKey literal bias (2 * half)) (AllStand literal bias (2 * half)) }
@@ -53,7 +53,7 @@ fn key_of(literal: i128, bias: u64, half: u64) -> Result<u64, Ordering>
 }
 
 impl Cut {
-    /// The answers of a comparison of integers with a literal.
+    /// Returns the answers of a comparison of integers with a literal.
     pub(crate) fn of(integer: IntegerType, operator: Operator, literal: i128) -> Cut
         ensures { IsCut integer operator literal result }
     {

@@ -1,17 +1,16 @@
-// Why a query is refused.
 use std::alloc::AllocError;
 use thiserror::Error;
 
 /// Why a query is refused.
 #[derive(Clone, Copy, Debug, Error)]
 pub enum QueryError {
-    /// No column has this name, or more than one has, or it is asked for twice.
+    /// No column has this name, or several have, or it is asked for twice.
     #[error("Q1 UnknownColumn")]
     UnknownColumn,
-    /// The string of a condition has another shape, or its literal is none of the column's type.
+    /// The string of a condition has another form, or its literal is not a value of the column's type.
     #[error("Q2 BadCondition")]
     BadCondition,
-    /// Values of the column's type are not compared.
+    /// Values of the column's type can't be compared.
     #[error("Q3 NotComparable")]
     NotComparable,
     #[error("OutOfMemory")]

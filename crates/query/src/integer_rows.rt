@@ -1,4 +1,4 @@
-// Rows of integers that are kept, copied from the bytes of the arrays of record batches: no value is borrowed.
+// Copies kept rows of integers from the bytes of the arrays of record batches, without borrowing a value.
 ghost use Rattle.std.specs.Prelude.{◌≡◌, ◌≤◌, ◌<◌, ◌+◌, ◌*◌, ◌^◌, ◌++◌, true, map, length, take, IfOk, IfSome, OnOk};
 ghost use Rattle.std.specs.List.{list_all};
 ghost use Rattle.arrow_schema.specs.View.{column_of};
@@ -34,7 +34,7 @@ fn integer_column(fields: &[Field], place: usize) -> Option<IntegerColumn>
     Some(IntegerColumn { place, integer })
 }
 
-/// The columns at some places, where all have integers and no dictionary.
+/// Returns the columns at some places, if all have integers and no dictionary.
 pub(crate) fn integer_columns(
     alloc: Global,
     fields: &[Field],
@@ -52,7 +52,7 @@ pub(crate) fn integer_columns(
     Ok(Some(columns))
 }
 
-/// The number of a slot, unless it is null.
+/// Returns the number at a slot, unless it is null.
 pub(crate) fn slot_number(integer: IntegerType, view: ArrayView<'_>, slot: usize) -> Option<i128>
     requires { has_integers integer (slot + 1) (view_array view) ≡ true }
     ensures { number_or_null result ≡ unless_null (integer_cell integer) (view_array view.entry) slot }
@@ -74,7 +74,6 @@ fn number_value(number: Option<i128>) -> Value
 }
 
 impl IntegerColumn {
-    // The value at a slot of a batch.
     fn value(self, part: &TablePart, batch: &Batch, slot: usize) -> Value
         requires { has_integers self.integer (slot + 1) (array_of self.place part.now batch.now) ≡ true }
         ensures { cell result ≡ integer_in self part.now batch.now slot }
@@ -89,7 +88,6 @@ impl IntegerColumn {
     }
 }
 
-// Adds the values at a slot of a batch.
 fn push_integers(
     cells: &mut Vec<Value>,
     columns: &[IntegerColumn],
@@ -107,7 +105,7 @@ fn push_integers(
     Ok(())
 }
 
-// Keeps the rows of a batch whose bits are set, from a bit on.
+// Keeps the rows of a batch whose bits are set. The bit of its first row is at `start`.
 fn keep_batch(
     kept: &mut SelectedRows,
     columns: &[IntegerColumn],
@@ -132,7 +130,7 @@ fn keep_batch(
     Ok(())
 }
 
-// The same of the batches of a part, and says where its bits end.
+// Keeps the rows of the batches of a part whose bits are set, and returns where its bits end.
 fn keep_part(
     kept: &mut SelectedRows,
     columns: &[IntegerColumn],
@@ -155,7 +153,7 @@ fn keep_part(
     Ok(next)
 }
 
-/// Of these rows of record batches those whose bits are set, up to the most, of columns of integers.
+/// Returns the rows of record batches whose bits are set, at most `most`, for columns of integers.
 pub(crate) fn keep_integers(
     alloc: Global,
     columns: &[IntegerColumn],

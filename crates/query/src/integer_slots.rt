@@ -1,4 +1,4 @@
-// Comparisons with integers, made with the bytes of the arrays of record batches: no value is borrowed.
+// Compares integers in the bytes of the arrays of record batches, without borrowing a value.
 ghost use Rattle.std.specs.Prelude.{◌≡◌, ◌≤◌, ◌<◌, ◌+◌, ◌*◌, ◌/◌, ◌-ℤ◌, ◌++◌, ◌&&◌, pos, true, nat_lt, length, map, IfOk, IfSome, OnOk, if◌then◌else◌};
 ghost use Rattle.std.specs.List.{range_with_len};
 ghost use Rattle.byteorder.specs.Endian.{little_number, twos_complement};
@@ -19,7 +19,7 @@ use cells::Value;
 use columns::{ArrayView, date_integer, least_negative, timestamp_integer};
 use std::alloc::AllocError;
 
-/// What is asked of the integers of the column at a place.
+/// A comparison with the integers of the column at a place.
 #[derive(Clone, Copy)]
 pub(crate) struct IntegerComparison {
     pub(crate) place: usize,
@@ -28,7 +28,7 @@ pub(crate) struct IntegerComparison {
     literal: i128,
 }
 
-// The integers that the values of a type are.
+// Returns the type of the integers that the values of a type are.
 #[tactic(auto, unfolding(columns::specs::CellAt::kind_cell))]
 fn integer_of(data_type: &DataType) -> Option<IntegerType>
     ensures { IfSome result (λ t. IsIntegerKind (kind_of data_type.now) t) }
@@ -41,7 +41,7 @@ fn integer_of(data_type: &DataType) -> Option<IntegerType>
     }
 }
 
-/// The integers that the values of a field are, where it has no dictionary.
+/// Returns the type of the integers that the values of a field without a dictionary are.
 pub(crate) fn field_integer(field: &Field) -> Option<IntegerType>
     ensures { IfSome result (λ t. IsIntegerColumn (column_of field.now) t) }
 {
@@ -51,7 +51,7 @@ pub(crate) fn field_integer(field: &Field) -> Option<IntegerType>
     }
 }
 
-/// The comparison that a condition is, where its column has integers and no dictionary.
+/// Returns the comparison that a condition is, if its column has integers and no dictionary.
 pub(crate) fn integer_comparison_of(fields: &[Field], bound: &Bound) -> Option<IntegerComparison>
     ensures { IfSome result (λ c. IsIntegerComparison (map column_of fields.now) (bound_in bound.now) c) }
 {
@@ -80,7 +80,7 @@ fn first_number(width: BitWidth, bytes: &[u8]) -> u64
     }
 }
 
-// From half of all numbers on they are negative.
+// The upper half of all numbers is negative.
 fn folded(number: u64, half: u64) -> i128
     ensures { result ≡ (if nat_lt number half then pos number else pos number -ℤ pos (2 * half)) }
 {
@@ -97,7 +97,7 @@ fn signed_number(width: BitWidth, number: u64) -> i128
     folded(number, least_negative(width))
 }
 
-/// The number of a slot, without a sign.
+/// Returns the number at a slot, without a sign.
 pub(crate) fn unsigned_at(width: BitWidth, values: &[u8], i: usize) -> u64
     requires { (i + 1) * (bits_of width / 8) ≤ length values.now }
     ensures { result ≡ plain_number_at (bits_of width / 8) values.now i }
@@ -106,7 +106,7 @@ pub(crate) fn unsigned_at(width: BitWidth, values: &[u8], i: usize) -> u64
     first_number(width, &values[start..])
 }
 
-/// The integer of a slot.
+/// Returns the integer at a slot.
 pub(crate) fn number_at(integer: IntegerType, values: &[u8], i: usize) -> i128
     requires { (i + 1) * width_of integer ≤ length values.now }
     ensures { result ≡ integer_at (width_of integer) integer.signed values.now i }
@@ -120,7 +120,7 @@ pub(crate) fn number_at(integer: IntegerType, values: &[u8], i: usize) -> i128
 }
 
 impl IntegerComparison {
-    // Whether it holds of a slot: never of a null.
+    // Returns whether the comparison holds for a slot, which it never does for a null.
     fn holds(self, validity: &[u8], values: &[u8], i: usize) -> bool
         requires valid { 0 < length validity.now → i < 8 * length validity.now }
         requires long { (i + 1) * width_of self.integer ≤ length values.now }
@@ -133,7 +133,7 @@ impl IntegerComparison {
         accepts(self.operator, number.cmp(&self.literal))
     }
 
-    // Adds whether it holds of the slots of whole blocks, and says of how many.
+    // Appends whether the comparison holds for the slots of whole blocks, and returns the number of these slots.
     fn push_blocks(
         self,
         flags: &mut MaskBuilder,
@@ -158,7 +158,7 @@ impl IntegerComparison {
         Ok(slots * blocks)
     }
 
-    /// Adds whether it holds of each of the first slots: block by block, and of the others one by one.
+    /// Appends whether the comparison holds for each of the first slots: block by block, and the rest one by one.
     pub(crate) fn push_slots(
         self,
         flags: &mut MaskBuilder,

@@ -1,8 +1,8 @@
-//! Queries: which rows and columns of a table, and a row as a line of JSON.
+//! Queries: which rows and columns of a table they select, and a row as a line of JSON.
 //!
-//! A [`Query`] names columns, conditions that each row must meet, and how many rows at most. Promised are, exactly: which
-//! condition a string states, which columns and rows of a table a query chooses, or why there are none, the table of these with its
-//! values copied, and the line of a row. Contracts see tables, rows and queries as the plain trees of `specs/`, however they are kept.
+//! A [`Query`] has columns, conditions that each row must meet, and a maximum number of rows. Contracts promise exactly which condition a string
+//! states; which columns and rows of a table a query chooses, or why it is refused; the table of these with its values copied; and the line of a
+//! row. They see tables, rows and queries as the plain trees of `specs/`, however they are kept.
 //!
 //! ```
 //! let condition = Condition::parse(alloc, "a >= 1")?;
@@ -11,8 +11,8 @@
 //! let found = chosen_cells(alloc, &table, &choice)?;
 //! ```
 //!
-//! gives the first ten rows of `table` whose `a` is at least 1, with all columns; a null is not. `selection::select` does both, and keeps record batches
-//! as they are.
+//! This gives the first ten rows of `table` whose `a` is at least 1, with all columns; a null is not. `selection::select` does both, and keeps
+//! record batches as they are.
 #![tactic(auto)]
 
 mod blocks;

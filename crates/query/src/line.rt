@@ -1,4 +1,4 @@
-// A row as a line of JSON.
+// Prints a row as a line of JSON.
 ghost use Rattle.std.specs.Prelude.{◌≡◌, ◌++◌, ◌^◌, ◌<◌, ◌≤◌, OnOk, codes, length, slice_index, take};
 ghost use Rattle.std.specs.Fmt.{signed_decimal};
 ghost use Rattle.json.specs.Print.{quoted};
@@ -25,7 +25,7 @@ pub(crate) fn push_number(out: &mut Vec<u8>, number: i128) -> Result<(), AllocEr
     out.extend_from_slice(digits.format(number).as_bytes())
 }
 
-/// Adds bytes between quotes.
+/// Appends bytes between quotes.
 pub(crate) fn push_in_quotes(out: &mut Vec<u8>, bytes: &[u8]) -> Result<(), AllocError>
     ensures { OnOk result (out.new.items ≡ out.old.items ++ (codes "\"" ++ bytes.now ++ codes "\"")) }
 {
@@ -36,7 +36,7 @@ pub(crate) fn push_in_quotes(out: &mut Vec<u8>, bytes: &[u8]) -> Result<(), Allo
     Ok(())
 }
 
-/// The same of the first of some bytes, where these are few: 16 are copied, and what is too much is cut off.
+/// Appends the first `size` of some bytes between quotes: 16 are copied, and the excess is cut off.
 pub(crate) fn push_few_in_quotes(
     out: &mut Vec<u8>,
     bytes: &[u8],
@@ -55,7 +55,7 @@ pub(crate) fn push_few_in_quotes(
     Ok(())
 }
 
-// Adds a text that has a byte to be escaped. It is written by itself, since the writer clears all the room that it is given.
+// Appends a text that has a byte to be escaped. It is written by itself, since the writer clears all the room that it is given.
 #[tactic(auto, unfolding(json::specs::Print::print_from))]
 fn push_escaped(alloc: Global, out: &mut Vec<u8>, text: &str) -> Result<(), AllocError>
     ensures { OnOk result (out.new.items ≡ out.old.items ++ quoted text.now) }
@@ -76,7 +76,7 @@ pub(crate) fn push_text(alloc: Global, out: &mut Vec<u8>, text: &str) -> Result<
     push_escaped(alloc, out, text)
 }
 
-// The digit of four bits.
+// Returns the hexadecimal digit of four bits.
 fn digit(bits: u8) -> u8
     requires { bits < 16 }
     ensures { result ≡ slice_index lower_digits bits }
@@ -96,7 +96,6 @@ fn push_hex(out: &mut Vec<u8>, bytes: &[u8]) -> Result<(), AllocError>
     Ok(())
 }
 
-// The string of hexadecimal digits that bytes are.
 pub(crate) fn push_quoted_hex(out: &mut Vec<u8>, bytes: &[u8]) -> Result<(), AllocError>
     ensures { OnOk result (out.new.items ≡ out.old.items ++ (codes "\"" ++ encode_lower bytes.now ++ codes "\"")) }
 {
@@ -139,7 +138,7 @@ pub(crate) fn push_array(
     push_bytes(out, b"]")
 }
 
-// The values, with a comma between two.
+// Appends the values, with a comma between two.
 #[tactic(auto, unfolding(crate::specs::Line::json_of_all))]
 #[cycle(line)]
 fn push_values(alloc: Global, out: &mut Vec<u8>, values: Values<'_>) -> Result<(), AllocError>

@@ -1,4 +1,4 @@
-// The value that a literal states.
+// Parses literals by the type of their column.
 ghost use Rattle.std.specs.Prelude.{◌≡◌, ◌==◌, slice_index, IfOk, option_map};
 ghost use Rattle.arrow_schema.specs.View.{kind_of};
 ghost use Rattle.cells.specs.Cell.{number};
@@ -10,7 +10,7 @@ use cells::Value;
 use hex::FromHexError;
 use std::alloc::{AllocError, Global};
 
-// The least number that is a literal, and the first that is too great.
+// The least number that a literal may be, and the first that is too large.
 const LEAST: i128 = -0x8000_0000_0000_0000;
 
 const END: i128 = 0x1_0000_0000_0000_0000;
@@ -41,7 +41,7 @@ fn begins_with_plus(text: &str) -> bool
     !bytes.is_empty() && bytes[0] == b'+'
 }
 
-// `parse` would take a plus.
+// `parse` would accept a plus sign.
 #[tactic(auto, unfolding(crate::specs::Literal::number_in))]
 fn number_in(text: &str) -> Option<i128>
     ensures { option_map (λ n. number n) result ≡ number_in text.now }
@@ -80,7 +80,6 @@ fn bytes_in(alloc: Global, text: &str) -> Result<Option<Value>, AllocError>
     }
 }
 
-// Whether values of a type are compared.
 pub(crate) fn is_comparable(data_type: &DataType) -> bool
     ensures { result ≡ is_comparable (kind_of data_type.now) }
 {
@@ -94,7 +93,7 @@ pub(crate) fn is_comparable(data_type: &DataType) -> bool
     )
 }
 
-// The value of a literal that is compared with values of a type.
+// Returns the value of a literal that values of a type are compared with.
 pub(crate) fn literal_of(
     alloc: Global,
     data_type: &DataType,

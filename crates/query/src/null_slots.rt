@@ -1,4 +1,4 @@
-// The tests for nulls, made with the validity bitmaps of the arrays of record batches.
+// Tests for nulls with the validity bitmaps of the arrays of record batches.
 ghost use Rattle.std.specs.Prelude.{◌≡◌, ◌++◌, true, not, map, IfSome, OnOk, if◌then◌else◌};
 ghost use Rattle.std.specs.List.{range_with_len};
 ghost use Rattle.arrow_schema.specs.Parts.{is_nulls};
@@ -13,7 +13,7 @@ use bitmap::MaskBuilder;
 use columns::ArrayView;
 use std::alloc::AllocError;
 
-/// What is answered of the slots of the column at a place that are valid. Of the others the opposite is.
+/// The answer for the valid slots of the column at a place. The other slots have the opposite answer.
 #[derive(Clone, Copy)]
 pub(crate) struct NullTest {
     pub(crate) place: usize,
@@ -26,7 +26,7 @@ fn is_of_nulls(data_type: &DataType) -> bool
     matches!(data_type, DataType::Null)
 }
 
-// Whether the cells of a field are nulls just where its slots are not valid. The entries of a dictionary may be nulls too.
+// Returns whether the cells of a field are null exactly where its slots are not valid. The entries of a dictionary may be null too.
 fn has_nulls_alone(field: &Field) -> bool
     ensures { result ≡ true → HasNullsAlone (column_of field.now) }
 {
@@ -36,7 +36,7 @@ fn has_nulls_alone(field: &Field) -> bool
     }
 }
 
-/// The test that a condition is, where it asks for nulls and the validity bitmaps of its column tell them.
+/// Returns the test that a condition is, if it asks for nulls and the validity bitmaps of its column answer it.
 pub(crate) fn null_test_of(fields: &[Field], bound: &Bound) -> Option<NullTest>
     ensures { IfSome result (λ t. IsNullTest (map column_of fields.now) (bound_in bound.now) t) }
 {
@@ -64,7 +64,7 @@ impl NullTest {
         if valid { self.valid } else { !self.valid }
     }
 
-    /// Adds what it answers of each of the first slots, run by run.
+    /// Appends the answer for each of the first slots, run by run.
     pub(crate) fn push_slots(
         self,
         flags: &mut MaskBuilder,

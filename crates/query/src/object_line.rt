@@ -1,4 +1,4 @@
-// A row as an object of JSON.
+// Prints a row as a JSON object.
 ghost use Rattle.std.specs.Prelude.{◌≡◌, ◌++◌, OnOk, codes, map};
 ghost use Rattle.arrow_schema.specs.Parts.{name_of_column};
 ghost use Rattle.arrow_schema.specs.View.{column_of};
@@ -18,14 +18,14 @@ fn is_of_one(fields: &[Field], name: &str) -> bool
     count_named(fields, name) == 1
 }
 
-// Whether no other field has the name of this one.
+// Returns whether no other field has the name of this one.
 fn is_alone(fields: &[Field], field: &Field) -> bool
     ensures { result ≡ is_of_one (map column_of fields.now) (name_of_column (column_of field.now)) }
 {
     is_of_one(fields, field.name.as_str())
 }
 
-/// Whether no two of the fields have the same name: only then an object has a member for each.
+/// Returns whether no two fields have the same name: only then does an object have a member for each.
 pub fn are_named_apart(fields: &[Field]) -> bool
     ensures { result ≡ are_named_apart (map column_of fields.now) }
 {
@@ -103,12 +103,12 @@ fn push_object(
     push_bytes(out, b"}")
 }
 
-/// Appends the line of a row of these fields in a form, without its end: a JSON array of its values, or a JSON object of them by the names of the
-/// fields, in their order, without spaces. Bytes are strings of hexadecimal digits in lower case; lists and structs are arrays.
-/// Neither the line nor a value takes memory of its own, but for a string with an escape.
+/// Appends the line of a row of these fields in this form, without its line feed: a JSON array of its values, or a JSON object of them with the
+/// names of the fields, in their order, without spaces. Bytes are strings of hexadecimal digits in lower case; lists and structs are arrays.
+/// Neither the line nor a value takes memory of its own, except a string with an escape.
 ///
 /// # Errors
-/// `AllocError` where memory was refused: some of the line may be appended then.
+/// `AllocError` if memory is refused: part of the line may be appended.
 pub fn push_line_in(
     alloc: Global,
     text: &mut Vec<u8>,

@@ -38,7 +38,6 @@ fn operator_text(operator: Operator) -> &'static str
     }
 }
 
-// The operator that is written so.
 #[tactic(auto, using(crate::proofs::Naming::skip_one), unfolding(crate::specs::ConditionText::operator_of))]
 pub(crate) fn operator_of(text: &str) -> Option<Operator>
     ensures { result ≡ operator_of text.now }
@@ -51,7 +50,7 @@ pub(crate) fn operator_of(text: &str) -> Option<Operator>
     None
 }
 
-// Whether two values of this order are as the operator asks.
+// Returns whether two values of this order are as the operator asks.
 pub(crate) fn accepts(operator: Operator, order: Ordering) -> bool
     ensures { result ≡ accepts operator order }
 {

@@ -1,4 +1,4 @@
-// Whether a text needs no escape in a JSON string. Two loads that overlap cover a short one.
+// Finds texts that need no escape in a JSON string. Two loads that overlap cover a short text.
 ghost use Rattle.std.specs.Prelude.{◌+◌, ◌≡◌, ◌≤◌, length};
 ghost use Rattle.std.specs.Bool.{OnTrue};
 ghost use Rattle.json.specs.Print.{escape};
@@ -70,7 +70,7 @@ fn are_all_plain(text: &[u8]) -> bool
     }
 }
 
-/// Whether bytes stand in a JSON string as themselves (RFC 8259, section 7).
+/// Returns whether bytes stand in a JSON string as themselves (RFC 8259, section 7).
 #[inline]
 pub(crate) fn are_plain(text: &[u8]) -> bool
     ensures { OnTrue result (escape text.now ≡ text.now) }

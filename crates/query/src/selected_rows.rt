@@ -1,4 +1,4 @@
-// Rows that are kept, and which is the next of them.
+// Kept rows, and the search for the next one.
 ghost use Rattle.std.specs.Prelude.{◌≡◌, ◌≤◌, ◌<◌, ◌*◌, ℕ, length, true, false};
 ghost use Rattle.bitmap.specs.Bits.{bit};
 
@@ -11,7 +11,7 @@ pub(crate) struct SelectedRows {
     pub(crate) rows: usize,
 }
 
-/// The first row from one on whose bit is set, or the end.
+/// Returns the first row from `from` on whose bit is set, or `end` if there is none.
 pub fn next_set(mask: &[u8], from: usize, end: usize) -> usize
     requires within { end ≤ 8 * length mask.now }
     requires order { from ≤ end }

@@ -1,4 +1,4 @@
-// Which columns and rows of a table a query selects, and the table of them.
+// Chooses the columns and rows of a table that a query selects, and makes the table of them.
 ghost use Rattle.std.specs.Prelude.{◌≡◌, ◌≤◌, ◌<◌, ◌+◌, ◌*◌, ◌++◌, ◌&&◌, ℕ, Ok, Some, IfOk, IfErr, OnOk};
 ghost use Rattle.std.specs.Prelude.{map, filter, take, length, nat_lt, slice_get, string_bytes, slice_index_or, replicate, true, false, []};
 ghost use Rattle.std.specs.List.{flat_map, list_all, range_with_len};
@@ -33,7 +33,6 @@ use cells::Value;
 use std::alloc::{AllocError, Global};
 use values::{Table, TableError, Values, accepted_rows_are_a_table};
 
-// The places of the columns asked for.
 #[tactic(auto, unfolding(crate::specs::Selection::chosen))]
 fn places_of(alloc: Global, fields: &[Field], names: &[String]) -> Result<Vec<usize>, QueryError>
     ensures ok { IfOk result (λ v. chosen (map column_of fields.now) (map string_bytes names.now) ≡ Some v.items) }
@@ -65,7 +64,7 @@ fn all_places(alloc: Global, count: usize) -> Result<Vec<usize>, AllocError>
     Ok(places)
 }
 
-// The conditions on the columns of a table, or the first reason why there is none.
+// Binds conditions to the columns of a table, up to the first that is refused.
 fn bind_all(
     alloc: Global,
     fields: &[Field],
@@ -82,7 +81,7 @@ fn bind_all(
     Ok(bounds)
 }
 
-// A bit for each row, which is set where the condition holds, row by row.
+// Returns a bit for each row, which is set if the condition holds, found row by row.
 fn mask_of_rows(alloc: Global, table: &Table, bound: &Bound) -> Result<Vec<u8>, AllocError>
     ensures { IfOk result (λ mask. IsMask mask.items (map (holds (bound_in bound.now)) (table_of table.now).rows)) }
 {
@@ -93,7 +92,7 @@ fn mask_of_rows(alloc: Global, table: &Table, bound: &Bound) -> Result<Vec<u8>, 
     bitmap::pack(alloc, &flags)
 }
 
-// The same, from the bytes of arrays where these suffice.
+// `mask_of_rows`, from the bytes of arrays where these suffice.
 fn mask_of(alloc: Global, table: &Table, bound: &Bound) -> Result<Vec<u8>, AllocError>
     ensures { IfOk result (λ mask. IsMask mask.items (map (holds (bound_in bound.now)) (table_of table.now).rows)) }
 {
@@ -104,7 +103,7 @@ fn mask_of(alloc: Global, table: &Table, bound: &Bound) -> Result<Vec<u8>, Alloc
     }
 }
 
-// A bit that is set for each row.
+// Returns a mask with the bit of each row set.
 fn all_rows(alloc: Global, rows: usize) -> Result<Vec<u8>, AllocError>
     ensures { IfOk result (λ mask. IsMask mask.items (replicate rows true)) }
 {
@@ -113,7 +112,7 @@ fn all_rows(alloc: Global, rows: usize) -> Result<Vec<u8>, AllocError>
     Ok(mask.into_mask())
 }
 
-// A bit for each row, which is set where all conditions hold.
+// Returns a bit for each row, which is set if all conditions hold.
 fn mask_of_all(alloc: Global, table: &Table, bounds: &[Bound]) -> Result<Vec<u8>, AllocError>
     ensures { IfOk result (λ mask. IsMask mask.items (map (holds_all (map bound_in bounds.now)) (table_of table.now).rows)) }
 {
@@ -129,7 +128,7 @@ fn mask_of_all(alloc: Global, table: &Table, bounds: &[Bound]) -> Result<Vec<u8>
     Ok(mask)
 }
 
-// Adds the values at these places of a row.
+// Appends the values at these places of a row.
 fn push_row(
     alloc: Global,
     cells: &mut Vec<Value>,
@@ -148,7 +147,7 @@ fn push_row(
     Ok(())
 }
 
-// The same of the row at a place of a table.
+// `push_row` for the row at a place of a table.
 fn push_row_at(
     alloc: Global,
     cells: &mut Vec<Value>,
@@ -165,7 +164,7 @@ fn push_row_at(
     }
 }
 
-// Of rows of which a mask says which are kept, the values at these places, at most `most` rows.
+// Returns the values at these places of the rows whose bits are set, for at most `most` rows.
 fn keep_each(
     alloc: Global,
     table: &Table,
@@ -188,7 +187,7 @@ fn keep_each(
     Ok(SelectedRows { cells, rows })
 }
 
-// The same, from the bytes of arrays where these have integers alone.
+// `keep_each`, from the bytes of arrays where these have integers alone.
 fn keep_set(
     alloc: Global,
     table: &Table,
@@ -220,10 +219,10 @@ fn pick_fields(alloc: Global, fields: &[Field], places: &[usize]) -> Result<Vec<
     Ok(picked)
 }
 
-/// A schema of the columns at some places.
+/// Returns a schema of the columns at some places.
 ///
 /// # Errors
-/// `AllocError` where memory was refused.
+/// `AllocError` if memory is refused.
 pub fn pick_schema(alloc: Global, schema: &Schema, places: &[usize]) -> Result<Schema, AllocError>
     ensures { IfOk result (λ s. schema_of s ≡ record { columns = pick places.now (schema_of schema.now).columns; pairs = (schema_of schema.now).pairs }) }
 {
@@ -232,7 +231,7 @@ pub fn pick_schema(alloc: Global, schema: &Schema, places: &[usize]) -> Result<S
     Ok(picked)
 }
 
-// The table of cells that are those of a table's rows.
+// Makes the table of cells that were taken from the rows of a table.
 fn table_of_kept(alloc: Global, schema: Schema, kept: SelectedRows) -> Result<Table, QueryError>
     requires filled { length kept.cells.items ≡ length schema.fields.items * kept.rows }
     requires table { IsTable (table_in schema kept.rows kept.cells.items) }
@@ -248,11 +247,12 @@ fn table_of_kept(alloc: Global, schema: Schema, kept: SelectedRows) -> Result<Ta
     }
 }
 
-/// The table of the columns and rows that are chosen of another, each value copied. It takes time linear in the values and in the bytes of the mask; of
-/// a table that is kept in record batches, unless all columns have integers, dates or timestamps, the batch of each row is found by binary search.
+/// Makes the table of the chosen columns and rows of another table, with each value copied. It takes time linear in the values and in the bytes of
+/// the mask; in a table that is kept in record batches, unless all columns have integers, dates or timestamps, the batch of each row is found by
+/// binary search.
 ///
 /// # Errors
-/// `OutOfMemory` alone, where memory was refused.
+/// `OutOfMemory` alone, if memory is refused.
 pub fn chosen_cells(alloc: Global, table: &Table, choice: &Choice) -> Result<Table, QueryError>
     requires mask { length (table_of table.now).rows ≤ 8 * length choice.now.mask.items }
     requires table { IsTable (chosen_table choice.now (table_of table.now)) }
@@ -264,7 +264,7 @@ pub fn chosen_cells(alloc: Global, table: &Table, choice: &Choice) -> Result<Tab
     table_of_kept(alloc, schema, kept)
 }
 
-// The rows of which all conditions hold, then the columns at these places, then the first rows.
+// Chooses the rows for which all conditions hold, then the columns at these places, then the first rows.
 fn choose_bound(
     alloc: Global,
     table: &Table,
@@ -275,7 +275,7 @@ fn choose_bound(
     ensures chosen { IfOk result (λ c. chosen_table c (table_of table.now) ≡ selected places.items (map bound_in bounds.now) limit (table_of table.now)) }
     ensures mask { IfOk result (λ c. length (table_of table.now).rows ≤ 8 * length c.mask.items) }
 {
-    // a number of the code is below 2^64, so that no limit of 64 bits cuts what has none
+    // For the proof: the number of rows is below 2^64, so that the limit 2^64 - 1 cuts off none.
     let _rows = table.len();
     let mask = mask_of_all(alloc, table, bounds)?;
     Ok(Choice {
@@ -285,7 +285,7 @@ fn choose_bound(
     })
 }
 
-/// Which columns and rows of a table a query selects. The columns asked for are tested first, and then the conditions in order.
+/// Returns which columns and rows of a table a query selects. The columns asked for are tested first, and then the conditions in order.
 ///
 /// ```
 /// let query = Query { columns: Vec::new(alloc), conditions: vec![in alloc; Condition::parse(alloc, "a >= 1")?]?, limit: Some(10) };
@@ -294,7 +294,7 @@ fn choose_bound(
 ///
 /// # Errors
 /// `UnknownColumn`, `BadCondition` or `NotComparable`, by the first test that fails.
-/// `OutOfMemory` where memory was refused.
+/// `OutOfMemory` if memory is refused.
 pub fn choose(alloc: Global, table: &Table, query: &Query) -> Result<Choice, QueryError>
     ensures ok { IfOk result (λ c. selection (table_of table.now) (query_in query.now) ≡ Ok (chosen_table c (table_of table.now))) }
     ensures mask { IfOk result (λ c. length (table_of table.now).rows ≤ 8 * length c.mask.items) }

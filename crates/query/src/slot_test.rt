@@ -1,4 +1,4 @@
-// What a condition asks of the slots of its column, where the bytes of arrays tell it: no value is borrowed.
+// Conditions that the bytes of arrays answer, without borrowing a value.
 ghost use Rattle.std.specs.Prelude.{◌≡◌, ◌++◌, true, map, IfOk, IfSome, OnOk};
 ghost use Rattle.std.specs.List.{list_all, range_with_len};
 ghost use Rattle.arrow_schema.specs.View.{column_of};
@@ -17,7 +17,7 @@ use columns::{ArrayView, array_or, no_array};
 use std::alloc::{AllocError, Global};
 use values::{Batch, TablePart};
 
-/// What is asked of the slots of a column without a dictionary.
+/// A test of the slots of a column without a dictionary.
 #[derive(Clone, Copy)]
 pub(crate) enum SlotTest<'a> {
     Integers(IntegerComparison),
@@ -52,7 +52,7 @@ fn null_slot_test_of<'a>(fields: &[Field], bound: &'a Bound) -> Option<SlotTest<
     }
 }
 
-/// The test that a condition is, where the bytes of arrays tell it.
+/// Returns the test that a condition is, if the bytes of arrays answer it.
 pub(crate) fn slot_test_of<'a>(fields: &[Field], bound: &'a Bound) -> Option<SlotTest<'a>>
     ensures { IfSome result (λ t. IsSlotTest (map column_of fields.now) (bound_in bound.now) t) }
 {
@@ -76,7 +76,7 @@ impl SlotTest<'_> {
         }
     }
 
-    // Adds what it answers of each of the first slots of an array.
+    // Appends the answer for each of the first slots of an array.
     fn push_slots(
         self,
         flags: &mut MaskBuilder,
@@ -93,7 +93,7 @@ impl SlotTest<'_> {
         }
     }
 
-    // The same of the rows of a batch.
+    // Appends the answer for each row of a batch.
     fn push_batch(
         self,
         flags: &mut MaskBuilder,
@@ -122,7 +122,7 @@ impl SlotTest<'_> {
         Ok(())
     }
 
-    /// A bit for each row of some record batches, which is set where it holds.
+    /// Returns a bit for each row of some record batches, which is set if the test holds.
     pub(crate) fn mask_of(
         self,
         alloc: Global,

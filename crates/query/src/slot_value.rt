@@ -1,5 +1,5 @@
-// The value at a slot of a column of a batch, as JSON. An integer, and a string without an escape, are printed from the bytes of the array: no value is
-// borrowed.
+// Prints the value at a slot of a column of a batch as JSON. An integer, and a string without an escape, is printed from the bytes of the array,
+// without borrowing a value.
 ghost use Rattle.std.specs.Prelude.{◌≡◌, ◌++◌, ◌<◌, ◌≤◌, true, codes, length, take, OnOk};
 ghost use Rattle.arrow_schema.specs.View.{column_of};
 ghost use Rattle.columns.specs.Array.{slots_in};
@@ -21,7 +21,7 @@ use columns::{ValueRef, value};
 use std::alloc::{AllocError, Global};
 use values::Values;
 
-// Adds a number, or a null.
+// Appends a number or a null.
 fn push_integer(out: &mut Vec<u8>, number: Option<i128>) -> Result<(), AllocError>
     ensures { OnOk result (out.new.items ≡ out.old.items ++ json_of (number_or_null number)) }
 {
@@ -31,7 +31,6 @@ fn push_integer(out: &mut Vec<u8>, number: Option<i128>) -> Result<(), AllocErro
     }
 }
 
-// Adds a value that is borrowed from an array.
 #[tactic(auto, unfolding(crate::specs::Line::json_of))]
 fn push_borrowed(alloc: Global, out: &mut Vec<u8>, value: ValueRef<'_>) -> Result<(), AllocError>
     ensures { OnOk result (out.new.items ≡ out.old.items ++ json_of (borrowed_cell value.entry)) }
@@ -48,7 +47,7 @@ fn push_borrowed(alloc: Global, out: &mut Vec<u8>, value: ValueRef<'_>) -> Resul
     }
 }
 
-// Adds the value at a slot, borrowed from the array.
+// Appends the value at a slot, borrowed from the array.
 fn push_other(
     alloc: Global,
     out: &mut Vec<u8>,
@@ -63,7 +62,7 @@ fn push_other(
     push_borrowed(alloc, out, value(column.field, column.view, slot))
 }
 
-// Adds the first bytes of some between quotes.
+// Appends the first of some bytes between quotes.
 #[inline]
 fn push_first_bytes(out: &mut Vec<u8>, text: FirstBytes<'_>) -> Result<(), AllocError>
     requires { text.size ≤ length text.bytes.now }
@@ -75,7 +74,7 @@ fn push_first_bytes(out: &mut Vec<u8>, text: FirstBytes<'_>) -> Result<(), Alloc
     push_in_quotes(out, &text.bytes[..text.size])
 }
 
-/// Adds the value at a slot.
+/// Appends the value at a slot.
 pub(crate) fn push_slot(
     alloc: Global,
     out: &mut Vec<u8>,

@@ -1,4 +1,4 @@
-// The lines of all rows of a table: of record batches value by value from their arrays, so that no row is borrowed.
+// Prints the lines of all rows of a table. Record batches are printed value by value from their arrays, without borrowing a row.
 ghost use Rattle.std.specs.Prelude.{◌≡◌, ◌++◌, ◌<◌, true, codes, map, OnOk};
 ghost use Rattle.std.specs.List.{list_all};
 ghost use Rattle.json.specs.Print.{quoted};
@@ -59,7 +59,7 @@ fn push_name(alloc: Global, out: &mut Vec<u8>, field: &Field) -> Result<(), Allo
     push_bytes(out, b":")
 }
 
-// Adds what stands before the value of the column at a place.
+// Appends what comes before the value of the column at a place.
 fn push_lead(
     alloc: Global,
     out: &mut Vec<u8>,
@@ -76,7 +76,7 @@ fn push_lead(
     }
 }
 
-// Adds the values at a slot of a batch, each with what stands before it.
+// Appends the values at a slot of a batch, each with what comes before it.
 fn push_slots(
     alloc: Global,
     out: &mut Vec<u8>,
@@ -101,7 +101,7 @@ fn push_slots(
     Ok(())
 }
 
-// Adds the line of the row at a slot of a batch.
+// Appends the line of the row at a slot of a batch.
 fn push_slot_line(
     alloc: Global,
     out: &mut Vec<u8>,
@@ -204,10 +204,10 @@ fn push_rows(
     Ok(())
 }
 
-/// Appends a line for each row of a table in a form. Neither a row nor a value takes memory of its own, but for a string with an escape.
+/// Appends a line for each row of a table in this form. Neither a row nor a value takes memory of its own, except a string with an escape.
 ///
 /// # Errors
-/// `AllocError` where memory was refused: some lines may be appended then.
+/// `AllocError` if memory is refused: some lines may be appended.
 pub fn push_lines(
     alloc: Global,
     text: &mut Vec<u8>,

@@ -1,4 +1,4 @@
-// Copies of arrays: of the places where their buffers stand, and of no bytes.
+// Copies of arrays: of the places of their buffers, and of no bytes.
 ghost use Rattle.std.specs.Prelude.{IfOk};
 ghost use Rattle.selection.specs.inner.Copies.{IsSameLayout, IsSameArray, AreSameArrays};
 
@@ -30,7 +30,7 @@ fn copy_boxed(alloc: Global, array: &PlacedArray) -> Result<Box<PlacedArray>, Al
     Ok(Box::new(alloc, copy_array(alloc, array)?)?)
 }
 
-/// The same array in memory of its own.
+/// Copies an array into memory of its own.
 #[cycle(copy)]
 pub(crate) fn copy_array(alloc: Global, array: &PlacedArray) -> Result<PlacedArray, AllocError>
     ensures { IfOk result (λ a. IsSameArray a array.now) }

@@ -1,4 +1,4 @@
-// The rows that a mask keeps of record batches, as runs of slots.
+// The rows of record batches that a mask keeps, as runs of slots.
 ghost use Rattle.std.specs.Prelude.{◌≡◌, ◌≤◌, ◌<◌, ◌+◌, ◌*◌, ◌^◌, ◌++◌, true, length, take, sum_by, IfOk, OnOk};
 ghost use Rattle.std.specs.List.{flat_map, list_all};
 ghost use Rattle.arrow_schema.specs.Column.{Columns};
@@ -12,14 +12,14 @@ use query::next_set;
 use std::alloc::{AllocError, Global};
 use table_cut::RowRun;
 
-/// Rows that are kept, as runs, and how many they are.
+/// Kept rows as runs, and their number.
 #[derive(Drop)]
 pub(crate) struct KeptRuns<'a> {
     pub(crate) runs: Vec<RowRun<'a>>,
     pub(crate) rows: usize,
 }
 
-// Keeps the first rows of a run, up to the room that is left, and says how many.
+// Keeps the first rows of a run, as many as there is room for, and returns their number.
 fn keep_front<'a>(kept: &mut KeptRuns<'a>, run: RowRun<'a>, most: u64) -> Result<usize, AllocError>
     requires room { kept.old.rows < most }
     ensures within { IfOk result (λ n. n ≤ run.entry.len) }
@@ -38,7 +38,7 @@ fn keep_front<'a>(kept: &mut KeptRuns<'a>, run: RowRun<'a>, most: u64) -> Result
     Ok(len)
 }
 
-// Keeps the rows of a batch whose bits are set, from a bit on.
+// Keeps the rows of a batch whose bits are set. The bit of its first row is at `start`.
 fn keep_batch<'a>(
     kept: &mut KeptRuns<'a>,
     whole: RowRun<'a>,
@@ -62,7 +62,7 @@ fn keep_batch<'a>(
     Ok(())
 }
 
-/// The rows of batches whose bits are set, up to the most.
+/// Returns the rows of batches whose bits are set, at most `most`.
 pub(crate) fn keep_batches<'a>(
     alloc: Global,
     batches: &'a [PickedBatch<'a>],

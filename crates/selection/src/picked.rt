@@ -1,4 +1,4 @@
-// The arrays of the columns asked for, of record batches.
+// The arrays of record batches for the columns asked for.
 ghost use Rattle.std.specs.Prelude.{◌≡◌, ◌++◌, ℕ, List, true, map, drop, IfOk, OnOk};
 ghost use Rattle.std.specs.List.{flat_map, list_all};
 ghost use Rattle.arrow_schema.specs.Column.{Columns};
@@ -17,7 +17,7 @@ use std::alloc::{AllocError, Global};
 use table_cut::RowRun;
 use values::{Batch, TablePart};
 
-/// The arrays that a record batch has of the columns asked for, in the bytes of its part, and how many rows it has.
+/// The arrays of a record batch for the columns asked for, in the bytes of its part, and the number of its rows.
 #[derive(Drop)]
 pub(crate) struct PickedBatch<'a> {
     pub(crate) arrays: Vec<PlacedArray>,
@@ -26,7 +26,7 @@ pub(crate) struct PickedBatch<'a> {
     pub(crate) rows: usize,
 }
 
-// The array at a place, or one without slots.
+// Copies the array at a place, or one without slots if there is none.
 fn copy_at(alloc: Global, arrays: &[PlacedArray], place: usize) -> Result<PlacedArray, AllocError>
     ensures { IfOk result (λ a. (bytes : List ℕ) (all : List Dictionary)
         → array_in bytes (arrays_in bytes all) a ≡ first_array (placed_arrays bytes all (drop place arrays.now))) }
@@ -35,7 +35,7 @@ fn copy_at(alloc: Global, arrays: &[PlacedArray], place: usize) -> Result<Placed
     copy_array(alloc, array_or(arrays, place, &none))
 }
 
-// Of the arrays of `columns` columns those at some places.
+// Copies the arrays at some places, among those of `columns` columns.
 fn pick_arrays(
     alloc: Global,
     arrays: &[PlacedArray],
@@ -74,7 +74,7 @@ fn pick_batch<'a>(
     })
 }
 
-// Adds the batches of a part.
+// Appends the batches of a part.
 fn pick_part<'a>(
     alloc: Global,
     picked: &mut Vec<PickedBatch<'a>>,
@@ -95,7 +95,7 @@ fn pick_part<'a>(
     Ok(())
 }
 
-/// Of all record batches the arrays at some places.
+/// Returns the arrays at some places of all record batches.
 pub(crate) fn pick_batches<'a>(
     alloc: Global,
     fields: &[Field],
@@ -114,7 +114,7 @@ pub(crate) fn pick_batches<'a>(
     Ok(picked)
 }
 
-/// All rows of a batch, which has `rows`.
+/// Returns all rows of a batch, of which there are `rows`, as a run.
 pub(crate) fn whole_run<'a>(batch: &'a PickedBatch<'a>, rows: usize) -> RowRun<'a>
     requires { rows ≡ batch.now.rows }
     ensures rows { (columns : Columns) → run_rows columns result ≡ picked_rows columns batch.now }

@@ -1,4 +1,4 @@
-// The selection of a table.
+// Makes the selection of a table.
 ghost use Rattle.std.specs.Prelude.{◌≡◌, ◌≤◌, ◌<◌, ◌*◌, ◌^◌, Ok, true, length, IfOk, IfErr};
 ghost use Rattle.arrow_schema.specs.Column.{columns_of};
 ghost use Rattle.arrow_schema.specs.View.{schema_of};
@@ -21,7 +21,7 @@ use query::{Choice, Query, QueryError, choose, chosen_cells, pick_schema, select
 use std::alloc::Global;
 use values::{Table, TablePart};
 
-// The table of rows that are runs of slots: they are written as one stream, which is read again.
+// Makes the table of rows that are runs of slots: they are written as one stream, which is read again.
 fn table_of_runs(alloc: Global, schema: &Schema, kept: KeptRuns<'_>) -> Result<Table, QueryError>
     requires table { IsTable (runs_table (schema_of schema.now) kept.runs.items) }
     requires sound { are_runs_sound (columns_of (schema_of schema.now).columns) kept.runs.items ≡ true }
@@ -34,12 +34,12 @@ fn table_of_runs(alloc: Global, schema: &Schema, kept: KeptRuns<'_>) -> Result<T
     let bytes = encode_runs(alloc, schema, runs, rows)?;
     match decode(alloc, bytes) {
         Ok(table) => Ok(table),
-        // a stream that was written has no fault
+        // A stream that was written has no fault.
         Err(_) => Err(QueryError::OutOfMemory),
     }
 }
 
-// The columns and rows that are chosen of record batches, under the schema of these columns.
+// Makes the table of the chosen columns and rows of record batches, under the schema of these columns.
 fn select_runs(
     alloc: Global,
     schema: &Schema,
@@ -69,7 +69,7 @@ fn is_integer(field: &Field) -> bool {
     }
 }
 
-// Whether a row of these columns costs less as cells than as a run.
+// Returns whether a row of these columns costs less as cells than as a run.
 fn are_integers(fields: &[Field]) -> bool {
     for field in fields {
         if !is_integer(field) {
@@ -79,14 +79,14 @@ fn are_integers(fields: &[Field]) -> bool {
     true
 }
 
-// The table of the columns and rows that are chosen of another.
+// Makes the table of the chosen columns and rows of another table.
 fn select_chosen(alloc: Global, table: &Table, choice: &Choice) -> Result<Table, QueryError>
     requires mask { length (table_of table.now).rows ≤ 8 * length choice.now.mask.items }
     requires table { IsTable (chosen_table choice.now (table_of table.now)) }
     ensures ok { IfOk result (λ t. table_of t ≡ chosen_table choice.now (table_of table.now)) }
     ensures refused { IfErr result (λ e. e ≡ OutOfMemory) }
 {
-    // a number of the code is below 2^64
+    // For the proof: the number of rows is below 2^64.
     let _rows = table.len();
     let schema = table.schema();
     let picked = pick_schema(alloc, schema, &choice.columns)?;
@@ -98,12 +98,12 @@ fn select_chosen(alloc: Global, table: &Table, choice: &Choice) -> Result<Table,
     chosen_cells(alloc, table, choice)
 }
 
-/// The rows of a table of which all conditions hold, then the columns asked for, then the first rows. The columns asked for are tested first, and
-/// then the conditions in order.
+/// Returns the rows for which all conditions hold, then of these the columns asked for, then the first rows. The columns asked for are tested
+/// first, and then the conditions in order.
 ///
-/// Of a table that is kept in record batches the result is kept so too, in the memory of its stream, unless all columns asked for have integers, dates or
-/// timestamps: its rows are runs of slots, and it takes time linear in the mask, the runs and the bytes of the result; and in the cells of pieces of 4,096
-/// rows that have rows under several dictionaries of 8 or 16 bit indices. Else its cells are copied.
+/// If the table is kept in record batches, so is the result, in the memory of its stream, unless all columns asked for have integers, dates or
+/// timestamps: its rows are runs of slots, and it takes time linear in the mask, the runs and the bytes of the result; and in the cells of pieces
+/// of 4,096 rows that have rows under several dictionaries of 8 or 16 bit indices. Otherwise its cells are copied.
 ///
 /// ```
 /// let cold = Query { columns: Vec::new(alloc), conditions: vec![in alloc; Condition::parse(alloc, "millidegrees < 0")?]?, limit: None };
@@ -111,13 +111,13 @@ fn select_chosen(alloc: Global, table: &Table, choice: &Choice) -> Result<Table,
 /// ```
 ///
 /// # Errors
-/// `UnknownColumn`, `BadCondition` or `NotComparable`, by the first test that fails; `OutOfMemory` where memory was refused.
+/// `UnknownColumn`, `BadCondition` or `NotComparable`, by the first test that fails; `OutOfMemory` if memory is refused.
 pub fn select(alloc: Global, table: &Table, query: &Query) -> Result<Table, QueryError>
     ensures ok { IfOk result (λ t. selection (table_of table.now) (query_in query.now) ≡ Ok (table_of t)) }
     ensures refused { IfErr result (λ e. Reports e (selection (table_of table.now) (query_in query.now))) }
 {
     selection_is_a_table();
-    // a table is within all limits, and so is its selection
+    // For the proof: a table is within all limits, and so is its selection.
     let _schema = table.schema();
     let choice = choose(alloc, table, query)?;
     select_chosen(alloc, table, &choice)

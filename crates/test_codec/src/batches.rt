@@ -1,5 +1,5 @@
-// Batches that are built of rows (batch_build). What is wanted of a case is worked by hand from the standard (Arrow columnar format, "Physical Memory
-// Layout").
+// Tests of batches that are built from rows (batch_build). The expected values are worked out by hand from the standard (Arrow columnar format,
+// "Physical Memory Layout").
 use crate::made::{NotMade, assert_no_row, schema_of_columns, table_of_rows};
 use batch_build::{Buffer, BuiltBatch, BuiltDictionary, build};
 use columns::rows_can_be_built;
@@ -7,16 +7,16 @@ use std::alloc::Global;
 use text_import::jsonl_rows;
 use values::Table;
 
-// Nodes, each of a number of slots and of nulls.
+// The numbers of slots and of nulls of each node.
 type Nodes = &'static [(u64, u64)];
 
 type Buffers = &'static [&'static [u8]];
 
-// The nodes and buffers of dictionaries, after how many values each has.
+// Of each dictionary the number of its values, its nodes and its buffers.
 type Dictionaries = &'static [(u64, Nodes, Buffers)];
 
-// The fields, a row as a line of JSON, the nodes and buffers of its batch, and its dictionaries. A table of cases stands in parts: what a
-// constant costs to prove grows faster than its length.
+// The fields, a row as a line of JSON, the nodes and buffers of its batch, and its dictionaries. The cases are split into parts, since the cost to
+// prove a constant grows faster than its length.
 type Case = (
     &'static [&'static str],
     &'static str,
@@ -197,7 +197,7 @@ fn table_of(alloc: Global, fields: &[&str], row: &str) -> Result<Table, NotMade>
     }
 }
 
-// The batch of the first row of a table.
+// Builds the batch of the first row of a table.
 fn batch_of_row(alloc: Global, table: &Table) -> Result<BuiltBatch<'_>, NotMade> {
     rows_can_be_built();
     match table.row(0) {
@@ -275,7 +275,7 @@ fn wrongly_built(alloc: Global, cases: &[Case]) -> Result<Option<usize>, NotMade
     Ok(None)
 }
 
-// The place of the first wrong case, a hundred for each part of the table.
+// Returns the place of the first wrong case, counting a hundred for each part.
 fn wrong_part(alloc: Global) -> Result<Option<usize>, NotMade> {
     for part in 0..usize::MAX {
         let Some(cases) = batches(part) else {

@@ -1,7 +1,7 @@
 //! Tests of the public calls of the codec's crates: a module for each crate, each case a row of data.
 //!
-//! A test here stands on the crates' contracts alone, so no library is proved again for it. What needs the private
-//! parts of a crate is tested in that crate. `docs/gate.md` says which forms of a test are cheap.
+//! A test here stands on the crates' contracts alone, so no library is proved again for it. What needs a crate's private parts is tested in that
+//! crate. `docs/gate.md` says which forms of tests are cheap.
 #![tactic(auto)]
 
 #[cfg(test)]

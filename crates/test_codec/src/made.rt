@@ -1,15 +1,15 @@
-// What the tests have in common: schemas and tables that are made, and values that are compared with texts.
+// What the tests share: making schemas and tables, and comparing values with texts.
 use arrow_schema::Schema;
 use field_texts::{ParseError, parse_fields};
 use std::alloc::{AllocError, AllocFailed, Global};
 use std::process::Abort;
 use values::{Row, Table, Value, ValueRef, Values};
 
-/// Nothing was made: memory was refused, or a row of a test is not of its form.
+/// Nothing was made: memory was refused, or a row of a test does not have its form.
 #[derive(Clone, Copy)]
 pub struct NotMade;
 
-/// The place of the first wrong row of a table, from 0: there is none.
+/// Asserts that no row of a table of cases is wrong. `wrong` is the place of the first wrong one, from 0.
 pub fn assert_no_row(rt: &impl Abort, wrong: Result<Option<usize>, NotMade>) {
     match wrong {
         Ok(None) => {}
@@ -18,7 +18,7 @@ pub fn assert_no_row(rt: &impl Abort, wrong: Result<Option<usize>, NotMade>) {
     }
 }
 
-/// Of two runs, none of which is wrong, one is done: the other may have ended for want of memory.
+/// Returns whether neither of two runs is wrong and at least one is done: the other may have got no memory.
 pub fn is_one_well(first: Result<bool, NotMade>, second: Result<bool, NotMade>) -> bool {
     match (first, second) {
         (Ok(well), Err(NotMade)) | (Err(NotMade), Ok(well)) => well,
@@ -45,7 +45,7 @@ impl From<ParseError> for NotMade {
     }
 }
 
-/// The schema of columns of these field texts.
+/// Returns the schema of columns with these field texts.
 pub fn schema_of_columns(alloc: Global, columns: &[&str]) -> Result<Schema, NotMade> {
     let fields = parse_fields(alloc, columns)?;
     Ok(Schema {
@@ -54,7 +54,7 @@ pub fn schema_of_columns(alloc: Global, columns: &[&str]) -> Result<Schema, NotM
     })
 }
 
-/// The table of these rows.
+/// Makes the table of these rows.
 pub fn table_of_rows(alloc: Global, columns: &[&str], rows: Vec<Row>) -> Result<Table, NotMade> {
     let schema = schema_of_columns(alloc, columns)?;
     if schema.check().is_err() {
@@ -63,7 +63,7 @@ pub fn table_of_rows(alloc: Global, columns: &[&str], rows: Vec<Row>) -> Result<
     Table::new(alloc, schema, rows).map_err(|_| NotMade)
 }
 
-/// The table of a schema and its cells, row after row, n rows.
+/// Makes the table of a schema and the cells of `rows` rows, row after row.
 pub fn table_of_cells(schema: Schema, cells: Vec<Value>, rows: usize) -> Result<Table, NotMade> {
     let filled = schema.fields.len().checked_mul(rows) == Some(cells.len());
     if schema.check().is_err() || !filled {
@@ -72,7 +72,7 @@ pub fn table_of_cells(schema: Schema, cells: Vec<Value>, rows: usize) -> Result<
     Table::from_cells(*cells.allocator(), schema, cells, rows).map_err(|_| NotMade)
 }
 
-// Whether a text is the one after `'`, or has as many bytes as stands after `#`.
+// Returns whether a text is the one after `'`, or has as many bytes as stands after `#`.
 fn is_text(text: &str, want: &str) -> bool {
     match want.strip_prefix("#") {
         Some(length) => length.parse::<i128>().ok() == Some(text.len() as i128),
@@ -80,7 +80,7 @@ fn is_text(text: &str, want: &str) -> bool {
     }
 }
 
-// Whether a value is `null`, this number, or this text.
+// Returns whether a value is `null`, this number, or this text.
 fn is_value(value: ValueRef<'_>, want: &str) -> bool {
     match value {
         ValueRef::Null => want == "null",
@@ -113,7 +113,7 @@ fn is_row(found: Option<Values<'_>>, want: &[&str]) -> bool {
     }
 }
 
-/// Whether the table has these rows, by each way to a row.
+/// Returns whether the table has these rows, by each way to a row.
 pub fn has_rows(made: &Table, want: &[&[&str]]) -> bool {
     let mut well = made.len() == want.len() && made.is_empty() == want.is_empty();
     let mut given = made.rows();

@@ -1,10 +1,11 @@
-// Messages that are written (ipc_write). The bytes are those of another writer. Schemas are written by the program (tests/vectors/streams).
+// Tests of written messages (ipc_write). The expected bytes are those of another writer. Schemas are written by the program
+// (tests/vectors/streams).
 use crate::made::{NotMade, is_one_well};
 use crate::stream_bytes::{BATCH, END};
 use ipc_write::{BatchContents, write_batch, write_dictionary, write_end};
 use std::alloc::Global;
 
-/// A dictionary batch: the one entry 32767 of 16 bits.
+/// A dictionary batch with the one entry 32767 of 16 bits.
 const ENTRIES: [u8; 200] = [
     0xff, 0xff, 0xff, 0xff, 0xb8, 0x00, 0x00, 0x00, 0x10, 0x00, 0x00, 0x00, 0x0c, 0x00, 0x18, 0x00,
     0x04, 0x00, 0x06, 0x00, 0x08, 0x00, 0x10, 0x00, 0x0c, 0x00, 0x00, 0x00, 0x04, 0x00, 0x02, 0x00,
@@ -21,10 +22,10 @@ const ENTRIES: [u8; 200] = [
     0xff, 0x7f, 0x00, 0x00, 0x00, 0x00, 0x00, 0x00,
 ];
 
-/// Where the entries say whether they are a delta.
+/// The place of the byte that says whether the entries are a delta.
 const IS_DELTA: usize = 84;
 
-/// A message that is asked for.
+/// A message to be written.
 #[derive(Clone, Copy)]
 enum Wanted {
     /// The entry 32767.
@@ -62,7 +63,7 @@ fn put(alloc: Global, out: &mut Vec<u8>, wanted: Wanted) -> Result<(), NotMade> 
 
 const BEFORE: [u8; 3] = [9, 8, 7];
 
-// The message stands after bytes that were there before, which a refused call leaves alone.
+// Writes the message after other bytes, which a refused call must leave alone.
 fn is_written(alloc: Global, wanted: Wanted, bytes: &[u8]) -> Result<bool, NotMade> {
     let mut out = Vec::from_slice(alloc, &BEFORE)?;
     let is_refused = put(alloc, &mut out, wanted).is_err();
@@ -84,7 +85,7 @@ fn are_written(alloc: Global) -> Result<bool, NotMade> {
     )
 }
 
-// tests/refused_memory_in_crates refuses each allocation in turn: then one of two runs ends for want of memory.
+// tests/refused_memory_in_crates refuses each allocation in turn, so one of the two runs may get no memory.
 #[test]
 fn messages_are_written_also_without_memory(rt: HostRuntime) {
     assert!(rt; is_one_well(are_written(rt.alloc()), are_written(rt.alloc())));

@@ -1,4 +1,4 @@
-// Streams that are read whole (decode), in pieces (Decoder), and for the place of their first fault (place): ipc_stream.
+// Tests of streams that are read whole (decode), in pieces (Decoder), and for the place of their first fault (place): ipc_stream.
 use crate::made::{NotMade, assert_no_row, has_rows, is_one_well};
 use crate::stream_bytes::{DEEP, DICTIONARY, LIST_OF_NULLS, NULL_LAST, SHORT_NULL_LAST, TEXTS};
 use Fault::{
@@ -13,13 +13,13 @@ use ipc_stream::{Decoder, FinishError, decode, place};
 use std::alloc::Global;
 use values::Table;
 
-// The rows of the table, or its fault, the number of the faulty message, and that one's first byte.
+// The expected rows of the table, or its fault with the number of the faulty message and the place of its first byte.
 type Wanted = Result<&'static [&'static [&'static str]], (Fault, usize, usize)>;
 
-// Bytes of a stream, from one up to another, a number of times, which bytes of these are changed, and what is wanted.
+// Ranges of the bytes of a stream, each with how often it is repeated; the changed bytes of the result; and what is expected.
 type Row<'a> = (&'a [(usize, usize, usize)], &'a [(usize, u8)], Wanted);
 
-// A byte of a whole stream that is changed, and what is wanted: a table of these has no slices but those that are wanted, and costs less to prove.
+// A changed byte of a whole stream, and what is expected. A table of these has no other slices than the expected rows, and costs less to prove.
 type Change = (usize, u8, Wanted);
 
 const ALL: &[(usize, usize, usize)] = &[(0, 1000, 1)];
@@ -28,7 +28,7 @@ const ONE_NULL: Wanted = Ok(&[&["1"], &["null"]]);
 
 const NO_ROWS: Wanted = Ok(&[]);
 
-// Of `NULL_LAST`, whose schema ends at 152, and its record batch at 320.
+// Changes of `NULL_LAST`, whose schema ends at 152, and its record batch at 320.
 const SCHEMA_CHANGED: &[Change] = &[
     (0, 0x00, Err((NoContinuation, 0, 0))),
     (6, 0x01, Err((Truncated, 0, 0))),
@@ -64,7 +64,7 @@ const BATCH_CHANGED: &[Change] = &[
 const UNCHANGED: &[Row<'static>] = &[(ALL, &[], ONE_NULL)];
 
 const CUT: &[Row<'static>] = &[
-    // without bytes at the end, or at the front
+    // without bytes at the end or at the beginning
     (&[], &[], Err((NoSchema, 0, 0))),
     (&[(0, 151, 1)], &[], Err((Truncated, 0, 0))),
     (&[(0, 152, 1)], &[], NO_ROWS),
@@ -77,7 +77,7 @@ const CUT: &[Row<'static>] = &[
 ];
 
 const REPEATED: &[Row<'static>] = &[
-    // with more
+    // with repeated parts
     (
         &[(0, 152, 2), (152, 328, 1)],
         &[],
@@ -97,7 +97,7 @@ const REPEATED: &[Row<'static>] = &[
     (&[(0, 328, 1), (0, 328, 1)], &[], Err((AfterEnd, 2, 320))),
 ];
 
-// Of `SHORT_NULL_LAST`: whether the column is nullable stands at 104, the null count at 256, the lengths of the buffers at 280 and 296, the
+// Changes of `SHORT_NULL_LAST`: the nullability of the column is at 104, the null count at 256, the lengths of the buffers at 280 and 296, the
 // validity at 304 and the last value at 314.
 const SHORT_CHANGED: &[Change] = &[
     (104, 0, Err((NullForbidden, 1, 152))),
@@ -114,7 +114,7 @@ const SHORT_UNCHANGED: &[Row<'static>] = &[(ALL, &[], Ok(LAST_NULL))];
 
 const LAST_NULL: &[&[&str]] = &[&["123"], &["-20"], &["null"]];
 
-// Of `TEXTS`, with the offsets at 312, 316, 320 and 324.
+// Changes of `TEXTS`, with the offsets at 312, 316, 320 and 324.
 const TEXTS_CHANGED: &[Change] = &[
     (324, 0x07, Err((Offsets, 1, 136))),
     (316, 0x01, Err((Offsets, 1, 136))),
@@ -128,7 +128,7 @@ const WITHOUT_DICTIONARY: &[(usize, usize, usize)] = &[(0, 200, 1), (432, 608, 1
 
 const TWICE: &[(usize, usize, usize)] = &[(0, 200, 1), (200, 600, 2), (600, 608, 1)];
 
-// Of `DICTIONARY`: the schema ends at 200, the dictionary batch at 432 and the record batch at 600.
+// Changes of `DICTIONARY`: the schema ends at 200, the dictionary batch at 432 and the record batch at 600.
 const DICTIONARY_CHANGED: &[Change] = &[
     (105, 0x0d, Err((DictionaryOfNested, 0, 0))),
     (272, 0x01, Err((DictionaryId, 1, 200))),
@@ -136,7 +136,7 @@ const DICTIONARY_CHANGED: &[Change] = &[
     (424, 0xff, Err((NotUtf8, 1, 200))),
     (593, 0xff, Err((DictionaryIndex, 2, 432))),
     (593, 0x02, Err((DictionaryIndex, 2, 432))),
-    // what is below a null may be anything
+    // below a null any value may stand
     (595, 0xff, Ok(CODED)),
 ];
 
@@ -185,16 +185,16 @@ const DICTIONARY_TWICE: &[Row<'static>] = &[
     ),
 ];
 
-// Of `LIST_OF_NULLS`, whose schema ends at 208: the length of the batch stands at 280, of its lists at 304, of the nulls at 320, and of
-// the offsets at 368.
+// Changes of `LIST_OF_NULLS`, whose schema ends at 208: the length of the batch is at 280, that of its lists at 304, that of the nulls at 320, and
+// the offsets are at 368.
 const LISTS_CHANGED: &[Row<'static>] = &[
     (ALL, &[], NO_ROWS),
     (ALL, &[(320, 0x01)], Err((RowCount, 1, 208))),
     (ALL, &[(323, 0x00), (327, 0x10)], Err((RowCount, 1, 208))),
 ];
 
-// Of `DEEP`: a front, whose number of columns stands at 64, a struct of one child, one that names its child twice, and nulls. The
-// size of the metadata stands at 4.
+// Parts of `DEEP`: a front, whose number of columns is at 64, a struct of one child, one that names its child twice, and nulls. The size of the
+// metadata is at 4.
 const DEEP_CHANGED: &[Row<'static>] = &[
     (
         &[(0, 104, 1), (104, 140, 31), (180, 204, 1)],
@@ -218,7 +218,8 @@ const DEEP_CHANGED: &[Row<'static>] = &[
     ),
 ];
 
-// Of `DICTIONARY`: its field twice, both on the same arrays, and its texts repeated to 8,388,608 bytes, so that the record batch begins at 8,389,032.
+// Parts of `DICTIONARY`: its field twice, both on the same arrays, and its texts repeated to 8,388,608 bytes, so that the record batch begins at
+// 8,389,032.
 const IN_TWO_COLUMNS: &[(usize, usize, usize)] = &[
     (0, 424, 1),
     (424, 432, 1_048_576),
@@ -227,7 +228,7 @@ const IN_TWO_COLUMNS: &[(usize, usize, usize)] = &[
     (552, 608, 1),
 ];
 
-// With a first text of 8,388,606 bytes a row weighs 16,777,215, and with one more it is too heavy.
+// With a first text of 8,388,606 bytes a row weighs 16,777,215; with one byte more it is too heavy.
 const HEAVY: &[(usize, u8)] = &[
     // two fields, of which the second is the first
     (68, 0x02),
@@ -309,7 +310,7 @@ const HEAVIEST: &[Row<'static>] = &[
     (IN_TWO_COLUMNS, TOO_HEAVY, Err((TooHeavy, 2, 8_389_032))),
 ];
 
-// What is read. Each part has rows of its own: what a constant costs to prove grows faster than its length.
+// What is read. Each part has rows of its own, since the cost to prove a constant grows faster than its length.
 #[derive(Clone, Copy)]
 enum Part {
     Schema,
@@ -390,7 +391,7 @@ const SHORT: &[Part] = &[
 
 const LARGE: &[Part] = &[Part::ManyNulls, Part::Deepest, Part::Heaviest];
 
-// How many bytes a piece has.
+// Returns the size of a piece.
 fn piece_of(part: Part) -> usize {
     match part {
         Part::Heaviest => 1_048_640,
@@ -398,7 +399,7 @@ fn piece_of(part: Part) -> usize {
     }
 }
 
-// The bytes of a row.
+// Returns the bytes of a row.
 fn bytes_of(alloc: Global, stream: &[u8], row: &Row<'_>) -> Result<Vec<u8>, NotMade> {
     let mut bytes = Vec::new(alloc);
     for (from, to, times) in row.0 {
@@ -430,7 +431,7 @@ fn is_told(fault: Fault, wanted: &Wanted) -> bool {
     }
 }
 
-// Whether the table or the fault is the one that is wanted.
+// Returns whether the table or the fault is the expected one.
 fn is_wanted(found: Result<Table, ImportError>, wanted: &Wanted) -> Result<bool, NotMade> {
     match found {
         Ok(table) => Ok(is_meant(&table, wanted)),
@@ -451,7 +452,7 @@ fn is_placed(alloc: Global, bytes: &[u8], wanted: &Wanted) -> Result<bool, NotMa
     }
 }
 
-// Fed a piece, and again where it was refused for want of memory.
+// Feeds a piece, and again if memory was refused.
 fn feed(alloc: Global, decoder: &mut Decoder, piece: &[u8]) -> Result<(), ImportError> {
     match decoder.feed(alloc, piece) {
         Err(ImportError::OutOfMemory) => decoder.feed(alloc, piece),
@@ -459,7 +460,7 @@ fn feed(alloc: Global, decoder: &mut Decoder, piece: &[u8]) -> Result<(), Import
     }
 }
 
-// Whether a decoder that is fed a piece may go on, or reports what is wanted.
+// Returns whether a decoder that is fed a piece may go on or reports what is expected.
 fn is_fed(
     alloc: Global,
     decoder: &mut Decoder,
@@ -473,7 +474,7 @@ fn is_fed(
     }
 }
 
-// Finished, and again where that was refused for want of memory.
+// Finishes, and again if memory was refused.
 fn finish(alloc: Global, decoder: Decoder) -> Result<Table, ImportError> {
     match decoder.finish(alloc) {
         Ok(table) => Ok(table),
@@ -484,7 +485,7 @@ fn finish(alloc: Global, decoder: Decoder) -> Result<Table, ImportError> {
     }
 }
 
-// Fed the first bytes at once, and the others in pieces of this size.
+// Feeds the first bytes at once, and the others in pieces of this size.
 fn are_pieces_fed(
     alloc: Global,
     decoder: &mut Decoder,
@@ -513,7 +514,7 @@ fn is_read_in_pieces(
     Ok(is_wanted(finish(alloc, decoder), wanted)? && well)
 }
 
-// Read whole, for its place, and in pieces of this size.
+// Reads a stream whole, for the place of its fault, and in pieces of this size.
 fn is_read(alloc: Global, bytes: &[u8], size: usize, wanted: &Wanted) -> Result<bool, NotMade> {
     Ok(
         is_decoded(alloc, bytes, wanted)?
@@ -522,7 +523,7 @@ fn is_read(alloc: Global, bytes: &[u8], size: usize, wanted: &Wanted) -> Result<
     )
 }
 
-// Cut in two at every byte.
+// Reads a stream cut in two at every byte.
 fn is_read_in_two(alloc: Global, bytes: &[u8], wanted: &Wanted) -> Result<bool, NotMade> {
     let mut well = true;
     for first in 0..=bytes.len() {
@@ -531,7 +532,7 @@ fn is_read_in_two(alloc: Global, bytes: &[u8], wanted: &Wanted) -> Result<bool, 
     Ok(well)
 }
 
-// Read in each way, and a short stream cut in two.
+// Reads a stream in each way, and a short one also cut in two.
 fn is_read_each_way(
     alloc: Global,
     bytes: &[u8],
@@ -560,7 +561,7 @@ fn wrongly_read(alloc: Global, part: Part, is_short: bool) -> Result<Option<usiz
     Ok(None)
 }
 
-// The place of the first wrong change, from fifty on.
+// Returns the place of the first wrong change, counted from fifty on.
 fn wrongly_told(alloc: Global, part: Part, is_short: bool) -> Result<Option<usize>, NotMade> {
     for (place, (at, byte, wanted)) in changes_of(part).iter().enumerate() {
         if !is_row_read(alloc, part, &(ALL, &[(*at, *byte)], *wanted), is_short)? {
@@ -570,7 +571,7 @@ fn wrongly_told(alloc: Global, part: Part, is_short: bool) -> Result<Option<usiz
     Ok(None)
 }
 
-// The place of the first wrong row, a hundred for each part.
+// Returns the place of the first wrong row, counting a hundred for each part.
 fn wrong_part(alloc: Global, parts: &[Part], is_short: bool) -> Result<Option<usize>, NotMade> {
     for (number, part) in parts.iter().enumerate() {
         let read = wrongly_read(alloc, *part, is_short)?;
@@ -592,7 +593,7 @@ fn large_streams_are_read_or_have_their_fault(rt: HostRuntime) {
     assert_no_row(&rt, wrong_part(rt.alloc(), LARGE, false));
 }
 
-// Bytes of `NULL_LAST`, from one up to another, and how many of them wait for the rest of their message where they were fed one by one.
+// Ranges of the bytes of `NULL_LAST`, and how many of them wait for the rest of their message if they are fed one by one.
 const HELD: &[(usize, usize, usize)] = &[
     (0, 0, 0),
     (0, 1, 1),
@@ -603,7 +604,7 @@ const HELD: &[(usize, usize, usize)] = &[
     (0, 327, 7),
     (0, 328, 0),
     (1, 4, 3),
-    // after a fault none do
+    // after a fault none wait
     (1, 5, 0),
 ];
 
@@ -633,18 +634,18 @@ fn is_null_read(alloc: Global) -> Result<bool, NotMade> {
     is_read(alloc, &SHORT_NULL_LAST, 1, &Ok(LAST_NULL))
 }
 
-// tests/refused_memory_in_crates refuses each allocation in turn: then one of two runs ends for want of memory.
+// tests/refused_memory_in_crates refuses each allocation in turn, so one of the two runs may get no memory.
 #[test]
 fn a_stream_with_nulls_is_read_also_without_memory(rt: HostRuntime) {
     assert!(rt; is_one_well(is_null_read(rt.alloc()), is_null_read(rt.alloc())));
 }
 
-// In pieces that end within messages.
+// Reads a stream in pieces that end within messages.
 fn is_read_on(alloc: Global) -> Result<bool, NotMade> {
     is_read_in_pieces(alloc, 0, 100, &DICTIONARY, &Ok(CODED))
 }
 
-// tests/refused_memory_in_crates refuses one allocation at the most: a decoder goes on after it.
+// tests/refused_memory_in_crates refuses at most one allocation, after which a decoder must go on.
 #[test]
 fn a_decoder_that_was_refused_goes_on_also_without_memory(rt: HostRuntime) {
     assert!(rt; matches!(is_read_on(rt.alloc()), Ok(true)));

@@ -1,7 +1,7 @@
-// The bytes of small streams, which the tests of several crates read, and what changes them.
+// The bytes of small streams that the tests of several crates read, and functions that change them.
 use std::alloc::{AllocError, Global};
 
-/// The schema of one column `a`, a 32-bit integer with a sign, that is not nullable.
+/// The schema of one column `a` of signed 32-bit integers, not nullable.
 pub const SCHEMA: [u8; 152] = [
     0xff, 0xff, 0xff, 0xff, 0x90, 0x00, 0x00, 0x00, 0x10, 0x00, 0x00, 0x00, 0x0c, 0x00, 0x18, 0x00,
     0x04, 0x00, 0x06, 0x00, 0x08, 0x00, 0x10, 0x00, 0x0c, 0x00, 0x00, 0x00, 0x04, 0x00, 0x01, 0x00,
@@ -29,7 +29,7 @@ pub const BATCH: [u8; 160] = [
     0x08, 0x00, 0x00, 0x00, 0x00, 0x00, 0x00, 0x00, 0x07, 0x00, 0x00, 0x00, 0xff, 0xff, 0xff, 0xff,
 ];
 
-/// The schema without fields.
+/// A schema without fields.
 pub const NO_FIELDS: [u8; 72] = [
     0xff, 0xff, 0xff, 0xff, 0x40, 0x00, 0x00, 0x00, 0x10, 0x00, 0x00, 0x00, 0x0c, 0x00, 0x18, 0x00,
     0x04, 0x00, 0x06, 0x00, 0x08, 0x00, 0x10, 0x00, 0x0c, 0x00, 0x00, 0x00, 0x04, 0x00, 0x01, 0x00,
@@ -87,7 +87,7 @@ pub const TWO_COLUMNS: [u8; 464] = [
 
 pub const NUMBERS: &[(i128, i128)] = &[(-128, 18_446_744_073_709_551_615), (127, 0), (5, 258)];
 
-/// The same as texts.
+/// The rows of `NUMBERS` as texts.
 pub const NUMBER_TEXTS: &[&[&str]] = &[
     &["-128", "18446744073709551615"],
     &["127", "0"],
@@ -274,7 +274,7 @@ const NODE: usize = 96;
 
 const VALUES: usize = 144;
 
-/// These bytes one after another.
+/// Joins these bytes.
 pub fn joined(alloc: Global, parts: &[&[u8]]) -> Result<Vec<u8>, AllocError> {
     let mut bytes = Vec::new(alloc);
     for part in parts {
@@ -293,7 +293,7 @@ fn add_values(bytes: &mut Vec<u8>, rows: &[u32]) -> Result<(), AllocError> {
     Ok(())
 }
 
-/// The record batch of these rows of the column.
+/// Returns the record batch of these rows of the column.
 pub fn batch(alloc: Global, rows: &[u32]) -> Result<Vec<u8>, AllocError> {
     let values = rows.len().saturating_mul(4);
     let mut bytes = Vec::from_slice(alloc, &BATCH[..152])?;

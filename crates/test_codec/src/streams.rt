@@ -1,5 +1,5 @@
-// Streams of tables that are made of rows (ipc_encode, ipc_stream). What the built program shows of streams is tested by scripts, without
-// a proof (tests/program, tests/refused_memory).
+// Tests of streams of tables that are made from rows (ipc_encode, ipc_stream). What the built program shows of streams is tested by scripts,
+// without a proof (tests/program, tests/refused_memory).
 use crate::made::{
     NotMade, assert_no_row, has_rows, is_one_well, schema_of_columns, table_of_cells, table_of_rows,
 };
@@ -16,7 +16,7 @@ use values::{Row, Table, Value};
 
 const COLUMNS: &[&str] = &["a:int8", "b:uint64?"];
 
-// A table, and how it is made: of the rows of `NUMBERS`, of their cells, of three rows without columns, and of 4,097 rows.
+// How a table is made: from the rows of `NUMBERS`, from their cells, with three rows without columns, or with 4,097 rows.
 #[derive(Clone, Copy)]
 enum Made {
     OfRows,
@@ -34,7 +34,7 @@ fn rows_of_numbers(alloc: Global) -> Result<Vec<Row>, AllocError> {
     Ok(rows)
 }
 
-// The cells of `NUMBERS`, row after row.
+// Returns the cells of `NUMBERS`, row after row.
 fn cells_of_numbers(alloc: Global) -> Result<Vec<Value>, AllocError> {
     let mut cells = Vec::new(alloc);
     for (first, second) in NUMBERS {
@@ -44,7 +44,7 @@ fn cells_of_numbers(alloc: Global) -> Result<Vec<Value>, AllocError> {
     Ok(cells)
 }
 
-// How many rows make one batch more than a full one: 7, -1, and 2 to 4,096.
+// One row more than a full batch has: 7, -1, and 2 to 4,096.
 const MANY: u32 = 4097;
 
 fn cells_of_many(alloc: Global) -> Result<Vec<Value>, AllocError> {
@@ -59,7 +59,7 @@ fn cells_of_many(alloc: Global) -> Result<Vec<Value>, AllocError> {
     Ok(cells)
 }
 
-// The same numbers as they stand in a batch.
+// Returns the same numbers as they stand in a batch.
 fn many(alloc: Global) -> Result<Vec<u32>, AllocError> {
     let mut rows = Vec::new(alloc);
     for number in 0..MANY {
@@ -82,7 +82,7 @@ fn add_batches(alloc: Global, stream: &mut Vec<u8>, rows: &[u32]) -> Result<(), 
     stream.extend_from_slice(&END)
 }
 
-// The canonical stream of these rows.
+// Returns the canonical stream of these rows.
 fn stream_of_many(alloc: Global) -> Result<Vec<u8>, AllocError> {
     let mut stream = Vec::from_slice(alloc, &SCHEMA)?;
     add_batches(alloc, &mut stream, &many(alloc)?)?;
@@ -106,7 +106,7 @@ fn table_of(alloc: Global, made: Made) -> Result<Table, NotMade> {
     }
 }
 
-// The bytes that another writer makes of it.
+// Returns the bytes that another writer makes of the table.
 fn bytes_of(alloc: Global, made: Made) -> Result<Vec<u8>, AllocError> {
     match made {
         Made::OfRows | Made::OfCells => joined(alloc, &[&TWO_COLUMNS]),
@@ -143,7 +143,7 @@ impl Write for CountingWriter {
     }
 }
 
-// Whether all bytes of a stream go out.
+// Returns whether all bytes of a stream are written and flushed.
 fn goes_out(alloc: Global, made: Made) -> Result<bool, NotMade> {
     let table = table_of(alloc, made)?;
     let mut writer = CountingWriter {
@@ -175,7 +175,7 @@ fn tables_are_written_as_another_writer_does(rt: HostRuntime) {
     assert_no_row(&rt, wrongly_written(rt.alloc()));
 }
 
-// tests/refused_memory_in_crates refuses each allocation in turn: then one of two runs ends for want of memory.
+// tests/refused_memory_in_crates refuses each allocation in turn, so one of the two runs may get no memory.
 #[test]
 fn rows_are_written_also_without_memory(rt: HostRuntime) {
     let first = is_written(rt.alloc(), Made::OfRows);

@@ -1,5 +1,5 @@
-// Tables that are made of many cells, and what is reported of a refusal (values). Which rows a table takes is tested by scripts, without a proof (tests/texts,
-// tests/queries).
+// Tests of tables of many cells, and of what is reported of a refusal (values). Which rows a table takes is tested by scripts, without a proof
+// (tests/texts, tests/queries).
 use super::made::{NotMade, assert_no_row, schema_of_columns, table_of_cells};
 use std::alloc::{AllocError, Global};
 use values::{TableError, Value, ValueRef};

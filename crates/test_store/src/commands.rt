@@ -1,4 +1,4 @@
-// Commands, one after another: what is answered, and what the device holds then. The rows stand in modules of their own.
+// Commands one after another: what is answered, and what the device holds then. The rows are in modules of their own.
 use crate::made::{NotMade, assert_no_row};
 use crate::playing::{Slot, WAYS, Way, new_slot, play, shut};
 use crate::shown::is_laid_out;
@@ -6,11 +6,12 @@ use crate::steps::Steps;
 use crate::{lowest_runs, paged_catalogues, read_tables, refused_commands, room_told};
 use std::alloc::Global;
 
-/// A device of n sectors, what is asked of it, and where the store keeps what in the end. A table of them stands in parts: what a
+/// The number of sectors of a device, the steps, and the final layout of the store. The rows are split into parts, since the cost to prove a
+/// constant grows faster than its length.
 /// constant costs to prove grows faster than its length.
 pub type Row = (u64, Steps, &'static str);
 
-// The place of the step whose reply is wrong, or the number of steps where the layout is.
+// Returns the place of the step with a wrong reply, or the number of steps if the layout is wrong.
 fn wrong_step_on(
     alloc: Global,
     slot: &mut Slot,
@@ -29,7 +30,7 @@ fn wrong_step(alloc: Global, row: &Row, way: Way) -> Result<Option<usize>, NotMa
     wrong_step_on(alloc, &mut new_slot(alloc, row.0)?, row, way)
 }
 
-// The place of the first row of which a step is wrong, a hundred for each, and that of the step.
+// Returns the place of the first row with a wrong step, a hundred for each, plus that of the step.
 fn wrong_row(alloc: Global, rows: &[Row]) -> Result<Option<usize>, NotMade> {
     for (place, row) in rows.iter().enumerate() {
         for way in WAYS {
@@ -61,7 +62,7 @@ fn rows(topic: Topic, part: usize) -> Option<&'static [Row]> {
     }
 }
 
-// The place of the first wrong row, ten thousand for each part of the table.
+// Returns the place of the first wrong row, counting ten thousand for each part of the table.
 fn wrong_part(alloc: Global, topic: Topic) -> Result<Option<usize>, NotMade> {
     for part in 0..usize::MAX {
         let Some(rows) = rows(topic, part) else {

@@ -1,4 +1,4 @@
-// Steps of a compaction: what each does, and where the store keeps what then.
+// Steps of a compaction: what each does, and the layout of the store after it.
 use crate::inputs::{INT, Input};
 use crate::made::{NotMade, assert_no_row};
 use crate::playing::{Slot, is_played, new_slot, shut};
@@ -11,7 +11,7 @@ use store::{Compaction, StoreOrDevice};
 
 const TWO: Input = Ints(&[7, -1]);
 
-// A device of n sectors, what is asked of it first, what the steps of a compaction then do, and where the store keeps what after them.
+// The number of sectors of a device, the steps before, what the steps of a compaction then do, and the layout of the store after them.
 type Row = (u64, Steps, &'static [Compaction], &'static str);
 
 const APPENDED: Steps = &[
@@ -49,7 +49,7 @@ const NOTHING: &[Row] = &[
         &[Compaction::Nothing],
         "epoch 1, 4 in 2",
     ),
-    // A segment of as many rows as a piece may have joins no other one.
+    // A segment with the maximum number of rows of a piece is not joined with another.
     (
         128,
         &[

@@ -1,4 +1,4 @@
-// Stores of both versions of which a segment was changed, or lies in a sector that can't be read.
+// Stores of both versions with a changed segment, or one in a sector that can't be read.
 use crate::inputs::{Cell, Input};
 use crate::made::{NotMade, assert_no_row};
 use crate::openings::{Change, U, changed};
@@ -16,7 +16,7 @@ use sector_dev::CrashChoice;
 use std::alloc::Global;
 use store::{FormatVersion, StoreOrDevice};
 
-// The table t has two segments, in sectors 3 and 2, and u one. The first value of a segment stands at byte 304.
+// The table t has two segments, in sectors 3 and 2, and u one. The first value of a segment is at byte 304.
 const STORED: Steps = &[
     (Import("t", Ints(&[7, -1])), "ok"),
     (Append("t", Ints(&[5])), "ok"),
@@ -30,11 +30,11 @@ const MERGED: Steps = &[
     (Compact, "merged"),
 ];
 
-// The version of a store, what was done to it, a byte that is changed, what a stop leaves of its sector, and what is answered then.
+// The version of a store, the steps before, a changed byte, what a stop leaves of its sector, and the steps and replies after it.
 type Row = (FormatVersion, Steps, Change, CrashChoice, Steps);
 
 const OF_VERSION_1: &[Row] = &[
-    // Another value is read, and the bytes are moved as they are.
+    // Another value is read, and compaction moves the bytes as they are.
     (
         One,
         STORED,
@@ -84,10 +84,10 @@ const CHANGED_SECOND: Steps = &[
 
 const OF_VERSION_2: &[Row] = &[
     (Two, STORED, (3, 304, 5), CrashChoice::New, CHANGED_FIRST),
-    // It is reported before anything is said of what its bytes mean.
+    // The digest is tested before the meaning of the bytes.
     (Two, STORED, (3, 0, 1), CrashChoice::New, CHANGED_FIRST),
     (Two, STORED, (2, 304, 5), CrashChoice::New, CHANGED_SECOND),
-    // What stands after the bytes of a segment is not looked at.
+    // Bytes after those of the segment are ignored.
     (
         Two,
         STORED,
@@ -102,7 +102,7 @@ const OF_VERSION_2: &[Row] = &[
         CrashChoice::New,
         &[(Open, "ok"), (Compact, "S15 SegmentDamaged 0")],
     ),
-    // Of a sector that can't be read there are no bytes.
+    // A sector that can't be read gives no bytes.
     (
         Two,
         STORED,

@@ -1,5 +1,5 @@
-// Scripts with steps of a compaction and exports: each write or sync fails, or stops, in turn; each read fails in turn; and a second stop comes after a
-// first one. A device has the tables of what was acknowledged then, or with the step in flight, and goes on.
+// Scripts with steps of a compaction and exports. Each write or sync fails, or stops the device, in turn; each read fails in turn; and a second
+// stop comes after a first one. The device then has the tables of what was acknowledged, perhaps with the step in flight, and goes on.
 use crate::inputs::{INT, Input};
 use crate::made::{NotMade, assert_no_row};
 use crate::openings::device_after;
@@ -17,17 +17,17 @@ use sector_dev::{CrashChoice, ModelDevice, SectorDevice};
 use std::alloc::Global;
 use store::{Reply, StoreOrDevice};
 
-/// What is asked of a device of 16 sectors that holds an empty store.
+/// The steps on a device of 16 sectors with an empty store.
 #[derive(Clone, Copy)]
 pub struct Script {
     pub steps: Steps,
-    /// The values of the tables before the first step, and after each.
+    /// The values of the tables before the first step and after each step.
     pub states: &'static [&'static str],
-    /// How many writes and syncs were made after each step.
+    /// The number of writes and syncs after each step.
     calls: &'static [u64],
-    /// The step that opens the store once more. After it the tables go.
+    /// The step that opens the store once more. The tables are removed after it.
     opening: Option<usize>,
-    /// Where the store keeps what in the end, in version 2.
+    /// The final layout of the store, in version 2.
     pub layout: &'static str,
 }
 
@@ -93,7 +93,7 @@ const EXPORTED: Script = Script {
     layout: "epoch 6, 233 in 5, u: 4+1",
 };
 
-/// The script of a number: there are two.
+/// Returns the script of a number; there are two.
 pub fn script_of(number: usize) -> Option<Script> {
     match number {
         0 => Some(COMPACTED),
@@ -104,20 +104,20 @@ pub fn script_of(number: usize) -> Option<Script> {
 
 const FORMATTED: Steps = &[(Format, "ok")];
 
-// How a device is disturbed, at a call from 1 on.
+// How a device is disturbed, at a call counted from 1.
 #[derive(Clone, Copy, PartialEq)]
 enum Kind {
     // One write or sync fails.
     Failure,
-    // Each call from a write or sync on does.
+    // Each call fails from a write or sync on.
     Stop,
-    // One read does.
+    // One read fails.
     FailedRead,
 }
 
 const KINDS: &[Kind] = &[Failure, Stop, FailedRead];
 
-/// A device of 16 sectors that holds an empty store, which was made in this way.
+/// Makes a device of 16 sectors with an empty store, in this way.
 pub fn formatted(alloc: Global, made: Way) -> Result<ModelDevice, NotMade> {
     device_after(alloc, FORMATTED, made)
 }
@@ -132,7 +132,7 @@ fn disturbed(alloc: Global, made: Way, kind: Kind, k: u64) -> Result<Slot, NotMa
     Ok(Some(StoreOrDevice::Shut(device)))
 }
 
-// Whether the store is opened again after the step that failed.
+// Returns whether the store is opened again after the failed step.
 fn is_reopened(script: &Script, kind: Kind, done: usize) -> bool {
     match script.opening {
         Some(opening) => done < opening && kind != Stop,
@@ -140,7 +140,7 @@ fn is_reopened(script: &Script, kind: Kind, done: usize) -> bool {
     }
 }
 
-// Whether the reply is well to the step of this place, where the step after n failed.
+// Returns whether the reply to the step at this place is right, if the step after `done` others failed.
 fn is_told(
     alloc: Global,
     script: &Script,
@@ -164,7 +164,7 @@ fn is_told(
     says(alloc, reply, "S10 Halted")
 }
 
-// Whether it is so of each from the failure on.
+// Returns whether each reply from the failure on is right.
 fn are_told(
     alloc: Global,
     script: &Script,
@@ -186,7 +186,7 @@ fn is_state(states: &[&str], place: usize, found: &str) -> bool {
     }
 }
 
-// Whether a device may have these values then. A step of which a read failed is not done.
+// Returns whether a device may then have these values. A step with a failed read is not done.
 fn may_show(script: &Script, kind: Kind, done: usize, found: &str) -> bool {
     if is_reopened(script, kind, done) {
         return found.is_empty();
@@ -196,7 +196,7 @@ fn may_show(script: &Script, kind: Kind, done: usize, found: &str) -> bool {
         || kind != FailedRead && is_state(script.states, next, found)
 }
 
-/// Whether these are the replies to a script of which n steps were done when one call of the device failed.
+/// Returns whether these are the replies to a script of which `done` steps were done when one call of the device failed.
 pub fn are_told_after_failure(
     alloc: Global,
     script: &Script,
@@ -206,12 +206,12 @@ pub fn are_told_after_failure(
     are_told(alloc, script, Failure, done, replies)
 }
 
-/// Whether the device may have these values then.
+/// Returns whether the device may then have these values.
 pub fn may_show_after_failure(script: &Script, done: usize, found: &str) -> bool {
     may_show(script, Failure, done, found)
 }
 
-// What may be asked whatever a device holds.
+// Steps that are possible whatever a device holds.
 const AFTER: Steps = &[
     (Open, "ok"),
     (Import("t", Ints(&[9])), "ok"),
@@ -238,7 +238,7 @@ fn is_whole(
     }
 }
 
-// Whether it is so whatever a stop leaves now.
+// Returns whether the device is whole whatever a stop leaves now.
 fn are_whole(
     alloc: Global,
     device: &ModelDevice,
@@ -253,12 +253,12 @@ fn are_whole(
     Ok(well)
 }
 
-// Whether n steps are done before this call.
+// Returns whether `done` steps are done before this call.
 fn is_counted(script: &Script, kind: Kind, k: u64, done: usize) -> bool {
     kind == FailedRead || count_below(script.calls, k) == done
 }
 
-// Whether no call was disturbed; `None`: something is wrong.
+// Returns whether no call was disturbed, or `None` if something is wrong.
 fn is_undisturbed(
     alloc: Global,
     slot: &mut Slot,
@@ -275,7 +275,7 @@ fn is_undisturbed(
     Ok(if well { Some(wrong.is_none()) } else { None })
 }
 
-// The first call after whose failure something is wrong. In the last run none fails.
+// Returns the first call whose failure makes something wrong. In the last run none fails.
 fn wrong_call(
     alloc: Global,
     made: Way,
@@ -308,7 +308,7 @@ fn wrong_kind(alloc: Global, made: Way, script: &Script) -> Result<Option<usize>
     Ok(None)
 }
 
-// The number of calls of the first script that goes wrong, a thousand for each before it.
+// Returns the number of calls of the first script that goes wrong, plus a thousand for each script before it.
 fn wrong_script(alloc: Global, made: Way) -> Result<Option<usize>, NotMade> {
     for number in 0..usize::MAX {
         let Some(script) = script_of(number) else {
@@ -327,7 +327,8 @@ fn each_call_of_a_compaction_and_an_export_fails_in_turn(rt: HostRuntime) {
     assert_no_row(&rt, wrong_script(rt.alloc(), Way::VersionOne));
 }
 
-// What is asked of what a first stop left, how many calls it makes, and the tables then; before an import is done they are those that were left.
+// The steps after a first stop, the number of calls that they make, and the tables then; before an import is done the tables are those that were
+// left.
 const SECOND: Steps = &[
     (Open, "ok"),
     (Import("t", Ints(&[1])), "ok"),
@@ -386,7 +387,7 @@ fn are_whole_again(
     Ok(well)
 }
 
-// Whether a stop at this call leaves the tables before the step in flight, or after it.
+// Returns whether a stop at this call leaves the tables before the step in flight or after it.
 fn survives_second(
     alloc: Global,
     left: &ModelDevice,
@@ -412,7 +413,7 @@ fn survives_second(
     )
 }
 
-// What a device holds when it stopped at this call of the first script.
+// Returns what a device holds after it stopped at this call of the first script.
 fn stopped(alloc: Global, k: u64) -> Result<ModelDevice, NotMade> {
     let mut slot = disturbed(alloc, Way::EachCall, Stop, k)?;
     let _ = replies_of(alloc, &mut slot, COMPACTED.steps, Way::OneRun)?;
@@ -428,7 +429,7 @@ fn survives_each_second(alloc: Global, left: &ModelDevice) -> Result<bool, NotMa
     Ok(well)
 }
 
-// The first stop, and what it leaves, after which a second one goes wrong: a hundred for each call.
+// Returns the first stop, counting a hundred for each call, and what it leaves, after which a second stop goes wrong.
 fn wrong_first_stop(alloc: Global) -> Result<Option<usize>, NotMade> {
     for k in 1..=30u64 {
         let device = stopped(alloc, k)?;
@@ -446,7 +447,7 @@ fn a_second_stop_leaves_the_tables_too(rt: HostRuntime) {
     assert_no_row(&rt, wrong_first_stop(rt.alloc()));
 }
 
-// A call at which a device stops, and what is left where none of what is not synced was written, or all.
+// A call at which a device stops, and the tables if nothing or all of what was not synced was written.
 const LEFT: &[(u64, &str, &str)] = &[
     (8, "t:", "t:"),
     (9, "t:", "t: 7 -1"),

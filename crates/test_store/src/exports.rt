@@ -1,4 +1,4 @@
-// Exports that give their pieces one after another: how long each piece is, what they mean together, and how many may be open.
+// Exports that give their pieces one after another: the length of each piece, what they mean together, and how many may be open.
 use crate::inputs::{Cell, INT, Input};
 use crate::made::{NotMade, assert_no_row};
 use crate::playing::{Slot, WAYS, Way, is_played, new_slot, play, replies_of, wrong_reply};
@@ -86,7 +86,7 @@ fn script(number: usize) -> Option<Steps> {
     })
 }
 
-// The place of the first wrong step, a hundred for each script.
+// Returns the place of the first wrong step, counting a hundred for each script.
 fn wrong_step(alloc: Global, way: Way) -> Result<Option<usize>, NotMade> {
     for number in 0..usize::MAX {
         let Some(steps) = script(number) else {
@@ -106,7 +106,7 @@ fn exports_give_the_table_that_they_found(rt: HostRuntime) {
     assert_no_row(&rt, wrong_step(rt.alloc(), Way::OneRun));
 }
 
-// The segments of t lie in the lowest sectors, 3 and 2. Once it is dropped the last step would move the other table there if they were free.
+// The segments of t lie in the lowest sectors, 3 and 2. If they were free once it is dropped, the last step would move the other table there.
 const DROPPED: Steps = &[
     (Format, "ok"),
     (Import("t", Ints(&[7, -1])), "ok"),
@@ -138,7 +138,7 @@ fn joined(alloc: Global, replies: &[Reply]) -> Result<Vec<u8>, NotMade> {
     Ok(bytes)
 }
 
-// The table that the pieces mean, as `"a":int32?: 7 -1`.
+// Returns the table that the pieces mean, as `"a":int32?: 7 -1`.
 fn meant(alloc: Global, replies: &[Reply]) -> Result<String, NotMade> {
     let Ok(table) = decode(alloc, joined(alloc, replies)?) else {
         return Err(NotMade);
@@ -154,7 +154,7 @@ fn is_given_on(alloc: Global, slot: &mut Slot, way: Way) -> Result<bool, NotMade
     Ok(well && meant(alloc, &replies)?.as_str() == "\"a\":int32?: 7 -1 5")
 }
 
-// The place of the first way in which the table is not given as it was.
+// Returns the place of the first way in which the table is not exported as it was.
 fn wrong_way(alloc: Global) -> Result<Option<usize>, NotMade> {
     for (place, way) in WAYS.iter().enumerate() {
         if !is_given_on(alloc, &mut new_slot(alloc, 16)?, *way)? {
@@ -171,7 +171,7 @@ fn a_table_that_is_dropped_is_given_to_its_end(rt: HostRuntime) {
 
 const EMPTY: Steps = &[(Format, "ok"), (Create("t", INT), "ok")];
 
-// 64 exports may be open. An id that was given is not given again.
+// At most 64 exports may be open. No id is given twice.
 const FULL: Steps = &[
     (OpenExport("t"), "S7 TooMany Exports"),
     (ExportNext(63), "152 bytes"),

@@ -1,5 +1,5 @@
-// A read of the device that fails while a store is opened, a table is read or exported, its rows are weighed for an append or selected from, or its segments
-// become one or move. The store is halted then; opened again it has all that it had.
+// A read of the device fails while a store is opened; while a table is read, exported, weighed for an append or selected from; or while its
+// segments are joined or moved. The store is then halted, and once it is opened again it has everything that it had.
 use crate::inputs::Input;
 use crate::made::{NotMade, assert_no_row};
 use crate::openings::{T, U, device_after, stored};
@@ -34,29 +34,29 @@ fn reading() -> Steps {
     READING
 }
 
-// How many sectors were read after each step: both commits, the root and three pages, and those of the table's segments.
+// The number of sectors read after each step: both commits, the root and three pages, and those of the table's segments.
 const READS: &[u64] = &[6, 8, 8, 10, 12, 14, 16, 16, 18, 18];
 
-// Whether just n steps are answered as they are to, and the others refused.
+// Returns whether exactly `done` steps are answered as expected, and the others refused.
 fn are_answered(alloc: Global, replies: &[Reply], done: usize) -> Result<bool, NotMade> {
     let (first, rest) = replies.split_at_checked(done).ok_or(NotMade)?;
     let steps = reading().get(..done).unwrap_or_default();
     Ok(are_refused(alloc, rest)? && wrong_reply(alloc, first, steps)?.is_none())
 }
 
-// A device that holds these tables, made in this way, of which a read fails, from 1 on.
+// Returns a device with these tables, made in this way, whose read `k`, counted from 1, fails.
 fn failing(alloc: Global, made: Way, k: u64) -> Result<ModelDevice, NotMade> {
     let mut device = device_after(alloc, stored(), made)?;
     device.fail_read_at(k);
     Ok(device)
 }
 
-// Whether each step is answered as it is to, where n are done before the read fails.
+// Returns whether each step is answered as expected, if `done` steps come before the failed read.
 fn is_halted(alloc: Global, slot: &mut Slot, done: usize, way: Way) -> Result<bool, NotMade> {
     are_answered(alloc, &replies_of(alloc, slot, reading(), way)?, done)
 }
 
-// Whether the same device has lost nothing, if a step was refused.
+// Returns whether the same device has lost nothing, if a step was refused.
 fn is_read_again(alloc: Global, slot: &mut Slot, done: usize) -> Result<bool, NotMade> {
     Ok(done == reading().len() || is_played(alloc, slot, reading())?)
 }
@@ -74,7 +74,7 @@ fn survives(alloc: Global, made: Way, k: u64, way: Way) -> Result<bool, NotMade>
     survives_on(alloc, &mut Some(StoreOrDevice::Shut(device)), done, way)
 }
 
-// The first read after whose failure something is wrong. In the last run none fails.
+// Returns the first read whose failure makes something wrong. In the last run none fails.
 fn wrong_read(alloc: Global, made: Way, way: Way) -> Result<Option<usize>, NotMade> {
     for k in 1..=19u64 {
         if !survives(alloc, made, k, way)? {
@@ -90,8 +90,8 @@ fn each_read_of_the_device_fails_in_turn(rt: HostRuntime) {
     assert_no_row(&rt, wrong_read(rt.alloc(), Way::VersionOne, Way::OneRun));
 }
 
-// The segments of t are the seventh and the eighth sector that is read, and the segment that moves then the ninth: that of t in version 2, and in version 1
-// that of u, which has the tenth too.
+// The segments of t are the seventh and eighth sector read. The segment that moves comes next: in version 2 that of t is the ninth, and in version
+// 1 that of u is the ninth and tenth.
 const IN_PIECES: Steps = &[
     (Open, "ok"),
     (OpenExport("t"), "export 0"),
@@ -132,7 +132,7 @@ const MOVING: Steps = &[
     (Read("u"), U),
 ];
 
-// The last read of the segment that moves.
+// Returns the last read of the segment that moves.
 fn last_read(made: Way) -> u64 {
     match made {
         Way::VersionOne => 10,
@@ -140,7 +140,7 @@ fn last_read(made: Way) -> u64 {
     }
 }
 
-// Which read fails, and what is asked.
+// Returns which read fails, and the steps.
 fn step_by_step(made: Way, number: usize) -> Option<(u64, Steps)> {
     Some(match number {
         0 => (8, IN_PIECES),
@@ -152,7 +152,7 @@ fn step_by_step(made: Way, number: usize) -> Option<(u64, Steps)> {
     })
 }
 
-// The place of the first wrong step, a hundred for each script.
+// Returns the place of the first wrong step, counting a hundred for each script.
 fn wrong_step(alloc: Global, made: Way, way: Way) -> Result<Option<usize>, NotMade> {
     for number in 0..usize::MAX {
         let Some((k, steps)) = step_by_step(made, number) else {
@@ -178,7 +178,7 @@ const EXPORTING: Steps = &[
     (Export("t"), "S10 Halted"),
 ];
 
-// The first read of a segment that fails and lets something be written.
+// Returns the first read of a segment that fails and still lets something be written.
 fn wrong_export(alloc: Global) -> Result<Option<usize>, NotMade> {
     for k in 7..=8u64 {
         let device = failing(alloc, Way::EachCall, k)?;
@@ -189,7 +189,7 @@ fn wrong_export(alloc: Global) -> Result<Option<usize>, NotMade> {
     Ok(None)
 }
 
-// How many bytes a writer takes before each further write fails, and what the export of 328 bytes answers.
+// How many bytes a writer takes before each further write fails, and the answer of the export of 328 bytes.
 const ROOMS: &[(usize, Result<(), Refusal>)] = &[
     (0, Err(Refusal::Write)),
     (1, Err(Refusal::Write)),
@@ -216,7 +216,7 @@ impl Write for CountingWriter {
     }
 }
 
-// Whether all bytes of an export go out.
+// Returns whether all bytes of an export are written and flushed.
 fn goes_out(alloc: Global, slot: &mut Slot) -> bool {
     let mut writer = CountingWriter {
         written: 0,
@@ -268,7 +268,7 @@ fn is_opened_and_written(
     }
 }
 
-// The first writer of which something else is answered, or after which the table can't be read.
+// Returns the first writer with another answer, or after which the table can't be read.
 fn wrong_writer(alloc: Global) -> Result<Option<usize>, NotMade> {
     for (place, (room, want)) in ROOMS.iter().enumerate() {
         let device = device_after(alloc, stored(), Way::EachCall)?;

@@ -1,4 +1,4 @@
-// Streams that are imported and appended, and the schemas of new tables.
+// Streams to import and append, and the schemas of new tables.
 ghost use Rattle.std.specs.Prelude.{IfOk};
 ghost use Rattle.arrow_schema.specs.View.{schema_of};
 ghost use Rattle.arrow_schema.specs.Limits.{IsWithinLimits};
@@ -11,10 +11,10 @@ use ipc_write::{BatchContents, write_batch, write_end, write_schema};
 use std::alloc::{AllocError, Global};
 use values::{Row, Table, Value};
 
-/// One column, as most tests have it.
+/// The one column of most tests.
 pub const INT: &[&str] = &["a:int32?"];
 
-/// A cell of a row that is given.
+/// A cell of a given row.
 #[derive(Clone, Copy)]
 pub enum Cell {
     Null,
@@ -22,7 +22,7 @@ pub enum Cell {
     Text(&'static str),
 }
 
-/// Rows that are given.
+/// Given rows.
 pub type Given = &'static [&'static [Cell]];
 
 fn value_of(alloc: Global, cell: Cell) -> Result<Value, AllocError> {
@@ -41,7 +41,7 @@ fn row_of(alloc: Global, cells: &[Cell]) -> Result<Row, AllocError> {
     Ok(Row { cells: row })
 }
 
-/// Rows of these cells.
+/// Makes rows of these cells.
 pub fn rows_of(alloc: Global, given: &[&[Cell]]) -> Result<Vec<Row>, AllocError> {
     let mut rows = Vec::with_capacity(alloc, given.len())?;
     for cells in given {
@@ -55,19 +55,19 @@ pub fn rows_of(alloc: Global, given: &[&[Cell]]) -> Result<Vec<Row>, AllocError>
 pub enum Input {
     /// A column `a:int32?` with these values.
     Ints(&'static [i32]),
-    /// Such a column with n values, from 0 on.
+    /// Such a column with this number of values, from 0 on.
     First(u32),
     /// One column of this field text, with these values.
     Column(&'static str, &'static [i32]),
-    /// These columns, with n rows: the values of each row from this one on.
+    /// These columns and this number of rows: each value is that of the row's number, from this one on.
     Range(&'static [&'static str], i32, u32),
-    /// One column `l:list<utf8>` with a row for each number: n texts, no two the same.
+    /// One column `l:list<utf8>` with a row for each number: a list of that many distinct texts.
     Texts(&'static [u32]),
-    /// n rows without a column.
+    /// This number of rows without a column.
     NoColumns(usize),
     /// The stream of 7 and -1, 320 bytes, with these bytes changed.
     Changed(&'static [(usize, u8)]),
-    /// n of its first bytes.
+    /// This number of its first bytes.
     Front(usize),
 }
 
@@ -79,7 +79,7 @@ fn schema_of(alloc: Global, columns: &[&str]) -> Result<Schema, NotMade> {
     })
 }
 
-// The table of a schema and its cells, row after row, n rows.
+// Makes the table of a schema and the cells of `rows` rows, row after row.
 fn table_of_cells(schema: Schema, cells: Vec<Value>, rows: usize) -> Result<Table, NotMade> {
     let filled = schema.fields.len().checked_mul(rows) == Some(cells.len());
     if schema.check().is_err() || !filled {
@@ -88,7 +88,7 @@ fn table_of_cells(schema: Schema, cells: Vec<Value>, rows: usize) -> Result<Tabl
     Table::from_cells(*cells.allocator(), schema, cells, rows).map_err(|_| NotMade)
 }
 
-// The canonical stream of that table.
+// Returns the canonical stream of that table.
 fn stream_of(
     alloc: Global,
     columns: &[&str],
@@ -99,10 +99,10 @@ fn stream_of(
     Ok(encode(alloc, &table)?)
 }
 
-// As many rows as a record batch may have.
+// The maximum number of rows of a record batch.
 const ROWS_IN_BATCH: usize = 16_777_216;
 
-// Adds a record batch of rows without a column.
+// Appends a record batch of rows without a column.
 fn add_rows_alone(alloc: Global, stream: &mut Vec<u8>, rows: usize) -> Result<(), NotMade> {
     if rows > ROWS_IN_BATCH {
         return Err(NotMade);
@@ -131,7 +131,7 @@ fn add_stream_alone(alloc: Global, stream: &mut Vec<u8>, rows: usize) -> Result<
     Ok(write_end(stream)?)
 }
 
-// n rows without a column, in as few record batches as they may have: many take no longer to make than few.
+// Returns a stream of rows without a column, in as few record batches as possible: many rows take no longer to make than few.
 fn rows_alone(alloc: Global, rows: usize) -> Result<Vec<u8>, NotMade> {
     let mut stream = Vec::new(alloc);
     add_stream_alone(alloc, &mut stream, rows)?;
@@ -164,7 +164,7 @@ fn range(alloc: Global, first: i32, count: u32) -> Result<Vec<i32>, AllocError> 
     Ok(values)
 }
 
-// A list of n texts.
+// Makes a list of `count` texts.
 fn list_of(alloc: Global, count: u32) -> Result<Value, NotMade> {
     let mut items = Vec::with_capacity(alloc, count as usize)?;
     for number in 0..count {
@@ -201,7 +201,7 @@ fn bytes_of_values(alloc: Global, columns: &[&str], values: &[i32]) -> Result<Ve
     stream_of(alloc, columns, cells_of(alloc, values)?, values.len())
 }
 
-/// The bytes of a stream.
+/// Returns the bytes of a stream.
 pub fn bytes_of(alloc: Global, input: Input) -> Result<Vec<u8>, NotMade> {
     match input {
         Input::Ints(values) => bytes_of_values(alloc, INT, values),
@@ -222,7 +222,7 @@ pub fn bytes_of(alloc: Global, input: Input) -> Result<Vec<u8>, NotMade> {
     }
 }
 
-/// The schema of columns of these field texts.
+/// Returns the schema of columns with these field texts.
 pub fn new_schema(alloc: Global, columns: &[&str]) -> Result<Schema, NotMade>
     ensures within { IfOk result (λ s. IsWithinLimits (schema_of s)) }
 {

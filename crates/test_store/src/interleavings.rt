@@ -1,5 +1,5 @@
-// Calls in an order drawn by chance, in lists that `run` answers. Beside the store stand plain tables: each reply is theirs, and what a crash leaves are the
-// tables before the command in flight or after it.
+// Random calls, in lists that `run` answers, compared with plain tables: each reply must be theirs, and a crash must leave the tables before the
+// command in flight or after it.
 use crate::inputs::Input;
 use crate::made::{NotMade, assert_no_row};
 use crate::plain_tables::{FROM_TWENTY, NAMES, Plain};
@@ -19,16 +19,16 @@ const NARROW: &[&str] = &["a:int32?"];
 
 const WIDE: &[&str] = &["a:int64"];
 
-// Numbers drawn by chance: a linear congruential generator, whose upper bits are taken.
+// Pseudo-random numbers: the upper bits of a linear congruential generator.
 #[derive(Clone, Copy)]
 struct Chance {
     state: u64,
-    // How many exports were opened, or asked for, since the store was opened.
+    // The number of exports that were opened, or asked for, since the store was opened.
     exports: u64,
 }
 
 impl Chance {
-    // A number below this one.
+    // Returns a number below this one.
     fn below(&mut self, count: u64) -> u64 {
         self.state = self
             .state
@@ -48,7 +48,7 @@ impl Chance {
         if self.below(4) == 0 { WIDE } else { NARROW }
     }
 
-    // Few rows mostly; now and then more than one sector has.
+    // Mostly few rows; now and then more than fit into one sector.
     fn input(&mut self) -> Input {
         let columns = self.columns();
         let first = match self.below(3) {
@@ -75,7 +75,7 @@ impl Chance {
         (&[], conditions, if most > 9 { Some(most) } else { None })
     }
 
-    // The id of one of the last exports that were asked for.
+    // Returns the id of one of the last exports that were asked for.
     fn id(&mut self) -> u64 {
         let back = self.below(4);
         self.exports.saturating_sub(back)
@@ -113,7 +113,7 @@ impl Chance {
         }
     }
 
-    // What is asked of an open store.
+    // Returns a step for an open store.
     fn of_open(&mut self) -> Step {
         match self.below(40) {
             0 => Open,
@@ -126,7 +126,7 @@ impl Chance {
         }
     }
 
-    // What is asked next; a store that is shut is opened.
+    // Returns the next step; a store that is shut is opened.
     fn step(&mut self, open: bool) -> Step {
         let step = if open { self.of_open() } else { Open };
         if matches!(step, Open) {
@@ -135,7 +135,7 @@ impl Chance {
         step
     }
 
-    // What a crash leaves.
+    // Returns what a crash leaves.
     fn choice(&mut self) -> CrashChoice {
         match self.below(4) {
             0 => CrashChoice::Old,
@@ -146,7 +146,7 @@ impl Chance {
     }
 }
 
-// n steps, in a place of which this is known.
+// Draws steps for a place of which this is known.
 fn drawn(
     alloc: Global,
     chance: &mut Chance,
@@ -178,22 +178,22 @@ fn is_failure(reply: &Reply) -> bool {
     )
 }
 
-// How often something came.
+// How often something happened.
 #[derive(Clone, Copy)]
 struct Seen {
     merged: u64,
     moved: u64,
     full: u64,
-    // A command in flight was done, or not.
+    // A command in flight was done or not done.
     kept: u64,
     lost: u64,
 }
 
-// A store beside plain tables.
+// A store and the plain tables that it is compared with.
 #[derive(Drop)]
 struct Pair {
     plain: Plain,
-    // A store is open, if its device did not stop.
+    // Whether a store is open, if its device did not stop.
     open: bool,
     stopped: bool,
     in_flight: Option<Step>,
@@ -211,14 +211,14 @@ impl Seen {
         }
     }
 
-    // Whether each of it came.
+    // Returns whether everything happened at least once.
     fn is_all(self) -> bool {
         self.merged > 0 && self.moved > 0 && self.full > 0 && self.kept > 0 && self.lost > 0
     }
 }
 
 impl Pair {
-    // Beside an empty store that is open, where this came before.
+    // Makes the plain tables of an empty open store, after this was seen.
     fn new(alloc: Global, seen: Seen) -> Result<Pair, NotMade> {
         Ok(Pair {
             plain: Plain::new(alloc)?,
@@ -229,7 +229,7 @@ impl Pair {
         })
     }
 
-    // Whether a call of a device that stopped is answered well.
+    // Returns whether a call of a stopped device is answered rightly.
     fn is_refused(&mut self, alloc: Global, step: Step, reply: &Reply) -> Result<bool, NotMade> {
         let was_open = self.open;
         match step {
@@ -245,7 +245,7 @@ impl Pair {
         }
     }
 
-    // The device stopped at a call: whether it made one.
+    // Notes that the device stopped at this step, and returns whether the step makes a call of the device.
     fn stops_at(&mut self, step: Step) -> bool {
         let was_open = self.open;
         self.stopped = true;
@@ -271,7 +271,7 @@ impl Pair {
         true
     }
 
-    // A command for which there is no room changes nothing.
+    // A command without enough room changes nothing.
     fn is_changed(&mut self, alloc: Global, step: Step, reply: &Reply) -> Result<bool, NotMade> {
         if matches!(reply, Reply::Refused(Refusal::NoRoom(_))) {
             self.seen.full = self.seen.full.saturating_add(1);
@@ -280,7 +280,7 @@ impl Pair {
         says(alloc, reply, self.plain.change(alloc, step)?)
     }
 
-    // Whether an open store answers well.
+    // Returns whether an open store answers rightly.
     fn is_answered(&mut self, alloc: Global, step: Step, reply: &Reply) -> Result<bool, NotMade> {
         match step {
             Compact => Ok(self.is_stepped(reply)),
@@ -294,7 +294,7 @@ impl Pair {
         }
     }
 
-    // Whether a reply is the one to this step.
+    // Returns whether a reply is the right one to this step.
     fn is_right(&mut self, alloc: Global, step: Step, reply: &Reply) -> Result<bool, NotMade> {
         if self.stopped {
             return self.is_refused(alloc, step, reply);
@@ -321,7 +321,7 @@ impl Pair {
         }
     }
 
-    // Whether all replies are so.
+    // Returns whether all replies are right.
     fn are_right(
         &mut self,
         alloc: Global,
@@ -339,7 +339,7 @@ impl Pair {
         Ok(self.plain.contents(alloc)?.as_str() == found)
     }
 
-    // Whether these are the tables after the command in flight.
+    // Returns whether these are the tables after the command in flight.
     fn shows_next(&mut self, alloc: Global, found: &str) -> Result<bool, NotMade> {
         let Some(step) = self.in_flight else {
             return Ok(false);
@@ -349,7 +349,7 @@ impl Pair {
         self.shows(alloc, found)
     }
 
-    // Whether a crash may leave tables of these values, which then are those that stand.
+    // Returns whether a crash may leave tables with these values, which then become the current ones.
     fn is_left(&mut self, alloc: Global, found: &str) -> Result<bool, NotMade> {
         let well = if self.shows(alloc, found)? {
             self.seen.lost = self
@@ -369,7 +369,7 @@ impl Pair {
 
 const FORMATTED: Steps = &[(Format, "ok")];
 
-// Lets a crash come, and the device that is left stop after some calls.
+// Crashes the device, and lets the device that is left stop after some calls.
 fn is_crashed(
     alloc: Global,
     slot: &mut Slot,
@@ -383,7 +383,7 @@ fn is_crashed(
     Ok(well)
 }
 
-// A list of calls, and now and then a crash after it.
+// Runs a list of calls, now and then with a crash after it.
 fn is_run(
     alloc: Global,
     slot: &mut Slot,
@@ -402,7 +402,7 @@ fn is_run(
     Ok(true)
 }
 
-// The first of n lists that goes wrong.
+// Returns the first of the lists that goes wrong.
 fn wrong_list(
     alloc: Global,
     slot: &mut Slot,
@@ -423,7 +423,7 @@ fn wrong_list(
 
 const LISTS: usize = 125;
 
-// Of how many sectors a device is, and what is drawn. On the smaller one there is often no room.
+// The number of sectors of each device, and the seed. The smaller one is often full.
 const DEVICES: &[(u64, u64)] = &[(24, 1), (64, 2)];
 
 fn wrong_on(
@@ -439,7 +439,7 @@ fn wrong_on(
     }
 }
 
-// The first list that goes wrong; their number, where not all came that is to come.
+// Returns the first list that goes wrong, or the number of lists if something never happened.
 fn wrong_device(alloc: Global) -> Result<Option<usize>, NotMade> {
     let mut seen = Seen::nothing();
     for (sectors, seed) in DEVICES {

@@ -1,7 +1,6 @@
-//! Tests of the public calls of `store`, on a device in memory: what no clause says.
+//! Tests of the public calls of `store` on a device in memory: of what no clause says.
 //!
-//! A test is a table of rows, and one function that plays them: a step is a call of a store, and the text of its reply
-//! stands beside it.
+//! A test is a table of rows and one function that plays them: a step is a call of a store, with the text of its reply.
 #![tactic(auto)]
 
 #[cfg(test)]

@@ -1,4 +1,4 @@
-// How many tables, segments and rows there may be.
+// The maximum numbers of tables, segments and rows.
 use crate::inputs::{INT, Input};
 use crate::made::{NotMade, assert_no_row};
 use crate::playing::{Slot, Way, answer, is_played, new_slot, play};
@@ -9,7 +9,7 @@ use Step::{
 };
 use std::alloc::Global;
 
-// Makes the table `t0`, `t1` or so on.
+// Makes the table `t0`, `t1` and so on.
 fn is_made(alloc: Global, slot: &mut Slot, number: u32) -> Result<bool, NotMade> {
     let name = format!(in alloc; "t{number}")?;
     let call = Call::Apply(creation(alloc, &name, INT)?);
@@ -29,7 +29,7 @@ fn are_made(alloc: Global, slot: &mut Slot, count: u32) -> Result<bool, NotMade>
 
 const EMPTY: Steps = &[(Format, "ok")];
 
-// A store has 1,024 tables.
+// A store has at most 1,024 tables.
 const FULL: Steps = &[
     (Create("t", INT), "S7 TooMany Tables"),
     (Create("t0", INT), "S2 NameTaken"),
@@ -61,8 +61,8 @@ fn a_store_has_1024_tables_at_most(rt: HostRuntime) {
     assert_no_row(&rt, wrong_table(rt.alloc()));
 }
 
-// 268,435,456 rows without a column weigh as much as a table may, and are 65,536 segments of 4,096 rows, as many as a store may
-// have. Weight is reported before segments, and segments before room.
+// 268,435,456 rows without a column have the maximum weight of a table, and are 65,536 segments of 4,096 rows, the maximum of a store. Weight is
+// tested before segments, and segments before room.
 const HEAVY: Steps = &[
     (Format, "ok"),
     (Create("u", &[]), "ok"),
@@ -80,7 +80,7 @@ const HEAVY: Steps = &[
     (Tables, "u 1"),
 ];
 
-// n segments of which the last two can be one: the store is opened again, and compacted.
+// Segments of which the last two can be joined: the store is opened again and compacted.
 const AT_THE_LIMIT: Steps = &[
     (Format, "ok"),
     (Import("t", NoColumns(268_427_264)), "ok"),

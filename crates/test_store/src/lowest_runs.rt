@@ -7,8 +7,7 @@ use Step::{Append, Close, Create, Format, Import, Open, Remove, Rename, Schema, 
 
 const TWO: Input = Ints(&[7, -1]);
 
-// The commit sectors are 0 and 1. Each change takes the lowest runs that are free while the old catalogue and its segments
-// are still in use.
+// The commit sectors are 0 and 1. Each change takes the lowest free runs while the old catalogue and its segments are still in use.
 const CHANGED: &[Row] = &[
     (16, &[(Format, "ok"), (Tables, "")], "epoch 1, 4 in 2"),
     (
@@ -63,7 +62,7 @@ const REPLACED: &[Row] = &[
 ];
 
 const FITTING: &[Row] = &[
-    // The lowest run that fits, and not the smallest: two sectors stand after a hole of one.
+    // The lowest run that fits, not the smallest: two sectors after a hole of one.
     (
         16,
         &[
@@ -87,7 +86,7 @@ const FITTING: &[Row] = &[
 ];
 
 const GIVEN_UP: &[Row] = &[
-    // What is given up is free once the change was published.
+    // What is given up is free once the change is published.
     (
         16,
         &[
@@ -120,7 +119,7 @@ const RENAMED: &[Row] = &[
 ];
 
 const CUT: &[Row] = &[
-    // Nothing but the catalogue is written of a table without rows, and an append of none publishes an epoch too.
+    // A table without rows writes only the catalogue, and an append of no rows publishes an epoch too.
     (
         16,
         &[
@@ -131,7 +130,7 @@ const CUT: &[Row] = &[
         ],
         "epoch 3, 169 in 2, t:",
     ),
-    // A segment has 4,096 rows at the most: 16,696 bytes.
+    // A segment has at most 4,096 rows: 16,696 bytes.
     (
         128,
         &[
@@ -145,7 +144,7 @@ const CUT: &[Row] = &[
 ];
 
 const OPENED: &[Row] = &[
-    // Opening a store publishes nothing, and closing it neither.
+    // Neither opening nor closing a store publishes anything.
     (
         16,
         &[
@@ -163,7 +162,7 @@ const OPENED: &[Row] = &[
     ),
 ];
 
-/// The rows, part by part.
+/// Returns the rows, part by part.
 pub fn part(number: usize) -> Option<&'static [Row]> {
     Some(match number {
         0 => CHANGED,

@@ -1,14 +1,14 @@
-// What the tests have in common.
+// What the tests share.
 use field_texts::ParseError;
 use query::QueryError;
 use std::alloc::{AllocError, AllocFailed};
 use std::process::Abort;
 
-/// Nothing was made: memory was refused, or a row of a test is not of its form.
+/// Nothing was made: memory was refused, or a row of a test does not have its form.
 #[derive(Clone, Copy)]
 pub struct NotMade;
 
-/// The place of the first wrong row of a table, from 0: there is none.
+/// Asserts that no row of a table of cases is wrong. `wrong` is the place of the first wrong one, from 0.
 pub fn assert_no_row(rt: &impl Abort, wrong: Result<Option<usize>, NotMade>) {
     match wrong {
         Ok(None) => {}

@@ -1,4 +1,4 @@
-// Devices that are formatted or opened: of other sizes, with a store, with bytes that were changed, and with sectors that can't be read.
+// Devices that are formatted or opened: of other sizes, with a store, with changed bytes, and with sectors that can't be read.
 use crate::inputs::{Cell, INT, Input};
 use crate::made::{NotMade, assert_no_row};
 use crate::playing::{Slot, VERSIONS, Way, is_played, new_slot, play, shut};
@@ -11,7 +11,7 @@ use sector_dev::{CrashChoice, ModelDevice, SectorDevice};
 use std::alloc::Global;
 use store::StoreOrDevice;
 
-// How many sectors a device has.
+// The sizes of devices in sectors.
 const SIZES: &[u64] = &[0, 15, 16, 4_194_304, 4_194_305];
 
 const OF_THE_SMALLEST: Steps = &[(Open, "C1 NotAStore"), (Format, "ok"), (Open, "ok")];
@@ -27,7 +27,7 @@ const OF_ANOTHER_SIZE: Steps = &[
     (Open, "C3 Damaged DeviceSize"),
 ];
 
-// What is asked of a device of n sectors, and what is answered.
+// Returns the steps on a device of this size, with their replies.
 fn steps_of_size(sectors: u64) -> Steps {
     match sectors {
         16 => OF_THE_SMALLEST,
@@ -54,8 +54,8 @@ fn a_store_has_16_to_4194304_sectors(rt: HostRuntime) {
     assert_no_row(&rt, wrong_size(rt.alloc()));
 }
 
-// A store of which both commits can be read: epoch 2 in sector 0 has its segment in sector 3 and its catalogue in 4, and
-// epoch 3 in sector 1 its segment in 2 and its catalogue, of 201 bytes, in 5.
+// A store with two readable commits: epoch 2 in sector 0 has its segment in sector 3 and its catalogue in 4, and epoch 3 in sector 1 has its
+// segment in 2 and its catalogue, of 201 bytes, in 5.
 const TWICE: Steps = &[
     (Format, "ok"),
     (Import("t", Ints(&[7, -1])), "ok"),
@@ -73,12 +73,12 @@ fn played(alloc: Global, slot: &mut Slot, steps: Steps, way: Way) -> Result<Mode
     shut(slot)
 }
 
-/// The device of 16 sectors after these steps.
+/// Returns the device of 16 sectors after these steps.
 pub fn device_after(alloc: Global, steps: Steps, way: Way) -> Result<ModelDevice, NotMade> {
     played(alloc, &mut new_slot(alloc, 16)?, steps, way)
 }
 
-/// A byte of a sector: its number, the byte's place, and how it is changed.
+/// A byte of a sector: the sector's number, the byte's place, and the bits that are flipped.
 pub type Change = (u64, usize, u8);
 
 fn change(device: &mut ModelDevice, (n, at, bits): Change) -> Result<(), NotMade> {
@@ -97,18 +97,18 @@ fn change_all(device: &mut ModelDevice, changes: &[Change]) -> Result<(), NotMad
     Ok(())
 }
 
-/// A device as it is, with these changes.
+/// Returns the device with these changes.
 pub fn changed(device: &ModelDevice, changes: &[Change]) -> Result<ModelDevice, NotMade> {
     let mut left = device.crash(CrashChoice::New)?;
     change_all(&mut left, changes)?;
     Ok(left)
 }
 
-// What is changed, and what is answered then. A table of them stands in parts (see `commands`).
+// The changes, and the steps after them with their replies. The rows are split into parts (see `commands`).
 type Row = (&'static [Change], Steps);
 
-// In a commit its epoch stands at byte 8, the catalogue's first sector at 16 and the sectors of the device at 40; in the text
-// the first sector of the segment at 169.
+// In a commit the epoch is at byte 8, the catalogue's first sector at 16 and the number of sectors of the device at 40; in the text the first
+// sector of the segment is at 169.
 const EITHER_EPOCH: &[Row] = &[
     (
         &[(3, 0, 1)],
@@ -121,7 +121,7 @@ const EITHER_EPOCH: &[Row] = &[
 ];
 
 const CHANGED_SEGMENT: &[Row] = &[
-    // The store is open, and what stands in the segment is not the table.
+    // The store is open, but what is in the segment is not the table.
     (
         &[(2, 0, 1)],
         &[
@@ -217,9 +217,9 @@ fn causes(part: usize, made: Way) -> Option<&'static [Row]> {
     })
 }
 
-// The table t has two segments of a sector each, in 3 and 2, and u one of two, in 6 and 7: 312 bytes and 8 for each of 26 values. Epoch 5 in
-// sector 1 has three pages and its root in 10, and epoch 4 in sector 0 is before v was made. In version 1 the pages are in 5, 8 and 9, and epoch 4
-// has a list in 4; in version 2 the pages of t and u, in 4 and 8, are those of epoch 4 too, whose root is in 9, and that of v is in 5.
+// The table t has two segments of a sector each, in 3 and 2, and u has one of two sectors, in 6 and 7: 312 bytes and 8 for each of 26 values. Epoch
+// 5 in sector 1 has three pages, and its root in 10; epoch 4 in sector 0 is from before v was made. In version 1 the pages are in 5, 8 and 9, and
+// epoch 4 has a list in 4. In version 2 epoch 4 has the pages of t and u too, in 4 and 8, and its root in 9, and the page of v is in 5.
 const STORED: Steps = &[
     (Format, "ok"),
     (Import("t", Ints(&[7, -1])), "ok"),
@@ -228,15 +228,15 @@ const STORED: Steps = &[
     (Create("v", INT), "ok"),
 ];
 
-/// The tables t, u and v.
+/// Returns the steps that make the tables t, u and v.
 pub fn stored() -> Steps {
     STORED
 }
 
-/// The table t of it.
+/// The table t of these.
 pub const T: &str = "\"a\":int32?: 7 -1 5";
 
-/// The table u of it.
+/// The table u of these.
 pub const U: &str = "\"b\":int64: 1 1 1 1 1 1 1 1 1 1 1 1 1 1 1 1 1 1 1 1 1 1 1 1 1 1";
 
 const WHOLE: Steps = &[
@@ -263,7 +263,7 @@ const WITHOUT_U: Steps = &[
     (Tables, "t 3, v 0"),
 ];
 
-// Which sectors of it were written and not yet synced when a stop came, and can't be read then, and what is answered.
+// The sectors that were written but not synced when a stop came, so that they can't be read, and the steps after it with their replies.
 const LOST_COMMITS: &[Row] = &[
     (&[(0, 0, 1)], WHOLE),
     (&[(1, 0, 1)], OF_EPOCH_4),
@@ -298,7 +298,7 @@ fn lost_catalogue(made: Way) -> &'static [Row] {
 }
 
 const LOST_SEGMENT: &[Row] = &[
-    // The other tables are read as ever.
+    // The other tables can still be read.
     (
         &[(3, 0, 1)],
         &[
@@ -318,7 +318,7 @@ const LOST_SEGMENT: &[Row] = &[
 ];
 
 const LOST_SECOND_SEGMENT: &[Row] = &[
-    // A table in place of one that can't be read.
+    // A table replaces one that can't be read.
     (
         &[(2, 0, 1)],
         &[
@@ -354,7 +354,7 @@ fn is_told(alloc: Global, device: ModelDevice, steps: Steps) -> Result<bool, Not
     is_played(alloc, &mut Some(StoreOrDevice::Shut(device)), steps)
 }
 
-// What a stop leaves of a device that is changed.
+// Returns what a stop leaves of a device with these changes.
 fn stopped(
     device: &ModelDevice,
     changes: &[Change],
@@ -363,10 +363,10 @@ fn stopped(
     Ok(changed(device, changes)?.crash(choice)?)
 }
 
-// What stands in the way of a store.
+// Why a store can't be used whole.
 #[derive(Clone, Copy)]
 enum Cause {
-    // a byte that was changed
+    // a changed byte
     Changed,
     // a sector that can't be read
     Lost,
@@ -379,7 +379,7 @@ fn rows_of(cause: Cause, part: usize, made: Way) -> Option<&'static [Row]> {
     }
 }
 
-// What was done before.
+// Returns the steps before.
 fn steps_before(cause: Cause) -> Steps {
     match cause {
         Cause::Changed => TWICE,
@@ -387,7 +387,7 @@ fn steps_before(cause: Cause) -> Steps {
     }
 }
 
-// What a stop leaves of the sectors that were changed and not yet synced.
+// Returns what a stop leaves of the sectors that were changed but not synced.
 fn choice_of(cause: Cause) -> CrashChoice {
     match cause {
         Cause::Changed => CrashChoice::New,
@@ -409,7 +409,7 @@ fn wrong_row(
     Ok(None)
 }
 
-// The place of the first wrong row, a hundred for each part of the table.
+// Returns the place of the first wrong row, counting a hundred for each part of the table.
 fn wrong_part(
     alloc: Global,
     device: &ModelDevice,
@@ -432,7 +432,7 @@ fn wrongly_told(alloc: Global, cause: Cause, made: Way) -> Result<Option<usize>,
     wrong_part(alloc, &device, cause, made)
 }
 
-// The place of the first wrong row, ten thousand more in version 1.
+// Returns the place of the first wrong row, plus ten thousand in version 1.
 fn wrong_in_each(alloc: Global, cause: Cause) -> Result<Option<usize>, NotMade> {
     for (number, made) in VERSIONS.iter().enumerate() {
         if let Some(place) = wrongly_told(alloc, cause, *made)? {
@@ -451,7 +451,7 @@ fn the_first_cause_is_told(rt: HostRuntime) {
 // The only byte whose change gives another table: the name `t`.
 const NAME: (u64, usize) = (5, 8);
 
-// Whether these are the tables of an epoch.
+// Returns whether these are the tables of an epoch.
 fn may_show(text: &str, (n, at, _): Change) -> bool {
     text == NEWER
         || text == "damaged"
@@ -459,7 +459,7 @@ fn may_show(text: &str, (n, at, _): Change) -> bool {
         || (n, at) == NAME && text.as_bytes().ends_with(b": 1 2 3")
 }
 
-// Whether a device with one changed byte has the tables of an epoch. It may have a segment that does not hold the rows that the catalogue says.
+// Returns whether a device with one changed byte has the tables of an epoch. A segment may then not hold the rows that the catalogue says.
 fn is_no_other(alloc: Global, device: &ModelDevice, one: Change) -> Result<bool, NotMade> {
     match contents(alloc, &mut changed(device, &[one])?) {
         Ok(text) => Ok(may_show(text.as_str(), one)),
@@ -469,7 +469,7 @@ fn is_no_other(alloc: Global, device: &ModelDevice, one: Change) -> Result<bool,
 
 const BITS: &[u8] = &[1, 2, 4, 8, 16, 32, 64, 128];
 
-// Whether each bit of a byte may be changed.
+// Returns whether each bit of a byte may be changed.
 fn is_sound(alloc: Global, device: &ModelDevice, n: u64, at: usize) -> Result<bool, NotMade> {
     let mut well = true;
     for bit in BITS {
@@ -478,7 +478,7 @@ fn is_sound(alloc: Global, device: &ModelDevice, n: u64, at: usize) -> Result<bo
     Ok(well)
 }
 
-// The first byte of a sector of which the change of a bit shows another table.
+// Returns the first byte of a sector in which a changed bit shows another table.
 fn wrong_byte(alloc: Global, device: &ModelDevice, n: u64) -> Result<Option<usize>, NotMade> {
     for at in 0..512 {
         if !is_sound(alloc, device, n, at)? {
@@ -493,7 +493,7 @@ fn wrong_byte_of(alloc: Global, n: u64) -> Result<Option<usize>, NotMade> {
     wrong_byte(alloc, &device, n)
 }
 
-// The commits and the catalogue of the newer one.
+// Tests the commits, and the catalogue of the newer one.
 #[test]
 fn a_changed_byte_shows_no_other_table(rt: HostRuntime) {
     assert_no_row(&rt, wrong_byte_of(rt.alloc(), 0));
@@ -501,7 +501,7 @@ fn a_changed_byte_shows_no_other_table(rt: HostRuntime) {
     assert_no_row(&rt, wrong_byte_of(rt.alloc(), 5));
 }
 
-// The bytes of an epoch, all ones, and all but the lowest bit.
+// The bytes of an epoch: all ones, and all ones but the lowest bit.
 const LAST: &[Change] = &[
     (1, 8, 0xfe),
     (1, 9, 0xff),
@@ -524,8 +524,8 @@ const LAST_BUT_ONE: &[Change] = &[
     (0, 15, 0xff),
 ];
 
-// A store of epoch 1 or 2, what is changed in its commit, and what is answered: where the greatest epoch rules nothing is
-// published any more. That is reported after what the tables say, and before what there is no room for.
+// A store of epoch 1 or 2, the changes in its commit, and the steps with their replies: once the greatest epoch rules, nothing more is published.
+// That is tested after the tables, and before room.
 const EPOCHS: &[(Steps, &[Change], Steps)] = &[
     (
         &[(Format, "ok")],

@@ -1,4 +1,4 @@
-// Lists of tables that are kept in pages, and where those lie.
+// Catalogues in pages, and where those lie.
 use crate::commands::Row;
 use crate::inputs::{INT, Input};
 use crate::steps::Step;
@@ -7,8 +7,8 @@ use Step::{Append, Compact, Create, Format, Import, Read, Remove, Rename, Tables
 
 const TWO: Input = Ints(&[7, -1]);
 
-// A list of at most 512 bytes is kept whole. Of a longer one each table has a page, and a root names them: a change writes the pages of the tables
-// that it changes, and a new root.
+// A list of at most 512 bytes is kept whole. A longer one has a page for each table and a root that names the pages: a change writes the pages of
+// the tables that it changes, and a new root.
 const PAGED: &[Row] = &[
     (
         16,
@@ -78,7 +78,7 @@ const PAGED: &[Row] = &[
     ),
 ];
 
-// A page is written where the text of its table changed, and stays where it did not.
+// A page is written if the text of its table changed, and stays if it did not.
 const PAGES_WRITTEN: &[Row] = &[
     (
         16,
@@ -122,7 +122,7 @@ const PAGES_WRITTEN: &[Row] = &[
     ),
 ];
 
-// Lists of 512 bytes and of one more.
+// Lists of 512 and of 513 bytes.
 const LONGEST: &[Row] = &[
     (
         16,
@@ -146,7 +146,7 @@ const LONGEST: &[Row] = &[
     ),
 ];
 
-/// The rows, part by part.
+/// Returns the rows, part by part.
 pub fn part(number: usize) -> Option<&'static [Row]> {
     Some(match number {
         0 => PAGED,

@@ -1,4 +1,4 @@
-// A reader that gives its bytes in pieces, and fails as it is asked to.
+// A reader that gives its bytes in pieces and can be made to fail.
 use std::io::{self, Cursor, ErrorKind, Read};
 
 /// How bytes are given.
@@ -8,11 +8,11 @@ pub enum Pieces {
     Whole,
     /// One by one.
     Single,
-    /// n, and then a read fails.
+    /// This number, and then a read fails.
     Failing(usize),
 }
 
-/// A reader of bytes in pieces.
+/// A reader that gives bytes in pieces.
 #[derive(Drop)]
 pub struct PieceReader {
     bytes: Cursor<Vec<u8>>,

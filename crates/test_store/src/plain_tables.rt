@@ -1,4 +1,4 @@
-// Tables and exports as plain values, and what each call answers: what a store is compared with. Each table has one column `a`, of 32 or 64 bits.
+// Tables and exports as plain values, and the answer to each call, to compare a store with. Each table has one column `a` of 32 or 64 bits.
 use crate::inputs::Input;
 use crate::made::NotMade;
 use crate::snapshot::Snapshot;
@@ -6,7 +6,7 @@ use crate::steps::{Asked, Step, add_comma, says};
 use std::alloc::Global;
 use store::Reply;
 
-/// The names that tables may have, in byte order.
+/// The possible names of tables, in byte order.
 pub const NAMES: &[&str] = &["s", "t", "u", "v"];
 
 /// The condition of a query that has one.
@@ -26,7 +26,7 @@ pub struct Plain {
     exports: Vec<Snapshot>,
 }
 
-// Where a name stands among these; their number: nowhere.
+// Returns the place of a name among these, or their number if it is not there.
 fn place_of(name: &str) -> usize {
     for (place, other) in NAMES.iter().enumerate() {
         if *other == name {
@@ -43,7 +43,7 @@ fn is_wide(columns: &[&str]) -> bool {
     }
 }
 
-// Adds the values of an input.
+// Appends the values of an input.
 fn add_input(values: &mut Vec<i32>, input: Input) -> Result<(), NotMade> {
     let Input::Range(_, first, count) = input else {
         return Err(NotMade);
@@ -56,7 +56,7 @@ fn add_input(values: &mut Vec<i32>, input: Input) -> Result<(), NotMade> {
     Ok(())
 }
 
-// The rows of an input.
+// Returns the rows of an input.
 fn rows_of(alloc: Global, input: Input) -> Result<Rows, NotMade> {
     let Input::Range(columns, ..) = input else {
         return Err(NotMade);
@@ -69,12 +69,12 @@ fn rows_of(alloc: Global, input: Input) -> Result<Rows, NotMade> {
     })
 }
 
-// Whether a query keeps a value.
+// Returns whether a query keeps a value.
 fn is_kept(asked: Asked, value: i32) -> bool {
     asked.1.is_empty() || value >= 20
 }
 
-// Adds the values that a query keeps, n at the most.
+// Appends the values that a query keeps, up to its limit.
 fn add_kept(values: &mut Vec<i32>, asked: Asked, rows: &Rows) -> Result<(), NotMade> {
     let most = asked.2.unwrap_or(u64::MAX);
     for value in &rows.values {
@@ -110,7 +110,7 @@ fn add_values(text: &mut String, rows: &Rows) -> Result<(), NotMade> {
     Ok(())
 }
 
-// As `"a":int64: 7 -1`.
+// Appends a table, as `"a":int64: 7 -1`.
 fn add_table(text: &mut String, rows: &Rows) -> Result<(), NotMade> {
     add_schema(text, rows)?;
     text.push_str(":")?;
@@ -118,7 +118,7 @@ fn add_table(text: &mut String, rows: &Rows) -> Result<(), NotMade> {
 }
 
 impl Plain {
-    /// No table, and no export.
+    /// Makes no table and no export.
     pub fn new(alloc: Global) -> Result<Plain, NotMade> {
         let mut tables = Vec::new(alloc);
         for _ in NAMES {
@@ -220,7 +220,7 @@ impl Plain {
         }
     }
 
-    /// Does a command: what is answered where there is room.
+    /// Executes a command and returns the answer, if there is room.
     pub fn change(&mut self, alloc: Global, step: Step) -> Result<&'static str, NotMade> {
         match step {
             Step::Create(name, columns) => Ok(self.create(alloc, name, columns)),
@@ -260,7 +260,7 @@ impl Plain {
         Ok(())
     }
 
-    /// The values of each table, as `contents` shows those of a device.
+    /// Returns the values of each table, as `contents` shows those of a device.
     pub fn contents(&self, alloc: Global) -> Result<String, NotMade> {
         let mut text = String::new(alloc);
         self.add_contents(&mut text)?;
@@ -282,14 +282,14 @@ impl Plain {
         }
     }
 
-    /// What a reading answers.
+    /// Returns the answer to a reading.
     pub fn reading(&self, alloc: Global, step: Step) -> Result<String, NotMade> {
         let mut text = String::new(alloc);
         self.add_reading(&mut text, step)?;
         Ok(text)
     }
 
-    // What an export of a table is to mean.
+    // Returns what an export of a table must mean.
     fn found(&self, alloc: Global, name: &str) -> Result<Option<Snapshot>, NotMade> {
         let Some(rows) = self.get(name) else {
             return Ok(None);
@@ -299,7 +299,7 @@ impl Plain {
         Ok(Some(Snapshot::new(alloc, text)))
     }
 
-    /// Whether an opening of an export is answered well: by the next id.
+    /// Returns whether opening an export is answered rightly: with the next id.
     pub fn opens(&mut self, alloc: Global, name: &str, reply: &Reply) -> Result<bool, NotMade> {
         match self.found(alloc, name)? {
             Some(snapshot) => {
@@ -311,7 +311,7 @@ impl Plain {
         }
     }
 
-    /// Whether the answer is the next piece of an export.
+    /// Returns whether the answer is the next piece of an export.
     pub fn gives(&mut self, alloc: Global, id: u64, reply: &Reply) -> Result<bool, NotMade> {
         match (self.exports.get_mut(id as usize), reply) {
             (Some(snapshot), Reply::Piece(piece)) => snapshot.takes(alloc, piece),
@@ -322,7 +322,7 @@ impl Plain {
         }
     }
 
-    /// Whether a closing of an export is answered well.
+    /// Returns whether closing an export is answered rightly.
     pub fn closes(&mut self, alloc: Global, id: u64, reply: &Reply) -> Result<bool, NotMade> {
         match self.exports.get_mut(id as usize) {
             Some(snapshot) if snapshot.is_open() => {
@@ -333,12 +333,12 @@ impl Plain {
         }
     }
 
-    /// How many exports were opened.
+    /// Returns how many exports were opened.
     pub fn exports_opened(&self) -> u64 {
         self.exports.len() as u64
     }
 
-    /// No export is open any more.
+    /// Notes that the store was opened again: no export is open any more.
     pub fn is_opened_again(&mut self) {
         self.exports.clear();
     }

@@ -1,4 +1,4 @@
-// Steps are taken on a device in memory: each by itself, or all of them by `run`.
+// Takes steps on a device in memory: one by one, or all of them by `run`.
 use crate::made::NotMade;
 use crate::pieces::PieceReader;
 use crate::steps::{Call, Step, Steps, call_of, says};
@@ -9,7 +9,7 @@ use store::{
 };
 use tables::{Command, Refusal};
 
-/// Where steps are taken; empty only between two of them.
+/// Where steps are taken; empty only between two steps.
 pub type Slot = Option<StoreOrDevice<ModelDevice>>;
 
 /// How steps are taken.
@@ -17,7 +17,7 @@ pub type Slot = Option<StoreOrDevice<ModelDevice>>;
 pub enum Way {
     /// By the calls of a store.
     EachCall,
-    /// By them too, and a store is made in version 1.
+    /// By the calls of a store, which is made in version 1.
     VersionOne,
     /// By `run`, as one list.
     OneRun,
@@ -25,7 +25,7 @@ pub enum Way {
 
 pub const WAYS: &[Way] = &[Way::EachCall, Way::OneRun];
 
-/// The ways in which stores are made in version 2 and in version 1.
+/// The ways that make stores in version 2 and in version 1.
 pub const VERSIONS: &[Way] = &[Way::EachCall, Way::VersionOne];
 
 type Opening = Result<Store<ModelDevice>, (OpeningRefusal, ModelDevice)>;
@@ -57,7 +57,7 @@ fn on_device(
     match call {
         Call::Format => formatted(alloc, device, version),
         Call::Open => opened(Store::open(alloc, device)),
-        // nothing else can be asked of a device
+        // a device takes no other call
         _ => (StoreOrDevice::Shut(device), Reply::Refused(Refusal::Halted)),
     }
 }
@@ -116,7 +116,7 @@ fn read_at(alloc: Global, store: &mut Store<ModelDevice>, name: &str) -> Reply {
     }
 }
 
-// An export that is refused writes nothing, unless the writer failed: else the reply is what was written.
+// An export that is refused writes nothing, unless the writer failed; otherwise the reply is what was written.
 fn exported(alloc: Global, store: &mut Store<ModelDevice>, name: &str) -> Reply {
     let mut bytes = Vec::new(alloc);
     match store.export(alloc, name, &mut bytes) {
@@ -165,7 +165,7 @@ fn compacted(alloc: Global, store: &mut Store<ModelDevice>) -> Reply {
     }
 }
 
-// What is asked of an open store that stays open.
+// Answers a call of an open store that stays open.
 fn reply_of(alloc: Global, store: &mut Store<ModelDevice>, call: Call) -> Reply {
     match call {
         Call::Apply(command) => applied(alloc, store, command),
@@ -208,7 +208,7 @@ fn on_store(
     }
 }
 
-// Takes one call of a store; one that is made is of this version.
+// Takes one call of a store. A store that it makes has this version.
 fn answer_in(alloc: Global, slot: &mut Slot, call: Call, version: FormatVersion) -> Option<Reply> {
     let (place, reply) = match slot.take()? {
         StoreOrDevice::Open(store) => on_store(alloc, store, call, version),
@@ -223,7 +223,7 @@ pub fn answer(alloc: Global, slot: &mut Slot, call: Call) -> Option<Reply> {
     answer_in(alloc, slot, call, FormatVersion::Two)
 }
 
-/// The reply to a step.
+/// Returns the reply to a step.
 pub fn reply_to(alloc: Global, slot: &mut Slot, step: Step) -> Result<Reply, NotMade> {
     answer(alloc, slot, call_of(alloc, step)?).ok_or(NotMade)
 }
@@ -250,7 +250,7 @@ fn calls_of(alloc: Global, steps: Steps) -> Result<Vec<Call>, NotMade> {
     Ok(calls)
 }
 
-// What was refused for want of memory is asked again.
+// Asks again for what was refused because memory was.
 fn run_twice(
     alloc: Global,
     place: StoreOrDevice<ModelDevice>,
@@ -262,7 +262,7 @@ fn run_twice(
     }
 }
 
-/// The replies to calls that `run` takes as one list.
+/// Returns the replies to calls that `run` takes as one list.
 pub fn replies_of_run(
     alloc: Global,
     slot: &mut Slot,
@@ -276,7 +276,7 @@ pub fn replies_of_run(
     Ok(replies)
 }
 
-/// The replies to steps.
+/// Returns the replies to steps.
 pub fn replies_of(
     alloc: Global,
     slot: &mut Slot,
@@ -290,7 +290,7 @@ pub fn replies_of(
     }
 }
 
-/// The place of the first reply that has another text than its step says.
+/// Returns the place of the first reply with another text than its step says.
 pub fn wrong_reply(
     alloc: Global,
     replies: &[Reply],
@@ -308,7 +308,7 @@ pub fn wrong_reply(
     Ok(None)
 }
 
-/// Takes the steps: the place of the first one whose reply is wrong.
+/// Takes the steps and returns the place of the first one whose reply is wrong.
 pub fn play(
     alloc: Global,
     slot: &mut Slot,
@@ -318,17 +318,17 @@ pub fn play(
     wrong_reply(alloc, &replies_of(alloc, slot, steps, way)?, steps)
 }
 
-/// A device of n sectors.
+/// Makes a device of this number of sectors.
 pub fn new_slot(alloc: Global, sectors: u64) -> Result<Slot, NotMade> {
     Ok(Some(StoreOrDevice::Shut(ModelDevice::new(alloc, sectors)?)))
 }
 
-/// Whether each step, taken by itself, is answered as it is to.
+/// Returns whether each step, taken by itself, is answered as expected.
 pub fn is_played(alloc: Global, slot: &mut Slot, steps: Steps) -> Result<bool, NotMade> {
     Ok(play(alloc, slot, steps, Way::EachCall)?.is_none())
 }
 
-/// The device, on which no store is open any more.
+/// Returns the device, after closing the store on it.
 pub fn shut(slot: &mut Slot) -> Result<ModelDevice, NotMade> {
     match slot.take() {
         Some(StoreOrDevice::Open(store)) => Ok(store.close()),

@@ -1,4 +1,4 @@
-// Tables that are read and exported, after each kind of change.
+// Tables that are read and exported after each kind of change.
 use crate::commands::Row;
 use crate::inputs::{Cell, INT, Input};
 use crate::pieces::Pieces;
@@ -53,7 +53,7 @@ const READ_ANEW: &[Row] = &[(
 )];
 
 const GIVEN: &[Row] = &[
-    // Rows that are given stand after those of the table, also none.
+    // Given rows follow those of the table, also if there are none.
     (
         16,
         &[
@@ -66,7 +66,7 @@ const GIVEN: &[Row] = &[
         ],
         "epoch 4, 297 in 4, t: 3+1 2+1",
     ),
-    // So do the rows of a table: of the same schema, of one with another dictionary and of one of another type, where the table takes them.
+    // So do the rows of another table: of the same schema, of one with another dictionary, and of one of another type, if the table takes them.
     (
         16,
         &[
@@ -83,7 +83,7 @@ const GIVEN: &[Row] = &[
 ];
 
 const SAVED: &[Row] = &[
-    // A query that is saved is a table of its own: what becomes of the other one does not change it.
+    // A saved query is a table of its own: changes of the other table do not change it.
     (
         16,
         &[
@@ -126,7 +126,7 @@ const SELECTED: &[Row] = &[(
     "epoch 8, 4 in 4",
 )];
 
-// Of a reader that fails midway nothing is taken, and the same bytes are taken afterwards.
+// If a reader fails midway nothing is taken, and the same bytes can be taken afterwards.
 const FROM_READERS: &[Row] = &[
     (
         16,
@@ -154,7 +154,7 @@ const FROM_READERS: &[Row] = &[
     ),
 ];
 
-// An export gives the table that it found, also where the table is gone. What it kept is free once it is closed.
+// An export gives the table that it found, also once the table is gone. What it kept is free once it is closed.
 const IN_PIECES: &[Row] = &[(
     16,
     &[
@@ -174,7 +174,7 @@ const IN_PIECES: &[Row] = &[(
     "epoch 4, 169 in 3, t:",
 )];
 
-// Two segments become one, which moves to the front then. The table is read as before.
+// Two segments become one, which then moves to the front. The table is read as before.
 const COMPACTED: &[Row] = &[(
     16,
     &[
@@ -191,7 +191,7 @@ const COMPACTED: &[Row] = &[(
     "epoch 5, 233 in 3, t: 2+1",
 )];
 
-/// The rows, part by part.
+/// Returns the rows, part by part.
 pub fn part(number: usize) -> Option<&'static [Row]> {
     Some(match number {
         0 => READ_BACK,

@@ -1,4 +1,4 @@
-// Commands that are refused, each by the first of its tests that fails.
+// Refused commands, each by the first of its tests that fails.
 use crate::commands::Row;
 use crate::inputs::{Cell, INT, Input};
 use crate::pieces::Pieces;
@@ -13,9 +13,9 @@ use Step::{
 
 const TWO: Input = Ints(&[7, -1]);
 
-// Of each command the tests in their order: the first that fails is reported, and then nothing has changed.
+// The tests of each command in their order: the first that fails is reported, and nothing is changed.
 const FORMATTED: &[Row] = &[
-    // A store that is open is not formatted: it is closed, and stands as before.
+    // An open store is not formatted: it is closed and stays as it was.
     (
         16,
         &[
@@ -52,7 +52,7 @@ const CREATED: &[Row] = &[
         ],
         "epoch 2, 169 in 3, t:",
     ),
-    // 64 bytes of a name, and 65.
+    // A name of 64 bytes, and one of 65.
     (
         16,
         &[
@@ -77,7 +77,7 @@ const CREATED: &[Row] = &[
 ];
 
 const ORDERED: &[Row] = &[
-    // Byte order of names.
+    // Names in byte order.
     (
         16,
         &[
@@ -147,7 +147,7 @@ const APPENDED: &[Row] = &[(
 )];
 
 const TEXTS_APPENDED: &[Row] = &[
-    // A stream of texts goes into dictionaries, and no row may have more than the 128 that indices of 8 bits can name.
+    // The texts of a stream go into dictionaries; no row may have more than the 128 texts that indices of 8 bits can name.
     (
         32,
         &[
@@ -168,7 +168,7 @@ const WITHOUT_CHANGE: &[Row] = &[(
         (Format, "ok"),
         (Create("t", INT), "ok"),
         (Create("u", INT), "ok"),
-        // a row that has too many cells, another value, or too great a one
+        // a row with too many cells, with another value, or with one that is too large
         (Give("v", &[&[Text("x")]]), "S1 NoTable"),
         (Give("t", &[&[Number(1)], &[]]), "S6 RowUnfit 1"),
         (
@@ -206,7 +206,7 @@ const WITHOUT_CHANGE: &[Row] = &[(
 )];
 
 const HALTED: &[Row] = &[
-    // Where no store is open, that is reported before all else.
+    // That no store is open is reported before anything else.
     (
         16,
         &[
@@ -236,7 +236,7 @@ const HALTED: &[Row] = &[
     ),
 ];
 
-// What is reported before anything is read, and what of the bytes.
+// What is reported before anything is read, and what is reported of the bytes.
 const FROM_REFUSED: &[Row] = &[(
     16,
     &[
@@ -258,7 +258,7 @@ const FROM_REFUSED: &[Row] = &[(
     "epoch 2, 233 in 4, t: 3+1",
 )];
 
-/// The rows, part by part.
+/// Returns the rows, part by part.
 pub fn part(number: usize) -> Option<&'static [Row]> {
     Some(match number {
         0 => FORMATTED,

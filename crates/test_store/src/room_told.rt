@@ -1,4 +1,4 @@
-// Commands for which there is no room.
+// Commands without enough room.
 use crate::commands::Row;
 use crate::inputs::Input;
 use crate::steps::Step;
@@ -7,7 +7,7 @@ use Step::{Append, CloseExport, Compact, ExportNext, Format, Import, OpenExport,
 
 const TWO: Input = Ints(&[7, -1]);
 
-// Room is reported of a run that stands nowhere, and then nothing has changed.
+// If no run is long enough for a part, the command is refused, and nothing is changed.
 const FILLED: &[Row] = &[
     (
         16,
@@ -29,7 +29,7 @@ const FILLED: &[Row] = &[
         &[
             (Format, "ok"),
             (Import("t", First(1458)), "ok"),
-            // the rows that stand are kept until the new ones are published
+            // the old rows are kept until the new ones are published
             (Import("t", First(1458)), "S8 NoRoom 12"),
             (Append("t", TWO), "S8 NoRoom 1"),
             (Tables, "t 1458"),
@@ -62,7 +62,7 @@ const FULL: &[Row] = &[
     ),
 ];
 
-// Sectors that an export keeps are not written, by a command or by a step of a compaction, until it is closed.
+// Neither a command nor a step of a compaction writes sectors that an export keeps, until it is closed.
 const KEPT: &[Row] = &[
     (
         16,
@@ -96,7 +96,7 @@ const KEPT: &[Row] = &[
     ),
 ];
 
-/// The rows, part by part.
+/// Returns the rows, part by part.
 pub fn part(number: usize) -> Option<&'static [Row]> {
     Some(match number {
         0 => FILLED,

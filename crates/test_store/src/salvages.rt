@@ -1,4 +1,4 @@
-// A salvage of a table of which sectors were changed: the table that its stream means, and the segments that are left out.
+// Salvages of a table with changed sectors: the table that the stream means, and the segments that are left out.
 use crate::made::{NotMade, assert_no_row};
 use crate::openings::{Change, changed, device_after, stored};
 use crate::playing::{VERSIONS, Way};
@@ -9,7 +9,7 @@ use std::alloc::Global;
 use std::fmt::Write as _;
 use store::{LeftOut, Store};
 
-// The first segment of t has two rows in sector 3, and the second one has one row in sector 2; that of u begins in sector 6.
+// The first segment of t has two rows, in sector 3, and the second one row, in sector 2; that of u begins in sector 6.
 const SALVAGED: &[(&[Change], &str, &str)] = &[
     (&[], "t", "\"a\":int32?: 7 -1 5"),
     (&[], "v", "\"a\":int32?:"),
@@ -67,7 +67,7 @@ fn is_salvaged(
     Ok(salvaged(alloc, device, name)?.as_str() == want)
 }
 
-// Whether it is so in both versions.
+// Returns whether the salvage is right in both versions.
 fn are_salvaged(
     alloc: Global,
     changes: &[Change],

@@ -1,4 +1,4 @@
-// Selections of a table that is made of rows, and not read from a store (query). All others are made by commands, here and by scripts (tests/texts,
+// Selections from a table that is made of rows, not read from a store (query). All others are made by commands, here and in scripts (tests/texts,
 // tests/queries).
 use crate::inputs::{Cell, Given, INT, new_schema, rows_of};
 use crate::made::{NotMade, assert_no_row};
@@ -17,7 +17,7 @@ const ROWS: Given = &[
     &[Number(4), Text("x")],
 ];
 
-// The columns and the rows of a table, what is asked of it, and what is selected, or why it is refused.
+// The columns and the rows of a table, a query, and the selection or the refusal.
 const SELECTED: &[(&[&str], Given, Asked, &str)] = &[
     (INT, &[], (&[], &[], None), "\"a\":int32?:"),
     (

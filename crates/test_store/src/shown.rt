@@ -1,4 +1,4 @@
-// What a device holds, as texts: where its store keeps what, and the values of its tables, read without a store.
+// What a device holds, as texts: the layout of its store, and the values of its tables, read without a store.
 use crate::made::NotMade;
 use crate::steps::{add_comma, add_values};
 use arrow_schema::same_shape;
@@ -11,7 +11,7 @@ use std::alloc::Global;
 use store::StoredCatalogue;
 use values::Table;
 
-// The bytes of a segment on a device of 4,096 sectors at the most.
+// Returns the bytes of a segment on a device of at most 4,096 sectors.
 fn bytes_at(alloc: Global, device: &mut ModelDevice, segment: Segment) -> Result<Vec<u8>, NotMade> {
     let sectors = device.sectors();
     let (start, bytes) = (segment.place.run.start, segment.place.bytes);
@@ -21,18 +21,18 @@ fn bytes_at(alloc: Global, device: &mut ModelDevice, segment: Segment) -> Result
     read_run(alloc, device, start, bytes as usize).map_err(|_| NotMade)
 }
 
-// The table that a segment holds.
+// Returns the table of a segment.
 fn table_at(alloc: Global, device: &mut ModelDevice, segment: Segment) -> Result<Table, NotMade> {
     let bytes = bytes_at(alloc, device, segment)?;
     decode(alloc, bytes).map_err(|_| NotMade)
 }
 
-// Whether a segment's table is the part of a table that the catalogue says.
+// Returns whether a segment's table is the part of a table that the catalogue says.
 fn is_part(entry: &TableEntry, segment: Segment, table: &Table) -> bool {
     table.len() as u64 == segment.rows && same_shape(entry.schema(), table.schema())
 }
 
-// Adds the values of a segment of a table.
+// Appends the values of a segment of a table.
 fn add_segment(
     alloc: Global,
     text: &mut String,
@@ -48,7 +48,7 @@ fn add_segment(
     }
 }
 
-// As `t: 7 -1`.
+// Appends the values of a table, as `t: 7 -1`.
 fn add_values_of(
     alloc: Global,
     text: &mut String,
@@ -85,15 +85,15 @@ fn add_contents(alloc: Global, text: &mut String, device: &mut ModelDevice) -> R
     }
 }
 
-/// The values of each table, as `t: 7 -1, u:`; `none` where there is no store, and `damaged` where that is.
+/// Returns the values of each table, as `t: 7 -1, u:`; `none` if there is no store, and `damaged` if the store is.
 pub fn contents(alloc: Global, device: &mut ModelDevice) -> Result<String, NotMade> {
     let mut text = String::new(alloc);
     add_contents(alloc, &mut text, device)?;
     Ok(text)
 }
 
-// As `t: 3+1 5+2`: the first sector of each segment, and how many there are. Where the table has a page, also its first sector and its
-// bytes, as `t page 4 of 192: 3+1`.
+// Appends the places of a table, as `t: 3+1 5+2`: the first sector and the number of sectors of each segment. If the table has a page, its first
+// sector and its bytes come first, as `t page 4 of 192: 3+1`.
 fn add_places_of(text: &mut String, entry: &TableEntry) -> Result<(), NotMade> {
     text.push_str(entry.name())?;
     if let Some(page) = entry.page {
@@ -108,7 +108,7 @@ fn add_places_of(text: &mut String, entry: &TableEntry) -> Result<(), NotMade> {
     Ok(())
 }
 
-// As `epoch 2, 201 in 4, t: 3+1`: the bytes of the list or the root, and where it lies.
+// Appends all places, as `epoch 2, 201 in 4, t: 3+1`: the bytes of the list or the root, and where it lies.
 fn add_places(text: &mut String, commit: Commit, entries: &[TableEntry]) -> Result<(), NotMade> {
     let (epoch, place) = (commit.epoch, commit.catalogue);
     let (bytes, start) = (place.bytes, place.run.start);
@@ -128,7 +128,8 @@ fn add_layout(alloc: Global, text: &mut String, device: &mut ModelDevice) -> Res
     }
 }
 
-/// Whether these are the epoch, the bytes of the catalogue and their first sector, and the segments of each table; `none` where there is no store.
+/// Returns whether the epoch, the bytes and the first sector of the catalogue, and the segments of each table are these; `none` if there is no
+/// store.
 pub fn is_laid_out(alloc: Global, device: &mut ModelDevice, want: &str) -> Result<bool, NotMade> {
     let mut text = String::new(alloc);
     add_layout(alloc, &mut text, device)?;

@@ -1,16 +1,16 @@
-// An export that is open beside one of a store: what its pieces are to mean, and those that were given.
+// An open export, to compare one of a store with: what its pieces must mean, and those that were given.
 use crate::made::NotMade;
 use crate::steps::add_table;
 use ipc_stream::decode;
 use std::alloc::Global;
 use values::Table;
 
-// How a stream ends.
+// The end of a stream.
 const END: &[u8] = &[0xff, 0xff, 0xff, 0xff, 0, 0, 0, 0];
 
 #[derive(Drop)]
 pub struct Snapshot {
-    // The table that it found, as `"a":int32?: 7 -1`.
+    // The table that the export found, as `"a":int32?: 7 -1`.
     text: String,
     // The pieces that were given, joined.
     bytes: Vec<u8>,
@@ -42,7 +42,7 @@ impl Snapshot {
         self.closed = true;
     }
 
-    // Whether the pieces that were given are a whole stream of the table that was found.
+    // Returns whether the given pieces are a whole stream of the table that was found.
     fn is_whole(&self, alloc: Global) -> Result<bool, NotMade> {
         if !self.bytes.ends_with(END) {
             return Ok(false);
@@ -53,7 +53,7 @@ impl Snapshot {
         }
     }
 
-    /// Takes the next piece: whether there may be one, or none any more.
+    /// Takes the next piece, or the end, and returns whether it may come now.
     pub fn takes(&mut self, alloc: Global, piece: &Option<Vec<u8>>) -> Result<bool, NotMade> {
         match piece {
             Some(bytes) => {

@@ -12,7 +12,7 @@ use store::Reply;
 use tables::{Command, NewTable};
 use values::{Table, ValueRef, Values};
 
-/// What is asked of a place, with such readers.
+/// A call of a place, with such readers.
 pub type Call = store::Call<PieceReader>;
 
 /// A call.
@@ -49,10 +49,10 @@ pub type Asked = (
     Option<u64>,
 );
 
-/// Calls, and what is to come of each.
+/// Calls, each with the expected reply.
 pub type Steps = &'static [(Step, &'static str)];
 
-/// The making of a table without rows.
+/// Returns the command that makes an empty table.
 pub fn creation(alloc: Global, name: &str, columns: &[&str]) -> Result<Command, NotMade> {
     let schema = new_schema(alloc, columns)?;
     let name = String::from_str(alloc, name)?;
@@ -77,7 +77,7 @@ fn gift(alloc: Global, name: &str, given: Given) -> Result<Command, NotMade> {
     Ok(Command::AppendRows { name, rows })
 }
 
-// The rows of the table that a stream means.
+// Returns the command that appends the rows of the table that a stream means.
 fn table_gift(alloc: Global, name: &str, input: Input) -> Result<Command, NotMade> {
     let Ok(new) = decode_weighed(alloc, bytes_of(alloc, input)?) else {
         return Err(NotMade);
@@ -102,7 +102,7 @@ fn conditions(alloc: Global, all: &[&str]) -> Result<Vec<Condition>, NotMade> {
     Ok(conditions)
 }
 
-/// The query that is asked for.
+/// Makes the query that is asked for.
 pub fn query(alloc: Global, asked: Asked) -> Result<Query, NotMade> {
     Ok(Query {
         columns: texts(alloc, asked.0)?,
@@ -139,7 +139,7 @@ fn command_of(alloc: Global, step: Step) -> Result<Command, NotMade> {
         Step::Save(from, to, asked) => saving(alloc, from, to, asked),
         Step::Rename(from, to) => renaming(alloc, from, to),
         Step::Remove(name) => removal(alloc, name),
-        // the others are no commands
+        // the other steps are no commands
         _ => Err(NotMade),
     }
 }
@@ -148,7 +148,7 @@ fn reader(alloc: Global, input: Input, pieces: Pieces) -> Result<PieceReader, No
     Ok(PieceReader::new(bytes_of(alloc, input)?, pieces))
 }
 
-/// The call of a step.
+/// Returns the call of a step.
 pub fn call_of(alloc: Global, step: Step) -> Result<Call, NotMade> {
     Ok(match step {
         Step::Format => Call::Format,
@@ -175,7 +175,7 @@ pub fn call_of(alloc: Global, step: Step) -> Result<Call, NotMade> {
     })
 }
 
-/// Adds a comma, unless this is the first part.
+/// Appends a comma, unless this is the first part.
 pub fn add_comma(text: &mut String, place: usize) -> Result<(), NotMade> {
     if place > 0 {
         text.push_str(", ")?;
@@ -183,7 +183,7 @@ pub fn add_comma(text: &mut String, place: usize) -> Result<(), NotMade> {
     Ok(())
 }
 
-// As `t 2, u 0`.
+// Appends tables, as `t 2, u 0`.
 fn add_tables(text: &mut String, tables: &[(String, u64)]) -> Result<(), NotMade> {
     for (place, (name, rows)) in tables.iter().enumerate() {
         add_comma(text, place)?;
@@ -192,7 +192,7 @@ fn add_tables(text: &mut String, tables: &[(String, u64)]) -> Result<(), NotMade
     Ok(())
 }
 
-// As `"a":int32?, "b":int8`.
+// Appends a schema, as `"a":int32?, "b":int8`.
 fn add_schema(alloc: Global, text: &mut String, schema: &Schema) -> Result<(), NotMade> {
     for (place, field) in schema.fields.iter().enumerate() {
         add_comma(text, place)?;
@@ -210,7 +210,7 @@ fn add_value(text: &mut String, value: ValueRef<'_>) -> Result<(), NotMade> {
     }
 }
 
-// As ` 7` of a row of one column, and ` 7/x` of one of two.
+// Appends a row, as ` 7` if it has one column and ` 7/x` if it has two.
 fn add_row(text: &mut String, row: Values<'_>) -> Result<(), NotMade> {
     let mut first = true;
     for value in row.iter() {
@@ -221,7 +221,7 @@ fn add_row(text: &mut String, row: Values<'_>) -> Result<(), NotMade> {
     Ok(())
 }
 
-/// Adds the values of a table, row after row.
+/// Appends the values of a table, row after row.
 pub fn add_values(text: &mut String, table: &Table) -> Result<(), NotMade> {
     for row in table.rows() {
         add_row(text, row)?;
@@ -229,7 +229,7 @@ pub fn add_values(text: &mut String, table: &Table) -> Result<(), NotMade> {
     Ok(())
 }
 
-/// As `"a":int32?: 7 -1`.
+/// Appends a table, as `"a":int32?: 7 -1`.
 pub fn add_table(alloc: Global, text: &mut String, table: &Table) -> Result<(), NotMade> {
     add_schema(alloc, text, table.schema())?;
     text.push_str(":")?;
@@ -240,7 +240,7 @@ fn is_canonical(alloc: Global, table: &Table, bytes: &[u8]) -> Result<bool, NotM
     Ok(encode(alloc, table)?.as_slice() == bytes)
 }
 
-// As `stream of "a":int32?: 7 -1`, where the bytes are the canonical stream of the table that they mean.
+// Appends `stream of "a":int32?: 7 -1`, if the bytes are the canonical stream of the table that they mean.
 fn add_stream_of(
     alloc: Global,
     text: &mut String,
@@ -280,7 +280,7 @@ fn add_reply(alloc: Global, text: &mut String, reply: &Reply) -> Result<(), NotM
     }
 }
 
-/// Whether a reply has this text.
+/// Returns whether a reply has this text.
 pub fn says(alloc: Global, reply: &Reply, want: &str) -> Result<bool, NotMade> {
     let mut text = String::new(alloc);
     add_reply(alloc, &mut text, reply)?;

@@ -1,5 +1,5 @@
-// Each call of the device fails, or stops, in turn: opened again it has the tables of what was acknowledged, or with the
-// command in flight, and goes on.
+// Each call of the device fails, or stops it, in turn. Opened again it has the tables of what was acknowledged, perhaps with the command in flight,
+// and goes on.
 use crate::inputs::{Cell, INT, Input};
 use crate::made::{NotMade, assert_no_row};
 use crate::playing::{Slot, Way, is_played, play, replies_of, shut};
@@ -13,7 +13,7 @@ use sector_dev::{CrashChoice, ModelDevice};
 use std::alloc::Global;
 use store::{Reply, StoreOrDevice};
 
-// A function that names a constant proves what stands in it: so this one stands in one function alone, as others do.
+// A function that names a constant proves its contents, so only one function names this one. Others are kept so too.
 const SCRIPT: Steps = &[
     (Format, "ok"),
     (Import("t", Ints(&[7, -1])), "ok"),
@@ -26,14 +26,14 @@ const SCRIPT: Steps = &[
     (Save("s", "w", (&[], &[], None)), "ok"),
 ];
 
-/// What is asked of a device of 16 sectors.
+/// Returns the steps on a device of 16 sectors.
 pub fn script() -> Steps {
     SCRIPT
 }
 
 pub const OPENING: Steps = &[(Open, "ok")];
 
-// The values of the tables before the first step, and after each.
+// The values of the tables before the first step and after each step.
 const STATES: &[&str] = &[
     "none",
     "",
@@ -47,11 +47,11 @@ const STATES: &[&str] = &[
     "s: 5, w: 5",
 ];
 
-// How many writes and syncs were made after each step in version 1: a segment if there is one, the catalogue and its sync, the
-// commit and its sync, and before them in a formatting one more sync and one more sector.
+// The number of writes and syncs after each step in version 1: a segment if there is one, the catalogue and its sync, the commit and its sync;
+// formatting makes one more sync and writes one more sector before these.
 const CALLS: &[u64] = &[6, 11, 15, 20, 25, 30, 34, 38, 43];
 
-// In version 2 the catalogue of three segments is too long for a list: two pages and a root take its place.
+// In version 2 the catalogue of three segments is too long for a list: it has two pages and a root.
 const CALLS_WITH_DIGESTS: &[u64] = &[6, 11, 15, 20, 27, 32, 36, 40, 45];
 
 fn calls_after(way: Way) -> &'static [u64] {
@@ -84,14 +84,14 @@ pub const CHOICES: &[CrashChoice] = &[
     CrashChoice::Lost(u64::MAX),
 ];
 
-// Which write or sync fails, from 1 on: this one alone, or each from it on.
+// The write or sync that fails, counted from 1: this one alone, or each from it on.
 #[derive(Clone, Copy)]
 enum Fault {
     Fail(u64),
     Stop(u64),
 }
 
-/// How many of these numbers, of which each is greater than the one before, are less than this one.
+/// Returns how many of these ascending numbers are below `end`.
 pub fn count_below(numbers: &[u64], end: u64) -> usize {
     let mut count = 0;
     for (place, number) in numbers.iter().enumerate() {
@@ -102,7 +102,7 @@ pub fn count_below(numbers: &[u64], end: u64) -> usize {
     count
 }
 
-// A device of 16 sectors with these faults.
+// Makes a device of 16 sectors with these faults.
 fn faulty(alloc: Global, faults: &[Fault]) -> Result<Slot, NotMade> {
     let mut device = ModelDevice::new(alloc, 16)?;
     for fault in faults {
@@ -114,7 +114,7 @@ fn faulty(alloc: Global, faults: &[Fault]) -> Result<Slot, NotMade> {
     Ok(Some(StoreOrDevice::Shut(device)))
 }
 
-/// Whether the first reply is of a device that failed, and each other one of a store that is not open any more.
+/// Returns whether the first reply is that of a failed device, and each other that of a store that is not open any more.
 pub fn are_refused(alloc: Global, replies: &[Reply]) -> Result<bool, NotMade> {
     let [first, rest @ ..] = replies else {
         return Ok(true);
@@ -126,7 +126,7 @@ pub fn are_refused(alloc: Global, replies: &[Reply]) -> Result<bool, NotMade> {
     Ok(well)
 }
 
-// Whether just n steps are acknowledged, and the others refused.
+// Returns whether exactly `done` steps are acknowledged, and the others refused.
 fn are_done(alloc: Global, replies: &[Reply], done: usize) -> Result<bool, NotMade> {
     let (first, rest) = replies.split_at_checked(done).ok_or(NotMade)?;
     let mut well = are_refused(alloc, rest)?;
@@ -136,7 +136,7 @@ fn are_done(alloc: Global, replies: &[Reply], done: usize) -> Result<bool, NotMa
     Ok(well)
 }
 
-// Whether these are the values of the tables after n steps.
+// Returns whether these are the values of the tables after `done` steps.
 fn is_state(found: &str, done: usize) -> bool {
     match STATES.get(done) {
         Some(state) => *state == found,
@@ -144,7 +144,7 @@ fn is_state(found: &str, done: usize) -> bool {
     }
 }
 
-// How many steps were taken, where n or one more may have been; `None`: another number.
+// Returns how many steps were taken, if these are `done` or one more.
 fn steps_found(found: &str, done: usize) -> Option<usize> {
     let next = done.saturating_add(1);
     if is_state(found, done) {
@@ -157,12 +157,12 @@ fn steps_found(found: &str, done: usize) -> Option<usize> {
     }
 }
 
-// Whether the tables of a device have these values.
+// Returns whether the tables of a device have these values.
 fn has(alloc: Global, device: &mut ModelDevice, want: &str) -> Result<bool, NotMade> {
     Ok(contents(alloc, device)?.as_str() == want)
 }
 
-// Takes the steps after the first ones: whether they are done.
+// Takes the steps after the first ones, and returns whether they are done.
 fn goes_on(alloc: Global, slot: &mut Slot, from: usize) -> Result<bool, NotMade> {
     let rest = script().get(from..).unwrap_or_default();
     if from > 0 && !is_played(alloc, slot, OPENING)? || !is_played(alloc, slot, rest)? {
@@ -171,7 +171,7 @@ fn goes_on(alloc: Global, slot: &mut Slot, from: usize) -> Result<bool, NotMade>
     has(alloc, &mut shut(slot)?, "s: 5, w: 5")
 }
 
-// How many steps were taken, of which n were acknowledged.
+// Returns how many steps were taken, of which `done` were acknowledged.
 fn steps_left(
     alloc: Global,
     device: &mut ModelDevice,
@@ -180,7 +180,7 @@ fn steps_left(
     Ok(steps_found(&contents(alloc, device)?, done))
 }
 
-/// Whether a device has the tables after n steps, or one more, and goes on.
+/// Returns whether a device has the tables after `done` steps or one more, and goes on.
 pub fn is_whole(alloc: Global, device: ModelDevice, done: usize) -> Result<bool, NotMade> {
     let mut device = device;
     match steps_left(alloc, &mut device, done)? {
@@ -189,7 +189,7 @@ pub fn is_whole(alloc: Global, device: ModelDevice, done: usize) -> Result<bool,
     }
 }
 
-// Whether it is so whatever a stop leaves.
+// Returns whether the device is whole whatever a stop leaves.
 fn are_whole(alloc: Global, device: &ModelDevice, done: usize) -> Result<bool, NotMade> {
     let mut well = true;
     for choice in CHOICES {
@@ -198,7 +198,7 @@ fn are_whole(alloc: Global, device: &ModelDevice, done: usize) -> Result<bool, N
     Ok(well)
 }
 
-// Whether it is so also of the device itself, if it goes on.
+// Returns whether the device itself is whole too, if it goes on.
 fn is_left_whole(
     alloc: Global,
     device: ModelDevice,
@@ -208,7 +208,7 @@ fn is_left_whole(
     let mut device = device;
     let well = are_whole(alloc, &device, done)?;
     if well && goes_on {
-        // no more of it is to fail
+        // no further call of it fails
         device.fail_at(0);
         is_whole(alloc, device, done)
     } else {
@@ -216,7 +216,7 @@ fn is_left_whole(
     }
 }
 
-// Whether just n steps of the script are acknowledged.
+// Returns whether exactly `done` steps of the script are acknowledged.
 fn is_done(alloc: Global, slot: &mut Slot, done: usize, way: Way) -> Result<bool, NotMade> {
     are_done(alloc, &replies_of(alloc, slot, script(), way)?, done)
 }
@@ -235,8 +235,8 @@ fn survives_on(
     }
 }
 
-// Runs the script with this fault: whether each step was answered as it is to, and what is left of a stop at its end is
-// whole, and so is the device itself if it goes on.
+// Runs the script with this fault, and returns whether each step was answered as expected and what a stop at its end leaves is whole, and so is the
+// device itself if it goes on.
 fn survives(alloc: Global, fault: Fault, way: Way) -> Result<bool, NotMade> {
     let (k, goes_on) = match fault {
         Fault::Fail(k) => (k, true),
@@ -246,7 +246,7 @@ fn survives(alloc: Global, fault: Fault, way: Way) -> Result<bool, NotMade> {
     survives_on(alloc, &mut faulty(alloc, &[fault])?, done, way, goes_on)
 }
 
-// The first call after whose failure, or stop, something is wrong.
+// Returns the first call whose failure or stop makes something wrong.
 fn wrong_call(alloc: Global, way: Way) -> Result<Option<usize>, NotMade> {
     for k in 1..=46u64 {
         if !survives(alloc, Fault::Fail(k), way)? || !survives(alloc, Fault::Stop(k), way)? {
@@ -271,7 +271,7 @@ fn each_call_of_the_device_fails_or_stops_in_a_run(rt: HostRuntime) {
     assert_no_row(&rt, wrong_call(rt.alloc(), Way::OneRun));
 }
 
-// Faults of a device, what is asked of it, and what a stop at the end leaves. A table of them stands in parts (see `commands`).
+// The faults of a device, the steps, and what a stop at the end leaves. The rows are split into parts (see `commands`).
 type Row = (
     &'static [Fault],
     Steps,
@@ -299,15 +299,15 @@ const WITH_IT: &[(CrashChoice, &str)] = &[
     (CrashChoice::Lost(u64::MAX), "t:, u:"),
 ];
 
-// Formatting makes the first six calls, and a table without rows four each.
+// Formatting makes the first six calls, and making an empty table four.
 const IN_DOUBT: &[Row] = &[
-    // A command in doubt is settled by the opening that found it, also where the next write, or the next sync, is the last call.
+    // A command in doubt is settled by the opening that found it, also if the next write or the next sync is the last call.
     (&[Fault::Fail(14), Fault::Stop(16)], DOUBTFUL, WITH_IT),
     (&[Fault::Fail(14), Fault::Stop(17)], DOUBTFUL, WITH_IT),
 ];
 
 const IN_COMMIT: &[Row] = &[
-    // The commit is written, and not yet synced.
+    // The commit is written but not yet synced.
     (
         &[Fault::Stop(9)],
         &[(Format, "ok"), (Create("t", INT), "S9 Device")],
@@ -317,7 +317,7 @@ const IN_COMMIT: &[Row] = &[
             (CrashChoice::Lost(u64::MAX), ""),
         ],
     ),
-    // It is not yet written.
+    // The commit is not yet written.
     (
         &[Fault::Stop(8)],
         &[(Format, "ok"), (Create("t", INT), "S9 Device")],
@@ -330,7 +330,7 @@ const IN_COMMIT: &[Row] = &[
 ];
 
 const IN_IMPORT: &[Row] = &[
-    // An import over it, in its commit and in the sync after that: the table is the old one or the new one.
+    // A stop within the commit of an import over a table, and within the sync after it: the table is the old one or the new one.
     (
         &[Fault::Stop(14)],
         &[
@@ -360,7 +360,7 @@ const IN_IMPORT: &[Row] = &[
 ];
 
 const IN_OPENING: &[Row] = &[
-    // An opening whose sync fails does not answer what it read.
+    // An opening whose sync fails does not report what it read.
     (
         &[Fault::Fail(10), Fault::Stop(11)],
         &[
@@ -372,7 +372,7 @@ const IN_OPENING: &[Row] = &[
         ],
         &[(CrashChoice::Old, ""), (CrashChoice::New, "t:")],
     ),
-    // One that is done makes it safe.
+    // A successful opening makes it safe.
     (
         &[Fault::Fail(10)],
         &[
@@ -391,7 +391,7 @@ const IN_OPENING: &[Row] = &[
 ];
 
 const IN_FORMATTING: &[Row] = &[
-    // After a formatting that failed it is formatted again, or there is a store.
+    // A device on which formatting failed can be formatted again, or has a store.
     (
         &[Fault::Fail(5)],
         &[
@@ -454,7 +454,7 @@ fn wrong_row(alloc: Global, rows: &[Row], way: Way) -> Result<Option<usize>, Not
     Ok(None)
 }
 
-// The place of the first wrong row, a hundred for each part of the table.
+// Returns the place of the first wrong row, counting a hundred for each part of the table.
 fn wrong_part(alloc: Global, way: Way) -> Result<Option<usize>, NotMade> {
     for part in 0..usize::MAX {
         let Some(rows) = stopped(part) else {

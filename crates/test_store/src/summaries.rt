@@ -1,4 +1,4 @@
-// The numbers of a store, also while exports are open.
+// The summary of a store, also while exports are open.
 use crate::inputs::Input;
 use crate::made::{NotMade, assert_no_row};
 use crate::playing::{Slot, Way, new_slot, play};
@@ -13,10 +13,10 @@ use store::{StoreOrDevice, Summary};
 
 const TWO: Input = Ints(&[7, -1]);
 
-// How a device of 16 sectors is asked, what is asked of it, and the numbers of the store that is open then.
+// How steps are taken on a device of 16 sectors, the steps, and the summary of the store that is open then.
 type Row = (Way, Steps, &'static str);
 
-// Where the segments and the catalogue lie then stands in `compactions`: in sectors 3 and 2, and in 5.
+// `compactions` has the layout: the segments are in sectors 3 and 2, and the catalogue in 5.
 const SUMMARIES: &[Row] = &[
     (
         Way::EachCall,
@@ -39,7 +39,7 @@ const SUMMARIES: &[Row] = &[
     ),
 ];
 
-// A segment that an export keeps counts as kept once no table has it, also of a table that was renamed.
+// A segment that an export keeps counts as kept once no table has it, also if the table was renamed.
 const KEPT: &[Row] = &[
     (
         Way::EachCall,
@@ -84,7 +84,7 @@ const KEPT: &[Row] = &[
     ),
 ];
 
-// An append leaves the segments of the table, and a step of a compaction takes their place. What several exports keep counts once.
+// An append leaves the old segments of the table, and a step of a compaction replaces them. What several exports keep counts once.
 const KEPT_BY_SEVERAL: &[Row] = &[
     (
         Way::EachCall,

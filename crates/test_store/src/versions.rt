@@ -1,4 +1,4 @@
-// Stores of each version of the format: what is asked of one keeps its version but for an upgrade, and in version 2 the catalogue has 32 bytes more for each
+// Stores of each version of the format: all calls but an upgrade keep the version, and in version 2 the catalogue has 32 bytes more for each
 // segment.
 use crate::inputs::{INT, Input};
 use crate::made::{NotMade, assert_no_row};
@@ -30,7 +30,7 @@ const APPENDED_BEHIND: Steps = &[
     (Read("t"), "\"a\":int32?: 7 -1 7 -1 7 -1"),
 ];
 
-// The version of a store on 16 sectors, what is asked of it, and where it keeps what then.
+// The version of a store on 16 sectors, the steps, and its final layout.
 type Row = (FormatVersion, Steps, &'static str);
 
 const IMPORTED: Steps = &[
@@ -121,7 +121,7 @@ const ROWS: &[Row] = &[
     (FormatVersion::Two, COMPACTED, "epoch 5, 233 in 3, t: 2+1"),
 ];
 
-/// A store of this version on 16 sectors.
+/// Makes a store of this version on 16 sectors.
 pub fn formatted(alloc: Global, version: FormatVersion) -> Result<Slot, NotMade> {
     match Store::format_version(alloc, ModelDevice::new(alloc, 16)?, version) {
         Ok(store) => Ok(Some(StoreOrDevice::Open(store))),

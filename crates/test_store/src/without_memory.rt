@@ -1,4 +1,4 @@
-// Scripts of which one allocation at the most is refused, by tests/refused_memory_in_crates.
+// Scripts of which tests/refused_memory_in_crates refuses at most one allocation.
 use crate::disturbed::{
     Script, are_told_after_failure, formatted, may_show_after_failure, script_of,
 };
@@ -20,10 +20,10 @@ use std::alloc::Global;
 use store::{OpeningRefusal, Reply, StoreOrDevice};
 use tables::Refusal;
 
-// Where the store keeps what after the script.
+// The layout of the store after the script.
 const LAYOUT: &str = "epoch 9, 462 in 5, s: 4+1, w: 2+1";
 
-// A `Vec` that an export is written to fails where it has no memory.
+// An export to a `Vec` fails if the `Vec` gets no memory.
 fn wants_memory(reply: &Reply) -> bool {
     match reply {
         Reply::Refused(refusal) => matches!(refusal, Refusal::OutOfMemory | Refusal::Write),
@@ -32,7 +32,7 @@ fn wants_memory(reply: &Reply) -> bool {
     }
 }
 
-// The reply to a step, or where it was refused for want of memory the one to the same step once more.
+// Returns the reply to a step, or the reply to the same step once more if memory was refused.
 fn second_reply(alloc: Global, slot: &mut Slot, step: Step) -> Result<Reply, NotMade> {
     let first = reply_to(alloc, slot, step)?;
     if wants_memory(&first) {
@@ -46,7 +46,7 @@ fn is_answered(alloc: Global, slot: &mut Slot, step: Step, want: &str) -> Result
     says(alloc, &second_reply(alloc, slot, step)?, want)
 }
 
-// The first step whose reply is wrong: the device had no memory to keep a call.
+// Returns the first step with a wrong reply: the device had no memory to keep a call.
 fn steps_done(alloc: Global, slot: &mut Slot, steps: Steps) -> Result<usize, NotMade> {
     for (place, (step, want)) in steps.iter().enumerate() {
         if !is_answered(alloc, slot, *step, want)? {
@@ -56,7 +56,7 @@ fn steps_done(alloc: Global, slot: &mut Slot, steps: Steps) -> Result<usize, Not
     Ok(steps.len())
 }
 
-// Whether a device that failed once, where n steps are done, is whole.
+// Returns whether a device that failed once, after `done` steps, is whole.
 fn is_left_whole(alloc: Global, device: ModelDevice, done: usize) -> Result<bool, NotMade> {
     if device.failures() == 1 {
         is_whole(alloc, device, done)
@@ -65,7 +65,7 @@ fn is_left_whole(alloc: Global, device: ModelDevice, done: usize) -> Result<bool
     }
 }
 
-// Whether a device that did not fail holds what the script leaves.
+// Returns whether a device that did not fail holds what the script leaves.
 fn is_all_left(alloc: Global, device: &mut ModelDevice) -> Result<bool, NotMade> {
     if device.failures() == 0 {
         is_laid_out(alloc, device, LAYOUT)
@@ -83,13 +83,13 @@ fn are_done_on(alloc: Global, slot: &mut Slot) -> Result<bool, NotMade> {
     }
 }
 
-// A step that was refused for want of memory has changed nothing: in the end all stands where it stands else. A step that the
-// device failed is done or not.
+// A step that was refused because memory was has changed nothing: the final layout is the usual one. A step in which the device failed is done or
+// not.
 fn are_done(alloc: Global) -> Result<bool, NotMade> {
     are_done_on(alloc, &mut new_slot(alloc, 16)?)
 }
 
-// Of two runs one at the most ended for want of memory.
+// Returns whether neither of two runs is wrong, and at most one got no memory.
 fn is_one_well(first: Result<bool, NotMade>, second: Result<bool, NotMade>) -> bool {
     match (first, second) {
         (Ok(well), Err(NotMade)) | (Err(NotMade), Ok(well)) => well,
@@ -131,7 +131,7 @@ fn listed() -> Steps {
     LISTED
 }
 
-// Whether a reply reports that memory was refused, to the store or to the device.
+// Returns whether a reply reports that memory was refused, to the store or to the device.
 fn is_disturbed(reply: &Reply) -> bool {
     match reply {
         Reply::Refused(refusal) => matches!(refusal, Refusal::OutOfMemory | Refusal::Device),
@@ -168,7 +168,7 @@ fn are_listed_on(alloc: Global, slot: &mut Slot) -> Result<bool, NotMade> {
     Ok(shut(slot)?.failures() == u64::from(done < listed().len()))
 }
 
-// A step that was refused for want of memory is done when it is asked again, unless the device failed.
+// A step that was refused because memory was is done when it is asked again, unless the device failed.
 fn are_listed(alloc: Global) -> Result<bool, NotMade> {
     are_listed_on(alloc, &mut new_slot(alloc, 16)?)
 }
@@ -193,13 +193,13 @@ fn one_call(alloc: Global, step: Step) -> Result<Vec<Call>, NotMade> {
     Ok(calls)
 }
 
-// The reply to a step that `run` takes alone.
+// Returns the reply to a step that `run` takes alone.
 fn reply_of_run(alloc: Global, slot: &mut Slot, step: Step) -> Result<Reply, NotMade> {
     let mut replies = replies_of_run(alloc, slot, one_call(alloc, step)?)?;
     replies.pop().ok_or(NotMade)
 }
 
-// It, or where memory was refused the reply to the same step once more.
+// Returns this reply, or the reply to the same step once more if memory was refused.
 fn second_of_run(alloc: Global, slot: &mut Slot, step: Step) -> Result<Reply, NotMade> {
     let first = reply_of_run(alloc, slot, step)?;
     if wants_memory(&first) {
@@ -217,7 +217,7 @@ fn replies_again(alloc: Global, slot: &mut Slot, steps: Steps) -> Result<Vec<Rep
     Ok(replies)
 }
 
-// How many steps of a script are done, if the others are refused as they are where the device failed once; `None`: they are not.
+// Returns how many steps of a script are done, if the others are refused as after one failure of the device; otherwise `None`.
 fn steps_told(alloc: Global, slot: &mut Slot, script: &Script) -> Result<Option<usize>, NotMade> {
     let replies = replies_again(alloc, slot, script.steps)?;
     let done = wrong_reply(alloc, &replies, script.steps)?.unwrap_or(script.steps.len());
@@ -225,7 +225,7 @@ fn steps_told(alloc: Global, slot: &mut Slot, script: &Script) -> Result<Option<
     Ok(if told { Some(done) } else { None })
 }
 
-// Whether a device holds what is left then: nothing but the device had no memory to keep a call.
+// Returns whether a device holds what is then left: only the device had no memory, to keep a call.
 fn is_script_left(
     alloc: Global,
     device: &mut ModelDevice,

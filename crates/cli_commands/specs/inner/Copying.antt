@@ -1,4 +1,4 @@
--- What the copies of one table, and of the first tables, leave.
+-- What copying one table, and the first tables, leaves.
 use Rattle.std.specs.Prelude.{◌≡◌, ◌++◌, ℕ, true, List, map, Some, Ok}
 use Rattle.std.specs.List.{AllByRecursion}
 use Rattle.sector_dev.specs.declared.device.SectorDevice.{Ghosts}
@@ -28,7 +28,7 @@ abbrev pub CopiesTable : {D E : Type 0} {g : Ghosts D} {h : Ghosts E} → (name 
 CopiesTable {g = g} {h = h} name from from' to to' =
     g.tells ≡ true → h.tells ≡ true → (a b : Tables) (m n : Machine) → StoreFits g.size g.story a m from → StoreFits h.size h.story b n to → TableCopied a m b n name from' to to'
 
--- of the tables t, those that are listed were imported, one after another, and no other
+-- of the tables t exactly the listed ones were imported, one after another
 pub record HasTaken {E : Type 0} {h : Ghosts E} (t : Tables) (b : Tables) (n : Machine) (listed : List (List ℕ × ℕ)) (to to' : Store E h) : Type 0 where
   pub next : Machine
   pub commands : List PlainCommand

@@ -1,4 +1,4 @@
--- The messages of a piece, and those of what was built.
+-- The messages of a piece, and those of what was built for it.
 use Rattle.std.specs.Prelude.{◌≡◌, ℕ, ◌+◌, false, List, [], ◌∷◌, ◌++◌, map, length}
 use Rattle.arrow_schema.specs.Column.{PlainSchema, columns_of}
 use Rattle.ipc_canonical.specs.Canonical.{entries_messages}
@@ -21,12 +21,12 @@ batch_of_piece s rows =
 abbrev pub built_message : (id : ℕ) → PlainDictionary → List ℕ
 built_message id d = dictionary_message id false d.slots (map raw_node d.nodes) d.buffers
 
--- those of more dictionaries, numbered from this id on
+-- all entries of several dictionaries, numbered from this id on
 abbrev pub built_messages : (id : ℕ) → List PlainDictionary → List ℕ
 built_messages id [] = []
 built_messages id (d ∷ ds) = built_message id d ++ built_messages (id + 1) ds
 
--- the record batch of n rows
+-- the record batch of this many rows
 abbrev pub built_batch : (rows : ℕ) → List Node → List (List ℕ) → List ℕ
 built_batch rows nodes buffers = batch_message rows (map raw_node nodes) buffers
 
@@ -34,7 +34,7 @@ built_batch rows nodes buffers = batch_message rows (map raw_node nodes) buffers
 abbrev pub IsFront : (front : List ℕ) (rows : ℕ) → List Node → List (List ℕ) → Type 0
 IsFront front rows nodes buffers = front ++ body buffers ≡ built_batch rows nodes buffers
 
--- a message has room for these: who writes one sees to it
+-- a message has room for these; whoever writes one makes sure of it
 abbrev pub AreFew : List Node → List (List ℕ) → Type 0
 AreFew nodes buffers = HasRoom (length nodes) buffers
 

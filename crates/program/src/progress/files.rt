@@ -1,4 +1,4 @@
-// How much of a store's file was read and written, and how that failed.
+// Shows how much of a store's file was read and written, and notes failed calls.
 use super::{LONG_WORK, ProgressLine, Stage};
 use arrowstore::{Failures, NotedFile};
 use sector_dev::LockFile;
@@ -11,7 +11,7 @@ use std::path::PathBuf;
 use std::rt::Files;
 use std::time::Clock;
 
-/// The files of `files`. While one is read or written, the line says how much that was, and where a call fails it is noted in `failures`.
+/// The files of `files`. While one is read or written, the line shows how much; a failed call is noted in `failures`.
 #[derive(Drop)]
 pub struct ProgressFiles<'a, C: Clock, T, H> {
     files: &'a H,
@@ -41,7 +41,7 @@ impl<C: Clock, T, H: Alloc<A = Global>> Alloc for ProgressFiles<'_, C, T, H> {
     }
 }
 
-// Each method hands on, also those that an impl may leave out: what the trait has in their place costs more to prove than a call.
+// Every method delegates, also those with a default: the trait's default costs more to prove than a call.
 impl<'a, C: Clock, T: Write + Copy, H: Files + AllocGlobal> Files for ProgressFiles<'a, C, T, H> {
     type File = NotedFile<'a, ProgressFile<'a, C, T, H::File>>;
 
@@ -138,7 +138,7 @@ impl<'a, C: Clock, T: Write + Copy, H: Files + AllocGlobal> Files for ProgressFi
     }
 }
 
-/// A file of which is reported how much was read and written.
+/// A file whose reads and writes are shown.
 #[derive(Drop)]
 pub struct ProgressFile<'a, C: Clock, T, F> {
     file: F,
@@ -148,10 +148,10 @@ pub struct ProgressFile<'a, C: Clock, T, F> {
 }
 
 impl<C: Clock, T: Write + Copy, F> ProgressFile<'_, C, T, F> {
-    // This many bytes more than before, in all, were read or written.
+    // Shows how many bytes were read or written in all; up to now they were `before`.
     fn tell(&self, stage: Stage, before: u64, bytes: u64) {
         if let Some(line) = self.line {
-            // No end is reported of what is read of a store, after which the work may go on for long.
+            // The end of reading a store is not reported, and the work after it may take long.
             if before / LONG_WORK < bytes / LONG_WORK {
                 line.show(stage, bytes);
             } else {

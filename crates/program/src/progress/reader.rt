@@ -1,11 +1,11 @@
-// How much of a long input was read.
+// Shows how much of a long input was read.
 ghost use Rattle.std.specs.Prelude.{◌≡◌};
 
 use super::{LEAST_TOLD, LONG_WORK, ProgressLine, Stage};
 use std::io::{self, IsTerminal, Read, Write};
 use std::time::Clock;
 
-/// Reads what `input` gives, and reports meanwhile how much that was, and at the end, where it was long, that it is worked on.
+/// Reads `input` and shows how much was read and, at the end of a long input, that it is being worked on.
 #[derive(Drop)]
 pub struct ProgressReader<'a, C: Clock, T, R: Read> {
     input: R,
@@ -14,7 +14,7 @@ pub struct ProgressReader<'a, C: Clock, T, R: Read> {
 }
 
 impl<'a, C: Clock, T: Write + Copy, R: Read + IsTerminal> ProgressReader<'a, C, T, R> {
-    /// Nothing is reported of an input that is typed, which stands on the terminal itself.
+    /// Shows nothing of an input that is typed on the terminal itself.
     pub fn new(input: R, line: Option<&'a ProgressLine<'a, C, T>>) -> ProgressReader<'a, C, T, R>
         ensures { result.input ≡ input }
     {
@@ -46,7 +46,7 @@ impl<C: Clock, T: Write + Copy, R: Read> Read for ProgressReader<'_, C, T, R> {
     }
 }
 
-// At the end of an input of n bytes.
+// Shows the end of an input of this many bytes.
 fn tell_end<C: Clock, T: Write + Copy>(line: &ProgressLine<'_, C, T>, bytes: u64) {
     if bytes >= LONG_WORK || (bytes >= LEAST_TOLD && line.is_long()) {
         line.show(Stage::Working, bytes);

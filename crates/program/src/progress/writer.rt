@@ -1,14 +1,14 @@
-// How much of a long output was written; what is written to the terminal itself stands alone there.
+// Shows how much of a long output was written; what is written to the terminal itself stands alone there.
 ghost use Rattle.std.specs.Prelude.{◌≡◌};
 
 use super::{LEAST_TOLD, ProgressLine, Stage};
 use std::io::{self, IsTerminal, Write};
 use std::time::Clock;
 
-// The most bytes of one write of which is reported, as many as a pipe of Linux holds: the number would lag behind a longer one.
+// The maximum length of a write of which progress is shown, what a pipe of Linux holds: the number would lag behind a longer write.
 const MOST_AT_ONCE: usize = 64 * 1024;
 
-/// Writes to `output`, and reports meanwhile how much that was. On a terminal it clears the line instead, before each write.
+/// Writes to `output` and shows how much was written. If `output` is a terminal, each write clears the line instead.
 #[derive(Drop)]
 pub struct ProgressWriter<'a, C: Clock, T, W: Write> {
     output: W,
@@ -45,7 +45,7 @@ impl<C: Clock, T: Write + Copy, W: Write> Write for ProgressWriter<'_, C, T, W> 
         let written = self.output.write(&buf[..buf.len().min(MOST_AT_ONCE)]);
         if let Ok(count) = &written {
             self.bytes_written = self.bytes_written.saturating_add(*count as u64);
-            // The answer of a command, as `ok`, is no output to report.
+            // The answer of a command, as `ok`, is not worth reporting.
             if self.bytes_written >= LEAST_TOLD {
                 line.tell(Stage::Writing, self.bytes_written);
             }

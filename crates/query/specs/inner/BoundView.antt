@@ -1,4 +1,4 @@
--- What a bound condition of the code is.
+-- The plain form of a bound condition of the code.
 use Rattle.query.specs.declared.bound.Predicate.{Predicate}
 use Rattle.query.specs.declared.bound.Predicate.TheVariants.{IsNull, IsValue, Compares}
 use Rattle.query.specs.declared.bound.Bound.{Bound}

@@ -1,4 +1,4 @@
--- The columns of a batch, as they are printed.
+-- The columns of a batch for printing.
 use Rattle.std.specs.Prelude.{◌≡◌, ℕ, ◌/◌, suc, true, false, List, [], ◌∷◌}
 use Rattle.json.specs.Print.{escape}
 use Rattle.arrow_schema.specs.Column.{Kind, Column}
@@ -19,7 +19,7 @@ use Rattle.query.specs.declared.column_slots.TextBuffers.{TextBuffers}
 use Rattle.query.specs.inner.Contents.{span_in}
 use Rattle.query.specs.inner.Slots.{IsIntegerColumn, array_of, is_valid_in}
 
--- the values of a type are strings, whose offsets are so wide
+-- the values of a type are strings, with offsets of this width
 pub record IsTextKind (kind : Kind) (width : ℕ) : Type 0 where
   pub cells : (a : Array) (i : ℕ) → kind_cell kind a i ≡ text (contents_at width a i)
   pub buffer : (a : Array) → has_short_buffer kind a ≡ are_few_offsets width a
@@ -37,7 +37,7 @@ AreBuffers c a (Texts b) =
     IsTextColumn c (bits_of b.width / 8) × (b.validity.now ≡ validity_in a) × (b.offsets.now ≡ offsets_in a) × (b.contents.now ≡ contents_in a)
 AreBuffers c a Others = Unit {0}
 
--- this is the column of a field with an array
+-- this is the column of a field with this array
 pub record IsColumn (f : Field) (a : Array) (s : ColumnSlots) : Type 0 where
   pub column : column_of s.field.now ≡ column_of f
   pub array : view_array s.view ≡ a

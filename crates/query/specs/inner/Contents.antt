@@ -27,7 +27,7 @@ pub record IsContentsColumn (c : Column) (width : BitWidth) (literal : Cell) (by
   pub validity : (a : Array) → is_sound c a ≡ true → has_short_validity a ≡ false
   pub offsets : (a : Array) → is_sound c a ≡ true → are_few_offsets (bits_of width / 8) a ≡ false
 
--- what is asked of a column of strings or binaries
+-- a comparison with a column of strings or binaries
 pub record IsContentsComparison (columns : List Column) (b : Bound) (comparison : ContentsComparison) : Type 0 where
   pub column : Column
   pub found : slice_get columns b.place ≡ Some column
@@ -40,7 +40,7 @@ pub record IsContentsComparison (columns : List Column) (b : Bound) (comparison 
 abbrev pub span_in : (width : ℕ) → (offsets contents : List ℕ) → ℕ → List ℕ
 span_in width offsets contents i = take (number_at width offsets (i + 1) - number_at width offsets i) (drop (number_at width offsets i) contents)
 
--- whether it holds of a slot with these buffers: never of a null
+-- whether the comparison holds for a slot with these buffers, which it never does for a null
 abbrev pub contents_hold_in : ContentsComparison → (validity offsets contents : List ℕ) → ℕ → Bool
 contents_hold_in comparison validity offsets contents i =
     is_valid_in validity i && accepts comparison.operator (slice_cmp nat_cmp (span_in (bits_of comparison.width / 8) offsets contents i) comparison.literal.now)

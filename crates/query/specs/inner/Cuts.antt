@@ -12,31 +12,31 @@ use Rattle.query.specs.declared.operator.Operator.{Operator}
 use Rattle.query.specs.Bound.{accepts}
 use Rattle.query.specs.inner.Slots.{width_of}
 
--- how many integers of a width 64 bytes hold
+-- how many integers of a width are in 64 bytes
 abbrev pub block_slots : BitWidth → ℕ
 block_slots width = 512 / bits_of width
 
--- what makes 0 of the least integer of a type
+-- the bias, which moves the least integer of a type to 0
 abbrev pub bias_in : IntegerType → ℕ
 bias_in t = if t.signed then 2 ^ (bits_of t.width - 1) else 0
 
--- what the bias makes of a literal, where it is one of n numbers
+-- the literal with the bias added, if it is one of n numbers
 abbrev pub IsKey : ℤ → (bias numbers : ℕ) → ℕ → Type 0
 IsKey literal bias numbers key = (pos key ≡ literal +ℤ pos bias) × (key < numbers)
 
--- how all of them stand to a literal that is none
+-- how all n numbers compare with a literal that is none of them
 abbrev pub AllStand : ℤ → (bias numbers : ℕ) → Ordering → Type 0
 AllStand literal bias numbers order = (n : ℕ) → n < numbers → int_cmp (pos n -ℤ pos bias) literal ≡ order
 
--- what is answered of a number to which the bias was added
+-- the answer for a number to which the bias was added
 abbrev pub answer : Cut → ℕ → Bool
 answer cut n = if nat_lt n cut.key then cut.below else if n == cut.key then cut.equal else cut.above
 
--- a number with the bias, in n bytes
+-- a number with the bias added, in n bytes
 abbrev pub moved : Cut → (width : ℕ) → ℕ → ℕ
 moved cut width n = (n + cut.bias) % 256 ^ width
 
--- what is answered of a slot of numbers
+-- the answer for a slot of numbers
 abbrev pub answer_at : Cut → (width : ℕ) → List ℕ → ℕ → Bool
 answer_at cut width values i = answer cut (moved cut width (number_at width values i))
 

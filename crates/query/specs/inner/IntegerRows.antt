@@ -16,7 +16,7 @@ pub record IsIntegerAt (columns : List Column) (place : ℕ) (c : IntegerColumn)
   pub integers : IsIntegerColumn column c.integer
   pub place_is : c.place ≡ place
 
--- those at some places have
+-- the columns at these places have integers and no dictionary
 abbrev pub AreIntegers : List Column → List ℕ → List IntegerColumn → Type 0
 AreIntegers columns [] [] = Unit {0}
 AreIntegers columns [] (c ∷ cs) = ⊥

@@ -1,4 +1,4 @@
--- The tests for nulls, slot by slot of an array.
+-- Tests for nulls, slot by slot of an array.
 use Rattle.std.specs.Prelude.{◌≡◌, ℕ, Bool, true, false, not, ◌&&◌, nat_le, List, slice_get, Some, if◌then◌else◌}
 use Rattle.arrow_schema.specs.Column.{Column}
 use Rattle.cells.specs.Nulls.{is_null}
@@ -10,12 +10,12 @@ use Rattle.query.specs.declared.null_slots.NullTest.{NullTest}
 use Rattle.query.specs.Bound.{Bound, asks_null, asks_value}
 use Rattle.query.specs.inner.Slots.{is_valid_in}
 
--- the cells of a column are nulls just where a slot is not valid
+-- the cells of a column are null exactly where a slot is not valid
 pub record HasNullsAlone (c : Column) : Type 0 where
   pub cells : (a : Array) (i : ℕ) → is_null (cell_at c a i) ≡ not (is_valid a i)
   pub validity : (a : Array) → is_sound c a ≡ true → has_short_validity a ≡ false
 
--- what is asked of such a column
+-- a test of such a column
 pub record IsNullTest (columns : List Column) (b : Bound) (t : NullTest) : Type 0 where
   pub column : Column
   pub found : slice_get columns b.place ≡ Some column

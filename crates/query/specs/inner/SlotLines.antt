@@ -25,12 +25,12 @@ closing forms.Object = codes "}"
 abbrev pub separator : ℕ → List ℕ
 separator place = if nat_lt 0 place then codes "," else []
 
--- what stands before the value of the column at a place
+-- what comes before the value of the column at a place
 abbrev pub lead : RowForm → ℕ → Column → List ℕ
 lead forms.Array place c = separator place
 lead forms.Object place c = separator place ++ quoted (name_of_column c) ++ codes ":"
 
--- the values of the columns from a place on, each with what stands before it
+-- the values of the columns from a place on, each with what comes before it
 abbrev pub rest_of_line : RowForm → ℕ → List Column → Cells → List ℕ
 rest_of_line forms.Array zero cs cells = json_of_all cells
 rest_of_line forms.Array (suc place) cs cells = json_of_others cells

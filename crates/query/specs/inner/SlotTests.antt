@@ -1,4 +1,4 @@
--- What is asked of the slots of a column, slot by slot of the arrays of record batches.
+-- Tests of the slots of a column, slot by slot of the arrays of record batches.
 use Rattle.std.specs.Prelude.{◌≡◌, ℕ, ◌/◌, Bool, true, nat_le, List, map, slice_get, Some}
 use Rattle.std.specs.List.{flat_map, list_all, range_with_len}
 use Rattle.arrow_schema.specs.Column.{Column}
@@ -20,7 +20,7 @@ place_in (Integers comparison) = comparison.place
 place_in (Contents comparison) = comparison.place
 place_in (Nulls test) = test.place
 
--- what is answered of a slot
+-- the answer for a slot
 abbrev pub holds_at : SlotTest → Array → ℕ → Bool
 holds_at (Integers comparison) a i = integer_holds_at comparison a i
 holds_at (Contents comparison) a i = contents_hold_at comparison a i
@@ -32,7 +32,7 @@ has_slots (Integers comparison) rows a = has_integers comparison.integer rows a
 has_slots (Contents comparison) rows a = has_contents (bits_of comparison.width / 8) rows a
 has_slots (Nulls test) rows a = has_validity rows a
 
--- it is what a condition asks of its column
+-- the test is what a condition asks of its column
 pub record IsSlotTest (columns : List Column) (b : Bound) (t : SlotTest) : Type 0 where
   pub column : Column
   pub found : slice_get columns b.place ≡ Some column

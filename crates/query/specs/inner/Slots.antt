@@ -33,7 +33,7 @@ pub record IsIntegerColumn (c : Column) (t : IntegerType) : Type 0 where
   pub validity : (a : Array) → is_sound c a ≡ true → has_short_validity a ≡ false
   pub values : (a : Array) → is_sound c a ≡ true → are_few (width_of t) a (values_in a) ≡ false
 
--- what is asked of a column of integers
+-- a comparison with a column of integers
 pub record IsIntegerComparison (columns : List Column) (b : Bound) (comparison : IntegerComparison) : Type 0 where
   pub column : Column
   pub found : slice_get columns b.place ≡ Some column
@@ -45,7 +45,7 @@ pub record IsIntegerComparison (columns : List Column) (b : Bound) (comparison :
 abbrev pub is_valid_in : List ℕ → ℕ → Bool
 is_valid_in validity i = length validity == 0 || bit validity i
 
--- whether it holds of a slot with this validity bitmap and these values: never of a null
+-- whether the comparison holds for a slot with this validity bitmap and these values, which it never does for a null
 abbrev pub integer_holds_in : IntegerComparison → (validity values : List ℕ) → ℕ → Bool
 integer_holds_in comparison validity values i =
     is_valid_in validity i

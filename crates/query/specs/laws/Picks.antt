@@ -1,4 +1,4 @@
--- What stands at distinct places of a list: it has what the list has, and weighs no more.
+-- The elements at distinct places of a list: they have what all elements have, and weigh no more than these.
 use Rattle.std.proofs.Common.{◌≡◌, ◌≢◌, ℕ, zero, suc, ◌≤◌, ◌==◌, Bool, true, false, List, [], ◌∷◌, map, refl, sym, ap, ◌∙◌, arith}
 use Rattle.std.proofs.Math.ListN.{set}
 use Rattle.std.specs.Prelude.{Option, Some, None, option_map, not, slice_get, sum_by}
@@ -51,7 +51,7 @@ total-pick (p ∷ ps) ws d =
     let both = and_parts (not (list_any (λ q. p == q) ps)) (is_distinct ps) d in
     total-cons p ps ws (not-true (list_any (λ q. p == q) ps) both.0) (λ vs. total-pick ps vs both.1) (slice_get ws p) refl
 
--- a sum over what stands at distinct places is at most the whole
+-- a sum over the elements at distinct places is at most the whole
 pub sum_by-pick : {X : Type 0} (f : X → ℕ) (ps : List ℕ) (xs : List X) → is_distinct ps ≡ true → sum_by f (pick ps xs) ≤ sum_by f xs
 sum_by-pick f ps xs d =
     let whole = sum-map f xs in
@@ -59,7 +59,7 @@ sum_by-pick f ps xs d =
     let moved = ap total (pick-map f ps xs) in
     omega (arith, whole, part, moved, total-pick ps (map f xs) d)
 
--- what holds of each element
+-- what holds for all elements holds for each
 all_at : {X : Type 0} (p : X → Bool) (xs : List X) (k : ℕ) (x : X) → list_all p xs ≡ true → slice_get xs k ≡ Some x → p x ≡ true
 all_at p [] k x h e = cc
 all_at p (y ∷ ys) zero x h e = let same : y ≡ x = cc in ap p (sym same) ∙ (and_parts (p y) (list_all p ys) h).0

@@ -1,4 +1,4 @@
--- The first of some rows whose bit is set, gathered row by row or run by run.
+-- The first of the rows whose bits are set, gathered row by row or run by run.
 use Rattle.std.proofs.Common.{◌≡◌, ℕ, inl, inr, zero, suc, ◌+◌, ◌-◌, ◌*◌, ◌≤◌, ◌<◌, Bool, true, false, List, [], ◌∷◌, ◌++◌, length, take, drop, get_or, refl, sym, ap, ◌∙◌, arith, append_assoc, length-append}
 use Rattle.std.specs.Prelude.{if◌then◌else◌}
 use Rattle.std.proofs.lemmas.Bool.{cases_lt}
@@ -7,7 +7,7 @@ use Rattle.bitmap.specs.Bits.{bit}
 use Rattle.cells.specs.Cell.{Cell}
 use Rattle.query.specs.Choice.{rows_set}
 
--- what is kept with the first of some rows, after others
+-- what is kept of the first i rows, after others
 abbrev pub kept_front : (most : ℕ) → (others : List (List Cell)) → (mask : List ℕ) → (start : ℕ) → (xs : List (List Cell)) → (i : ℕ) → List (List Cell)
 kept_front most others mask start xs i = take most (others ++ rows_set mask start (take i xs))
 

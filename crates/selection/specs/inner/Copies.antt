@@ -1,4 +1,4 @@
--- What copies of arrays are: the same arrays, whatever bytes they stand in.
+-- Copies of arrays: they are the same arrays, whatever bytes they stand in.
 use Rattle.std.specs.Prelude.{◌≡◌, ℕ, List, map}
 use Rattle.columns.specs.Array.{Array, Layout}
 use Rattle.columns.specs.View.{layout_step, array_step, array_in}

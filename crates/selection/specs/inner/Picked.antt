@@ -11,7 +11,7 @@ use Rattle.columns.specs.View.{placed_arrays}
 use Rattle.query.specs.Selection.{pick}
 use Rattle.selection.specs.declared.picked.PickedBatch.{PickedBatch}
 
--- n arrays, of which those that are not there have no slot
+-- n arrays; one that is missing has no slot
 abbrev pub first_arrays : ℕ → Arrays → List Array
 first_arrays zero arrays = []
 first_arrays (suc n) arrays = first_array arrays ∷ first_arrays n (other_arrays arrays)
