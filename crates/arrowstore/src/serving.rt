@@ -19,7 +19,7 @@ use commit::FormatVersion;
 use sector_dev::{FileDevice, FileError, LockFile, ModelDevice, SectorDevice};
 use std::alloc::Global;
 use std::fs::{self, FileType, OpenFile};
-use std::io::{Empty, Read, Seek, Write};
+use std::io::{self, Empty, ErrorKind, Read, Seek, Write};
 use std::os::unix::fs::FileTypeExt;
 use std::rt::Files;
 use store::{LeftOut, Store};
@@ -40,15 +40,27 @@ fn format_on<D: SectorDevice + Drop>(
     }
 }
 
-// If a standard stream is closed, the next file opened takes its descriptor, and what is printed would go into the store. Opening folders first,
-// which can be neither read nor written, takes these descriptors.
+// Opens a file that can't be written: a folder, which can't be read either, or the empty device where the root may not be read.
+fn open_placeholder<F: OpenFile, H: Files<File = F>>(rt: &H) -> io::Result<F> {
+    match fs::open(rt, "/") {
+        Err(e) if e.kind() == ErrorKind::PermissionDenied => fs::open(rt, "/dev/null"),
+        opened => opened,
+    }
+}
+
+// If a standard stream is closed, the next file opened takes its descriptor, and what is printed would go into the store. Placeholders that are opened
+// first take these descriptors.
 pub(crate) fn take_places_of_streams<
     F: Read + Write + Seek + OpenFile + LockFile + Drop,
     H: Files<File = F> + AllocGlobal,
 >(rt: &H) -> Result<(F, F, F), FileError>
     ensures { IfErr result (λ e. e ≡ FileError.Io) }
 {
-    Ok((fs::open(rt, "/")?, fs::open(rt, "/")?, fs::open(rt, "/")?))
+    Ok((
+        open_placeholder(rt)?,
+        open_placeholder(rt)?,
+        open_placeholder(rt)?,
+    ))
 }
 
 /// Returns whether a file of this kind has sectors: a regular file or a block device.

@@ -41,11 +41,12 @@ fn sync_directory<F: OpenFile>(directory: &F) -> io::Result<()> {
     }
 }
 
-// Has the system bring a new file's name to the disk, where a directory can be opened and synced.
+// Syncs the name of a new file, which its directory holds. A directory that may be written but not read can't be opened to be synced.
 fn sync_name<R: Files>(rt: &R, path: &str) -> io::Result<()> {
     match File::open(rt, parent_of(path)) {
         Ok(directory) => sync_directory(&directory),
-        Err(_) => Ok(()),
+        Err(e) if e.kind() == ErrorKind::PermissionDenied => Ok(()),
+        Err(e) => Err(e),
     }
 }
 
