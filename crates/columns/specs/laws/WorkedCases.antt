@@ -1,4 +1,4 @@
--- Worked cases of the definitions: arrays as another writer may spell them, and what they hold.
+-- Worked examples of the definitions: arrays as another writer may lay them out, and their cells.
 use Rattle.std.specs.Prelude.{◌≡◌, ℕ, ◌++◌, Bool, true, false, pos, negsuc, List, [], ◌∷◌, codes, replicate, map, Option, Some, None}
 use Rattle.std.specs.List.{list_any}
 use Rattle.arrow_schema.specs.Column.{Kind, Column, seconds, days, booleans, integers, dates, timestamps, texts, large_texts, fixed_binaries, lists, fixed_lists, structs, column, columns_of}
@@ -31,7 +31,7 @@ int32s = array 2 (1 ∷ []) (fixed_layout (1 ∷ 0 ∷ 0 ∷ 0 ∷ 0 ∷ 0 ∷ 0
 abbrev pub Integers : Type 0
 Integers = cells_in (plain true (integers 32 true)) int32s ≡ int 1 ∷ null ∷ []
 
--- [1, 2] with a validity bitmap of 64 bytes: of the bits past the slots nothing is asked
+-- [1, 2] with a validity bitmap of 64 bytes: the bits past the slots are ignored
 abbrev pub padded : ℕ → Array
 padded first = array 2 (first ∷ replicate 63 0) (fixed_layout (1 ∷ 0 ∷ 0 ∷ 0 ∷ 2 ∷ 0 ∷ 0 ∷ 0 ∷ replicate 56 0))
 
