@@ -9,13 +9,13 @@ ghost use Rattle.arrow_schema.specs.inner.SchemaTotals.{saturated, tallied, tall
 
 use crate::types::{DataType, Field, Schema};
 
-/// The maximal number of fields in a schema, including all children.
+/// The maximum number of fields in a schema, including all children.
 pub const MAX_FIELDS: u64 = 2048;
-/// The maximal depth of a field: a column is at level 1.
+/// The maximum depth of a field: a column is at level 1.
 pub const MAX_DEPTH: u64 = 32;
-/// The maximal number of key/value pairs of a schema and all its fields together.
+/// The maximum number of key/value pairs of a schema and all its fields together.
 pub const MAX_PAIRS: u64 = 4096;
-/// The maximal number of bytes of names, keys, values and timezones together.
+/// The maximum number of bytes of names, keys, values and timezones together.
 pub const MAX_TEXT_BYTES: u64 = 4_194_304;
 /// Widths and sizes are below this.
 pub const NUMBER_END: u32 = 1 << 31;

@@ -5,7 +5,7 @@ ghost use Rattle.bitmap.specs.Bits.{bit};
 
 use crate::get;
 
-/// Returns the end of the run of equal bits that begins at bit `from`, but at most `to`.
+/// Returns the end of the run of equal bits that begins at bit `from`, or `to` if the run is longer.
 pub fn run_end(bytes: &[u8], from: usize, to: usize) -> usize
     requires within { to ≤ 8 * length bytes.now }
     requires some { from < to }
@@ -17,7 +17,7 @@ pub fn run_end(bytes: &[u8], from: usize, to: usize) -> usize
     alike_end(bytes, get(bytes, from), from, to)
 }
 
-/// Returns the place of the first bit from `from` on that differs from `set`, but at most `to`.
+/// Returns the index of the first bit from `from` on that differs from `set`, or `to` if there is none before it.
 pub fn alike_end(bytes: &[u8], set: bool, from: usize, to: usize) -> usize
     requires within { to ≤ 8 * length bytes.now }
     requires order { from ≤ to }
@@ -60,7 +60,7 @@ fn alike_in_byte(byte: u8, set: bool, from: usize) -> usize
     (rest.trailing_zeros() as usize).min(8 - from)
 }
 
-// Returns the first byte with a bit that differs from `set`, but at most `to`.
+// Returns the index of the first byte with a bit that differs from `set`, or `to` if there is none before it.
 fn alike_bytes(bytes: &[u8], set: bool, from: usize, to: usize) -> usize
     requires within { to ≤ length bytes.now }
     requires order { from ≤ to }

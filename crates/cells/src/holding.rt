@@ -26,7 +26,7 @@ pub fn entry_limit(index: IntegerType) -> Option<usize>
     }
 }
 
-// Adds the entries of cells, and returns whether there are still at most `most` entries.
+// Adds the entries of cells, and returns false as soon as there are more than `most`.
 #[tactic(auto, using(crate::proofs::HoldingLemmas::entries_rules), unfolding(crate::specs::Dictionary::with_entries))]
 fn stay_few<'a>(
     most: usize,

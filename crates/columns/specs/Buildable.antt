@@ -26,7 +26,7 @@ small_offset = 2 ^ 31 - 1
 abbrev pub large_offset : ℕ
 large_offset = 2 ^ 63 - 1
 
--- no offset of the contents of these texts or binaries, or of the items of these lists, exceeds `most`
+-- offsets up to `most` reach the end of the contents of all texts or binaries, and of the items of all lists
 abbrev pub contents_fit : (most : ℕ) → List Cell → Bool
 contents_fit most cells = nat_le (length (flat_map contents_of cells)) most
 

@@ -16,7 +16,7 @@ pub struct KnownArrays<'a> {
 impl<'a> KnownArrays<'a> {
     ghost use Rattle.std.specs.Prelude.{[]};
 
-    /// Returns the arrays of no dictionary.
+    /// Returns no arrays, for a dictionary that does not exist.
     pub fn none() -> KnownArrays<'a>
         ensures { result.arrays.now ≡ [] }
     {

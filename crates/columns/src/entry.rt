@@ -58,7 +58,7 @@ fn place_below(place: u128, slots: usize) -> usize
     place as usize
 }
 
-/// Finds the slot of a dictionary entry. The index has 128 bits, so that any entry count is a valid argument.
+/// Finds the slot of a dictionary entry, or `None` if there is no such entry. The index has 128 bits, as entry counts do.
 pub fn entry_place<'a>(
     known: KnownArrays<'a>,
     bytes: &'a [u8],

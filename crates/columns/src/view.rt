@@ -78,7 +78,7 @@ impl<'a> ArrayView<'a> {
         validity.is_empty() || bitmap::get(validity, i)
     }
 
-    /// Returns the bits of a boolean array, or nothing for another layout.
+    /// Returns the bits of a boolean array, or an empty slice for another layout.
     pub fn bits(self) -> &'a [u8]
         ensures { result.now ≡ bits_in (view_array self.entry) }
     {
@@ -88,7 +88,7 @@ impl<'a> ArrayView<'a> {
         }
     }
 
-    /// Returns the values of a fixed-size layout, or nothing for another layout.
+    /// Returns the values of a fixed-size layout, or an empty slice for another layout.
     pub fn values(self) -> &'a [u8]
         ensures { result.now ≡ values_in (view_array self.entry) }
     {
@@ -98,7 +98,7 @@ impl<'a> ArrayView<'a> {
         }
     }
 
-    /// Returns the offsets buffer of binaries, strings or lists, or nothing for another layout.
+    /// Returns the offsets buffer of binaries, strings or lists, or an empty slice for another layout.
     pub fn offsets(self) -> &'a [u8]
         ensures { result.now ≡ offsets_in (view_array self.entry) }
     {
@@ -109,7 +109,7 @@ impl<'a> ArrayView<'a> {
         }
     }
 
-    /// Returns the contents of all binaries or strings, or nothing for another layout.
+    /// Returns the contents of all binaries or strings, or an empty slice for another layout.
     pub fn contents(self) -> &'a [u8]
         ensures { result.now ≡ contents_in (view_array self.entry) }
     {
@@ -119,7 +119,7 @@ impl<'a> ArrayView<'a> {
         }
     }
 
-    /// Returns the indices of a dictionary-encoded array, or nothing for another layout.
+    /// Returns the indices of a dictionary-encoded array, or an empty slice for another layout.
     pub fn indices(self) -> &'a [u8]
         ensures { result.now ≡ indices_in (view_array self.entry) }
     {
@@ -189,7 +189,7 @@ impl<'a> ArrayView<'a> {
         }
     }
 
-    /// Returns the child arrays of a struct, or none for another layout.
+    /// Returns the child arrays of a struct, or an empty slice for another layout.
     pub fn children(self) -> &'a [PlacedArray]
         ensures { placed_arrays self.entry.bytes.now self.entry.dictionaries.now result.now ≡ children_in (view_array self.entry) }
     {

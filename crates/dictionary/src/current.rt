@@ -10,7 +10,7 @@ pub(crate) struct CurrentList {
     pub(crate) number: usize,
 }
 
-// Returns where the number of an id is.
+// Returns the index of the entry for an id, if there is one.
 fn place_of(numbers: &[CurrentList], id: u64) -> Option<usize>
     ensures { IsPlace id numbers.now result }
 {

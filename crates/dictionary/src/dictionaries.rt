@@ -78,7 +78,7 @@ fn append_at(
 }
 
 impl Dictionaries {
-    /// Returns no dictionaries.
+    /// Returns an empty collection: no id has a dictionary.
     pub fn new(alloc: Global) -> Dictionaries
         ensures effect { (bytes : List ℕ) → HasInEffect bytes result [] }
         ensures within { (size : ℕ) → are_kept_within size result ≡ true }
@@ -96,7 +96,7 @@ impl Dictionaries {
         &self.lists
     }
 
-    /// Returns the lists by value.
+    /// Consumes the dictionaries and returns the lists.
     pub fn into_lists(self) -> Vec<Dictionary>
         ensures { lists_of result.items ≡ self.lists }
     {

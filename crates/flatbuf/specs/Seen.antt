@@ -1,4 +1,4 @@
--- What the reader's types show: the bytes, the places in them, and how many tables and levels are left.
+-- What the reader's types show: the bytes, the places in them, and the numbers of tables entered and of levels left.
 use Rattle.std.specs.Prelude.{ℕ, List, Option}
 use Rattle.flatbuf.specs.declared.buf.Buf.{Buf}
 use Rattle.flatbuf.specs.declared.buf.Budget.{Budget}

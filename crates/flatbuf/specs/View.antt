@@ -7,7 +7,7 @@ use Rattle.flatbuf.specs.declared.nodes.Node.TheFolds.{fold-Node, fold-Slot}
 use Rattle.flatbuf.specs.Tree.{Nodes, Slots, table, text, references, structs, no_node, and_node, no_slot, absent, scalar, refers}
 use Rattle.flatbuf.specs.Tree as trees
 
--- functions that each put one slot before others, applied in order
+-- the nodes of a list, and the slots of a list in which each slot is a function that puts it before others
 abbrev pub nodes_of : List trees.Tree → Nodes
 nodes_of [] = no_node
 nodes_of (n ∷ ns) = and_node n (nodes_of ns)

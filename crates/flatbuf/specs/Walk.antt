@@ -30,7 +30,7 @@ abbrev pub reported : {X : Type 0} → ℕ → Result X FlatError → Result ℕ
 reported n (Ok x) = Ok n
 reported n (Err f) = Err f
 
--- the vtable, if it is not before the first byte
+-- the vtable at a position, or its absence if it would be before the first byte
 abbrev pub head_at : Option ℕ → List ℕ → List Thing
 head_at None bytes = before_all ∷ []
 head_at (Some v) bytes = span v 2 ∷ vtable_size (number 2 bytes v) ∷ span v (number 2 bytes v) ∷ []
