@@ -27,7 +27,7 @@ impl Budget {
     ghost use Rattle.flatbuf.specs.Walk.{reported};
     ghost use Rattle.flatbuf.specs.Walked.{one_more};
 
-    /// Starts with no table entered.
+    /// Returns a budget with no tables entered.
     pub fn new() -> Budget
         ensures { tables_in result ≡ 0 }
     {

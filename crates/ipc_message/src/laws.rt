@@ -37,8 +37,8 @@ pub fn only_named_codes_matter()
         → schema_checks supported s ≡ schema_checks other s }
 {}
 
-/// The codes that a stream names are supported exactly as before: if it names no later code, and if its schema was read earlier and more codes are
-/// supported now.
+/// The codes that a stream names are supported exactly as before in two cases: it names no later code, or its schema passed the checks and support has
+/// only been added since.
 pub fn named_codes_stay_supported()
     ensures older { (bytes : List ℕ) → names_no_later_code bytes ≡ true → SupportAlike supported_codes earlier_codes (codes_named bytes) }
     ensures checked { (fewer more : ℕ → Bool) (raw : RawSchema) (s : PlainSchema) → ((code : ℕ) → fewer code ≡ true → more code ≡ true)

@@ -13,7 +13,7 @@ pub enum Parameters<'a> {
     Timestamp(u16, &'a [u8]),
 }
 
-/// A dictionary encoding: its id, and the width and signedness of its index type.
+/// A dictionary encoding: `width` and `signed` are those of its index type.
 #[derive(Clone, Copy)]
 pub struct Encoding {
     pub id: u64,
