@@ -1,11 +1,11 @@
--- Types, fields and schemas as plain trees, without where they lie in memory (Arrow columnar format, "Logical types"; Schema.fbs).
+-- Types, fields and schemas as plain trees, without their memory (Arrow columnar format, "Logical types"; Schema.fbs).
 use Rattle.std.specs.Prelude.{ℕ, Bool, ◌==◌, ◌||◌, List, [], ◌∷◌, Option}
 
--- how many bits an integer may have
+-- the widths that an integer may have, in bits
 abbrev pub is_bit_width : ℕ → Bool
 is_bit_width bits = bits == 8 || bits == 16 || bits == 32 || bits == 64
 
--- an integer of n bits: the index type of a dictionary
+-- the index type of a dictionary: an integer of this many bits
 pub record Index : Type 0 where
   pub bits : ℕ
   pub signed : Bool

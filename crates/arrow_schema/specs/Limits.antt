@@ -1,4 +1,4 @@
--- What a schema keeps, so that it can be stored: limits of this store, and rules of the format.
+-- What a schema must satisfy to be stored: limits of this store, and rules of the format.
 use Rattle.std.specs.Prelude.{ℕ, ◌+◌, ◌≤◌, sum_by, length, Bool, true, false, not, ◌&&◌, List, [], ◌∷◌, flat_map, Option, Some, None, is_some, nat_lt, nat_le, Result, Ok, Err, if◌then◌else◌}
 use Rattle.std.specs.List.{AllPass, list_all}
 use Rattle.std.specs.Str.{is_utf8}
@@ -13,13 +13,13 @@ abbrev pub timezone_of : Kind → List ℕ
 timezone_of (timestamps unit timezone) = timezone
 timezone_of _ = []
 
--- the width or the size that a type states
+-- the width or the size that a type states, and 0 for other types
 abbrev pub number_of : Kind → ℕ
 number_of (fixed_binaries width) = width
 number_of (fixed_lists size item) = size
 number_of _ = 0
 
--- whether a type has children
+-- the type has children
 abbrev pub is_nested : Kind → Bool
 is_nested (lists item) = true
 is_nested (large_lists item) = true
@@ -31,30 +31,30 @@ is_nested _ = false
 abbrev pub bytes_of_pairs : List Pair → ℕ
 bytes_of_pairs pairs = sum_by (λ p. length p.0 + length p.1) pairs
 
--- of one column, without its children: its pairs, and the bytes of its name, its timezone and its pairs
+-- for one column without its children: the number of its pairs, and of the bytes of its name, its timezone and its pairs
 abbrev pub pairs_in : Column → ℕ
 pairs_in (column name nullable kind dictionary pairs) = length pairs
 
 abbrev pub bytes_in : Column → ℕ
 bytes_in (column name nullable kind dictionary pairs) = length name + length (timezone_of kind) + bytes_of_pairs pairs
 
--- the bytes of its name alone
+-- the bytes of its name
 abbrev pub name_len : Column → ℕ
 name_len (column name nullable kind dictionary pairs) = length name
 
--- all key/value pairs: the schema's own and those of all columns
+-- the number of key/value pairs: the schema's own and those of all columns
 abbrev pub count_of_pairs : PlainSchema → ℕ
 count_of_pairs s = length s.pairs + sum_by pairs_in (every_column s)
 
--- all bytes of names, keys, values and timezones
+-- the number of bytes of all names, keys, values and timezones
 abbrev pub count_of_bytes : PlainSchema → ℕ
 count_of_bytes s = bytes_of_pairs s.pairs + sum_by bytes_in (every_column s)
 
--- its width or size is one that the format can state
+-- the width or size of its type is in the range of the format
 abbrev pub has_number_in_range : Column → Bool
 has_number_in_range (column name nullable kind dictionary pairs) = nat_lt (number_of kind) NUMBER_END
 
--- it has no dictionary, or its values are flat
+-- it has no dictionary, or the values of its dictionary are flat
 abbrev pub has_flat_dictionary : Column → Bool
 has_flat_dictionary (column name nullable kind dictionary pairs) = not (is_some dictionary && is_nested kind)
 
@@ -70,7 +70,7 @@ is_index_of_width (Some index) = is_bit_width index.bits
 abbrev pub has_bit_widths : Column → Bool
 has_bit_widths (column name nullable kind dictionary pairs) = is_kind_of_width kind && is_index_of_width dictionary
 
--- its name, its timezone, its keys and its values are UTF-8
+-- its name, timezone, keys and values are UTF-8
 abbrev pub texts_of_pairs : List Pair → List (List ℕ)
 texts_of_pairs pairs = flat_map (λ p. p.0 ∷ p.1 ∷ []) pairs
 
@@ -92,7 +92,7 @@ pub record IsWithinLimits (s : PlainSchema) : Type 0 where
   pub texts : AllPass has_utf8_texts (every_column s)
   pub own_texts : AllPass is_utf8 (texts_of_pairs s.pairs)
 
--- the first limit that it exceeds; the types of the code have no other widths, and no other texts than UTF-8
+-- the first limit that it exceeds; in the types of the code, widths are always valid and texts always UTF-8
 unfoldable pub first_exceeded : PlainSchema → Result (Unit {0}) SchemaError
 first_exceeded s =
     if not (nat_le (depth_all (columns_of s.columns)) MAX_DEPTH) then Err Depth

@@ -1,9 +1,9 @@
--- The columns of a schema with all their children, each before its children, and how deep they go.
+-- The columns of a schema with all their descendants, in preorder, and their depth.
 use Rattle.std.specs.Prelude.{ℕ, ◌+◌, max, List, [], ◌∷◌, ◌++◌}
 use Rattle.arrow_schema.specs.Column.{Kind, Column, Columns, nulls, booleans, integers, dates, timestamps, texts, large_texts, binaries, large_binaries, fixed_binaries, lists, large_lists, fixed_lists, structs, column, no_column, and_column, columns_of, PlainSchema}
 
 unfoldable mutual
-  -- a column, and then all below it
+  -- a column, followed by all its descendants
   pub preorder : Column → List Column
   preorder (column name nullable kind dictionary pairs) = column name nullable kind dictionary pairs ∷ preorder_below kind
 
@@ -27,12 +27,12 @@ unfoldable mutual
   preorder_all no_column = []
   preorder_all (and_column c cs) = preorder c ++ preorder_all cs
 
--- all the columns of a schema
+-- all columns of a schema, with their descendants
 abbrev pub every_column : PlainSchema → List Column
 every_column s = preorder_all (columns_of s.columns)
 
 unfoldable mutual
-  -- how many levels a column has: itself, and those below it
+  -- the number of levels of a column: its own, and those of its descendants
   pub depth : Column → ℕ
   depth (column name nullable kind dictionary pairs) = 1 + depth_below kind
 
@@ -52,7 +52,7 @@ unfoldable mutual
   depth_below large_binaries = 0
   depth_below (fixed_binaries width) = 0
 
-  -- the most levels of any of them
+  -- the greatest depth of these columns
   pub depth_all : Columns → ℕ
   depth_all no_column = 0
   depth_all (and_column c cs) = max (depth c) (depth_all cs)

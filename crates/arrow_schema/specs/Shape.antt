@@ -1,4 +1,4 @@
--- What of a column is compared: all of it, or its shape, which leaves out dictionaries and pairs at every depth.
+-- What is compared of a column: all of it, or its shape, which leaves out dictionaries and pairs at every depth.
 use Rattle.std.specs.Prelude.{◌≡◌, List, [], Option, None}
 use Rattle.arrow_schema.specs.declared.compare.Detail.{Detail}
 use Rattle.arrow_schema.specs.declared.compare.Detail.TheVariants.{Shape, Whole}

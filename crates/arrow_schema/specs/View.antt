@@ -1,4 +1,4 @@
--- What a field of the code is, whatever memory it takes.
+-- The plain column that a field of the code stands for.
 use Rattle.std.specs.Prelude.{ℕ, map, string_bytes, String, option_map}
 use Rattle.std.specs.Global.{Global}
 use Rattle.arrow_schema.specs.declared.types.BitWidth.{BitWidth}

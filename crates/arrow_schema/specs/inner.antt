@@ -1,3 +1,3 @@
--- What only the code's own steps and their proofs speak of.
+-- Definitions for the steps of the code and their proofs only.
 pub mod SchemaTotals
 pub mod Alike

@@ -1,4 +1,4 @@
-// Whether two schemas have one shape, and whether two fields are equal.
+// Compares the shapes of two schemas, and fields for equality.
 ghost use Rattle.std.specs.Prelude.{◌≡◌, ◌↔◌, ◌==◌, ◌&&◌, IsTrue, map, option_map, length};
 ghost use Rattle.arrow_schema.specs.Column.{columns_of, date_unit_of, time_unit_of};
 ghost use Rattle.arrow_schema.specs.View.{schema_of, kind_of, column_of, pair_of, index_of, bits_of, date_kind, time_kind};
@@ -8,7 +8,7 @@ ghost use Rattle.arrow_schema.specs.inner.Alike.{dictionary_eq, pairs_eq, alike_
 
 use crate::types::{DataType, DateUnit, DictSpec, Field, IntegerType, Schema, TimeUnit};
 
-// What is compared: all, or all but dictionaries and pairs.
+// What is compared: everything, or all but dictionaries and pairs.
 #[derive(Clone, Copy)]
 pub(crate) enum Detail {
     Shape,
@@ -61,7 +61,7 @@ fn same_field_pairs(detail: Detail, a: &[(String, String)], b: &[(String, String
     }
 }
 
-// Types without parameters.
+// Compares types without parameters.
 fn same_plain_type(a: &DataType, b: &DataType) -> bool
     ensures { result ≡ alike_plain (kind_of a.now) (kind_of b.now) }
 {
@@ -76,7 +76,7 @@ fn same_plain_type(a: &DataType, b: &DataType) -> bool
     }
 }
 
-// Types without children.
+// Compares types without children.
 fn same_flat_type(a: &DataType, b: &DataType) -> bool
     ensures { result ≡ alike_flat (kind_of a.now) (kind_of b.now) }
 {
@@ -139,8 +139,8 @@ fn same_fields(detail: Detail, xs: &[Field], ys: &[Field]) -> bool
     true
 }
 
-/// Whether two schemas have one shape: names, nullability and types are equal at every depth, units, timezones, widths and sizes
-/// included. Dictionaries and pairs may differ.
+/// Returns whether two schemas have one shape: names, nullability and types are equal at every depth, with their units, timezones, widths and sizes.
+/// Dictionaries and pairs may differ.
 pub fn same_shape(a: &Schema, b: &Schema) -> bool
     ensures { IsTrue result ↔ HaveOneShape (schema_of a.now) (schema_of b.now) }
 {
@@ -148,7 +148,7 @@ pub fn same_shape(a: &Schema, b: &Schema) -> bool
 }
 
 impl DataType {
-    /// Whether two types are equal, with all that is said of their children.
+    /// Returns whether two types are equal, including everything in their children.
     pub fn equals(&self, other: &DataType) -> bool
         ensures { IsTrue result ↔ (kind_of self.now ≡ kind_of other.now) }
     {
@@ -157,7 +157,7 @@ impl DataType {
 }
 
 impl Field {
-    /// Whether two fields are equal, with all that is said of their children.
+    /// Returns whether two fields are equal, including everything in their children.
     pub fn equals(&self, other: &Field) -> bool
         ensures { IsTrue result ↔ (column_of self.now ≡ column_of other.now) }
     {
@@ -166,7 +166,7 @@ impl Field {
 }
 
 impl Schema {
-    /// Whether two schemas are equal, dictionaries and pairs included.
+    /// Returns whether two schemas are equal, dictionaries and pairs included.
     pub fn equals(&self, other: &Schema) -> bool
         ensures { IsTrue result ↔ (schema_of self.now ≡ schema_of other.now) }
     {

@@ -75,10 +75,10 @@ fn copy_fields(fields: &[Field], alloc: Global) -> Result<Vec<Field>, AllocError
 }
 
 impl DataType {
-    /// The same type in memory of its own.
+    /// Returns a copy of the type.
     ///
     /// # Errors
-    /// `AllocError` where memory was refused.
+    /// `AllocError` if memory was refused.
     pub fn copy(&self, alloc: Global) -> Result<DataType, AllocError>
         ensures { IfOk result (λ t. kind_of t ≡ kind_of self.now) }
     {
@@ -87,10 +87,10 @@ impl DataType {
 }
 
 impl Field {
-    /// The same field in memory of its own.
+    /// Returns a copy of the field.
     ///
     /// # Errors
-    /// `AllocError` where memory was refused.
+    /// `AllocError` if memory was refused.
     pub fn copy(&self, alloc: Global) -> Result<Field, AllocError>
         ensures { IfOk result (λ f. column_of f ≡ column_of self.now) }
     {
@@ -99,10 +99,10 @@ impl Field {
 }
 
 impl Schema {
-    /// The same schema in memory of its own.
+    /// Returns a copy of the schema.
     ///
     /// # Errors
-    /// `AllocError` where memory was refused.
+    /// `AllocError` if memory was refused.
     pub fn copy(&self, alloc: Global) -> Result<Schema, AllocError>
         ensures { IfOk result (λ s. schema_of s ≡ schema_of self.now) }
     {

@@ -1,4 +1,4 @@
-// Laws of the definitions, for the crates above: each call does nothing, and its contract is the law.
+// Laws of the definitions, for the crates above. The functions do nothing: their contracts are the laws.
 ghost use Rattle.std.specs.Prelude.{◌≡◌, ◌≤◌, ◌↔◌, true, length, sum_by};
 ghost use Rattle.std.specs.List.{AllPass};
 ghost use Rattle.arrow_schema.specs.Column.{PlainSchema};
@@ -8,21 +8,21 @@ ghost use Rattle.arrow_schema.specs.OneShape.{have_one_shape};
 
 use crate::limits::{MAX_FIELDS, MAX_TEXT_BYTES};
 
-/// What the limits say of a schema's own columns, their children left out.
+/// The bounds that the limits set for the columns of a schema, without their children.
 pub fn limits_bound_columns()
     ensures fields { (s : PlainSchema) → IsWithinLimits s → length s.columns ≤ MAX_FIELDS }
     ensures names { (s : PlainSchema) → IsWithinLimits s → sum_by name_len s.columns ≤ MAX_TEXT_BYTES }
     ensures texts { (s : PlainSchema) → IsWithinLimits s → AllPass has_utf8_texts s.columns }
 {}
 
-/// To have one shape is an equivalence of schemas.
+/// Having one shape is an equivalence of schemas.
 pub fn one_shape_is_an_equivalence()
     ensures reflexive { (a : PlainSchema) → HaveOneShape a a }
     ensures symmetric { (a b : PlainSchema) → HaveOneShape a b → HaveOneShape b a }
     ensures transitive { (a b c : PlainSchema) → HaveOneShape a b → HaveOneShape b c → HaveOneShape a c }
 {}
 
-/// The test of one shape is true just where two schemas have one.
+/// The test `have_one_shape` is true if and only if two schemas have one shape.
 pub fn one_shape_is_decided()
     ensures { (a b : PlainSchema) → (have_one_shape a b ≡ true) ↔ HaveOneShape a b }
 {}

@@ -1,8 +1,8 @@
 //! Arrow schemas: types, fields and their limits.
 //!
-//! A [`Schema`] is a list of fields and of key/value pairs. Promised are, exactly: whether it is within the limits and
-//! else the first that it exceeds, and whether two schemas have one shape. Contracts see fields as the plain trees of
-//! `specs/Column.antt`, whatever memory they take. The texts of fields stand in `field_texts`.
+//! A [`Schema`] is a list of fields and a list of key/value pairs. Exactly specified are whether it is within the limits,
+//! and otherwise the first that it exceeds, and whether two schemas have one shape. Contracts see fields as the plain trees of
+//! `specs/Column.antt`, without their memory. The texts of fields are in `field_texts`.
 //!
 //! ```
 //! let fields = field_texts::parse_fields(alloc, &["id:uint64", "tags:list<utf8?>?"])?;

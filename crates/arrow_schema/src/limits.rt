@@ -1,4 +1,4 @@
-// The limits that a schema keeps.
+// The limits of schemas.
 ghost use Rattle.std.specs.Prelude.{◌≡◌, ◌↔◌, IsOk, map, length, nat_le};
 ghost use Rattle.std.specs.List.{list_all};
 ghost use Rattle.arrow_schema.specs.Column.{columns_of};
@@ -9,35 +9,35 @@ ghost use Rattle.arrow_schema.specs.inner.SchemaTotals.{saturated, tallied, tall
 
 use crate::types::{DataType, Field, Schema};
 
-/// The most fields of a schema, all children counted.
+/// The maximum number of fields in a schema, including all children.
 pub const MAX_FIELDS: u64 = 2048;
-/// The most levels: a column stands at the first.
+/// The maximum depth of a field: a column is at level 1.
 pub const MAX_DEPTH: u64 = 32;
-/// The most key/value pairs of a schema and all its fields together.
+/// The maximum number of key/value pairs of a schema and all its fields together.
 pub const MAX_PAIRS: u64 = 4096;
-/// The most bytes of names, keys, values and timezones together.
+/// The maximum number of bytes of names, keys, values and timezones together.
 pub const MAX_TEXT_BYTES: u64 = 4_194_304;
-/// Widths and sizes stay below it.
+/// Widths and sizes are below this.
 pub const NUMBER_END: u32 = 1 << 31;
 
-/// The first limit that a schema passes, in this order.
+/// The first limit that a schema exceeds, in the order of the variants.
 #[derive(Clone, Copy, Debug, PartialEq, Eq)]
 pub enum SchemaError {
-    /// A field deeper than `MAX_DEPTH`.
+    /// A field is deeper than `MAX_DEPTH`.
     Depth,
-    /// More fields than `MAX_FIELDS`.
+    /// There are more than `MAX_FIELDS` fields.
     Fields,
-    /// More pairs than `MAX_PAIRS`.
+    /// There are more than `MAX_PAIRS` pairs.
     Pairs,
-    /// More bytes of text than `MAX_TEXT_BYTES`.
+    /// There are more than `MAX_TEXT_BYTES` bytes of text.
     Bytes,
-    /// A width or a size that is not below `NUMBER_END`.
+    /// A width or a size is `NUMBER_END` or more.
     Number,
-    /// A dictionary whose values are lists or structs.
+    /// A dictionary has lists or structs as its values.
     Dictionary,
 }
 
-// What has been counted so far.
+// The totals so far.
 #[derive(Clone, Copy)]
 pub(crate) struct SchemaTotals {
     pub(crate) fields: u64,
@@ -83,7 +83,7 @@ fn are_within_depth(levels: u64, fields: &[Field]) -> bool
 }
 
 impl DataType {
-    /// The width of a fixed binary or the size of a fixed list, and 0 at other types.
+    /// Returns the width of a fixed-size binary or the size of a fixed-size list, and 0 for other types.
     pub fn number(&self) -> u32
         ensures { result ≡ number_of (kind_of self.now) }
     {
@@ -94,7 +94,7 @@ impl DataType {
         }
     }
 
-    /// Whether its values have parts: lists and structs.
+    /// Returns whether the type has children: it is a list or a struct.
     pub fn is_nested(&self) -> bool
         ensures { result ≡ is_nested (kind_of self.now) }
     {
@@ -107,7 +107,7 @@ impl DataType {
         )
     }
 
-    /// The timezone of a timestamp, and the empty string at other types.
+    /// Returns the timezone of a timestamp, and the empty string for other types.
     pub fn timezone(&self) -> &str
         ensures { result.now ≡ timezone_of (kind_of self.now) }
     {
@@ -222,7 +222,7 @@ fn first_exceeded(schema: &Schema) -> Result<(), SchemaError>
 }
 
 impl Schema {
-    /// Whether it is within the limits.
+    /// Tests whether the schema is within the limits.
     ///
     /// # Errors
     /// The first limit that it exceeds, in the order of [`SchemaError`].

@@ -1,6 +1,6 @@
 // The types that a column may have (Arrow columnar format, "Logical types"; Schema.fbs).
 
-/// How many bits an integer has.
+/// The width of an integer in bits.
 #[derive(Clone, Copy, Debug, PartialEq, Eq)]
 pub enum BitWidth {
     Eight,
@@ -13,7 +13,7 @@ impl BitWidth {
     ghost use Rattle.std.specs.Prelude.{◌≡◌, ◌≤◌, ◌/◌};
     ghost use Rattle.arrow_schema.specs.View.{bits_of};
 
-    /// How many bits it is.
+    /// Returns the number of bits.
     pub fn bits(self) -> u32
         ensures { result ≡ bits_of self }
     {
@@ -25,7 +25,7 @@ impl BitWidth {
         }
     }
 
-    /// How many bytes a value of it takes, 1 to 8 (Arrow columnar format, "Fixed-size Primitive Layout").
+    /// Returns the number of bytes of a value, 1 to 8 (Arrow columnar format, "Fixed-size Primitive Layout").
     pub fn bytes(self) -> usize
         ensures value { result ≡ bits_of self / 8 }
         ensures low { 1 ≤ result }
@@ -47,20 +47,20 @@ pub struct IntegerType {
     pub signed: bool,
 }
 
-/// The dictionary of a field: the type of its indices.
+/// The dictionary encoding of a field: the type of its indices.
 #[derive(Clone, Copy, Debug, PartialEq, Eq)]
 pub struct DictSpec {
     pub index: IntegerType,
 }
 
-/// The unit of a date: days in 32 bits, or milliseconds in 64.
+/// The unit of a date: days in 32 bits, or milliseconds in 64 bits.
 #[derive(Clone, Copy, Debug, PartialEq, Eq)]
 pub enum DateUnit {
     Day,
     Millisecond,
 }
 
-/// The unit of a timestamp, a number of 64 bits.
+/// The unit of a timestamp, which is a 64-bit number.
 #[derive(Clone, Copy, Debug, PartialEq, Eq)]
 pub enum TimeUnit {
     Second,
@@ -69,7 +69,8 @@ pub enum TimeUnit {
     Nanosecond,
 }
 
-/// The logical type of a field. Widths and sizes are 0 to 2,147,483,647; a timestamp without a timezone has the empty string.
+/// The logical type of a field. Widths and sizes are 0 to 2,147,483,647, which [`Schema::check`] tests; the timezone of a timestamp without one is
+/// empty.
 #[derive(Debug, Drop)]
 #[cycle(schema)]
 pub enum DataType {
@@ -89,7 +90,7 @@ pub enum DataType {
     Struct(Vec<Field>),
 }
 
-/// A column, or a part of one: any string may be its name.
+/// A column, or a part of one. Its name may be any string.
 #[derive(Debug, Drop)]
 #[cycle(schema)]
 pub struct Field {
@@ -111,7 +112,7 @@ impl Schema {
     ghost use Rattle.std.specs.Prelude.{◌≡◌, length};
     ghost use Rattle.arrow_schema.specs.View.{schema_of};
 
-    /// How many columns it has.
+    /// Returns the number of columns.
     pub fn width(&self) -> usize
         ensures { result ≡ length (schema_of self.now).columns }
     {

@@ -1,4 +1,4 @@
-// Making a mask of words and of bits of other masks, which come one after another.
+// Builds a mask from words and from bits of other masks, appended one after another.
 ghost use Rattle.std.specs.Prelude.{◌≡◌, ℕ, ◌≤◌, ◌<◌, ◌+◌, ◌*◌, ◌^◌, ◌%◌, ◌-◌, Bool, List, [], ◌++◌, length, map, replicate, IfOk, OnOk, OnErr, slice_index, slice_index_or, set, take, bit_or, false};
 ghost use Rattle.std.specs.List.{range_with_len};
 ghost use Rattle.std.specs.Simd.Lanes.{mask_l};
@@ -9,11 +9,11 @@ use crate::bytes_for;
 use std::alloc::{AllocError, Global};
 use std::marker::Model;
 
-/// Bits to which more are added, packed as they come. Contracts see the list of them.
+/// A growing mask that packs bits as they are added. Contracts see the list of its bits.
 #[derive(Drop)]
 pub struct MaskBuilder {
     bytes: Vec<u8>,
-    // How many bits of the last byte are still free.
+    // The number of bits of the last byte that are still free.
     free: usize,
 }
 
@@ -29,10 +29,10 @@ impl Model for MaskBuilder {
 }
 
 impl MaskBuilder {
-    /// No bits, with room for `bits` bits.
+    /// Returns a builder without bits, with room for `bits` bits.
     ///
     /// # Errors
-    /// `AllocError` where memory was refused.
+    /// `AllocError` if memory was refused.
     pub fn with_capacity(alloc: Global, bits: usize) -> Result<Self, AllocError>
         ensures { IfOk result (λ b. b ≡ []) }
     {
@@ -40,10 +40,10 @@ impl MaskBuilder {
         Ok(MaskBuilder { bytes, free: 0 })
     }
 
-    /// Adds the lowest bits of a word, the lowest first.
+    /// Appends the `count` lowest bits of a word, lowest first.
     ///
     /// # Errors
-    /// `AllocError` where memory was refused: no bit is added.
+    /// `AllocError` if memory was refused: no bit is added.
     pub fn push_word(&mut self, word: u64, count: usize) -> Result<(), AllocError>
         requires count { count ≤ 64 }
         requires word { word < 2 ^ count }
@@ -55,10 +55,10 @@ impl MaskBuilder {
         Ok(())
     }
 
-    /// Adds the same bit `count` times.
+    /// Appends the same bit `count` times.
     ///
     /// # Errors
-    /// `AllocError` where memory was refused: no bit is added.
+    /// `AllocError` if memory was refused: no bit is added.
     pub fn push_alike(&mut self, count: usize, set: bool) -> Result<(), AllocError>
         ensures ok { OnOk result (self.new ≡ self.old ++ replicate count set) }
         ensures err { OnErr result (self.new ≡ self.old) }
@@ -74,7 +74,7 @@ impl MaskBuilder {
         }
     }
 
-    // The same, where some bits may have been added before memory was refused.
+    // The same, but some bits may already be added when memory is refused.
     fn add_alike(&mut self, count: usize, set: bool) -> Result<(), AllocError>
         ensures ok { OnOk result (self.new ≡ self.old ++ replicate count set) }
         ensures err { OnErr result (take (length self.old) self.new ≡ self.old) }
@@ -87,10 +87,10 @@ impl MaskBuilder {
         self.push_word(word % (1 << left), left)
     }
 
-    /// Adds bits of a mask, from one on up to another: of whole bytes a byte at a time, or all at once.
+    /// Appends the bits of a mask from bit `from` up to bit `to`. Whole bytes are added a byte at a time, or all at once.
     ///
     /// # Errors
-    /// `AllocError` where memory was refused: no bit is added.
+    /// `AllocError` if memory was refused: no bit is added.
     pub fn push_bits(&mut self, mask: &[u8], from: usize, to: usize) -> Result<(), AllocError>
         requires within { to ≤ 8 * length mask.now }
         requires order { from ≤ to }
@@ -108,7 +108,7 @@ impl MaskBuilder {
         }
     }
 
-    // The same, where some bits may have been added before memory was refused.
+    // The same, but some bits may already be added when memory is refused.
     fn add_bits_of(&mut self, mask: &[u8], from: usize, to: usize) -> Result<(), AllocError>
         requires within { to ≤ 8 * length mask.now }
         requires order { from ≤ to }
@@ -125,7 +125,7 @@ impl MaskBuilder {
         self.push_in_byte(mask, 8 * end, to % 8)
     }
 
-    // Takes back all bits but those of n bytes, in the last of which `free` bits were free.
+    // Truncates to `size` bytes, of which the last one has `free` free bits.
     fn cut_back(&mut self, size: usize, free: usize)
         requires few { free < 8 }
         requires within { free ≤ 8 * size }
@@ -136,7 +136,7 @@ impl MaskBuilder {
         self.free = free;
     }
 
-    // Some bits of one byte of a mask.
+    // Appends bits of a single byte of a mask.
     fn push_in_byte(&mut self, mask: &[u8], from: usize, count: usize) -> Result<(), AllocError>
         requires within { from + count ≤ 8 * length mask.now }
         requires of_one_byte { from % 8 + count ≤ 8 }
@@ -150,7 +150,7 @@ impl MaskBuilder {
         self.push_word(word, count)
     }
 
-    // All bits of some bytes of a mask. Where no bit of the last byte is free they are copied.
+    // Appends all bits of some bytes of a mask. The bytes are copied if the last byte has no free bits.
     fn push_bytes(&mut self, mask: &[u8], from: usize, to: usize) -> Result<(), AllocError>
         requires within { to ≤ length mask.now }
         requires order { from ≤ to }
@@ -167,7 +167,7 @@ impl MaskBuilder {
         Ok(())
     }
 
-    /// The bytes that hold the bits, lowest bit first, with zeros past the last.
+    /// Returns the bytes with these bits, lowest bit first, with zeros past the last.
     pub fn into_mask(self) -> Vec<u8>
         ensures exact { result.items ≡ packed self }
         ensures bits { (i : ℕ) → bit result.items i ≡ slice_index_or self i false }
@@ -178,7 +178,7 @@ impl MaskBuilder {
     }
 }
 
-// Adds bits to bytes of whose last one `free` bits are free.
+// Appends bits to bytes of which the last one has `free` free bits.
 fn add_bits(bytes: &mut Vec<u8>, free: usize, word: u64, count: usize) -> Result<(), AllocError>
     requires built { IsBuilt bytes.old.items free }
     requires count { count ≤ 64 }
@@ -195,7 +195,7 @@ fn add_bits(bytes: &mut Vec<u8>, free: usize, word: u64, count: usize) -> Result
     Ok(())
 }
 
-// Adds bits in bytes of their own.
+// Appends bits in new bytes.
 fn append_bits(bytes: &mut Vec<u8>, word: u64, count: usize) -> Result<(), AllocError>
     requires { count ≤ 64 }
     ensures ok { (bits : List Bool) → length bits ≡ count → mask_l bits ≡ word → OnOk result (bytes.new.items ≡ bytes.old.items ++ packed bits) }
@@ -216,7 +216,7 @@ fn fill(bytes: &mut [u8], at: usize, free: usize, word: u64)
     bytes[at] |= ((word % 256) as u8) << (8 - free);
 }
 
-// Leaves n bytes, and of the last of them all but the `free` highest bits.
+// Keeps the first `size` bytes, and clears the `free` highest bits of the last one.
 fn cut(bytes: &mut Vec<u8>, size: usize, free: usize)
     requires few { free < 8 }
     requires within { free ≤ 8 * size }
@@ -230,7 +230,7 @@ fn cut(bytes: &mut Vec<u8>, size: usize, free: usize)
     }
 }
 
-// Clears the highest bits of a byte.
+// Clears the `free` highest bits of a byte.
 fn clear(bytes: &mut [u8], at: usize, free: usize)
     requires at { at < length bytes.old }
     requires some { 0 < free }

@@ -5,7 +5,7 @@ ghost use Rattle.bitmap.specs.Bits.{bit};
 
 use crate::get;
 
-/// Where the run of equal bits ends that begins at bit `from`, or `to` where it is longer.
+/// Returns the end of the run of equal bits that begins at bit `from`, or `to` if the run is longer.
 pub fn run_end(bytes: &[u8], from: usize, to: usize) -> usize
     requires within { to ≤ 8 * length bytes.now }
     requires some { from < to }
@@ -17,7 +17,7 @@ pub fn run_end(bytes: &[u8], from: usize, to: usize) -> usize
     alike_end(bytes, get(bytes, from), from, to)
 }
 
-/// Where the bits end that are like this, of those from bit `from` on, or `to` where all of them are.
+/// Returns the index of the first bit from `from` on that differs from `set`, or `to` if there is none before it.
 pub fn alike_end(bytes: &[u8], set: bool, from: usize, to: usize) -> usize
     requires within { to ≤ 8 * length bytes.now }
     requires order { from ≤ to }
@@ -42,14 +42,14 @@ pub fn alike_end(bytes: &[u8], set: bool, from: usize, to: usize) -> usize
     8 * byte + last.min(to - 8 * byte)
 }
 
-// A bit for each bit of a byte, set where it is not like this.
+// Returns a byte whose bits are set where those of `byte` differ from `set`.
 fn differing(byte: u8, set: bool) -> u8
     ensures { (j : ℕ) → j < 8 → bit_at result j ≡ (if set then 1 - bit_at byte j else bit_at byte j) }
 {
     if set { !byte } else { byte }
 }
 
-// How many bits of a byte, from one on, are like this.
+// Returns how many consecutive bits of a byte, from bit `from` on, are equal to `set`.
 fn alike_in_byte(byte: u8, set: bool, from: usize) -> usize
     requires { from < 8 }
     ensures ends { from + result ≤ 8 }
@@ -60,7 +60,7 @@ fn alike_in_byte(byte: u8, set: bool, from: usize) -> usize
     (rest.trailing_zeros() as usize).min(8 - from)
 }
 
-// The first byte whose bits are not all like this.
+// Returns the index of the first byte with a bit that differs from `set`, or `to` if there is none before it.
 fn alike_bytes(bytes: &[u8], set: bool, from: usize, to: usize) -> usize
     requires within { to ≤ length bytes.now }
     requires order { from ≤ to }

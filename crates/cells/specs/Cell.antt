@@ -1,4 +1,4 @@
--- Values as plain trees, without where they lie in memory, and tables of them.
+-- Values and tables as plain trees, without their memory.
 use Rattle.std.specs.Prelude.{ℕ, ℤ, Bool, List, [], ◌∷◌}
 use Rattle.arrow_schema.specs.Column.{PlainSchema}
 
@@ -25,7 +25,7 @@ abbrev pub cell_list : Cells → List Cell
 cell_list no_cell = []
 cell_list (and_cell c cs) = c ∷ cell_list cs
 
--- a table: its schema, and its rows in order, each with a cell for each column
+-- a table: its schema, and its rows in order, each with one cell for each column
 pub record PlainTable : Type 0 where
   pub schema : PlainSchema
   pub rows : List (List Cell)

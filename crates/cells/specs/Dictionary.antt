@@ -1,5 +1,5 @@
--- The values that the dictionary columns of a schema hold in some rows, and how many their indices can name
--- (Arrow columnar format, "Dictionary-encoded layout").
+-- The values that the dictionary columns of a schema hold in some rows, and how many entries their indices can name (Arrow columnar format,
+-- "Dictionary-encoded layout").
 use Rattle.std.specs.Prelude.{ℕ, ◌+◌, ◌^◌, ◌-◌, Bool, true, false, not, nat_le, bytes_eq, List, [], ◌∷◌, ◌++◌, map, length, Option, Some, None, if◌then◌else◌, slice_get, option_to_list, is_some, ◌||◌}
 use Rattle.std.specs.List.{flat_map, list_any, list_all}
 use Rattle.std.specs.Ordering.{int_eq}
@@ -7,7 +7,7 @@ use Rattle.arrow_schema.specs.Column.{Index, Kind, Column, Columns, nulls, boole
 use Rattle.cells.specs.Weight.{items_in, parts_in}
 use Rattle.cells.specs.Cell.{Cell, null, boolean, number, text, bytes, items, parts, cell_list}
 
--- a dictionary column: its index type, and the cells that it has
+-- a dictionary column: its index type and its cells
 pub record Holding : Type 0 where
   pub index : Index
   pub cells : List Cell
@@ -16,19 +16,19 @@ abbrev pub own_holding : Option Index → List Cell → List Holding
 own_holding None cells = []
 own_holding (Some i) cells = record { index = i; cells = cells } ∷ []
 
--- the items of a list, and the parts of a struct: none where it is null
+-- the items of a list, and the parts of a struct; a null has none
 abbrev pub item_list : Cell → List Cell
 item_list c = cell_list (items_in c)
 
 abbrev pub part_list : Cell → List Cell
 part_list c = cell_list (parts_in c)
 
--- the cells at a place of some rows
+-- the cells at one place of these rows
 abbrev pub cells_at : ℕ → List (List Cell) → List Cell
 cells_at i rows = flat_map (λ row. option_to_list (slice_get row i)) rows
 
 unfoldable mutual
-  -- a column that has these cells, and all below it, in preorder: rows in order, items in order, nothing below a null
+  -- the dictionary columns at and below a column with these cells, in preorder: rows in order, items in order, nothing below a null
   pub holdings : Column → List Cell → List Holding
   holdings (column name nullable kind dictionary pairs) = λ cells. own_holding dictionary cells ++ holdings_below kind cells
 
@@ -48,16 +48,16 @@ unfoldable mutual
   holdings_below (fixed_lists size item) = λ cells. holdings item (flat_map item_list cells)
   holdings_below (structs columns) = λ cells. holdings_from 0 columns (map part_list cells)
 
-  -- these columns, the first at this place of the rows
+  -- the same for several columns, of which the first is at place i of the rows
   pub holdings_from : ℕ → Columns → List (List Cell) → List Holding
   holdings_from i no_column = λ rows. []
   holdings_from i (and_column f fs) = λ rows. holdings f (cells_at i rows) ++ holdings_from (i + 1) fs rows
 
--- the dictionary columns of a schema in some rows
+-- the dictionary columns of a schema, with their cells in these rows
 abbrev pub holdings_of : PlainSchema → List (List Cell) → List Holding
 holdings_of s rows = holdings_from 0 (columns_of s.columns) rows
 
--- whether two values are one entry of a dictionary
+-- two values are the same dictionary entry
 abbrev pub is_entry : Cell → Cell → Bool
 is_entry (boolean a) (boolean b) = if a then b else not b
 is_entry (number a) (number b) = int_eq a b
@@ -65,11 +65,11 @@ is_entry (text a) (text b) = bytes_eq a b
 is_entry (bytes a) (bytes b) = bytes_eq a b
 is_entry _ _ = false
 
--- the entries, with one more where it is not among them
+-- the entries, and this one if it is new
 abbrev pub with_new : List Cell → Cell → List Cell
 with_new entries c = if list_any (is_entry c) entries then entries else entries ++ c ∷ []
 
--- a value as an entry: no entry is null, a list or a struct
+-- a value as an entry; a null, a list or a struct is none
 abbrev pub entry_in : Cell → Option Cell
 entry_in null = None
 entry_in (boolean b) = Some (boolean b)
@@ -90,11 +90,11 @@ unfoldable pub with_entries : List Cell → List Cell → List Cell
 with_entries entries [] = entries
 with_entries entries (c ∷ cs) = with_entries (with_entry entries c) cs
 
--- the distinct values that are not null, in the order in which they are first seen
+-- the distinct values that can be entries, in order of first occurrence
 abbrev pub entries_of : List Cell → List Cell
 entries_of cells = with_entries [] cells
 
--- how many entries an index type can name; indices of 32 bits and more have no limit here
+-- how many entries an index type can name; indices of 32 bits and more count as unlimited
 abbrev pub entry_limit : Index → Option ℕ
 entry_limit i = if nat_le 32 i.bits then None else Some (if i.signed then 2 ^ (i.bits - 1) else 2 ^ i.bits)
 
@@ -105,17 +105,17 @@ is_within (Some most) n = nat_le n most
 abbrev pub has_few_entries : Holding → Bool
 has_few_entries h = is_within (entry_limit h.index) (length (entries_of h.cells))
 
--- each dictionary column holds no more values in these rows than its indices can name
+-- in these rows no dictionary column holds more values than its indices can name
 abbrev pub dictionaries_fit : PlainSchema → List (List Cell) → Bool
 dictionaries_fit s rows = list_all has_few_entries (holdings_of s rows)
 
--- whether the indices of a dictionary have a limit
+-- there is a dictionary and its indices have a limit
 abbrev pub has_limit : Option Index → Bool
 has_limit None = false
 has_limit (Some i) = is_some (entry_limit i)
 
 unfoldable mutual
-  -- whether a dictionary at or below a column has a limit: without one, no row fills a dictionary
+  -- a dictionary at or below a column has a limit; if none has, no row can fill a dictionary
   pub is_limited : Column → Bool
   is_limited (column name nullable kind dictionary pairs) = has_limit dictionary || is_kind_limited kind
 

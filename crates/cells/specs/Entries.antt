@@ -1,10 +1,10 @@
--- The entries of a dictionary column, in the words of its values.
+-- The entries of a dictionary column, stated by its values.
 use Rattle.std.specs.Prelude.{◌≡◌, ◌↔◌, Some, List, ◌++◌}
 use Rattle.std.specs.List.{Contains, AllPairs}
 use Rattle.cells.specs.Cell.{Cell}
 use Rattle.cells.specs.Dictionary.{entry_in}
 
--- the cells begin with some among which is the one value, and not the other
+-- some first cells contain the one value but not the other
 pub record IsSeenBefore (cells : List Cell) (one other : Cell) : Type 0 where
   pub front : List Cell
   pub behind : List Cell
@@ -12,7 +12,7 @@ pub record IsSeenBefore (cells : List Cell) (one other : Cell) : Type 0 where
   pub has : Contains front one
   pub lacks : ¬ Contains front other
 
--- the values among the cells that are no null, list or struct, in the order in which they are first seen, and so each once
+-- the values among the cells that can be entries, each once, in order of first occurrence
 pub record AreEntries (cells entries : List Cell) : Type 0 where
   pub values : (c : Cell) → Contains entries c ↔ ((entry_in c ≡ Some c) × Contains cells c)
   pub order : AllPairs (IsSeenBefore cells) entries

@@ -1,4 +1,4 @@
--- What an entry of the code is.
+-- The cell that an entry of the code stands for.
 use Rattle.std.specs.Prelude.{Option, Some, None}
 use Rattle.cells.specs.declared.entry.Entry.{Entry}
 use Rattle.cells.specs.declared.entry.Entry.TheVariants as entries

@@ -1,15 +1,15 @@
--- Which values a field takes (Arrow columnar format, "Logical types"; Schema.fbs).
+-- Which values fit a field (Arrow columnar format, "Logical types"; Schema.fbs).
 use Rattle.std.specs.Prelude.{ℕ, ◌+◌, ◌-◌, ◌^◌, ℤ, pos, neg_ℤ, int_lt, int_le, Bool, true, false, ◌&&◌, ◌==◌, List, length}
 use Rattle.std.specs.Str.{is_utf8}
 use Rattle.arrow_schema.specs.Column.{DateKind, days, date_milliseconds, Kind, Column, Columns, nulls, booleans, integers, dates, timestamps, texts, large_texts, binaries, large_binaries, fixed_binaries, lists, large_lists, fixed_lists, structs, column, no_column, and_column}
 use Rattle.cells.specs.Cell.{Cell, Cells, null, boolean, number, text, bytes, items, parts, no_cell, and_cell}
 
--- a number of n bits
+-- an integer of this many bits
 abbrev pub in_range : ℕ → Bool → ℤ → Bool
 in_range bits false n = int_le (pos 0) n && int_lt n (pos (2 ^ bits))
 in_range bits true n = int_le (neg_ℤ (pos (2 ^ (bits - 1)))) n && int_lt n (pos (2 ^ (bits - 1)))
 
--- days are counted in 32 bits, milliseconds in 64
+-- days have 32 bits, milliseconds 64
 abbrev pub date_bits : DateKind → ℕ
 date_bits days = 32
 date_bits date_milliseconds = 64
@@ -22,7 +22,7 @@ abbrev pub all_cells : (Cell → Bool) → Cells → Bool
 all_cells p no_cell = true
 all_cells p (and_cell c cs) = p c && all_cells p cs
 
--- a cell of this form, with a fact of what it holds
+-- a cell of this kind whose content passes a test
 abbrev pub is_boolean : Cell → Bool
 is_boolean (boolean b) = true
 is_boolean _ = false
@@ -47,7 +47,7 @@ abbrev pub parts_where : (Cells → Bool) → Cell → Bool
 parts_where p (parts cs) = p cs
 parts_where p _ = false
 
--- a null fits where nulls are allowed, whatever the type
+-- a null fits if nulls are allowed, whatever the type
 abbrev pub null_or : Bool → (Cell → Bool) → Cell → Bool
 null_or nullable p null = nullable
 null_or nullable p c = p c
@@ -56,7 +56,7 @@ unfoldable mutual
   pub fits : Column → Cell → Bool
   fits (column name nullable kind dictionary pairs) = null_or nullable (fits_kind kind)
 
-  -- of a cell that is not null: the type of nulls has no such cell
+  -- for a cell that is not null; the null type has no such cell
   pub fits_kind : Kind → Cell → Bool
   fits_kind nulls = λ c. false
   fits_kind booleans = is_boolean
@@ -73,7 +73,7 @@ unfoldable mutual
   fits_kind (fixed_lists size item) = items_where (λ cs. count_of cs == size && all_cells (fits item) cs)
   fits_kind (structs columns) = parts_where (each_fits columns)
 
-  -- as many cells as columns, and each fits its own
+  -- exactly one cell for each column, and each fits its own
   pub each_fits : Columns → Cells → Bool
   each_fits no_column no_cell = true
   each_fits (and_column f fs) (and_cell c cs) = fits f c && each_fits fs cs

@@ -1,4 +1,4 @@
--- Whether a cell is a null.
+-- Tests for nulls.
 use Rattle.std.specs.Prelude.{Bool, true, false, not}
 use Rattle.cells.specs.Cell.{Cell, null}
 
@@ -6,6 +6,6 @@ abbrev pub is_null : Cell → Bool
 is_null null = true
 is_null _ = false
 
--- there is a value
+-- the cell is not null
 abbrev pub is_there : Cell → Bool
 is_there c = not (is_null c)

@@ -1,4 +1,4 @@
--- What a value of the code is, whatever memory it takes.
+-- The plain cell that a value of the code stands for.
 use Rattle.std.specs.Prelude.{List, map, string_bytes}
 use Rattle.std.specs.Borrow.{Bor}
 use Rattle.cells.specs.declared.value.Value.{Value}
@@ -18,7 +18,7 @@ cell_step (Struct v) = parts (cells_of v.items)
 abbrev pub cell : Value → Cell
 cell = fold-Value Cell cell_step
 
--- the value behind a reference, and the row behind one
+-- the cell, and the row, that a reference points to
 abbrev pub cell_behind : Bor Value → Cell
 cell_behind v = cell v.now
 

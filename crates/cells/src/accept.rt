@@ -1,4 +1,4 @@
-// Which rows a table takes.
+// Which rows a table accepts.
 ghost use Rattle.std.specs.Prelude.{◌≡◌, [], ◌∷◌, map, is_some, IfOk, IfSome};
 ghost use Rattle.arrow_schema.specs.Column.{columns_of};
 ghost use Rattle.arrow_schema.specs.View.{schema_of};
@@ -16,11 +16,11 @@ use crate::weigh::row_weight;
 use arrow_schema::Schema;
 use std::alloc::{AllocError, Global};
 
-/// Whether a row leaves each dictionary within its index type. `limited` is what [`crate::has_limits`] answers of the schema: it
-/// is asked once for many rows.
+/// Returns whether a row leaves each dictionary within its index type. `limited` is the result of [`crate::has_limits`] for the schema, which is
+/// computed once for many rows.
 ///
 /// # Errors
-/// `AllocError` where memory was refused.
+/// `AllocError` if memory was refused.
 #[tactic(auto, using(crate::specs::laws::Unlimited::from_unlimited))]
 pub fn dictionaries_fit(
     schema: &Schema,
@@ -37,7 +37,7 @@ pub fn dictionaries_fit(
     row_entries_fit(&schema.fields, row, alloc)
 }
 
-// The weight of a row, where it fits.
+// Returns the weight of a row if it fits.
 fn fitting_weight(schema: &Schema, row: &[Value]) -> Option<u64>
     ensures fits { is_some result ≡ row_fits (schema_of schema.now) (map cell row.now) }
     ensures weight { IfSome result (λ w. w ≡ capped_weight (row_weight (schema_of schema.now) (map cell row.now))) }
@@ -51,10 +51,11 @@ fn fitting_weight(schema: &Schema, row: &[Value]) -> Option<u64>
     Some(row_weight(schema, row))
 }
 
-/// The weight of a row, where a table takes it. `limited` is what [`crate::has_limits`] answers of the schema: it is asked once for many rows.
+/// Returns the weight of a row if a table accepts it. `limited` is the result of [`crate::has_limits`] for the schema, which is computed once for
+/// many rows.
 ///
 /// # Errors
-/// `AllocError` where memory was refused.
+/// `AllocError` if memory was refused.
 #[tactic(auto, using(crate::specs::laws::Unlimited::from_unlimited), unfolding(crate::specs::Row::is_row))]
 pub fn accepted_weight(
     schema: &Schema,

@@ -1,4 +1,4 @@
-// What a dictionary may hold.
+// The entries of dictionaries.
 ghost use Rattle.std.specs.Prelude.{◌≡◌, map, OnOk, OnErr};
 ghost use Rattle.cells.specs.View.{cell};
 ghost use Rattle.cells.specs.Entry.{entry_cell, entry_cell_of};
@@ -8,7 +8,7 @@ use crate::value::Value;
 use indexmap::IndexSet;
 use std::alloc::AllocError;
 
-/// An entry of a dictionary: a value that is not null, and neither a list nor a struct. It borrows strings and bytes.
+/// An entry of a dictionary: a value that is neither a null nor a list nor a struct. It borrows strings and bytes.
 #[derive(Clone, Copy, Debug, PartialEq, Eq, Hash)]
 pub enum Entry<'a> {
     Bool(bool),
@@ -17,7 +17,7 @@ pub enum Entry<'a> {
     Bytes(&'a [u8]),
 }
 
-/// The entry that a value would be.
+/// Returns a value as an entry, or `None` if it can't be one.
 pub fn entry_of(value: &Value) -> Option<Entry<'_>>
     ensures { entry_cell_of result ≡ entry_in (cell value.now) }
 {
@@ -32,10 +32,10 @@ pub fn entry_of(value: &Value) -> Option<Entry<'_>>
     }
 }
 
-/// Adds an entry to those of a dictionary, where there is one and it is not among them.
+/// Adds an entry to those of a dictionary, if there is one and it is new.
 ///
 /// # Errors
-/// `AllocError` where memory was refused: the entries are as they were.
+/// `AllocError` if memory was refused: the entries are unchanged.
 pub fn note<'a>(
     entries: &mut IndexSet<Entry<'a>>,
     entry: Option<Entry<'a>>,

@@ -1,4 +1,4 @@
-// Whether a value is one of a field's.
+// Tests whether a value fits a field.
 ghost use Rattle.std.specs.Prelude.{◌≡◌, ◌≤◌, ◌<◌, ◌==◌, ◌&&◌, true, map};
 ghost use Rattle.std.specs.Str.{is_utf8};
 ghost use Rattle.arrow_schema.specs.Column.{columns_of};
@@ -24,7 +24,7 @@ pub(crate) fn number_fits(bits: u32, signed: bool, n: i128) -> bool
     }
 }
 
-// A test for each width: with the number of bits known, it is two comparisons.
+// One test for each width: with a constant number of bits it compiles to two comparisons.
 #[inline(always)]
 pub(crate) fn integer_fits(integer: IntegerType, n: i128) -> bool
     ensures { result ≡ in_range (bits_of integer.width) integer.signed n }
@@ -46,7 +46,7 @@ pub(crate) fn date_fits(unit: DateUnit, n: i128) -> bool
     }
 }
 
-// A string is UTF-8 by its type.
+// A `str` is always UTF-8.
 pub(crate) fn is_utf8(text: &str) -> bool
     ensures { result ≡ is_utf8 text.now }
 {
@@ -68,8 +68,8 @@ fn width_matches(width: u32, count: usize) -> bool
     count == width as usize
 }
 
-/// Whether a value is one of the field's: a null where nulls are allowed, or a value of the type's kind, in range, of exact
-/// width or length, whose parts fit.
+/// Returns whether a value fits a field: it is a null and the field is nullable, or it has the kind of the field's type, is in range, has the exact
+/// width or length, and its items or parts fit.
 #[tactic(auto, unfolding(crate::specs::Fit::fits))]
 #[cycle(fits)]
 pub fn fits(field: &Field, value: &Value) -> bool
@@ -148,7 +148,7 @@ fn fixed_fit(size: u32, item: &Field, values: &[Value]) -> bool
     width_matches(size, values.len()) && all_fit(item, values)
 }
 
-// Whether there is a value for each field, and each fits its own.
+// Returns whether there is exactly one value for each field, and each fits its own.
 #[tactic(auto, using(crate::proofs::CellLemmas::each_of_other_length), unfolding(crate::specs::Fit::each_fits))]
 #[cycle(fits)]
 pub(crate) fn each_fits(fields: &[Field], parts: &[Value]) -> bool

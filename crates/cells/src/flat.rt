@@ -1,4 +1,4 @@
-// What a table asks of the cells of most rows, in one pass: of integers, strings and nulls.
+// A single pass that tests and weighs the cells of most rows: integers, strings and nulls.
 ghost use Rattle.std.specs.Prelude.{◌≡◌, ◌+◌, true, map, IfSome};
 ghost use Rattle.arrow_schema.specs.Column.{columns_of};
 ghost use Rattle.arrow_schema.specs.View.{kind_of, column_of};
@@ -12,7 +12,7 @@ use crate::value::Value;
 use crate::weigh::add_weights;
 use arrow_schema::{DataType, Field};
 
-// What an integer weighs that is one of a type's.
+// Returns the weight of an integer if it fits the type.
 #[inline(always)]
 #[tactic(auto, unfolding(crate::specs::Fit::fits_kind, crate::specs::Weight::kind_weight))]
 fn number_weight(data_type: &DataType, n: i128) -> Option<u64>
@@ -28,7 +28,7 @@ fn number_weight(data_type: &DataType, n: i128) -> Option<u64>
     if fits { Some(1) } else { None }
 }
 
-// What a string weighs that is one of a type's.
+// Returns the weight of a string if it fits the type.
 #[inline(always)]
 #[tactic(auto, unfolding(crate::specs::Fit::fits_kind, crate::specs::Weight::kind_weight))]
 fn text_weight(data_type: &DataType, value: &str) -> Option<u64>
@@ -47,7 +47,7 @@ fn text_weight(data_type: &DataType, value: &str) -> Option<u64>
     }
 }
 
-// What a null weighs, of a type whose nulls have no room of their own.
+// Returns the weight of a null, for types whose nulls take no space of their own.
 #[inline(always)]
 #[tactic(auto, unfolding(crate::specs::Weight::kind_weight))]
 fn null_weight(data_type: &DataType) -> Option<u64>
@@ -66,7 +66,7 @@ fn null_weight(data_type: &DataType) -> Option<u64>
     }
 }
 
-// What a value weighs that is one of a field's, where it is an integer, a string or such a null.
+// Returns the weight of a value that fits the field and is an integer, a string or such a null.
 #[inline(always)]
 #[tactic(auto, unfolding(crate::specs::Fit::fits, crate::specs::Weight::weight))]
 fn flat_weight(field: &Field, value: &Value) -> Option<u64>
@@ -87,7 +87,7 @@ fn flat_weight(field: &Field, value: &Value) -> Option<u64>
     }
 }
 
-/// The weight of a row of such values that are those of its fields, and none of another row.
+/// Returns the weight of a row if it consists of such values and each fits its field.
 #[tactic(auto, unfolding(crate::specs::Fit::each_fits, crate::specs::Weight::parts_weight))]
 pub(crate) fn flat_row_weight(fields: &[Field], row: &[Value]) -> Option<u64>
     ensures fits { IfSome result (λ w. each_fits (columns_of (map column_of fields.now)) (cells_of (map cell row.now)) ≡ true) }

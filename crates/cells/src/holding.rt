@@ -1,4 +1,4 @@
-// Whether a row's values leave each dictionary within its index type.
+// Tests whether the values of a row leave each dictionary within its index type.
 ghost use Rattle.std.specs.Prelude.{◌≡◌, ◌≤◌, ◌++◌, [], ◌∷◌, IfOk, map, length, nat_le, slice_get, option_to_list, option_map};
 ghost use Rattle.std.specs.List.{flat_map, list_all};
 ghost use Rattle.arrow_schema.specs.Column.{columns_of};
@@ -14,7 +14,7 @@ use arrow_schema::{BitWidth, DataType, DictSpec, Field, IntegerType};
 use indexmap::IndexSet;
 use std::alloc::{AllocError, Global};
 
-/// How many entries an index type can name: indices of 32 bits and more have no limit.
+/// Returns how many entries an index type can name, or `None` for indices of 32 bits and more, which count as unlimited.
 pub fn entry_limit(index: IntegerType) -> Option<usize>
     ensures { result ≡ entry_limit (record { bits = bits_of index.width; signed = index.signed }) }
 {
@@ -26,7 +26,7 @@ pub fn entry_limit(index: IntegerType) -> Option<usize>
     }
 }
 
-// Whether entries, which are at most `most`, stay so with those of cells.
+// Adds the entries of cells, and returns false as soon as there are more than `most`.
 #[tactic(auto, using(crate::proofs::HoldingLemmas::entries_rules), unfolding(crate::specs::Dictionary::with_entries))]
 fn stay_few<'a>(
     most: usize,
@@ -45,7 +45,7 @@ fn stay_few<'a>(
     Ok(true)
 }
 
-// Whether cells have at most `most` entries.
+// Returns whether cells have at most `most` distinct entries.
 fn are_few(most: usize, cells: &[&Value], alloc: Global) -> Result<bool, AllocError>
     ensures { IfOk result (λ b. b ≡ nat_le (length (entries_of (map cell_behind cells.now))) most) }
 {
@@ -133,7 +133,7 @@ fn cells_at<'a>(i: usize, rows: &[&'a [Value]], alloc: Global) -> Result<Vec<&'a
     Ok(cells)
 }
 
-// The field's own dictionary, where it has one.
+// Tests the field's own dictionary, if it has one.
 fn dictionary_entries_fit(
     dictionary: Option<DictSpec>,
     cells: &[&Value],
@@ -147,7 +147,7 @@ fn dictionary_entries_fit(
     }
 }
 
-// Whether each dictionary at and below a field names all that it holds, where the field has these cells.
+// Returns whether each dictionary at or below a field can name all its entries, if the field has these cells.
 #[tactic(auto, using(crate::proofs::HoldingLemmas::holding_rules), unfolding(crate::specs::Dictionary::holdings))]
 #[cycle(holdings)]
 fn field_entries_fit(field: &Field, cells: &[&Value], alloc: Global) -> Result<bool, AllocError>
@@ -192,7 +192,7 @@ fn item_entries_fit(item: &Field, cells: &[&Value], alloc: Global) -> Result<boo
     field_entries_fit(item, &items, alloc)
 }
 
-// The same of the cells at a place of rows.
+// The same for the cells at one place of several rows.
 #[cycle(holdings)]
 fn place_entries_fit(
     field: &Field,
@@ -223,7 +223,7 @@ fn column_entries_fit(
     Ok(true)
 }
 
-// The same of the cell at a place of one row.
+// The same for the cell at one place of a single row.
 fn part_entries_fit(
     field: &Field,
     i: usize,
@@ -238,7 +238,7 @@ fn part_entries_fit(
     }
 }
 
-// The same of one row: its cells are taken where they lie.
+// The same for a single row, without a list of its cells.
 #[tactic(auto, using(crate::proofs::HoldingLemmas::holding_rules), unfolding(crate::specs::Dictionary::holdings_from))]
 pub(crate) fn row_entries_fit(
     fields: &[Field],

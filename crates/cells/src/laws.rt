@@ -1,17 +1,16 @@
-// What the definitions say. The functions do nothing: their contracts are the laws.
+// Laws of the definitions. The functions do nothing: their contracts are the laws.
 ghost use Rattle.std.specs.Prelude.{◌≡◌, ◌≢◌, ◌↔◌, List, Some, IsTrue};
 ghost use Rattle.std.specs.List.{AllPairs};
 ghost use Rattle.cells.specs.Cell.{Cell};
 ghost use Rattle.cells.specs.Dictionary.{is_entry, entry_in, entries_of};
 ghost use Rattle.cells.specs.Entries.{AreEntries};
 
-/// Two values, of which one is no null, list or struct, are one entry of a dictionary exactly where they are equal.
+/// Two values, one of which is neither a null nor a list nor a struct, are the same dictionary entry if and only if they are equal.
 pub fn one_entry_is_one_value()
     ensures { (a b : Cell) → entry_in a ≡ Some a → (IsTrue (is_entry a b) ↔ (a ≡ b)) }
 {}
 
-/// The entries of a dictionary column are its distinct values in the order in which they are first seen, and no other
-/// list is.
+/// The entries of a dictionary column are its distinct values in order of first occurrence, and no other list is.
 pub fn entries_are_the_distinct_values()
     ensures values { (cells : List Cell) → AreEntries cells (entries_of cells) }
     ensures distinct { (cells : List Cell) → AllPairs (λ a b. a ≢ b) (entries_of cells) }

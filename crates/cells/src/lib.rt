@@ -1,14 +1,14 @@
-//! Values and rows: what fits a field, what it weighs, and what a dictionary may hold.
+//! Values and rows: what fits a field, what it weighs, and what a dictionary can hold.
 //!
-//! A [`Value`] is one cell of a table. Contracts see values as the plain trees of `specs/Cell.antt`. [`fits`] says which
-//! values a field takes and [`weight`] how heavy they are; [`accepted_weight`] asks a whole row what a table asks of it.
+//! A [`Value`] is one cell of a table. Contracts see values as the plain trees of `specs/Cell.antt`. [`fits`] tests whether a
+//! value fits a field, and [`weight`] returns its weight; [`accepted_weight`] makes all tests that a table requires of a row.
 //!
 //! ```
 //! let fields = field_texts::parse_fields(alloc, &["a:int8?"])?;
 //! let taken = cells::fits(&fields[0], &Value::Int(128));
 //! ```
 //!
-//! `taken` is false: an 8-bit integer with a sign is at most 127.
+//! `taken` is false: a signed 8-bit integer is at most 127.
 #![tactic(auto)]
 
 mod accept;

@@ -1,4 +1,4 @@
-// Which schemas have a dictionary that can be full.
+// Which schemas have a dictionary that can become full.
 ghost use Rattle.std.specs.Prelude.{◌≡◌, map, option_map};
 ghost use Rattle.arrow_schema.specs.Column.{columns_of};
 ghost use Rattle.arrow_schema.specs.View.{kind_of, column_of, index_of, schema_of};
@@ -7,7 +7,7 @@ ghost use Rattle.cells.specs.Dictionary.{has_limit, is_limited, is_kind_limited,
 use crate::holding::entry_limit;
 use arrow_schema::{DataType, DictSpec, Field, Schema};
 
-/// Whether the indices of a dictionary, where there is one, can name only some entries.
+/// Returns whether there is a dictionary and its indices can name only a limited number of entries.
 pub fn has_limit(dictionary: Option<DictSpec>) -> bool
     ensures { result ≡ has_limit (option_map index_of dictionary) }
 {
@@ -39,7 +39,7 @@ fn is_type_limited(data_type: &DataType) -> bool
     }
 }
 
-// Whether a dictionary at or below one of these fields has a limit.
+// Returns whether a dictionary at or below one of these fields has a limit.
 #[tactic(auto, unfolding(crate::specs::Dictionary::is_any_limited))]
 #[cycle(limited)]
 fn is_any_limited(fields: &[Field]) -> bool
@@ -53,7 +53,7 @@ fn is_any_limited(fields: &[Field]) -> bool
     false
 }
 
-/// Whether a dictionary of a schema has a limit: without one no row fills a dictionary.
+/// Returns whether a dictionary of a schema has a limit. If none has, no row can fill a dictionary.
 pub fn has_limits(schema: &Schema) -> bool
     ensures { result ≡ is_any_limited (columns_of (schema_of schema.now).columns) }
 {

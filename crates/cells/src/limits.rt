@@ -1,16 +1,16 @@
-// The limits of weights and of pieces, once: code and definitions cite them.
+// The limits of weights and of pieces, stated once for code and definitions.
 
-/// The most that a row may weigh.
+/// The maximum weight of a row.
 pub const MAX_ROW_WEIGHT: u64 = 16_777_216;
 
-/// The most that all rows of a table, or of a stream, may weigh together.
+/// The maximum weight of all rows of a table, or of a stream, together.
 pub const MAX_TABLE_WEIGHT: u64 = 268_435_456;
 
-/// What weighs more than a table may is reported as this.
+/// The value that stands for every weight above `MAX_TABLE_WEIGHT`.
 pub const TOO_HEAVY: u64 = MAX_TABLE_WEIGHT + 1;
 
-/// The most rows of a piece: what one record batch of a canonical stream has, and one segment of a store.
+/// The maximum number of rows in a piece: in one record batch of a canonical stream, or one segment of a store.
 pub const MAX_PIECE_ROWS: usize = 4096;
 
-/// The most that the rows of a piece may weigh together.
+/// The maximum weight of the rows of a piece together.
 pub const MAX_PIECE_WEIGHT: u64 = 16_777_216;

@@ -1,7 +1,7 @@
-// Rows before they are in a table.
+// Rows that are not part of a table.
 use crate::value::Value;
 
-/// A row of its own: a value for each column, in order.
+/// An owned row: one value for each column, in order.
 #[derive(Debug, Drop)]
 pub struct Row {
     pub cells: Vec<Value>,

@@ -1,7 +1,6 @@
-// One cell of a table.
+// The cells of a table.
 
-/// A value. Integers, dates and timestamps are `Int`; strings and binaries of either width are `Text` and `Bytes`;
-/// a null of any type is `Null`.
+/// A value. Integers, dates and timestamps are `Int`; strings and binaries of either width are `Text` and `Bytes`; a null of any type is `Null`.
 #[derive(Debug, Drop)]
 pub enum Value {
     Null,
@@ -18,7 +17,7 @@ impl Value {
     ghost use Rattle.cells.specs.Cell.{null};
     ghost use Rattle.cells.specs.View.{cell};
 
-    /// Whether it is null.
+    /// Returns whether the value is a null.
     pub fn is_null(&self) -> bool
         ensures { IsTrue result ↔ (cell self.now ≡ null) }
     {

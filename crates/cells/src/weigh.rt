@@ -1,4 +1,4 @@
-// How much values and rows weigh.
+// The weights of values and rows.
 ghost use Rattle.std.specs.Prelude.{◌≡◌, ◌+◌, ◌*◌, map, IfSome};
 ghost use Rattle.arrow_schema.specs.Column.{columns_of};
 ghost use Rattle.arrow_schema.specs.View.{kind_of, column_of, schema_of};
@@ -10,14 +10,14 @@ use crate::limits::TOO_HEAVY;
 use crate::value::Value;
 use arrow_schema::{DataType, Field, Schema};
 
-/// The sum of two weights, as weights are reported.
+/// Adds two weights, capped at `TOO_HEAVY`.
 pub fn add_weights(a: u64, b: u64) -> u64
     ensures { result ≡ capped_weight (a + b) }
 {
     a.saturating_add(b).min(TOO_HEAVY)
 }
 
-/// A multiple of a weight, as weights are reported.
+/// Multiplies a weight, capped at `TOO_HEAVY`.
 pub fn multiply_weight(count: u64, weight: u64) -> u64
     ensures { result ≡ capped_weight (count * weight) }
 {
@@ -35,7 +35,7 @@ fn byte_count(value: &Value) -> u64
     }
 }
 
-// The weight of a field's value, of the types that most fields have: asked before the others, since it calls nothing.
+// Returns the weight of a value of the most common types. It is tried first, since it makes no calls.
 #[inline(always)]
 #[tactic(auto, unfolding(crate::specs::Weight::weight, crate::specs::Weight::kind_weight))]
 fn light_weight(field: &Field, value: &Value) -> Option<u64>
@@ -70,8 +70,8 @@ pub(crate) fn parts_in(value: &Value) -> &[Value]
     }
 }
 
-/// The weight of a field's value, by its type: exact up to `MAX_TABLE_WEIGHT`, and `TOO_HEAVY` where it weighs more. It takes
-/// no memory, and its time is bounded by the weight and not by the lengths that a type states.
+/// Returns the weight of a value by the type of its field: exact up to `MAX_TABLE_WEIGHT`, and `TOO_HEAVY` above. It does not allocate, and its time
+/// is bounded by the weight, not by the lengths that a type states.
 #[tactic(auto, unfolding(crate::specs::Weight::weight))]
 #[cycle(weight)]
 pub fn weight(field: &Field, value: &Value) -> u64
@@ -117,7 +117,7 @@ fn items_weight(item: &Field, values: &[Value]) -> u64
     total
 }
 
-// A null fixed list is not gone through: its size is the type's word alone.
+// A null fixed-size list is not iterated over: its size is only what the type states.
 #[tactic(auto, using(crate::specs::laws::Weights::capped_product))]
 #[cycle(weight)]
 fn fixed_weight(size: u32, item: &Field, value: &Value) -> u64
@@ -132,7 +132,7 @@ fn fixed_weight(size: u32, item: &Field, value: &Value) -> u64
     }
 }
 
-// A part that is not there weighs as a null.
+// An absent part weighs as much as a null.
 #[tactic(auto, unfolding(crate::specs::Weight::parts_weight))]
 #[cycle(weight)]
 pub(crate) fn parts_weight(fields: &[Field], parts: &[Value]) -> u64
@@ -152,8 +152,8 @@ pub(crate) fn parts_weight(fields: &[Field], parts: &[Value]) -> u64
     total
 }
 
-/// The weight of a row: 1 and its cells, where an absent cell weighs as a null. It is exact up to `MAX_TABLE_WEIGHT`, and
-/// `TOO_HEAVY` where the row weighs more.
+/// Returns the weight of a row: 1 plus its cells, where an absent cell weighs as much as a null. It is exact up to `MAX_TABLE_WEIGHT`, and
+/// `TOO_HEAVY` above.
 pub fn row_weight(schema: &Schema, row: &[Value]) -> u64
     ensures { result ≡ capped_weight (row_weight (schema_of schema.now) (map cell row.now)) }
 {

@@ -10,22 +10,22 @@ use Rattle.columns.specs.Tests.{Typed}
 use Rattle.columns.specs.Built.{built_parts}
 use Rattle.columns.specs.Buildable.{can_build_rows}
 
--- what the cells of rows weigh
+-- the weight of all cells of some rows
 abbrev pub cells_weight : Columns → List (List Cell) → ℕ
 cells_weight columns rows = sum_by (λ row. parts_weight columns (cells_of row)) rows
 
--- a column by itself
+-- a list of this column alone
 abbrev pub alone : Column → Columns
 alone c = and_column c no_column
 
--- the one column, and the one array, of a batch
+-- the column and the array, as those of a batch with one column
 abbrev pub own_column : Typed → Columns
 own_column t = alone t.column
 
 abbrev pub own_array : Typed → Arrays
 own_array t = and_array t.array no_array
 
--- it is the array that some rows of one column are written as, which can be built, fit the column, and weigh so much at most
+-- some rows of one column can be built, fit the column and weigh at most this much, and the array is the one built from them
 pub record IsBuiltAlone (most : ℕ) (t : Typed) : Type 0 where
   pub rows : List (List Cell)
   pub array : own_array t ≡ built_parts (own_column t) rows

@@ -1,28 +1,28 @@
--- Arrays as plain trees whose buffers are lists of bytes (Arrow columnar format, "Physical Memory Layout"). An array does not know its type: what it
--- holds is said by the column that it belongs to. An array that does not have the layout of its column reads as one whose buffers are empty.
+-- Arrays as plain trees whose buffers are lists of bytes (Arrow columnar format, "Physical Memory Layout"). An array does not know its type: its
+-- column gives its values a meaning. An array whose layout is not that of its column reads as one with empty buffers.
 use Rattle.std.specs.Prelude.{ℕ, List, [], ◌∷◌}
 
 mutual
-  -- an array: how many slots it has, its validity bitmap, which is empty where each slot is valid, and what its layout has beside them
+  -- an array: its number of slots, its validity bitmap (empty if every slot is valid), and the rest of its layout
   pub data Array : Type 0 where
     array : (slots : ℕ) → (validity : List ℕ) → Layout → Array
 
   pub data Layout : Type 0 where
-    -- "Null Layout": no buffer
+    -- "Null Layout": no buffers
     null_layout : Layout
-    -- "Fixed-size Primitive Layout" of booleans: a bit for each slot
+    -- "Fixed-size Primitive Layout" of booleans: one bit for each slot
     bit_layout : (bits : List ℕ) → Layout
-    -- "Fixed-size Primitive Layout" of all else: values of one width, one after another
+    -- "Fixed-size Primitive Layout" of other types: values of one width, one after another
     fixed_layout : (values : List ℕ) → Layout
-    -- "Variable-size Binary Layout": one offset more than slots, and the bytes of all values
+    -- "Variable-size Binary Layout": one more offset than slots, and the bytes of all values
     binary_layout : (offsets contents : List ℕ) → Layout
-    -- "Variable-size List Layout": one offset more than slots, and the items of all lists
+    -- "Variable-size List Layout": one more offset than slots, and the items of all lists
     list_layout : (offsets : List ℕ) → (items : Array) → Layout
     -- "Fixed-Size List Layout": the items of all lists
     fixed_list_layout : (items : Array) → Layout
-    -- "Struct Layout": an array for each field
+    -- "Struct Layout": one array for each field
     struct_layout : (children : Arrays) → Layout
-    -- "Dictionary-encoded Layout": the index of each slot, and the dictionary: the arrays that its batches have, one after another
+    -- "Dictionary-encoded Layout": the index of each slot, and the arrays of the dictionary's batches, one after another
     dictionary_layout : (indices : List ℕ) → (dictionary : Arrays) → Layout
 
   pub data Arrays : Type 0 where
@@ -37,7 +37,7 @@ abbrev pub array_list : Arrays → List Array
 array_list no_array = []
 array_list (and_array a others) = a ∷ array_list others
 
--- ---- what an array has; nothing where its layout is another
+-- ---- what an array has, or nothing if its layout is another one
 
 abbrev pub slots_in : Array → ℕ
 slots_in (array slots validity layout) = slots
@@ -109,7 +109,7 @@ indices_in a = indices_of_layout (layout_in a)
 abbrev pub dictionary_in : Array → Arrays
 dictionary_in a = dictionary_of_layout (layout_in a)
 
--- the first of some arrays, and the others
+-- the first array of a list, and the others
 abbrev pub first_array : Arrays → Array
 first_array no_array = empty_array
 first_array (and_array a others) = a

@@ -1,4 +1,4 @@
--- What a borrowed value is.
+-- The meaning of a borrowed value.
 use Rattle.std.specs.Prelude.{List, map, drop}
 use Rattle.arrow_schema.specs.View.{column_of}
 use Rattle.columns.specs.declared.borrowed.ArraySlice.{ArraySlice}
@@ -38,6 +38,6 @@ borrowed_cell (Bytes b) = bytes b.now
 borrowed_cell (Items v) = items (cells_of (borrowed_cells v))
 borrowed_cell (Struct v) = parts (cells_of (borrowed_cells v))
 
--- the values that an iterator has left
+-- the values that an iterator has yet to yield
 abbrev pub values_left : ValuesIter → List Cell
 values_left it = drop it.next (borrowed_cells it.values)

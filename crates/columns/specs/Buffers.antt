@@ -1,16 +1,16 @@
--- The nodes and buffers of a batch (Arrow columnar format, "RecordBatch message"): those of each array, each before its children.
+-- The nodes and buffers of a record batch (Arrow columnar format, "RecordBatch message"): those of each array, parents before children.
 use Rattle.std.specs.Prelude.{ℕ, true, List, [], ◌∷◌, map, Some, None}
 use Rattle.std.specs.List.{flat_map}
 use Rattle.arrow_schema.specs.Column.{Kind, Column, Columns, nulls, booleans, integers, dates, timestamps, texts, large_texts, binaries, large_binaries, fixed_binaries, lists, large_lists, fixed_lists, structs, column}
 use Rattle.columns.specs.Array.{Array, Arrays, slots_in, validity_in, bits_in, values_in, offsets_in, contents_in, indices_in, dictionary_in, array_list}
 use Rattle.columns.specs.Tests.{Typed, every_array, unset_bits}
 
--- a FieldNode: how many slots, and how many of them are null
+-- a FieldNode: the number of slots, and how many of them are null
 pub record Node : Type 0 where
   pub slots : ℕ
   pub null_count : ℕ
 
--- every slot of the type of nulls is null
+-- every slot of the null type is null
 abbrev pub null_count : Column → Array → ℕ
 null_count (column name nullable nulls None pairs) a = slots_in a
 null_count (column name nullable kind dictionary pairs) a = unset_bits (validity_in a) (slots_in a)
@@ -45,7 +45,7 @@ nodes_of columns arrays = map node_of (every_array columns arrays)
 abbrev pub buffers_of : Columns → Arrays → List (List ℕ)
 buffers_of columns arrays = flat_map (λ t. column_buffers t.column t.array) (every_array columns arrays)
 
--- ---- the dictionaries of a batch, in the order of their columns: each is a batch of one column of the type of its values
+-- ---- the dictionaries of a batch, in the order of their columns: each becomes a batch of one column of its value type
 
 abbrev pub value_column : Column → Column
 value_column (column name nullable kind dictionary pairs) = column [] true kind None []

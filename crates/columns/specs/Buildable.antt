@@ -1,4 +1,4 @@
--- Cells of which the one array can be built, so that it reads back as them.
+-- Cells from which an array can be built that reads back as them.
 use Rattle.std.specs.Prelude.{ℕ, ◌-◌, ◌^◌, Bool, true, false, ◌&&◌, nat_le, List, [], ◌∷◌, map, length, is_some, Some, None, if◌then◌else◌}
 use Rattle.std.specs.List.{flat_map, list_all}
 use Rattle.arrow_schema.specs.Column.{Index, Kind, Column, Columns, is_bit_width, nulls, booleans, integers, dates, timestamps, texts, large_texts, binaries, large_binaries, fixed_binaries, lists, large_lists, fixed_lists, structs, column, no_column, and_column}
@@ -7,26 +7,26 @@ use Rattle.cells.specs.Dictionary.{entry_in, entries_of, item_list, part_list}
 use Rattle.cells.specs.Fit.{null_or, fits_kind}
 use Rattle.columns.specs.Built.{contents_of, fixed_items, first_cell, other_cells}
 
--- each is a null, or fits the type
+-- each cell is a null or fits the type
 abbrev pub are_nulls_or_fit : Kind → List Cell → Bool
 are_nulls_or_fit kind cells = list_all (null_or true (fits_kind kind)) cells
 
--- each is a null, or a value that a dictionary can have
+-- the cell is a null, or a value that a dictionary can hold
 abbrev pub is_null_or_entry : Cell → Bool
 is_null_or_entry c = null_or true (λ value. is_some (entry_in value)) c
 
--- indices of this type name so many entries
+-- indices of this type can name n entries
 abbrev pub names_entries : Index → ℕ → Bool
 names_entries index n = is_bit_width index.bits && nat_le n (if index.signed then 2 ^ (index.bits - 1) else 2 ^ index.bits)
 
--- the largest offset of 32 bits and of 64, with a sign
+-- the largest signed offsets of 32 and of 64 bits
 abbrev pub small_offset : ℕ
 small_offset = 2 ^ 31 - 1
 
 abbrev pub large_offset : ℕ
 large_offset = 2 ^ 63 - 1
 
--- offsets up to this one reach to the end of all texts or binaries, and of all items
+-- offsets up to `most` reach the end of the contents of all texts or binaries, and of the items of all lists
 abbrev pub contents_fit : (most : ℕ) → List Cell → Bool
 contents_fit most cells = nat_le (length (flat_map contents_of cells)) most
 
@@ -59,13 +59,13 @@ unfoldable mutual
   can_build_parts no_column = λ rows. true
   can_build_parts (and_column c cs) = λ rows. can_build c (map first_cell rows) && can_build_parts cs (map other_cells rows)
 
--- a cell for each column
+-- the row has exactly one cell for each column
 abbrev pub has_each_part : Columns → List Cell → Bool
 has_each_part no_column [] = true
 has_each_part no_column (c ∷ cells) = false
 has_each_part (and_column f columns) [] = false
 has_each_part (and_column f columns) (c ∷ cells) = has_each_part columns cells
 
--- rows of which the arrays of a batch can be built
+-- the arrays of these rows can be built
 abbrev pub can_build_rows : Columns → List (List Cell) → Bool
 can_build_rows columns rows = list_all (has_each_part columns) rows && can_build_parts columns rows

@@ -1,5 +1,5 @@
--- The one array that cells are written as. The canonical form is this project's; its layouts are the standard's (Arrow columnar format, "Physical Memory
--- Layout"): no validity bitmap where there is no null, offsets from 0, zeros and empty spans at nulls, nothing hidden but nulls.
+-- The array that cells are written as. Which one it is, is this project's canonical form; its layouts are the standard's (Arrow columnar format,
+-- "Physical Memory Layout"): no validity bitmap without a null, offsets from 0, zeros and empty spans at nulls, nothing hidden but nulls.
 use Rattle.std.specs.Prelude.{ℕ, ◌+◌, ◌/◌, Bool, true, false, not, List, [], ◌∷◌, map, length, replicate, Option, Some, None, position, if◌then◌else◌}
 use Rattle.std.specs.List.{flat_map, list_all}
 use Rattle.byteorder.specs.Endian.{little_bytes}
@@ -18,7 +18,7 @@ validity_of cells = if list_all is_there cells then [] else packed (map is_there
 abbrev pub with_validity : List Cell → Layout → Array
 with_validity cells layout = array (length cells) (validity_of cells) layout
 
--- ---- what a cell takes in a buffer; a null has zeros, or nothing
+-- ---- what a cell occupies in a buffer; a null is zeros, or nothing
 
 abbrev pub is_set : Cell → Bool
 is_set (boolean b) = b
@@ -37,7 +37,7 @@ contents_of (text t) = t
 contents_of (bytes b) = b
 contents_of _ = []
 
--- as many items as a fixed list has: below a null all are nulls
+-- as many items as a fixed-size list has; a null has only null items
 abbrev pub fixed_items : (size : ℕ) → Cell → List Cell
 fixed_items size null = replicate size null
 fixed_items size c = item_list c
@@ -46,14 +46,14 @@ abbrev pub place_or_zero : Option ℕ → ℕ
 place_or_zero None = 0
 place_or_zero (Some i) = i
 
--- the index of an entry; 0 stands at nulls
+-- the index of a cell's entry, or 0 for a null
 abbrev pub entry_index : List Cell → Cell → ℕ
 entry_index entries c = place_or_zero (position (is_entry c) entries)
 
 abbrev pub index_bytes : Index → List Cell → Cell → List ℕ
 index_bytes index entries c = little_bytes (index.bits / 8) (entry_index entries c)
 
--- offsets of so many bytes each: 0, and then the sum of the sizes so far
+-- offsets of this width: 0, followed by the running sums of the sizes
 abbrev pub sums_from : ℕ → List ℕ → List ℕ
 sums_from sum [] = sum ∷ []
 sums_from sum (n ∷ ns) = sum ∷ sums_from (sum + n) ns
@@ -67,7 +67,7 @@ binary_of width cells = binary_layout (offsets_of width (map (λ c. length (cont
 abbrev pub list_offsets : (width : ℕ) → List Cell → List ℕ
 list_offsets width cells = offsets_of width (map (λ c. length (item_list c)) cells)
 
--- the first cell of a row and the others; an absent part is a null
+-- the first cell of a row, and the others; a missing cell is a null
 abbrev pub first_cell : List Cell → Cell
 first_cell [] = null
 first_cell (c ∷ cells) = c
@@ -79,7 +79,7 @@ other_cells (c ∷ cells) = cells
 unfoldable mutual
   pub built : Column → List Cell → Array
   built (column name nullable kind None pairs) = built_kind kind
-  -- the entries of a dictionary are the distinct values, in the order in which they are first seen
+  -- the entries of a dictionary are the distinct values, in order of first occurrence
   built (column name nullable kind (Some index) pairs) =
       λ cells. with_validity cells (dictionary_layout (flat_map (index_bytes index (entries_of cells)) cells) (and_array (built_kind kind (entries_of cells)) no_array))
 
@@ -99,7 +99,7 @@ unfoldable mutual
   built_kind (fixed_lists size item) = λ cells. with_validity cells (fixed_list_layout (built item (flat_map (fixed_items size) cells)))
   built_kind (structs columns) = λ cells. with_validity cells (struct_layout (built_parts columns (map part_list cells)))
 
-  -- an array for each column, of the parts of each row; the arrays of a batch are those of its rows
+  -- one array for each column, built from its cell of each row; these are the arrays of a batch of the rows
   pub built_parts : Columns → List (List Cell) → Arrays
   built_parts no_column = λ rows. no_array
   built_parts (and_column c cs) = λ rows. and_array (built c (map first_cell rows)) (built_parts cs (map other_cells rows))

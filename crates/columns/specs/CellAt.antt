@@ -1,4 +1,4 @@
--- The cell at a slot of an array (Arrow columnar format, "Physical Memory Layout"). Each is found by itself in the bytes of the array.
+-- The cell at a slot of an array (Arrow columnar format, "Physical Memory Layout"), read from the bytes of the array alone.
 use Rattle.std.specs.Prelude.{ℕ, ◌+◌, ◌-◌, ◌*◌, ◌/◌, Bool, true, ◌==◌, ◌||◌, ℤ, pos, negsuc, List, length, map, take, drop, get_or, Option, Some, None, if◌then◌else◌}
 use Rattle.std.specs.List.{flat_map, range_with_len}
 use Rattle.byteorder.specs.Endian.{little_number}
@@ -9,24 +9,24 @@ use Rattle.cells.specs.Fit.{date_bits}
 use Rattle.cells.specs.Integers.{integer_of}
 use Rattle.columns.specs.Array.{Array, Arrays, slots_in, validity_in, bits_in, values_in, offsets_in, contents_in, items_in, children_in, indices_in, dictionary_in, array_list, first_array, other_arrays}
 
--- "Validity bitmaps": a slot is valid where its bit is set, and each is where the bitmap is empty
+-- "Validity bitmaps": a slot is valid if its bit is set; every slot is valid if the bitmap is empty
 abbrev pub is_valid : Array → ℕ → Bool
 is_valid a i = length (validity_in a) == 0 || bit (validity_in a) i
 
--- the little-endian number at a place of numbers of so many bytes each
+-- the little-endian number of this width at index k
 abbrev pub number_at : (width : ℕ) → List ℕ → ℕ → ℕ
 number_at width numbers k = little_number width (drop (k * width) numbers)
 
--- the same as an integer, in two's complement where it is signed
+-- the same as an integer, in two's complement if it is signed
 abbrev pub integer_at : (width : ℕ) → (signed : Bool) → List ℕ → ℕ → ℤ
 integer_at width signed numbers k = integer_of width signed (number_at width numbers k)
 
--- the value of so many bytes at a place
+-- the bytes of the value of this width at index k
 abbrev pub value_at : (width : ℕ) → List ℕ → ℕ → List ℕ
 value_at width values k = take width (drop (k * width) values)
 
--- ---- "Variable-size Binary Layout", "Variable-size List Layout": slot i has what stands from offset i up to offset i + 1. Offsets are signed; where
--- one is negative an array is refused, so that they are read without a sign here
+-- ---- "Variable-size Binary Layout", "Variable-size List Layout": slot i spans from offset i up to offset i + 1. Offsets are signed, but read as
+-- unsigned here: an array with a negative one is refused
 
 abbrev pub span_start : (width : ℕ) → Array → ℕ → ℕ
 span_start width a i = number_at width (offsets_in a) i
@@ -39,19 +39,19 @@ contents_at width a i = take (span_size width a i) (drop (span_start width a i) 
 
 -- ---- cells
 
--- n cells, from a slot on
+-- the n cells from slot `start` on
 abbrev pub cells_from : (ℕ → Cell) → (start n : ℕ) → List Cell
 cells_from f start n = map f (range_with_len start n)
 
--- those that slot i has of what the offsets speak of
+-- the cells in the span of slot i
 abbrev pub span_cells : (width : ℕ) → (ℕ → Cell) → Array → ℕ → List Cell
 span_cells width f a i = cells_from f (span_start width a i) (span_size width a i)
 
--- the cell of a slot, or a null where it is not valid
+-- the cell of a slot, or a null if the slot is not valid
 abbrev pub unless_null : (Array → ℕ → Cell) → Array → ℕ → Cell
 unless_null value a i = if is_valid a i then value a i else null
 
--- "Dictionary-encoded Layout": the entries of a dictionary are the cells of its arrays, one after another
+-- "Dictionary-encoded Layout": the entries of a dictionary are the cells of its arrays, one array after another
 abbrev pub entries_by : (Array → ℕ → Cell) → Arrays → List Cell
 entries_by f dictionary = flat_map (λ a. cells_from (f a) 0 (slots_in a)) (array_list dictionary)
 
@@ -59,12 +59,12 @@ entries_by f dictionary = flat_map (λ a. cells_from (f a) 0 (slots_in a)) (arra
 abbrev pub index_at : Index → Array → ℕ → ℤ
 index_at index a i = integer_at (index.bits / 8) index.signed (indices_in a) i
 
--- the number that an index is: none where it is negative
+-- the number that an index stands for, or none if it is negative
 abbrev pub named_number : ℤ → Option ℕ
 named_number (pos n) = Some n
 named_number (negsuc n) = None
 
--- the entry that an index names: no index but those from 0 up to the number of entries names one
+-- the entry that an index names; a negative index, or one past the last entry, names none and gives a null
 abbrev pub entry_at : List Cell → ℤ → Cell
 entry_at entries (pos n) = get_or entries n null
 entry_at entries (negsuc n) = null
@@ -74,7 +74,7 @@ unfoldable mutual
   cell_at (column name nullable kind None pairs) = unless_null (kind_cell kind)
   cell_at (column name nullable kind (Some index) pairs) = unless_null (λ a i. entry_at (entries_by (unless_null (kind_cell kind)) (dictionary_in a)) (index_at index a i))
 
-  -- of a slot that is valid
+  -- the cell of a valid slot
   pub kind_cell : Kind → Array → ℕ → Cell
   kind_cell nulls = λ a i. null
   kind_cell booleans = λ a i. boolean (bit (bits_in a) i)
@@ -97,7 +97,7 @@ unfoldable mutual
   part_cells no_column = λ arrays i. no_cell
   part_cells (and_column c cs) = λ arrays i. and_cell (cell_at c (first_array arrays) i) (part_cells cs (other_arrays arrays) i)
 
--- the item at a place of all items of lists or fixed lists
+-- the item at an index among all items of lists or fixed-size lists
 abbrev pub item_at : Column → Array → ℕ → Cell
 item_at item a = cell_at item (items_in a)
 

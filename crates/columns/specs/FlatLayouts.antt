@@ -1,4 +1,4 @@
--- The layouts that places of bytes are, where no dictionary is named.
+-- The layouts that places of bytes stand for, without looking up dictionaries.
 use Rattle.std.specs.Prelude.{ℕ, List}
 use Rattle.columns.specs.Array.{Array, Layout}
 use Rattle.columns.specs.View.{layout_step, array_step, no_dictionary}

@@ -1,5 +1,5 @@
--- The arrays that the nodes and buffers of a batch are (Arrow columnar format, "RecordBatch message"): they are given to the columns, each before its
--- children. A column with a dictionary has the layout of its indices, and takes the next of the dictionaries.
+-- The arrays that the nodes and buffers of a batch stand for (Arrow columnar format, "RecordBatch message"). They are assigned to the columns in
+-- preorder. A column with a dictionary has the layout of its indices, and takes the next dictionary.
 use Rattle.std.specs.Prelude.{ℕ, List, [], ◌∷◌, length, drop, get_or, Some, None}
 use Rattle.std.specs.List.{flat_map}
 use Rattle.arrow_schema.specs.Column.{Index, Kind, Column, Columns, nulls, booleans, integers, dates, timestamps, texts, large_texts, binaries, large_binaries, fixed_binaries, lists, large_lists, fixed_lists, structs, column, no_column, and_column}
@@ -7,7 +7,7 @@ use Rattle.columns.specs.Array.{Array, Arrays, Layout, array, arrays_of, no_arra
 use Rattle.columns.specs.Tests.{Typed, arrays_at}
 use Rattle.columns.specs.Buffers.{Node, column_buffers}
 
--- how many nodes, buffers and dictionaries a column takes with all below it, whatever they hold
+-- how many nodes, buffers and dictionaries a column takes with its children, whatever their contents
 abbrev pub node_count : Column → ℕ
 node_count c = length (arrays_at c empty_array)
 
@@ -29,7 +29,7 @@ first_slots (n ∷ nodes) = n.slots
 abbrev pub buffer_at : List (List ℕ) → ℕ → List ℕ
 buffer_at buffers k = get_or buffers k []
 
--- with a validity bitmap, which is the first buffer
+-- an array whose validity bitmap is the first buffer
 abbrev pub array_with : List Node → List (List ℕ) → Layout → Array
 array_with nodes buffers layout = array (first_slots nodes) (buffer_at buffers 0) layout
 

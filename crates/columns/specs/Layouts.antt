@@ -1,4 +1,4 @@
--- Arrays that have the layout of their column, at every level; and the dictionaries of a batch as a reader has them.
+-- Arrays that have the layout of their column, at every level; and the dictionaries of a batch as a reader gets them.
 use Rattle.std.specs.Prelude.{◌≡◌, List, [], ◌∷◌, Some, None}
 use Rattle.std.specs.List.{flat_map}
 use Rattle.arrow_schema.specs.Column.{Kind, Column, Columns, nulls, booleans, integers, dates, timestamps, texts, large_texts, binaries, large_binaries, fixed_binaries, lists, large_lists, fixed_lists, structs, column, no_column, and_column}

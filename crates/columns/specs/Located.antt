@@ -1,4 +1,4 @@
--- The cell of an entry, by the array that it stands in and its place there.
+-- The cell of a dictionary entry, from the array that has it and its place there.
 use Rattle.std.specs.Prelude.{◌≡◌, ◌<◌, true, Option, Some, None}
 use Rattle.arrow_schema.specs.Column.{Kind}
 use Rattle.cells.specs.Cell.{Cell, null}
@@ -8,7 +8,7 @@ use Rattle.columns.specs.CellAt.{unless_null, kind_cell}
 use Rattle.columns.specs.Sound.{is_kind_sound}
 use Rattle.columns.specs.View.{view_array}
 
--- a null where there is none
+-- a null if there is no such entry
 abbrev pub located_cell : Kind → Option EntryPlace → Cell
 located_cell kind None = null
 located_cell kind (Some p) = unless_null (kind_cell kind) (view_array p.view) p.place

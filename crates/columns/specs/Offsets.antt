@@ -1,4 +1,4 @@
--- How many bytes an offset has.
+-- The size of an offset in bytes.
 use Rattle.std.specs.Prelude.{ℕ}
 use Rattle.columns.specs.declared.numbers.OffsetWidth.{OffsetWidth}
 use Rattle.columns.specs.declared.numbers.OffsetWidth.TheVariants.{Four, Eight}

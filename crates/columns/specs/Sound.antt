@@ -1,11 +1,12 @@
--- Arrays whose slots can be looked up: no buffer is short, offsets ascend within what they speak of, and children are long enough, at every level.
+-- Arrays whose slots can be looked up: at every level no buffer is short, offsets ascend and stay within the contents or items, and children are long
+-- enough.
 use Rattle.std.specs.Prelude.{ℕ, ◌*◌, ◌/◌, Bool, true, not, ◌&&◌, nat_le, List, Some, None}
 use Rattle.std.specs.List.{list_all}
 use Rattle.arrow_schema.specs.Column.{Kind, Column, Columns, nulls, booleans, integers, dates, timestamps, texts, large_texts, binaries, large_binaries, fixed_binaries, lists, large_lists, fixed_lists, structs, column, no_column, and_column}
 use Rattle.columns.specs.Array.{Array, Arrays, slots_in, items_in, children_in, indices_in, dictionary_in, array_list, first_array, other_arrays}
 use Rattle.columns.specs.Tests.{has_short_validity, has_short_buffer, has_bad_offsets, are_few}
 
--- an array without a dictionary, whose children are sound by this test
+-- the test of an array without a dictionary, given a test of its children
 abbrev pub is_sound_by : Kind → (Array → Bool) → Array → Bool
 is_sound_by kind children a = not (has_short_validity a) && (not (has_short_buffer kind a) && (not (has_bad_offsets kind a) && children a))
 
@@ -31,11 +32,11 @@ unfoldable mutual
   has_sound_children large_binaries = λ a. true
   has_sound_children (fixed_binaries width) = λ a. true
 
-  -- an array for each column, with so many slots at least
+  -- one sound array for each column, with at least this many slots
   pub are_sound : Columns → (slots : ℕ) → Arrays → Bool
   are_sound no_column = λ slots arrays. true
   are_sound (and_column c cs) = λ slots arrays. nat_le slots (slots_in (first_array arrays)) && (is_sound c (first_array arrays) && are_sound cs slots (other_arrays arrays))
 
--- the same without a dictionary
+-- the same for an array without a dictionary
 abbrev pub is_kind_sound : Kind → Array → Bool
 is_kind_sound kind a = is_sound_by kind (has_sound_children kind) a

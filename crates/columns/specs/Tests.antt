@@ -1,4 +1,4 @@
--- What is asked of each array of a batch by itself, whether its slots are visible or not (Arrow columnar format, "Physical Memory Layout").
+-- Tests that each array of a batch must pass by itself, whether its slots are visible or not (Arrow columnar format, "Physical Memory Layout").
 use Rattle.std.specs.Prelude.{ℕ, ◌+◌, ◌-◌, ◌*◌, ◌/◌, ◌^◌, Bool, true, false, not, ◌&&◌, ◌||◌, ◌==◌, nat_lt, nat_le, List, [], ◌∷◌, ◌++◌, length, Option, Some, None, if◌then◌else◌}
 use Rattle.std.specs.List.{list_any, range_with_len}
 use Rattle.arrow_schema.specs.Column.{Index, Kind, Column, Columns, nulls, booleans, integers, dates, timestamps, texts, large_texts, binaries, large_binaries, fixed_binaries, lists, large_lists, fixed_lists, structs, column, no_column, and_column}
@@ -16,7 +16,7 @@ abbrev pub typed : Column → Array → Typed
 typed c a = record { column = c; array = a }
 
 unfoldable mutual
-  -- an array and all below it, in preorder; the arrays of a dictionary are in messages of their own
+  -- an array with all its descendants, in preorder; the arrays of a dictionary are in messages of their own
   pub arrays_at : Column → Array → List Typed
   arrays_at (column name nullable kind (Some index) pairs) = λ a. typed (column name nullable kind (Some index) pairs) a ∷ []
   arrays_at (column name nullable kind None pairs) = λ a. typed (column name nullable kind None pairs) a ∷ arrays_below kind a
@@ -41,9 +41,9 @@ unfoldable mutual
   every_array no_column = λ arrays. []
   every_array (and_column c cs) = λ arrays. arrays_at c (first_array arrays) ++ every_array cs (other_arrays arrays)
 
--- ---- F19: a buffer has fewer bytes than so many slots need
+-- ---- F19: a buffer has fewer bytes than the slots need
 
--- a validity bitmap is empty, or has a bit for each slot
+-- a validity bitmap must be empty or have a bit for each slot
 abbrev pub has_short_validity : Array → Bool
 has_short_validity a = not (length (validity_in a) == 0) && nat_lt (length (validity_in a)) (bytes_of (slots_in a))
 
@@ -51,7 +51,7 @@ has_short_validity a = not (length (validity_in a) == 0) && nat_lt (length (vali
 abbrev pub are_few : (width : ℕ) → Array → List ℕ → Bool
 are_few width a values = nat_lt (length values) (slots_in a * width)
 
--- there is an offset more than slots; an array without slots may have none
+-- there must be one more offset than slots; an array without slots may have none
 abbrev pub are_few_offsets : (width : ℕ) → Array → Bool
 are_few_offsets width a = not (slots_in a == 0) && nat_lt (length (offsets_in a)) ((slots_in a + 1) * width)
 
@@ -75,7 +75,7 @@ abbrev pub is_short : Column → Array → Bool
 is_short (column name nullable kind None pairs) a = has_short_validity a || has_short_buffer kind a
 is_short (column name nullable kind (Some index) pairs) a = has_short_validity a || are_few (index.bits / 8) a (indices_in a)
 
--- ---- F21: the null count of its node is not the number of slots that are not valid; it is not asked of the type of nulls
+-- ---- F21: the null count of the node differs from the number of slots that are not valid; the null type is exempt
 
 abbrev pub unset_bits : List ℕ → (slots : ℕ) → ℕ
 unset_bits validity slots = if length validity == 0 then 0 else slots - count_of validity 0 slots
@@ -84,10 +84,10 @@ abbrev pub counts_wrong : (null_count : ℕ) → Column → Array → Bool
 counts_wrong null_count (column name nullable nulls None pairs) a = false
 counts_wrong null_count (column name nullable kind dictionary pairs) a = not (null_count == unset_bits (validity_in a) (slots_in a))
 
--- ---- F22: in an array that has slots an offset is negative, one is less than the one before it, or the last is past what the offsets speak of. Where one
--- is negative the first is, or one is less than the one before it, as numbers with a sign
+-- ---- F22: an array with slots has a negative offset, an offset less than the one before it, or a last offset past the end of the contents or items.
+-- If any offset is negative, then as signed numbers the first one is, or one is less than the one before it
 
--- a number of so many bytes that is negative in two's complement
+-- a number of this width is negative in two's complement
 abbrev pub is_negative : (width : ℕ) → ℕ → Bool
 is_negative width n = nat_le (2 ^ (8 * width - 1)) n
 
@@ -118,7 +118,7 @@ abbrev pub is_unordered : Column → Array → Bool
 is_unordered (column name nullable kind None pairs) a = has_bad_offsets kind a
 is_unordered (column name nullable kind (Some index) pairs) a = false
 
--- ---- F20: a struct has a child that is shorter than it, or a fixed list has fewer items than its slots times its size
+-- ---- F20: a struct has a child that is shorter than itself, or a fixed-size list has fewer items than its slots times its size
 abbrev pub has_short_part : Kind → Array → Bool
 has_short_part (fixed_lists size item) a = nat_lt (slots_in (items_in a)) (slots_in a * size)
 has_short_part (structs columns) a = list_any (λ child. nat_lt (slots_in child) (slots_in a)) (array_list (children_in a))

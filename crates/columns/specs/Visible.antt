@@ -1,5 +1,5 @@
--- The slots of an array that are looked at. A slot of a column of the batch is visible; so are the items and parts of a visible slot that is not null
--- (docs/definitions/columns.md). What no visible slot has is hidden: nothing is asked of it.
+-- The visible slots of an array. Each slot of a column of the batch is visible, and so are the items and parts of a visible slot that is not null
+-- (docs/definitions/columns.md). All other slots are hidden: nothing is required of them.
 use Rattle.std.specs.Prelude.{ℕ, ◌+◌, ◌*◌, Bool, true, false, not, ◌&&◌, nat_le, ℤ, pos, negsuc, List, [], ◌∷◌, ◌++◌, length, Option, Some, None, if◌then◌else◌}
 use Rattle.std.specs.List.{flat_map, range_with_len}
 use Rattle.std.specs.Str.{is_utf8}
@@ -10,7 +10,7 @@ pub use Rattle.cells.specs.Nulls.{is_null}
 use Rattle.columns.specs.Array.{Array, Arrays, items_in, children_in, dictionary_in, first_array, other_arrays}
 use Rattle.columns.specs.CellAt.{is_valid, cell_at, span_start, span_size, index_at, entries_of_kind}
 
--- a slot with the column and the array that it is of
+-- a slot, with its column and its array
 pub record Slot : Type 0 where
   pub column : Column
   pub array : Array
@@ -20,7 +20,7 @@ abbrev pub slot : Column → Array → ℕ → Slot
 slot c a i = record { column = c; array = a; place = i }
 
 unfoldable mutual
-  -- a visible slot, and those that are visible by it, in preorder. What stands in a dictionary is looked at where its batch is read
+  -- a visible slot and the slots below it that it makes visible, in preorder. The entries of a dictionary are checked when its batch is read
   pub visible : Column → Array → ℕ → List Slot
   visible (column name nullable kind (Some index) pairs) = λ a i. slot (column name nullable kind (Some index) pairs) a i ∷ []
   visible (column name nullable kind None pairs) = λ a i. slot (column name nullable kind None pairs) a i ∷ (if is_valid a i then visible_below kind a i else [])
@@ -45,21 +45,21 @@ unfoldable mutual
   visible_parts no_column = λ arrays i. []
   visible_parts (and_column c cs) = λ arrays i. visible c (first_array arrays) i ++ visible_parts cs (other_arrays arrays) i
 
--- all visible slots of a batch of so many rows, column by column
+-- all visible slots of a batch with this many rows, column by column
 unfoldable pub visible_in : Columns → Arrays → (rows : ℕ) → List Slot
 visible_in no_column arrays rows = []
 visible_in (and_column c cs) arrays rows = flat_map (visible c (first_array arrays)) (range_with_len 0 rows) ++ visible_in cs (other_arrays arrays) rows
 
--- ---- what is asked of a visible slot
+-- ---- tests of a visible slot
 
 abbrev pub cell_of : Slot → Cell
 cell_of s = cell_at s.column s.array s.place
 
--- F23: it is a null, in a column that takes none
+-- F23: a null in a column that is not nullable
 abbrev pub is_forbidden : Slot → Bool
 is_forbidden s = not (is_nullable_column s.column) && is_null (cell_of s)
 
--- F15: it is a text whose bytes are not UTF-8
+-- F15: a text that is not UTF-8
 abbrev pub is_bad_text : Cell → Bool
 is_bad_text (text t) = not (is_utf8 t)
 is_bad_text _ = false
@@ -67,7 +67,7 @@ is_bad_text _ = false
 abbrev pub is_no_text : Slot → Bool
 is_no_text s = is_bad_text (cell_of s)
 
--- F26: it is valid, and its index is negative or past the entries
+-- F26: a valid slot whose index is negative or past the last entry
 abbrev pub is_past : ℤ → List Cell → Bool
 is_past (pos n) entries = nat_le (length entries) n
 is_past (negsuc n) entries = true

@@ -1,4 +1,4 @@
--- Placed arrays that stay as they are where bytes are appended: their buffers end within so many bytes, and so do the arrays that they know of their dictionaries.
+-- Placed arrays that stay the same when bytes are appended: their buffers end within a given size, and so do the dictionary arrays that they know.
 use Rattle.std.specs.Prelude.{ℕ, ◌+◌, Bool, true, ◌&&◌, nat_le, List, length, take}
 use Rattle.std.specs.List.{list_all}
 use Rattle.columns.specs.declared.array.PlacedArray.{PlacedArray}
@@ -13,7 +13,7 @@ use Rattle.columns.specs.View.{arrays_numbered}
 abbrev pub ends_within : (size : ℕ) → Span → Bool
 ends_within size span = nat_le (span.start + span.len) size
 
--- by a test of the part of a dictionary
+-- given a test of the part of a dictionary
 abbrev pub layout_within : (size : ℕ) → (DictionaryPart → Bool) → PlacedLayout-F Bool Bool → Bool
 layout_within size stands placed.Null = true
 layout_within size stands (placed.Bits bits) = ends_within size bits
@@ -30,7 +30,7 @@ array_within size a = ends_within size a.validity && a.layout
 abbrev pub is_within_by : (size : ℕ) → (DictionaryPart → Bool) → PlacedArray → Bool
 is_within_by size stands = fold-PlacedArray Bool Bool (layout_within size stands) (array_within size)
 
--- the arrays that a part of a dictionary knows are there, and end within so many bytes; they have no dictionaries themselves
+-- the arrays that a part of a dictionary knows exist and end within this size; they have no dictionaries themselves
 abbrev pub stands_within : (size : ℕ) → List Dictionary → DictionaryPart → Bool
 stands_within size dictionaries part =
     nat_le part.count (length (arrays_numbered dictionaries part.number)) && list_all (is_within_by size (λ p. true)) (take part.count (arrays_numbered dictionaries part.number))

@@ -1,10 +1,10 @@
-// Arrays by the places of their buffers.
+// Arrays described by the places of their buffers.
 ghost use Rattle.std.specs.Prelude.{◌≡◌, ◌≤◌, ◌*◌, ◌^◌, length};
 ghost use Rattle.columns.specs.Ends.{entry_count, ends_from};
 
 use crate::span::Span;
 
-/// An array, by the places of its buffers in bytes that are kept elsewhere: it stays true where bytes are appended.
+/// An array, described by the places of its buffers in bytes that are kept elsewhere. It stays valid when bytes are appended to them.
 #[derive(Debug, Drop)]
 #[cycle(array)]
 pub struct PlacedArray {
@@ -13,7 +13,7 @@ pub struct PlacedArray {
     pub layout: PlacedLayout,
 }
 
-/// What the layout of an array has (Arrow columnar format, "Physical Memory Layout").
+/// The layout of an array with its buffers and children (Arrow columnar format, "Physical Memory Layout").
 #[derive(Debug, Drop)]
 #[cycle(array)]
 pub enum PlacedLayout {
@@ -27,15 +27,15 @@ pub enum PlacedLayout {
     Dictionary(Span, DictionaryPart),
 }
 
-/// The dictionary of an array: which it is, and how many of its arrays were there when the array was read.
+/// The dictionary of an array: its number, and how many of its arrays existed when the array was read.
 #[derive(Clone, Copy, Debug)]
 pub struct DictionaryPart {
     pub number: usize,
     pub count: usize,
 }
 
-/// The arrays of a dictionary: that of the batch that began it, and those of the batches that were appended. It keeps how many entries there are up to the
-/// end of each, so that an entry is found by binary search.
+/// The arrays of a dictionary: the one of its first batch, followed by those of its delta batches. The running entry count at the end of each array
+/// is kept, so that an entry is found by binary search.
 #[derive(Debug, Drop)]
 pub struct Dictionary {
     pub arrays: Vec<PlacedArray>,

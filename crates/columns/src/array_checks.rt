@@ -1,4 +1,4 @@
-// What is asked of an array by itself (docs/definitions/columns.md).
+// Tests that concern one array by itself (docs/definitions/columns.md).
 ghost use Rattle.std.specs.Prelude.{◌≡◌, ◌+◌, ◌*◌, ◌≤◌, false, length, nat_lt};
 ghost use Rattle.std.specs.List.{list_any, range_with_len};
 ghost use Rattle.bitmap.specs.Bits.{bytes_of};
@@ -22,7 +22,7 @@ fn has_short_validity(view: ArrayView<'_>) -> bool
     !validity.is_empty() && validity.len() < bitmap::bytes_for(view.slots())
 }
 
-// In 128 bits, which hold the size of any number of slots.
+// In 128 bits the product can't overflow.
 fn are_few(width: usize, count: usize, values: &[u8]) -> bool
     ensures { result ≡ nat_lt (length values.now) (count * width) }
 {
@@ -69,7 +69,7 @@ fn has_short_buffer(data_type: &DataType, view: ArrayView<'_>) -> bool
     }
 }
 
-/// Whether a validity bitmap that is there, or another buffer, has fewer bytes than its slots need.
+/// Returns whether a validity bitmap that is present, or another buffer of the array itself, has fewer bytes than its slots need.
 pub fn is_short(field: &Field, view: ArrayView<'_>) -> bool
     ensures { result ≡ is_short (column_of field.now) (view_array view.entry) }
 {
@@ -91,7 +91,7 @@ fn unset_bits(view: ArrayView<'_>) -> usize
     view.slots() - bitmap::count_set(validity, 0, view.slots())
 }
 
-/// Whether a null count is not the number of slots that are not valid. It is not asked of the type of nulls.
+/// Returns whether a null count differs from the number of slots that are not valid. The null type is exempt.
 pub fn counts_wrong(null_count: u64, field: &Field, view: ArrayView<'_>) -> bool
     requires { has_short_validity (view_array view) ≡ false }
     ensures { result ≡ counts_wrong null_count (column_of field.now) (view_array view.entry) }
@@ -102,7 +102,7 @@ pub fn counts_wrong(null_count: u64, field: &Field, view: ArrayView<'_>) -> bool
     }
 }
 
-// Whether an offset of this width is negative in two's complement.
+// Returns whether an offset of this width is negative in two's complement.
 fn is_negative(width: OffsetWidth, number: usize) -> bool
     ensures { result ≡ is_negative (width_of width) number }
 {
@@ -112,7 +112,7 @@ fn is_negative(width: OffsetWidth, number: usize) -> bool
     }
 }
 
-// An offset is less than the one before it. The loop goes to its end, so that of a width that the compiler knows it takes several at once.
+// Returns whether an offset is less than the one before it. There is no early exit, so that the compiler can vectorize the loop for a known width.
 fn any_sized_falls<const SIZE: usize>(offsets: &[u8], slots: usize) -> bool
     requires least { 1 ≤ SIZE }
     requires most { SIZE ≤ 8 }
@@ -128,7 +128,7 @@ fn any_sized_falls<const SIZE: usize>(offsets: &[u8], slots: usize) -> bool
     falls
 }
 
-// A loop for each width.
+// One loop for each width.
 fn any_falls(width: OffsetWidth, offsets: &[u8], slots: usize) -> bool
     requires { (slots + 1) * width_of width ≤ length offsets.now }
     ensures { let offset = number_at (width_of width) offsets.now in result ≡ list_any (λ i. nat_lt (offset (i + 1)) (offset i)) (range_with_len 0 slots) }
@@ -139,7 +139,7 @@ fn any_falls(width: OffsetWidth, offsets: &[u8], slots: usize) -> bool
     }
 }
 
-// Where no offset is less than the one before it, the last is the largest.
+// If the offsets never decrease, the last one is the largest.
 fn are_unordered(width: OffsetWidth, most: usize, view: ArrayView<'_>) -> bool
     requires { are_few_offsets (width_of width) (view_array view) ≡ false }
     ensures { result ≡ are_unordered (width_of width) most (view_array view.entry) }
@@ -171,8 +171,8 @@ fn has_bad_offsets(data_type: &DataType, view: ArrayView<'_>) -> bool
     }
 }
 
-/// Whether, in an array that has slots, an offset is negative, one is less than the one before it, or the last is past what the offsets
-/// speak of.
+/// Returns whether an array that has slots has a negative offset, an offset less than the one before it, or a last offset past the end of the
+/// contents or items.
 pub fn is_unordered(field: &Field, view: ArrayView<'_>) -> bool
     requires { is_short (column_of field.now) (view_array view) ≡ false }
     ensures { result ≡ is_unordered (column_of field.now) (view_array view.entry) }
@@ -189,7 +189,7 @@ fn any_fewer(slots: usize, children: &[PlacedArray]) -> bool
     children.iter().any(|child| child.slots < slots)
 }
 
-// Whether a child of a struct is shorter than it.
+// Returns whether a child of a struct is shorter than the struct.
 fn has_shorter(view: ArrayView<'_>) -> bool
     ensures { let a = view_array view.entry in
         result ≡ list_any (λ child. nat_lt (slots_in child) (slots_in a)) (array_list (children_in a)) }
@@ -209,7 +209,7 @@ fn has_short_part(data_type: &DataType, view: ArrayView<'_>) -> bool
     }
 }
 
-/// Whether a struct has a child that is shorter than it, or a fixed list fewer items than its slots have.
+/// Returns whether a struct has a child that is shorter than itself, or a fixed-size list has fewer items than its slots need.
 pub fn has_short_child(field: &Field, view: ArrayView<'_>) -> bool
     ensures { result ≡ has_short_child (column_of field.now) (view_array view.entry) }
 {

@@ -1,4 +1,4 @@
-// Values of arrays, as they are borrowed.
+// Borrowed values of arrays.
 ghost use Rattle.std.specs.Prelude.{◌≡◌, true};
 ghost use Rattle.arrow_schema.specs.View.{column_of};
 ghost use Rattle.columns.specs.inner.Readable.{is_run_readable, are_parts_readable};
@@ -9,7 +9,7 @@ use crate::view::ArrayView;
 use arrow_schema::Field;
 use cells::Value;
 
-/// Slots of an array that follow one another, as values of a field.
+/// Consecutive slots of an array, as values of a field.
 #[derive(Clone, Copy)]
 pub(crate) struct ArraySlice<'a> {
     pub(crate) field: &'a Field,
@@ -19,7 +19,7 @@ pub(crate) struct ArraySlice<'a> {
     ghost readable: { is_run_readable (column_of field.now) (view_array view) start count ≡ true },
 }
 
-/// A slot of each of some arrays, as values of some fields.
+/// One slot of each of several arrays, as values of as many fields.
 #[derive(Clone, Copy)]
 pub(crate) struct PartsAt<'a> {
     pub(crate) fields: &'a [Field],
@@ -31,7 +31,7 @@ pub(crate) struct PartsAt<'a> {
     ghost readable: { are_parts_readable (fields_of fields.now) (placed_arrays bytes.now dictionaries.now arrays.now) slots place ≡ true },
 }
 
-/// How values that are borrowed are kept: as they stand, or in arrays.
+/// Where borrowed values are stored: as cells, or in arrays.
 #[derive(Clone, Copy)]
 pub(crate) enum Form<'a> {
     Cells(&'a [Value]),
@@ -39,14 +39,14 @@ pub(crate) enum Form<'a> {
     Parts(PartsAt<'a>),
 }
 
-/// Values that are borrowed, in order: the cells of a row, the items of a list or the parts of a struct.
+/// A borrowed sequence of values: the cells of a row, the items of a list or the parts of a struct.
 #[derive(Clone, Copy)]
 pub struct Values<'a> {
     pub(crate) form: Form<'a>,
 }
 
-/// A value that is borrowed. Integers, dates and timestamps are `Int`; strings and binaries of either width are `Text` and
-/// `Bytes`; a null of any type is `Null`.
+/// A borrowed value. Integers, dates and timestamps are `Int`; strings and binaries of either width are `Text` and `Bytes`; a null of any type is
+/// `Null`.
 #[derive(Clone, Copy)]
 pub enum ValueRef<'a> {
     Null,
@@ -58,7 +58,7 @@ pub enum ValueRef<'a> {
     Struct(Values<'a>),
 }
 
-/// Gives values in order.
+/// An iterator over borrowed values.
 #[derive(Drop)]
 pub struct ValuesIter<'a> {
     pub(crate) values: Values<'a>,

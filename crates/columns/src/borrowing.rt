@@ -1,4 +1,4 @@
-// Values that are borrowed, in order.
+// Access to borrowed values.
 ghost use Rattle.std.specs.Prelude.{◌≡◌, ◌==◌, length, slice_get, option_map};
 ghost use Rattle.cells.specs.View.{cell};
 ghost use Rattle.columns.specs.Borrowed.{borrowed_cell, borrowed_cells, slice_cells, parts_cells, values_left};
@@ -8,7 +8,7 @@ use crate::read::value;
 use crate::view::ArrayView;
 use cells::Value;
 
-/// A value, borrowed.
+/// Borrows a value.
 pub fn borrow_value(value: &Value) -> ValueRef<'_>
     ensures { borrowed_cell result ≡ cell value.now }
 {
@@ -37,7 +37,7 @@ fn run_len(run: &ArraySlice<'_>) -> usize
 fn run_get<'a>(run: &ArraySlice<'a>, i: usize) -> Option<ValueRef<'a>>
     ensures { option_map borrowed_cell result ≡ slice_get (slice_cells run.now) i }
 {
-    // a number of the code is below 2^64, so that the place is too
+    // for the proof: a `usize` is below 2^64, so `start + i` does not overflow
     let _slots = run.view.slots();
     if i >= run.count {
         return None;
@@ -68,7 +68,7 @@ fn parts_get<'a>(parts: &PartsAt<'a>, i: usize) -> Option<ValueRef<'a>>
 }
 
 impl<'a> Values<'a> {
-    /// How many there are.
+    /// Returns the number of values.
     pub fn len(&self) -> usize
         ensures { result ≡ length (borrowed_cells self.now) }
     {
@@ -79,14 +79,14 @@ impl<'a> Values<'a> {
         }
     }
 
-    /// Whether there are none.
+    /// Returns whether there are no values.
     pub fn is_empty(&self) -> bool
         ensures { result ≡ (length (borrowed_cells self.now) == 0) }
     {
         self.len() == 0
     }
 
-    /// The value at a place, counted from 0.
+    /// Returns the value at index `i`, if there is one.
     pub fn get(&self, i: usize) -> Option<ValueRef<'a>>
         ensures { option_map borrowed_cell result ≡ slice_get (borrowed_cells self.now) i }
     {
@@ -97,7 +97,7 @@ impl<'a> Values<'a> {
         }
     }
 
-    /// The values, in order.
+    /// Returns an iterator over the values.
     pub fn iter(&self) -> ValuesIter<'a>
         ensures { values_left result ≡ borrowed_cells self.now }
     {
@@ -118,7 +118,7 @@ impl<'a> Iterator for ValuesIter<'a> {
     ghost remaining = { item_count values_left };
 
     fn next(&mut self) -> Option<ValueRef<'a>> {
-        // a number of the code is below 2^64, so that the next place is too
+        // for the proof: a `usize` is below 2^64, so `next + 1` does not overflow
         let _len = self.values.len();
         match self.values.get(self.next) {
             None => None,

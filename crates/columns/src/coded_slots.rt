@@ -1,4 +1,4 @@
-// The slots of a column with a dictionary, with the buffers that each slot is read from.
+// The slots of a dictionary-encoded column, with the buffers that each slot is read from.
 ghost use Rattle.std.specs.Prelude.{◌≡◌, ◌<◌, ◌≤◌, ◌/◌, ℕ, IfSome, Some, None, false};
 ghost use Rattle.arrow_schema.specs.View.{index_of};
 ghost use Rattle.columns.specs.Array.{slots_in, validity_in, indices_in};
@@ -10,7 +10,7 @@ use crate::numbers::{named_at, named_below, width_of_bytes};
 use crate::view::ArrayView;
 use arrow_schema::{DictSpec, IntegerType};
 
-/// The slots of an array that has indices. Its validity bitmap and its indices are found once, and not again for each slot.
+/// The slots of an array that has indices. Its validity bitmap and indices buffer are looked up once, rather than for each slot.
 #[derive(Clone, Copy)]
 pub struct CodedSlots<'a> {
     pub view: ArrayView<'a>,
@@ -24,7 +24,7 @@ pub struct CodedSlots<'a> {
 }
 
 impl<'a> CodedSlots<'a> {
-    /// Those of an array.
+    /// Prepares the slots of an array for reading.
     pub fn new(spec: DictSpec, view: ArrayView<'a>) -> CodedSlots<'a>
         requires valid { has_short_validity (view_array view) ≡ false }
         requires long { are_few ((index_of spec).bits / 8) (view_array view) (indices_in (view_array view)) ≡ false }
@@ -39,7 +39,7 @@ impl<'a> CodedSlots<'a> {
         }
     }
 
-    /// Whether a slot is valid.
+    /// Returns whether a slot is valid.
     #[inline]
     pub fn is_valid(self, i: usize) -> bool
         requires { i < slots_in (view_array self.view) }
@@ -48,7 +48,7 @@ impl<'a> CodedSlots<'a> {
         self.validity.is_empty() || bitmap::get(self.validity, i)
     }
 
-    /// The number that the index of a slot is: none where it is negative.
+    /// Returns the index of a slot as an unsigned number, or `None` if it is negative.
     #[inline]
     pub fn number(self, i: usize) -> Option<u64>
         requires { i < slots_in (view_array self.view) }
@@ -57,7 +57,7 @@ impl<'a> CodedSlots<'a> {
         named_at(self.spec.index, self.indices, self.view.slots(), i)
     }
 
-    /// The same, of indices of this size in bytes, with a sign or without: a loop for each kind, which names it here, does not test it at each slot.
+    /// Like `number`, for indices of a size (in bytes) and signedness that are known when compiling, so that a loop does not test them at each slot.
     #[inline]
     pub fn sized_number<const SIZE: usize, const SIGNED: bool>(self, i: usize) -> Option<u64>
         requires size { SIZE ≡ (index_of self.spec).bits / 8 }
@@ -72,7 +72,7 @@ impl<'a> CodedSlots<'a> {
         named_at(integer, self.indices, self.view.slots(), i)
     }
 
-    /// The same, if it is below a limit: a loop that needs no more has one test for both.
+    /// Like `sized_number`, but `None` unless the number is below a limit. A loop that only needs such numbers makes one comparison for both tests.
     #[inline]
     pub fn number_below<const SIZE: usize, const SIGNED: bool>(
         self,

@@ -1,11 +1,11 @@
-// The arrays of a dictionary, with how many entries there are up to the end of each.
+// The arrays of a dictionary, with the running entry count at the end of each.
 ghost use Rattle.std.specs.Prelude.{◌≡◌};
 ghost use Rattle.columns.specs.Ends.{ends_from};
 
 use crate::array::{Dictionary, PlacedArray};
 use std::alloc::{AllocError, Global};
 
-/// The first arrays of a dictionary: those that were there when an array was read.
+/// The first arrays of a dictionary: those that existed when an array was read.
 #[derive(Clone, Copy)]
 pub struct KnownArrays<'a> {
     pub arrays: &'a [PlacedArray],
@@ -16,7 +16,7 @@ pub struct KnownArrays<'a> {
 impl<'a> KnownArrays<'a> {
     ghost use Rattle.std.specs.Prelude.{[]};
 
-    /// Those of no dictionary.
+    /// Returns no arrays, for a dictionary that does not exist.
     pub fn none() -> KnownArrays<'a>
         ensures { result.arrays.now ≡ [] }
     {
@@ -30,7 +30,7 @@ impl<'a> KnownArrays<'a> {
 impl Dictionary {
     ghost use Rattle.std.specs.Prelude.{◌++◌, [], ◌∷◌, take, OnOk, OnErr};
 
-    /// A dictionary without arrays.
+    /// Returns a dictionary without arrays.
     pub fn new(alloc: Global) -> Dictionary
         ensures { result.arrays.items ≡ [] }
     {
@@ -44,7 +44,7 @@ impl Dictionary {
     /// Appends an array.
     ///
     /// # Errors
-    /// `AllocError` where memory was refused: the arrays are as they were.
+    /// `AllocError` if memory was refused: the arrays are unchanged.
     pub fn push(&mut self, array: PlacedArray) -> Result<(), AllocError>
         ensures longer { OnOk result (self.new.arrays.items ≡ self.old.arrays.items ++ array ∷ []) }
         ensures unchanged { OnErr result (self.new.arrays.items ≡ self.old.arrays.items) }
@@ -57,7 +57,7 @@ impl Dictionary {
         Ok(())
     }
 
-    /// Its first arrays, or all where there are fewer.
+    /// Returns the first `count` arrays, or all of them if there are fewer.
     pub fn first(&self, count: usize) -> KnownArrays<'_>
         ensures { result.arrays.now ≡ take count self.now.arrays.items }
     {

@@ -1,4 +1,4 @@
-// The entry of a dictionary that an index names.
+// The dictionary entry that an index names.
 ghost use Rattle.std.specs.Prelude.{◌≡◌, ◌<◌, ◌≤◌, ◌/◌, true, false, not, nat_le, length, map, take, get_or, is_some, ℕ, List};
 ghost use Rattle.std.specs.List.{list_all};
 ghost use Rattle.arrow_schema.specs.Column.{Kind};
@@ -20,7 +20,7 @@ use crate::numbers::named_at;
 use crate::view::ArrayView;
 use arrow_schema::DictSpec;
 
-/// The slot of an entry: its array, and its place there.
+/// The slot of an entry: the array that has it, and its place there.
 #[derive(Clone, Copy)]
 pub struct EntryPlace<'a> {
     pub view: ArrayView<'a>,
@@ -37,7 +37,7 @@ fn flat_view<'a>(bytes: &'a [u8], array: &'a PlacedArray) -> ArrayView<'a>
     }
 }
 
-// The array that has an entry, by binary search.
+// Finds the array that has an entry, by binary search.
 fn array_place(known: KnownArrays, index: u128) -> usize
     ensures { IsArrayPlace known.entry.arrays.now index result }
 {
@@ -58,7 +58,7 @@ fn place_below(place: u128, slots: usize) -> usize
     place as usize
 }
 
-/// Where an entry of a dictionary stands. Of 128 bits, so that any index can be asked for.
+/// Finds the slot of a dictionary entry, or `None` if there is no such entry. The index has 128 bits, as entry counts do.
 pub fn entry_place<'a>(
     known: KnownArrays<'a>,
     bytes: &'a [u8],
@@ -81,14 +81,14 @@ pub fn entry_place<'a>(
     }
 }
 
-/// How many entries a dictionary has.
+/// Returns the number of entries of a dictionary.
 pub fn entry_count(known: KnownArrays<'_>) -> u128
     ensures { (bytes : List ℕ) (kind : Kind) → result ≡ length (entries_of_kind kind (placed_dictionary bytes known.entry.arrays.now)) }
 {
     end_before(known, known.arrays.len())
 }
 
-// The number that the index of a slot is: none where it is negative.
+// Returns the index of a slot as an unsigned number, or `None` if it is negative.
 fn index_number(spec: DictSpec, view: ArrayView<'_>, i: usize) -> Option<u64>
     requires long { are_few ((index_of spec).bits / 8) (view_array view) (indices_in (view_array view)) ≡ false }
     requires within { i < slots_in (view_array view) }
@@ -97,7 +97,7 @@ fn index_number(spec: DictSpec, view: ArrayView<'_>, i: usize) -> Option<u64>
     named_at(spec.index, view.indices(), view.slots(), i)
 }
 
-/// Where the entry stands that the index of a slot names.
+/// Finds the dictionary entry that the index of a slot names, if there is one.
 pub fn indexed_entry<'a>(spec: DictSpec, view: ArrayView<'a>, i: usize) -> Option<EntryPlace<'a>>
     requires long { are_few ((index_of spec).bits / 8) (view_array view) (indices_in (view_array view)) ≡ false }
     requires within { i < slots_in (view_array view) }

@@ -1,4 +1,4 @@
-// What the definitions say.
+// Laws of the definitions.
 ghost use Rattle.std.specs.Prelude.{◌≡◌, ◌≤◌, ◌==◌, ◌++◌, ◌+◌, ◌*◌, ℕ, true, false, not, List, [], ◌∷◌, map, length, take, sum_by};
 ghost use Rattle.std.specs.List.{AllByRecursion, AllPass, list_all, list_any};
 ghost use Rattle.arrow_schema.specs.Column.{Column, Columns, PlainSchema, columns_of};
@@ -30,7 +30,7 @@ ghost use Rattle.columns.specs.laws.WorkedCases.{Integers, PaddedBuffers, RightC
 
 use cells::MAX_TABLE_WEIGHT;
 
-/// The worked cases of the definitions.
+/// The worked examples of the definitions.
 #[tactic(auto, unfolding(crate::specs::CellAt::cell_at, crate::specs::CellAt::kind_cell, crate::specs::CellAt::part_cells, crate::specs::Visible::visible, crate::specs::Visible::visible_below, crate::specs::Visible::visible_parts, crate::specs::Visible::visible_in, crate::specs::Sound::is_sound, crate::specs::Sound::has_sound_children, crate::specs::Tests::arrays_at, crate::specs::Built::built))]
 pub fn worked_cases()
     ensures integers { Integers }
@@ -64,7 +64,7 @@ pub fn worked_cases()
     ensures read_again { ReadAgain }
 {}
 
-/// The one array that cells are written as has these cells; and the arrays of a batch of rows have these rows.
+/// The array that is built from cells reads back as these cells, and the arrays that are built from rows read back as these rows.
 pub fn built_reads_back()
     ensures cells { (c : Column) (cells : List Cell) → can_build c cells ≡ true → cells_in c (built c cells) ≡ cells }
     ensures rows { (columns : Columns) (rows : List (List Cell)) → can_build_rows columns rows ≡ true
@@ -75,21 +75,21 @@ pub fn built_reads_back()
     cells::one_entry_is_one_value();
 }
 
-/// Nodes, buffers and dictionaries that were listed of arrays are read as these arrays, where each has the layout of its column; and those that are
-/// written have it.
+/// Arrays that have the layouts of their columns are read back from their nodes, buffers and dictionaries; and built arrays have these layouts.
 pub fn listed_reads_back()
     ensures arrays { (columns : Columns) (arrays : Arrays) → HaveLayouts columns arrays
         → arrays_from columns (nodes_of columns arrays) (buffers_of columns arrays) (dictionary_arrays columns arrays) ≡ arrays }
     ensures written { (columns : Columns) (rows : List (List Cell)) → HaveLayouts columns (built_parts columns rows) }
 {}
 
-/// Rows that a table takes can be built, where their dictionaries have room for the values of all of them.
+/// Rows that a table accepts can be built if their dictionaries have room for the values of all of them.
 pub fn rows_can_be_built()
     ensures { (s : PlainSchema) (rows : List (List Cell)) → IsWithinLimits s → AllPass (is_row s) rows → table_weight s rows ≤ MAX_TABLE_WEIGHT
         → dictionaries_fit s rows ≡ true → can_build_rows (columns_of s.columns) rows ≡ true }
 {}
 
-/// The arrays that rows are written as pass the tests of an array by itself: no buffer is short, no offset is out of order, and the null counts are right.
+/// The arrays that are built from rows pass the tests of an array by itself: no buffer is short, no offset is out of order, and the null counts are
+/// right.
 pub fn written_arrays_pass()
     ensures long { (columns : Columns) (rows : List (List Cell)) → can_build_rows columns rows ≡ true
         → list_any (λ t. is_short t.column t.array) (every_array columns (built_parts columns rows)) ≡ false }
@@ -99,10 +99,10 @@ pub fn written_arrays_pass()
         → list_any (λ t. counts_wrong (null_count t.column t.array) t.column t.array) (every_array columns arrays) ≡ false }
 {}
 
-/// How many slots, nodes, buffers and bytes written arrays have. `slots`: each array of a batch has a slot for each row; `children`: no child is
-/// too short; `nodes`, `buffers`: how many there are is said by the columns alone; `few_nodes`, `few_buffers`: a node at most for each column at any
-/// level, and three buffers for each node; `weight`: the cells weigh no more than their table; `few_slots`, `few_bytes`: no array has more slots than
-/// the cells weigh, nor more bytes than ten times that and 8.
+/// The sizes of built arrays. `slots`: each array of a batch has one slot for each row; `children`: no child is too short; `nodes`, `buffers`: their
+/// numbers depend on the columns alone; `few_nodes`, `few_buffers`: at most one node for each column at any level, and at most three buffers for each
+/// node; `weight`: the cells weigh no more than their table; `few_slots`, `few_bytes`: no array has more slots than the cells weigh, nor more bytes
+/// than ten times that plus 8.
 pub fn written_arrays_have_their_shape()
     ensures slots { (columns : Columns) (rows : List (List Cell))
         → list_any (λ a. not (slots_in a == length rows)) (array_list (built_parts columns rows)) ≡ false }
@@ -121,8 +121,8 @@ pub fn written_arrays_have_their_shape()
         → sum_by length (buffers_of columns (built_parts columns rows)) ≤ length (nodes_of columns (built_parts columns rows)) * (10 * most + 8) }
 {}
 
-/// The dictionaries of written arrays. `known`: those that a reader has are they, each with one array; `alone`: each is written as a batch of its
-/// entries, one to a row, which can be built, fit the column, and weigh no more than the cells; `flat`: none has a dictionary of its own.
+/// The dictionaries of built arrays. `known`: a reader gets exactly these, each with one array; `alone`: each is written as a batch of its entries,
+/// one to a row, which can be built, fits the column and weighs no more than the cells; `flat`: none has a dictionary of its own.
 pub fn dictionaries_are_written_alone()
     ensures known { (columns : Columns) (rows : List (List Cell)) → can_build_rows columns rows ≡ true
         → dictionary_arrays columns (built_parts columns rows) ≡ map (λ t. t.array ∷ []) (dictionaries_of columns (built_parts columns rows)) }
@@ -132,8 +132,8 @@ pub fn dictionaries_are_written_alone()
         → AllByRecursion (λ t. dictionary_arrays (own_column t) (own_array t) ≡ []) (dictionaries_of columns (built_parts columns rows)) }
 {}
 
-/// And of the visible slots of arrays of rows that fit none is refused: each valid index names an entry, each string is UTF-8, and no null stands
-/// where none is taken.
+/// No visible slot of arrays that are built from fitting rows is refused: each valid index names an entry, each string is UTF-8, and no null stands
+/// in a column that is not nullable.
 pub fn written_slots_pass()
     ensures indices { (columns : Columns) (rows : List (List Cell)) → can_build_rows columns rows ≡ true
         → list_all (λ row. each_fits columns (cells_of row)) rows ≡ true
@@ -150,7 +150,7 @@ pub fn written_slots_pass()
     cells::one_entry_is_one_value();
 }
 
-/// An array that was read stays as it is where bytes are appended, and where the dictionaries keep what it knows of them.
+/// An array that was read stays the same when bytes are appended, as long as the dictionaries keep what it knows of them.
 pub fn longer_bytes_keep_arrays()
     ensures spans { (bytes more : List ℕ) (span : Span) → ends_within (length bytes) span ≡ true → within (bytes ++ more) span ≡ within bytes span }
     ensures arrays { (bytes more : List ℕ) (old new : List Dictionary) (a : PlacedArray)

@@ -1,11 +1,11 @@
 //! Arrays: the columns of record batches, as places in the bytes of a stream (Arrow columnar format, "Physical Memory Layout").
 //!
-//! A [`PlacedArray`] keeps where its buffers stand and holds no bytes. With the bytes, an [`ArrayView`], it is one of the plain arrays of
-//! `specs/Array.antt`, and [`value`] is the cell that the format finds at a slot; [`row`] has the cells at a slot of several arrays. Neither takes
-//! memory: a list's items and a struct's parts are found where they are asked for.
+//! A [`PlacedArray`] keeps the places of its buffers and owns no bytes. Together with the bytes, as an [`ArrayView`], it is one of the plain arrays
+//! of `specs/Array.antt`. [`value`] returns the cell at a slot, and [`row`] the cells at the same slot of several arrays. Neither allocates: the
+//! items of a list and the parts of a struct are read on demand.
 //!
-//! A [`SlotRun`] is slots of an array one after another, or nulls. The cells of a column, from whatever arrays, are a list of runs
-//! (`specs/Runs.antt`), without a value for each and without a copy of their bytes.
+//! A [`SlotRun`] is a run of consecutive slots of an array, or a number of nulls. The cells of a column, from whatever arrays, are a list of runs
+//! (`specs/Runs.antt`), with no value for each cell and no copy of their bytes.
 //!
 //! ```ignore
 //! let values = PlacedArray { slots: 2, validity, layout: PlacedLayout::Fixed(numbers) };

@@ -1,4 +1,4 @@
-// Little-endian numbers one after another.
+// Little-endian numbers, as the elements of a buffer.
 ghost use Rattle.std.specs.Prelude.{◌≡◌, ◌≤◌, ◌<◌, ◌+◌, ◌-◌, ◌*◌, ◌/◌, ◌^◌, ◌++◌, ℕ, OnOk, OnErr, IfSome, Some, None, min, true, false, length, drop, nat_lt};
 ghost use Rattle.byteorder.specs.Endian.{little_bytes, little_number};
 ghost use Rattle.arrow_schema.specs.View.{bits_of, date_kind};
@@ -12,7 +12,7 @@ use arrow_schema::{BitWidth, DateUnit, IntegerType};
 use byteorder::{ByteOrder, LittleEndian};
 use std::alloc::AllocError;
 
-/// How wide offsets are: the large types have offsets of 64 bits.
+/// The width of offsets: 32 bits, or 64 bits for the large types.
 #[derive(Clone, Copy)]
 pub enum OffsetWidth {
     Four,
@@ -32,7 +32,7 @@ impl OffsetWidth {
     }
 }
 
-// From a place of values of one width on, of which there is one for each slot.
+// Returns the values from slot `i` on, in a buffer with one value of `width` bytes for each slot.
 pub(crate) fn from_place(values: &[u8], width: usize, slots: usize, i: usize) -> &[u8]
     requires long { nat_lt (length values.now) (slots * width) ≡ false }
     requires within { i < slots }
@@ -56,7 +56,7 @@ fn first_number(width: OffsetWidth, bytes: &[u8]) -> u64
 /// Appends an offset.
 ///
 /// # Errors
-/// `AllocError` where memory was refused: nothing is appended.
+/// `AllocError` if memory was refused: nothing is appended.
 pub fn push_offset(offsets: &mut Vec<u8>, width: OffsetWidth, offset: u64) -> Result<(), AllocError>
     ensures ok { OnOk result (offsets.new.items ≡ offsets.old.items ++ little_bytes (width_of width) offset) }
     ensures err { OnErr result (offsets.new.items ≡ offsets.old.items) }
@@ -68,7 +68,7 @@ pub fn push_offset(offsets: &mut Vec<u8>, width: OffsetWidth, offset: u64) -> Re
     }
 }
 
-// An offset, of which there is one more than slots.
+// Reads an offset of an array. There is one more offset than slots.
 pub(crate) fn slot_offset(width: OffsetWidth, offsets: &[u8], slots: usize, i: usize) -> usize
     requires long { nat_lt (length offsets.now) ((slots + 1) * width_of width) ≡ false }
     requires within { i ≤ slots }
@@ -79,7 +79,7 @@ pub(crate) fn slot_offset(width: OffsetWidth, offsets: &[u8], slots: usize, i: u
     first_number(width, rest) as usize
 }
 
-/// The offset at a place, in bytes or items: an unsigned number, as in an array whose offsets rise from 0 or more.
+/// Reads the offset at index `i` as an unsigned number, in bytes or items.
 #[inline]
 pub fn offset_at(offsets: &[u8], width: OffsetWidth, i: usize) -> u64
     requires { (i + 1) * width_of width ≤ length offsets.now }
@@ -94,7 +94,7 @@ pub fn offset_at(offsets: &[u8], width: OffsetWidth, i: usize) -> u64
 /// Appends an index of a dictionary.
 ///
 /// # Errors
-/// `AllocError` where memory was refused: nothing is appended.
+/// `AllocError` if memory was refused: nothing is appended.
 pub fn push_index(indices: &mut Vec<u8>, width: BitWidth, index: u64) -> Result<(), AllocError>
     ensures ok { OnOk result (indices.new.items ≡ indices.old.items ++ little_bytes (bits_of width / 8) index) }
     ensures err { OnErr result (indices.new.items ≡ indices.old.items) }
@@ -134,7 +134,7 @@ fn first_unsigned(width: BitWidth, bytes: &[u8]) -> u64
     }
 }
 
-// A read for each width: one whose length is known only as it runs is a copy.
+// One read for each width: a read whose length is known only at run time compiles to a copy.
 fn first_integer(integer: IntegerType, bytes: &[u8]) -> i128
     requires { bits_of integer.width / 8 ≤ length bytes.now }
     ensures { result ≡ integer_of (bits_of integer.width / 8) integer.signed (little_number (bits_of integer.width / 8) bytes.now) }
@@ -146,7 +146,7 @@ fn first_integer(integer: IntegerType, bytes: &[u8]) -> i128
     }
 }
 
-// An integer, of which there is one for each slot.
+// Reads the integer of a slot.
 pub(crate) fn integer_at(integer: IntegerType, values: &[u8], slots: usize, i: usize) -> i128
     requires long { nat_lt (length values.now) (slots * (bits_of integer.width / 8)) ≡ false }
     requires within { i < slots }
@@ -156,7 +156,7 @@ pub(crate) fn integer_at(integer: IntegerType, values: &[u8], slots: usize, i: u
     first_integer(integer, rest)
 }
 
-/// The least number of a width that is negative as a signed integer: half of how many numbers it has.
+/// Returns the least unsigned number of a width that is negative as a signed integer: half the number of its values.
 #[inline]
 pub fn least_negative(width: BitWidth) -> u64
     ensures value { result ≡ 2 ^ (bits_of width - 1) }
@@ -171,7 +171,7 @@ pub fn least_negative(width: BitWidth) -> u64
     }
 }
 
-// The width of integers of this size in bytes.
+// Returns the width of integers of this size in bytes.
 #[inline]
 pub(crate) fn width_of_bytes(size: usize) -> BitWidth
     ensures { (width : BitWidth) → size ≡ bits_of width / 8 → result ≡ width }
@@ -184,7 +184,7 @@ pub(crate) fn width_of_bytes(size: usize) -> BitWidth
     }
 }
 
-// The number that an integer is, of which there is one for each slot: none where it is negative.
+// Reads the integer of a slot as an unsigned number, or `None` if it is negative.
 #[inline]
 pub(crate) fn named_at(integer: IntegerType, values: &[u8], slots: usize, i: usize) -> Option<u64>
     requires long { nat_lt (length values.now) (slots * (bits_of integer.width / 8)) ≡ false }
@@ -199,7 +199,7 @@ pub(crate) fn named_at(integer: IntegerType, values: &[u8], slots: usize, i: usi
     Some(number)
 }
 
-// The same, if it is below a limit. No negative one is below the limit that this makes of it, which a loop finds once.
+// Like `named_at`, but `None` unless the number is below a limit. A loop computes the limit for the unsigned comparison only once.
 #[inline]
 pub(crate) fn named_below(
     integer: IntegerType,
@@ -224,7 +224,7 @@ pub(crate) fn named_below(
     }
 }
 
-// A limit that no negative integer is below, read as one without a sign.
+// Lowers a limit so that no negative integer, read as unsigned, is below it.
 #[inline]
 fn limit_of(integer: IntegerType, limit: u64) -> u64
     ensures unsigned { integer.signed ≡ false → result ≡ limit }
@@ -236,7 +236,7 @@ fn limit_of(integer: IntegerType, limit: u64) -> u64
     limit.min(least_negative(integer.width))
 }
 
-/// The integers that dates are.
+/// Returns the integer type of a date.
 pub fn date_integer(unit: DateUnit) -> IntegerType
     ensures bits { bits_of result.width ≡ date_bits (date_kind unit) }
     ensures signed { result.signed ≡ true }
@@ -251,7 +251,7 @@ pub fn date_integer(unit: DateUnit) -> IntegerType
     }
 }
 
-/// The integers that timestamps are.
+/// Returns the integer type of a timestamp.
 pub fn timestamp_integer() -> IntegerType
     ensures bits { bits_of result.width ≡ 64 }
     ensures bytes { bits_of result.width / 8 ≡ 8 }

@@ -1,4 +1,4 @@
-// The value at a slot (docs/definitions/columns.md).
+// Reads the value at a slot (docs/definitions/columns.md).
 ghost use Rattle.std.specs.Prelude.{◌≡◌, ◌≤◌, ◌<◌, ◌+◌, ◌*◌, ◌/◌, ◌-◌, nat_lt, nat_le, true, false, not, ◌==◌, ◌&&◌, length, map, ℕ};
 ghost use Rattle.bitmap.specs.Bits.{bit, bytes_of};
 ghost use Rattle.arrow_schema.specs.View.{kind_of, column_of, bits_of, index_of};
@@ -82,7 +82,7 @@ fn text_at<'a>(width: OffsetWidth, view: ArrayView<'a>, i: usize) -> &'a str
     text_from(contents_at(width, view, i))
 }
 
-// Some items of lists.
+// Returns consecutive items of lists.
 fn items_from<'a>(item: &'a Field, view: ArrayView<'a>, start: usize, count: usize) -> Values<'a>
     requires within { start + count ≤ slots_in (items_in (view_array view)) }
     requires sound { is_sound (column_of item.now) (items_in (view_array view)) ≡ true }
@@ -120,7 +120,7 @@ fn fixed_list_at<'a>(size: usize, item: &'a Field, view: ArrayView<'a>, i: usize
     requires texts { have_utf8_texts (cells_of (cells_from (item_at (column_of item.now) (view_array view)) (i * size) size)) ≡ true }
     ensures { borrowed_cells result ≡ cells_from (item_at (column_of item.now) (view_array view.entry)) (i * size) size }
 {
-    // a number of the code is below 2^64, so that the product is too
+    // for the proof: a `usize` is below 2^64, so `i * size` does not overflow
     let _most = view.item_slots();
     let start = i * size;
     items_from(item, view, start, size)
@@ -143,7 +143,7 @@ fn struct_at<'a>(fields: &'a [Field], view: ArrayView<'a>, i: usize) -> Values<'
     )
 }
 
-/// A row of arrays that have `slots` slots, as values of these fields.
+/// Returns the row at a slot of arrays with at least `slots` slots each, as values of these fields.
 pub fn row<'a>(
     fields: &'a [Field],
     arrays: &'a [PlacedArray],
@@ -170,7 +170,7 @@ pub fn row<'a>(
     }
 }
 
-// The value of a slot that is valid.
+// Reads a valid slot.
 #[tactic(auto, unfolding(crate::specs::CellAt::kind_cell, crate::specs::Texts::has_utf8_texts, crate::specs::Sound::has_sound_children))]
 fn valid_value<'a>(data_type: &'a DataType, view: ArrayView<'a>, i: usize) -> ValueRef<'a>
     requires sound { is_kind_sound (kind_of data_type.now) (view_array view) ≡ true }
@@ -200,7 +200,7 @@ fn valid_value<'a>(data_type: &'a DataType, view: ArrayView<'a>, i: usize) -> Va
     }
 }
 
-// The value of a slot of a column without a dictionary.
+// Reads a slot of a column without a dictionary.
 fn plain_value<'a>(data_type: &'a DataType, view: ArrayView<'a>, i: usize) -> ValueRef<'a>
     requires sound { is_kind_sound (kind_of data_type.now) (view_array view) ≡ true }
     requires within { i < slots_in (view_array view) }
@@ -225,7 +225,7 @@ fn located_value<'a>(data_type: &'a DataType, found: Option<EntryPlace<'a>>) -> 
     }
 }
 
-// The entry that the index of a slot names.
+// Reads the dictionary entry that the index of a slot names.
 fn entry_value<'a>(
     spec: DictSpec,
     data_type: &'a DataType,
@@ -241,7 +241,7 @@ fn entry_value<'a>(
     located_value(data_type, indexed_entry(spec, view, i))
 }
 
-/// The value of a field at a slot of an array.
+/// Returns the value of a field at slot `i` of an array.
 #[tactic(auto, unfolding(crate::specs::CellAt::cell_at, crate::specs::Sound::is_sound))]
 pub fn value<'a>(field: &'a Field, view: ArrayView<'a>, i: usize) -> ValueRef<'a>
     requires sound { is_sound (column_of field.now) (view_array view) ≡ true }

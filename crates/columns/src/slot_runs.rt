@@ -1,7 +1,6 @@
-// Runs of slots.
 use crate::view::ArrayView;
 
-/// Slots of an array one after another, or a number of nulls.
+/// A run of consecutive slots of an array, or a number of nulls.
 #[derive(Clone, Copy)]
 pub enum SlotRun<'a> {
     Slots {

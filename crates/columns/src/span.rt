@@ -1,15 +1,15 @@
-// Where the buffers of arrays stand.
+// The places of buffers.
 ghost use Rattle.std.specs.Prelude.{◌≡◌};
 ghost use Rattle.columns.specs.Places.{within};
 
-/// Where a buffer stands in some bytes: from a place on, and how long it is.
+/// The place of a buffer in some bytes: its start and its length.
 #[derive(Clone, Copy, Debug)]
 pub struct Span {
     pub start: usize,
     pub len: usize,
 }
 
-/// The bytes of a buffer. What would stand past the end is not there.
+/// Returns the bytes of a buffer, cut off where `bytes` ends.
 pub fn bytes_at(bytes: &[u8], span: Span) -> &[u8]
     ensures { result.now ≡ within bytes.now span }
 {

@@ -1,4 +1,4 @@
-// Arrays in the bytes that they stand in.
+// Arrays together with the bytes of their buffers.
 ghost use Rattle.std.specs.Prelude.{◌≡◌, ◌<◌, ◌≤◌, ◌+◌, ◌-◌, ℕ, List, false, take, drop};
 ghost use Rattle.columns.specs.Array.{slots_in, validity_in, bits_in, values_in, offsets_in, contents_in, items_in, children_in, indices_in, dictionary_in, first_array};
 ghost use Rattle.columns.specs.CellAt.{is_valid, number_at, span_start};
@@ -12,7 +12,7 @@ use crate::dictionary::KnownArrays;
 use crate::numbers::{OffsetWidth, slot_offset};
 use crate::span::{Span, bytes_at};
 
-/// An array with the bytes that it stands in, and the dictionaries.
+/// An array with the bytes that its buffers are in, and the dictionaries.
 #[derive(Clone, Copy, Debug)]
 pub struct ArrayView<'a> {
     pub array: &'a PlacedArray,
@@ -20,7 +20,7 @@ pub struct ArrayView<'a> {
     pub dictionaries: &'a [Dictionary],
 }
 
-/// An array without slots: it stands for what a layout does not have.
+/// Returns an array without slots. It stands for children that a layout does not have.
 pub fn no_array() -> PlacedArray
     ensures { IsNoArray result }
 {
@@ -31,7 +31,7 @@ pub fn no_array() -> PlacedArray
     }
 }
 
-/// The array at a place, or else one without slots.
+/// Returns the array at index `i`, or `none` if there is none.
 pub fn array_or<'a>(arrays: &'a [PlacedArray], i: usize, none: &'a PlacedArray) -> &'a PlacedArray
     requires { IsNoArray none.now }
     ensures { (bytes : List ℕ) (all : List Dictionary)
@@ -43,7 +43,7 @@ pub fn array_or<'a>(arrays: &'a [PlacedArray], i: usize, none: &'a PlacedArray) 
     }
 }
 
-/// The arrays that a part of a dictionary knows: none where there is no such dictionary.
+/// Returns the arrays that a part of a dictionary knows. There are none if the dictionary does not exist.
 pub fn known_arrays<'a>(dictionaries: &'a [Dictionary], part: &DictionaryPart) -> KnownArrays<'a>
     ensures { result.arrays.now ≡ take part.now.count (arrays_numbered dictionaries.now part.now.number) }
 {
@@ -54,21 +54,21 @@ pub fn known_arrays<'a>(dictionaries: &'a [Dictionary], part: &DictionaryPart) -
 }
 
 impl<'a> ArrayView<'a> {
-    /// How many slots it has.
+    /// Returns the number of slots.
     pub fn slots(self) -> usize
         ensures { result ≡ slots_in (view_array self.entry) }
     {
         self.array.slots
     }
 
-    /// Its validity bitmap: empty where each slot is valid.
+    /// Returns the validity bitmap. It is empty if every slot is valid.
     pub fn validity(self) -> &'a [u8]
         ensures { result.now ≡ validity_in (view_array self.entry) }
     {
         bytes_at(self.bytes, self.array.validity)
     }
 
-    /// Whether a slot is valid.
+    /// Returns whether a slot is valid.
     pub fn is_valid(self, i: usize) -> bool
         requires long { has_short_validity (view_array self) ≡ false }
         requires within { i < slots_in (view_array self) }
@@ -78,7 +78,7 @@ impl<'a> ArrayView<'a> {
         validity.is_empty() || bitmap::get(validity, i)
     }
 
-    /// The bits of booleans.
+    /// Returns the bits of a boolean array, or an empty slice for another layout.
     pub fn bits(self) -> &'a [u8]
         ensures { result.now ≡ bits_in (view_array self.entry) }
     {
@@ -88,7 +88,7 @@ impl<'a> ArrayView<'a> {
         }
     }
 
-    /// Values of one width.
+    /// Returns the values of a fixed-size layout, or an empty slice for another layout.
     pub fn values(self) -> &'a [u8]
         ensures { result.now ≡ values_in (view_array self.entry) }
     {
@@ -98,7 +98,7 @@ impl<'a> ArrayView<'a> {
         }
     }
 
-    /// The offsets of binaries, strings or lists.
+    /// Returns the offsets buffer of binaries, strings or lists, or an empty slice for another layout.
     pub fn offsets(self) -> &'a [u8]
         ensures { result.now ≡ offsets_in (view_array self.entry) }
     {
@@ -109,7 +109,7 @@ impl<'a> ArrayView<'a> {
         }
     }
 
-    /// The bytes of all binaries or strings.
+    /// Returns the contents of all binaries or strings, or an empty slice for another layout.
     pub fn contents(self) -> &'a [u8]
         ensures { result.now ≡ contents_in (view_array self.entry) }
     {
@@ -119,7 +119,7 @@ impl<'a> ArrayView<'a> {
         }
     }
 
-    /// The indices of a dictionary column.
+    /// Returns the indices of a dictionary-encoded array, or an empty slice for another layout.
     pub fn indices(self) -> &'a [u8]
         ensures { result.now ≡ indices_in (view_array self.entry) }
     {
@@ -139,7 +139,7 @@ impl<'a> ArrayView<'a> {
         }
     }
 
-    /// Where what some slots have stands, in what the offsets speak of.
+    /// Returns the span that `count` slots from slot `from` on have in the contents or items, by the offsets.
     pub fn spanned(self, width: OffsetWidth, from: usize, count: usize) -> Span
         requires long { are_few_offsets (width_of width) (view_array self) ≡ false }
         requires some { 0 < count }
@@ -157,7 +157,7 @@ impl<'a> ArrayView<'a> {
         }
     }
 
-    /// The items of lists or fixed lists, where there are any.
+    /// Returns the items of lists or fixed-size lists, or `None` for another layout.
     pub fn items(self) -> Option<ArrayView<'a>>
         ensures { option_array result ≡ items_in (view_array self.entry) }
     {
@@ -168,7 +168,7 @@ impl<'a> ArrayView<'a> {
         }
     }
 
-    /// The items of lists or fixed lists, or else an array without slots.
+    /// Returns the items of lists or fixed-size lists, or `none` for another layout.
     pub fn items_or(self, none: &'a PlacedArray) -> ArrayView<'a>
         requires { IsNoArray none.now }
         ensures { view_array result ≡ items_in (view_array self.entry) }
@@ -179,7 +179,7 @@ impl<'a> ArrayView<'a> {
         }
     }
 
-    /// How many items there are.
+    /// Returns the number of items.
     pub fn item_slots(self) -> usize
         ensures { result ≡ slots_in (items_in (view_array self.entry)) }
     {
@@ -189,7 +189,7 @@ impl<'a> ArrayView<'a> {
         }
     }
 
-    /// The arrays of the fields of structs.
+    /// Returns the child arrays of a struct, or an empty slice for another layout.
     pub fn children(self) -> &'a [PlacedArray]
         ensures { placed_arrays self.entry.bytes.now self.entry.dictionaries.now result.now ≡ children_in (view_array self.entry) }
     {
@@ -199,7 +199,7 @@ impl<'a> ArrayView<'a> {
         }
     }
 
-    /// The arrays of its dictionary that were there when it was read.
+    /// Returns the arrays of the dictionary that existed when the array was read.
     pub fn dictionary(self) -> KnownArrays<'a>
         ensures { placed_dictionary self.entry.bytes.now result.arrays.now ≡ dictionary_in (view_array self.entry) }
     {

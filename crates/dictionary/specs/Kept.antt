@@ -1,5 +1,5 @@
--- What is kept of the dictionaries of a stream: lists of arrays, each begun by a batch that is no delta, and for each id the list that is in effect. A list that is
--- no longer in effect stays, since arrays that were read before name it.
+-- What is kept of the dictionaries of a stream: lists of arrays, each begun by a batch that is no delta, and for each id the list that is in effect.
+-- A list that is no longer in effect is kept, since arrays that were read before refer to it.
 use Rattle.std.specs.List.{list_all}
 use Rattle.std.specs.Prelude.{true, ◌≡◌, ℕ, Bool, ◌==◌, ◌≤◌, ◌<◌, List, [], ◌∷◌, map, length, take, get_or, Option, Some, None, if◌then◌else◌}
 use Rattle.columns.specs.declared.array.PlacedArray.{PlacedArray}
@@ -27,20 +27,20 @@ abbrev pub list_at : List (List PlacedArray) → Option ℕ → List PlacedArray
 list_at lists None = []
 list_at lists (Some n) = get_or lists n []
 
--- the arrays of an id
+-- the arrays in effect for an id, as they are kept
 abbrev pub arrays_for : Kept → ℕ → List PlacedArray
 arrays_for k id = list_at k.lists (number_in id k.numbers)
 
--- for each id these are the arrays in effect after these batches
+-- for each id the kept arrays are those in effect after these batches
 abbrev pub HasInEffect : List ℕ → Kept → List DictionaryBatch → Type 0
 HasInEffect bytes k before = (id : ℕ) → map (array_in bytes no_dictionary) (arrays_for k id) ≡ in_effect id before
 
--- what a part knows of the kept lists is what is in effect for an id, after whichever batches came before
+-- the arrays that a part knows are those in effect for an id, whichever batches came before
 abbrev pub IsInEffect : Kept → ℕ → DictionaryPart → Type 0
 IsInEffect k id part = (bytes : List ℕ) (before : List DictionaryBatch) (lists : List Dictionary) → HasInEffect bytes k before → lists_of lists ≡ k.lists
     → arrays_in bytes lists part ≡ in_effect id before
 
--- and so of parts for ids, in their order
+-- the same for the parts of several ids, in order
 abbrev pub AreInEffect : Kept → List ℕ → List DictionaryPart → Type 0
 AreInEffect k ids parts = (bytes : List ℕ) (before : List DictionaryBatch) (lists : List Dictionary) → HasInEffect bytes k before → lists_of lists ≡ k.lists
     → map (arrays_in bytes lists) parts ≡ map (λ id. in_effect id before) ids
@@ -49,11 +49,11 @@ AreInEffect k ids parts = (bytes : List ℕ) (before : List DictionaryBatch) (li
 abbrev pub are_kept_within : (size : ℕ) → Kept → Bool
 are_kept_within size k = list_all (list_all (is_within_by size (λ p. true))) k.lists
 
--- they still do where an array is kept that does
+-- they still do after an array is kept that does so itself
 abbrev pub StaysWithin : Kept → PlacedArray → Kept → Type 0
 StaysWithin old a new = (size : ℕ) → are_kept_within size old ≡ true → is_within_by size (λ p. true) a ≡ true → are_kept_within size new ≡ true
 
--- parts whose arrays stand there and end within as many bytes as all do
+-- parts whose arrays exist, and end within any size that all kept arrays end within
 abbrev pub AreWithin : Kept → List DictionaryPart → Type 0
 AreWithin k parts = (size : ℕ) (lists : List Dictionary) → lists_of lists ≡ k.lists → are_kept_within size k ≡ true → list_all (stands_within size lists) parts ≡ true
 
@@ -64,15 +64,15 @@ batch_of id is_delta a = record { id = id; is_delta = is_delta; array = a }
 abbrev pub known_arrays : List (List PlacedArray) → DictionaryPart → List PlacedArray
 known_arrays lists part = take part.count (get_or lists part.number [])
 
--- a part whose arrays stand there
+-- the list has all arrays of the part
 abbrev pub IsPart : List (List PlacedArray) → DictionaryPart → Type 0
 IsPart lists part = part.count ≤ length (get_or lists part.number [])
 
--- all parts that stood there stand there, with the same arrays
+-- every part that existed still exists, with the same arrays
 abbrev pub KeepsParts : List (List PlacedArray) → List (List PlacedArray) → Type 0
 KeepsParts old new = (part : DictionaryPart) → IsPart old part → IsPart new part × (known_arrays new part ≡ known_arrays old part)
 
--- each number is that of a list, and no two ids have one list
+-- each number refers to a list, and no two ids share one
 pub record AreApart (lists : List (List PlacedArray)) (numbers : List CurrentList) : Type 0 where
   pub within : (id n : ℕ) → number_in id numbers ≡ Some n → n < length lists
   pub apart : (i j n : ℕ) → number_in i numbers ≡ Some n → number_in j numbers ≡ Some n → i ≡ j

@@ -1,4 +1,4 @@
-// Which list of arrays is in effect for an id.
+// The list of arrays that is in effect for an id.
 ghost use Rattle.std.specs.Prelude.{◌≡◌, ◌<◌, vec_len, vec_capacity};
 ghost use Rattle.dictionary.specs.Kept.{number_in};
 ghost use Rattle.dictionary.specs.inner.Numbers.{with_number, IsPlace};
@@ -10,7 +10,7 @@ pub(crate) struct CurrentList {
     pub(crate) number: usize,
 }
 
-// Where the number of an id stands.
+// Returns the index of the entry for an id, if there is one.
 fn place_of(numbers: &[CurrentList], id: u64) -> Option<usize>
     ensures { IsPlace id numbers.now result }
 {
@@ -22,7 +22,7 @@ fn place_of(numbers: &[CurrentList], id: u64) -> Option<usize>
     None
 }
 
-/// The number of an id.
+/// Returns the number of an id, if it has one.
 pub(crate) fn number_of(numbers: &[CurrentList], id: u64) -> Option<usize>
     ensures { result ≡ number_in id numbers.now }
 {
@@ -32,7 +32,7 @@ pub(crate) fn number_of(numbers: &[CurrentList], id: u64) -> Option<usize>
     }
 }
 
-/// Gives an id a number, in the place of the one that it had. There is room for one more.
+/// Sets the number of an id, in place of any earlier one. There must be room for one more.
 pub(crate) fn set_number(numbers: &mut Vec<CurrentList>, id: u64, number: usize)
     requires { vec_len numbers.old < vec_capacity numbers.old }
     ensures { numbers.new.items ≡ with_number id number numbers.old.items }

@@ -13,7 +13,7 @@ use columns::{Dictionary, DictionaryPart, PlacedArray};
 use std::alloc::{AllocError, Global};
 use std::marker::Model;
 
-/// The arrays of all dictionaries of a stream, by the places of their buffers, and those that are in effect for each id.
+/// The arrays of all dictionaries of a stream, by the places of their buffers, and which of them are in effect for each id.
 #[derive(Drop)]
 pub struct Dictionaries {
     lists: Vec<Dictionary>,
@@ -34,7 +34,7 @@ impl Model for Dictionaries {
     ghost invariant = { λ d. AreApart (lists_of d.lists.items) d.numbers.items };
 }
 
-// A list of one array.
+// Makes a list of one array.
 fn list_of(alloc: Global, array: PlacedArray) -> Result<Dictionary, AllocError>
     ensures { IfOk result (λ list. list.arrays.items ≡ array ∷ []) }
 {
@@ -43,7 +43,7 @@ fn list_of(alloc: Global, array: PlacedArray) -> Result<Dictionary, AllocError>
     Ok(list)
 }
 
-// A new list of one array, which is in effect for an id from now on.
+// Begins a new list with one array, and puts it into effect for an id.
 fn begin(
     alloc: Global,
     lists: &mut Vec<Dictionary>,
@@ -78,7 +78,7 @@ fn append_at(
 }
 
 impl Dictionaries {
-    /// No id has a dictionary.
+    /// Returns an empty collection: no id has a dictionary.
     pub fn new(alloc: Global) -> Dictionaries
         ensures effect { (bytes : List ℕ) → HasInEffect bytes result [] }
         ensures within { (size : ℕ) → are_kept_within size result ≡ true }
@@ -89,14 +89,14 @@ impl Dictionaries {
         }
     }
 
-    /// All lists of arrays, of which each part names one by its number.
+    /// Returns all lists of arrays. A part of a dictionary refers to a list by its number.
     pub fn lists(&self) -> &[Dictionary]
         ensures { lists_of result.now ≡ self.now.lists }
     {
         &self.lists
     }
 
-    /// The lists themselves.
+    /// Consumes the dictionaries and returns the lists.
     pub fn into_lists(self) -> Vec<Dictionary>
         ensures { lists_of result.items ≡ self.lists }
     {
@@ -104,14 +104,14 @@ impl Dictionaries {
         lists
     }
 
-    /// Whether an id has a dictionary.
+    /// Returns whether an id has a dictionary.
     pub fn has(&self, id: u64) -> bool
         ensures { (bytes : List ℕ) (before : List DictionaryBatch) → HasInEffect bytes self.now before → result ≡ list_any (has_id id) before }
     {
         self.part(id).count > 0
     }
 
-    /// The part of an id's dictionary that is known now: all of the arrays that are in effect.
+    /// Returns the part of an id's dictionary that is known now: all arrays that are in effect.
     pub fn part(&self, id: u64) -> DictionaryPart
         ensures known { known_arrays self.now.lists result ≡ arrays_for self.now id }
         ensures stands { IsPart self.now.lists result }
@@ -129,10 +129,10 @@ impl Dictionaries {
         }
     }
 
-    /// The parts of the dictionaries of some ids, in their order: those that the columns of a record batch take.
+    /// Returns the parts of the dictionaries of these ids, in order, as the columns of a record batch take them.
     ///
     /// # Errors
-    /// `AllocError` where memory was refused.
+    /// `AllocError` if memory was refused.
     pub fn parts(&self, alloc: Global, ids: &[u64]) -> Result<Vec<DictionaryPart>, AllocError>
         ensures stand { IfOk result (λ parts. AllByRecursion (IsPart self.now.lists) parts.items) }
         ensures effect { IfOk result (λ parts. AreInEffect self.now ids.now parts.items) }
@@ -145,10 +145,10 @@ impl Dictionaries {
         Ok(parts)
     }
 
-    /// Begins the dictionary of an id anew, with one array. Arrays that were read before keep theirs.
+    /// Begins the dictionary of an id anew, with one array. Arrays that were read before keep their dictionaries.
     ///
     /// # Errors
-    /// `AllocError` where memory was refused: the dictionaries are as they were.
+    /// `AllocError` if memory was refused: the dictionaries are unchanged.
     pub fn replace(&mut self, alloc: Global, id: u64, array: PlacedArray) -> Result<(), AllocError>
         ensures effect { OnOk result ((bytes : List ℕ) (before : List DictionaryBatch) → HasInEffect bytes self.old before
             → HasInEffect bytes self.new (before ++ batch_of id false (array_in bytes no_dictionary array) ∷ [])) }
@@ -160,10 +160,10 @@ impl Dictionaries {
         begin(alloc, lists, numbers, id, array)
     }
 
-    /// Appends an array to the dictionary of an id. Arrays that were read before keep theirs.
+    /// Appends an array to the dictionary of an id. Arrays that were read before keep their dictionaries.
     ///
     /// # Errors
-    /// `AllocError` where memory was refused: the dictionaries are as they were.
+    /// `AllocError` if memory was refused: the dictionaries are unchanged.
     pub fn append(&mut self, alloc: Global, id: u64, array: PlacedArray) -> Result<(), AllocError>
         ensures effect { OnOk result ((bytes : List ℕ) (before : List DictionaryBatch) → HasInEffect bytes self.old before
             → HasInEffect bytes self.new (before ++ batch_of id true (array_in bytes no_dictionary array) ∷ [])) }

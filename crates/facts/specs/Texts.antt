@@ -1,4 +1,4 @@
--- Texts behind references.
+-- Texts by reference.
 use Rattle.std.specs.Prelude.{ℕ, List, map}
 use Rattle.std.specs.Borrow.{Bor}
 

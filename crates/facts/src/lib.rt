@@ -1,4 +1,4 @@
-//! Words and laws of numbers, bytes and lists that several crates cite. It has no code: all of it stands in `specs/`.
+//! Definitions and laws of numbers, bytes and lists that several crates cite. The crate has no code: everything is in `specs/`.
 //!
-//! What std has already is cited from there; a law about the words of a crate stands in that crate's `specs/laws/`.
+//! What std already has is cited from there; a law about the definitions of a crate is in that crate's `specs/laws/`.
 #![tactic(auto)]

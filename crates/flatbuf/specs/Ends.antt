@@ -4,14 +4,14 @@ use Rattle.flatbuf.specs.Tree.{Tree, Nodes, Slots, table, text, references, stru
 use Rattle.flatbuf.specs.Laid.{gap, count_of, inline_end, table_start}
 
 abbrev mutual
-  -- a node, and all that it refers to
+  -- a node with all that it refers to
   pub end_at : ℕ → Tree → ℕ
   end_at cursor (text t) = cursor + gap 4 cursor + 5 + length t
   end_at cursor (structs ps) = cursor + 4 + gap 8 (cursor + 4) + 16 * length ps
   end_at cursor (references ns) = ends_at (cursor + gap 4 cursor + 4 + 4 * count_of ns) ns
   end_at cursor (table slots) = below_ends_at (table_start cursor slots + inline_end 4 slots) slots
 
-  -- nodes, one after the other
+  -- nodes, one after another
   pub ends_at : ℕ → Nodes → ℕ
   ends_at cursor no_node = cursor
   ends_at cursor (and_node n ns) = ends_at (end_at cursor n) ns

@@ -1,4 +1,4 @@
--- A tree of the code, whatever memory it takes.
+-- The plain tree that a node of the code stands for.
 use Rattle.std.specs.Prelude.{List, [], ◌∷◌, map}
 use Rattle.flatbuf.specs.declared.nodes.Node.{Node}
 use Rattle.flatbuf.specs.declared.nodes.Slot.{Slot}
@@ -7,7 +7,7 @@ use Rattle.flatbuf.specs.declared.nodes.Node.TheFolds.{fold-Node, fold-Slot}
 use Rattle.flatbuf.specs.Tree.{Nodes, Slots, table, text, references, structs, no_node, and_node, no_slot, absent, scalar, refers}
 use Rattle.flatbuf.specs.Tree as trees
 
--- one slot, put before others
+-- the nodes of a list, and the slots of a list in which each slot is a function that puts it before others
 abbrev pub nodes_of : List trees.Tree → Nodes
 nodes_of [] = no_node
 nodes_of (n ∷ ns) = and_node n (nodes_of ns)
@@ -36,7 +36,7 @@ node_of = fold-Node trees.Tree (Slots → Slots) node_step slot_step
 abbrev pub slot_before : Slot → Slots → Slots
 slot_before = fold-Slot trees.Tree (Slots → Slots) node_step slot_step
 
--- the nodes and the slots of vectors of the code
+-- the nodes and the slots in lists of the code
 abbrev pub all_nodes : List Node → Nodes
 all_nodes nodes = nodes_of (map node_of nodes)
 

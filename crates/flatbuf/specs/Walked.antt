@@ -1,4 +1,4 @@
--- What a reading call says of the walk: what it returns, and how many tables were entered, are the walk's over these things.
+-- What a read promises of the walk: its result, and the number of tables entered, are those of the walk over these things.
 use Rattle.std.specs.Prelude.{◌≡◌, ℕ, ◌+◌, List, Result, Ok, Err, nat_lt, if◌then◌else◌, slice_index}
 use Rattle.flatbuf.specs.declared.FlatError.{FlatError}
 use Rattle.flatbuf.specs.declared.FlatError.TheVariants as errors

@@ -1,4 +1,4 @@
-// The bytes that are read, and how many of their tables may be entered.
+// The bytes that are read, and the budget of tables.
 
 ghost use Rattle.std.specs.Prelude.{◌≡◌, ◌≤◌, length, IfOk};
 ghost use Rattle.flatbuf.specs.declared.limits.TheConstants.{MAX_BUFFER_BYTES, MAX_BUFFER_TABLES};
@@ -7,14 +7,14 @@ use crate::limits::{MAX_BUFFER_BYTES, MAX_BUFFER_TABLES, MAX_LEVELS};
 use crate::numbers::u32_at;
 use crate::{FlatError, Table};
 
-/// The bytes of a FlatBuffers buffer, whatever they are.
+/// The bytes of a FlatBuffers buffer, which may be malformed.
 #[derive(Clone, Copy)]
 pub struct Buf<'a> {
     bytes: &'a [u8],
     ghost small: { length bytes.now ≤ MAX_BUFFER_BYTES },
 }
 
-/// How many tables were entered.
+/// The number of tables that were entered.
 #[derive(Clone, Copy)]
 pub struct Budget {
     entered: u32,
@@ -27,14 +27,14 @@ impl Budget {
     ghost use Rattle.flatbuf.specs.Walk.{reported};
     ghost use Rattle.flatbuf.specs.Walked.{one_more};
 
-    /// No table was entered.
+    /// Returns a budget with no tables entered.
     pub fn new() -> Budget
         ensures { tables_in result ≡ 0 }
     {
         Budget { entered: 0 }
     }
 
-    /// Counts a visit.
+    /// Counts one more table.
     pub(crate) fn enter(&mut self) -> Result<(), FlatError>
         ensures walked { reported (tables_in self.new) result ≡ one_more (tables_in self.old) }
         ensures counted { OnOk result (tables_in self.new ≡ tables_in self.old + 1) }
@@ -54,7 +54,7 @@ impl<'a> Buf<'a> {
     ghost use Rattle.flatbuf.specs.Walk.{root_things};
     ghost use Rattle.flatbuf.specs.Walked.{Walks};
 
-    /// A buffer of these bytes, of which there are at most `MAX_BUFFER_BYTES`.
+    /// Wraps these bytes, of which there are at most `MAX_BUFFER_BYTES`.
     pub fn new(bytes: &'a [u8]) -> Buf<'a>
         requires { length bytes.now ≤ MAX_BUFFER_BYTES }
         ensures { buffer_bytes result ≡ bytes.now }
@@ -62,10 +62,10 @@ impl<'a> Buf<'a> {
         Buf { bytes }
     }
 
-    /// The root table: the first four bytes say where it stands.
+    /// Enters the root table, whose position is in the first four bytes.
     ///
     /// # Errors
-    /// The first bad thing: `Bounds`, `VtableSize` or `Budget`. How many tables `budget` has counted then is not promised.
+    /// The first bad thing: `Bounds`, `VtableSize` or `Budget`. The count of `budget` is then unspecified.
     #[tactic(auto, using(crate::specs::laws::Walk::run_append), unfolding(crate::specs::Walk::run, crate::specs::Walk::root_things, crate::specs::Lookup::target))]
     pub fn root(&self, budget: &mut Budget) -> Result<Table<'a>, FlatError>
         ensures walked { Walks (buffer_bytes self.now) (root_things (buffer_bytes self.now)) budget.old budget.new result }

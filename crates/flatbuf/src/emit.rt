@@ -1,4 +1,4 @@
-// The bytes of a tree, each written once: where a node stands is known before its bytes are written.
+// Writes the bytes of a tree, each of them once: the position of a node is computed before its bytes are written.
 ghost use Rattle.std.specs.Prelude.{ℕ, List, ◌≡◌, ◌<◌, ◌≤◌, ◌^◌, ◌+◌, ◌*◌, ◌++◌, ◌∷◌, [], length, map, replicate, OnOk, IfOk};
 ghost use Rattle.byteorder.specs.Endian.{little_bytes};
 ghost use Rattle.flatbuf.specs.Tree.{Slots, no_slot, table, text, references, structs};
@@ -12,7 +12,7 @@ use crate::nodes::{Node, Slot};
 use crate::sizes::{aligned, end_of, inline_end, start_of, table_start, width};
 use std::alloc::AllocError;
 
-/// Zeros from a position up to the next multiple.
+/// Writes zeros from a position up to the next multiple.
 pub(crate) fn pad(out: &mut Vec<u8>, from: usize, multiple: u8) -> Result<(), AllocError>
     requires positive { 0 < multiple }
     requires near { from < 2 ^ 62 }
@@ -23,7 +23,7 @@ pub(crate) fn pad(out: &mut Vec<u8>, from: usize, multiple: u8) -> Result<(), Al
     out.resize(out.len() + missing, 0)
 }
 
-/// A string.
+/// Writes a string.
 #[tactic(auto, unfolding(crate::specs::Laid::laid))]
 fn put_text(out: &mut Vec<u8>, bytes: &[u8]) -> Result<(), AllocError>
     requires small { end_at (length out.old.items) (text bytes.now) < 2 ^ 31 }
@@ -36,7 +36,7 @@ fn put_text(out: &mut Vec<u8>, bytes: &[u8]) -> Result<(), AllocError>
     Ok(())
 }
 
-/// A struct of two numbers.
+/// Writes a struct of two numbers.
 fn put_pair(out: &mut Vec<u8>, pair: &(u64, u64)) -> Result<(), AllocError>
     ensures { OnOk result (out.new.items ≡ out.old.items ++ (little_bytes 8 pair.now.0 ++ little_bytes 8 pair.now.1)) }
 {
@@ -45,7 +45,7 @@ fn put_pair(out: &mut Vec<u8>, pair: &(u64, u64)) -> Result<(), AllocError>
     Ok(())
 }
 
-/// Structs of two numbers, one after the other.
+/// Writes structs of two numbers, one after another.
 #[tactic(auto, unfolding(crate::specs::Laid::struct_bytes))]
 fn put_pairs(out: &mut Vec<u8>, pairs: &[(u64, u64)]) -> Result<(), AllocError>
     ensures { OnOk result (out.new.items ≡ out.old.items ++ struct_bytes pairs.now) }
@@ -56,7 +56,7 @@ fn put_pairs(out: &mut Vec<u8>, pairs: &[(u64, u64)]) -> Result<(), AllocError>
     Ok(())
 }
 
-/// A vector of structs.
+/// Writes a vector of structs.
 #[tactic(auto, unfolding(crate::specs::Laid::laid))]
 fn put_structs(out: &mut Vec<u8>, pairs: &[(u64, u64)]) -> Result<(), AllocError>
     requires small { end_at (length out.old.items) (structs pairs.now) < 2 ^ 31 }
@@ -67,7 +67,7 @@ fn put_structs(out: &mut Vec<u8>, pairs: &[(u64, u64)]) -> Result<(), AllocError
     put_pairs(out, pairs)
 }
 
-/// The references to nodes that are written one after the other from `below` on.
+/// Writes references to nodes that will be written one after another from `below` on.
 #[tactic(auto, unfolding(crate::specs::Laid::links, crate::specs::Laid::starts))]
 fn put_links(out: &mut Vec<u8>, below: usize, nodes: &[Node]) -> Result<(), AllocError>
     requires small { ends_at below (all_nodes nodes.now) < 2 ^ 31 }
@@ -83,7 +83,7 @@ fn put_links(out: &mut Vec<u8>, below: usize, nodes: &[Node]) -> Result<(), Allo
     Ok(())
 }
 
-/// The distances of the slots, for the vtable.
+/// Writes the distances of the slots, for the vtable.
 #[tactic(auto, using(crate::proofs::ReadBack::inline_le_end))]
 fn put_distances(out: &mut Vec<u8>, slots: &[Slot]) -> Result<(), AllocError>
     requires thin { inline_end 4 (all_slots slots.now) < 2 ^ 16 }
@@ -103,7 +103,7 @@ fn put_distances(out: &mut Vec<u8>, slots: &[Slot]) -> Result<(), AllocError>
     Ok(())
 }
 
-/// The vtable of a table, which ends where the table begins.
+/// Writes the vtable of a table. It ends where the table begins.
 #[tactic(auto, using(crate::proofs::Cases::count_slots))]
 fn put_vtable(out: &mut Vec<u8>, slots: &[Slot]) -> Result<(), AllocError>
     requires near { length out.old.items < 2 ^ 31 }
@@ -119,14 +119,14 @@ fn put_vtable(out: &mut Vec<u8>, slots: &[Slot]) -> Result<(), AllocError>
     Ok(())
 }
 
-/// Where the inline part of a table has come to, and where what its slots refer to has.
+/// The ends so far of a table's inline part and of what its slots refer to.
 #[derive(Clone, Copy)]
 struct Reached {
     offset: usize,
     cursor: usize,
 }
 
-/// A field of the inline part, at the next multiple of its size; where it ends.
+/// Writes a field of the inline part at the next multiple of its size, and returns where it ends.
 fn put_field(out: &mut Vec<u8>, offset: usize, field: &[u8]) -> Result<usize, AllocError>
     requires positive { 0 < length field.now }
     requires wide { length field.now ≤ 8 }
@@ -140,7 +140,7 @@ fn put_field(out: &mut Vec<u8>, offset: usize, field: &[u8]) -> Result<usize, Al
     Ok(aligned(field.len() as u8, offset) + field.len())
 }
 
-/// A byte of the inline part; where it ends.
+/// Writes a byte of the inline part, and returns where it ends.
 fn put_byte(out: &mut Vec<u8>, offset: usize, byte: u8) -> Result<usize, AllocError>
     requires near { offset < 2 ^ 31 }
     requires small { length out.old.items < 2 ^ 62 }
@@ -150,7 +150,7 @@ fn put_byte(out: &mut Vec<u8>, offset: usize, byte: u8) -> Result<usize, AllocEr
     put_field(out, offset, &[byte])
 }
 
-/// The inline content of a slot.
+/// Writes the inline content of a slot.
 #[tactic(auto, using(crate::proofs::Ends::start_le, crate::proofs::Ends::end_le), unfolding(crate::specs::Laid::inline, crate::specs::Laid::slot_starts))]
 fn put_slot(
     out: &mut Vec<u8>,
@@ -199,7 +199,7 @@ fn put_slot(
     }
 }
 
-/// The inline part of a table, whose slots refer to what is written from `below` on.
+/// Writes the inline part of a table whose slots refer to what is written from `below` on.
 #[tactic(auto, using(crate::proofs::ReadBack::inline_le_end, crate::proofs::Cases::slot_fits), unfolding(crate::specs::Laid::inline))]
 fn put_inline(out: &mut Vec<u8>, at: usize, below: usize, slots: &[Slot]) -> Result<(), AllocError>
     requires here { length out.old.items ≡ at + 4 }
@@ -218,7 +218,7 @@ fn put_inline(out: &mut Vec<u8>, at: usize, below: usize, slots: &[Slot]) -> Res
     pad(out, reached.offset, 4)
 }
 
-/// A vector of references, up to what it refers to.
+/// Writes a vector of references, without what it refers to.
 fn put_vector(out: &mut Vec<u8>, nodes: &[Node]) -> Result<(), AllocError>
     requires small { end_at (length out.old.items) (references (all_nodes nodes.now)) < 2 ^ 31 }
     ensures { OnOk result (then_nodes out.new.items (all_nodes nodes.now) ≡ out.old.items ++ laid (length out.old.items) (references (all_nodes nodes.now))) }
@@ -230,7 +230,7 @@ fn put_vector(out: &mut Vec<u8>, nodes: &[Node]) -> Result<(), AllocError>
     Ok(())
 }
 
-/// A table, up to what it refers to.
+/// Writes a table, without what it refers to.
 fn put_head(out: &mut Vec<u8>, slots: &[Slot]) -> Result<(), AllocError>
     requires fits { Fits (table (all_slots slots.now)) }
     requires small { end_at (length out.old.items) (table (all_slots slots.now)) < 2 ^ 31 }
@@ -243,7 +243,7 @@ fn put_head(out: &mut Vec<u8>, slots: &[Slot]) -> Result<(), AllocError>
     Ok(())
 }
 
-/// A node, and all that it refers to.
+/// Writes a node and all that it refers to.
 #[cycle(put)]
 pub(crate) fn put(out: &mut Vec<u8>, node: &Node) -> Result<(), AllocError>
     requires fits { Fits (node_of node.now) }
@@ -258,7 +258,7 @@ pub(crate) fn put(out: &mut Vec<u8>, node: &Node) -> Result<(), AllocError>
     }
 }
 
-/// A table, and all that it refers to.
+/// Writes a table and all that it refers to.
 #[tactic(auto, unfolding(crate::specs::Laid::laid_slots))]
 #[cycle(put)]
 fn put_table(out: &mut Vec<u8>, slots: &[Slot]) -> Result<(), AllocError>
@@ -273,7 +273,7 @@ fn put_table(out: &mut Vec<u8>, slots: &[Slot]) -> Result<(), AllocError>
     Ok(())
 }
 
-/// What a slot refers to.
+/// Writes what a slot refers to.
 #[tactic(auto, unfolding(crate::specs::Laid::laid_slots))]
 #[cycle(put)]
 fn put_below(out: &mut Vec<u8>, slot: &Slot) -> Result<(), AllocError>
@@ -290,7 +290,7 @@ fn put_below(out: &mut Vec<u8>, slot: &Slot) -> Result<(), AllocError>
     }
 }
 
-/// A vector of references, and all that it refers to.
+/// Writes a vector of references and all that it refers to.
 #[tactic(auto, unfolding(crate::specs::Laid::laid_all))]
 #[cycle(put)]
 fn put_references(out: &mut Vec<u8>, nodes: &[Node]) -> Result<(), AllocError>

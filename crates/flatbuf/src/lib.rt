@@ -1,7 +1,7 @@
-//! FlatBuffers: reading tables that may be malicious, and writing them so that they read back.
+//! FlatBuffers: reads tables that may be malicious, and writes tables so that they read back.
 //!
-//! A reading call gives what the slot has by the look-up of the format, or the first thing that is out of bounds, and
-//! takes no memory. [`Writer`] gives one layout for each tree, and what it wrote is read again.
+//! A read returns the content of a slot as the format defines it, or the first thing that is out of bounds, and does
+//! not allocate. [`Writer`] has one layout for each tree, and what it writes reads back as that tree.
 //!
 //! ```
 //! // The byte of slot 1 of the root table, 0 where it is absent.
@@ -22,11 +22,11 @@ ghost use Rattle.flatbuf.specs.Stands.{At};
 /// The first bad thing that a reader met.
 #[derive(Clone, Copy, Debug)]
 pub enum FlatError {
-    /// Something lies out of the bytes.
+    /// Something lies outside the bytes.
     Bounds,
     /// A vtable's size is odd or below 4.
     VtableSize,
-    /// More than `MAX_BUFFER_TABLES` tables, or one more than `MAX_LEVELS` deep.
+    /// More than `MAX_BUFFER_TABLES` tables, or a table more than `MAX_LEVELS` levels deep.
     Budget,
 }
 
@@ -47,7 +47,7 @@ pub use references::References;
 pub use table::{Table, Union};
 pub use writer::Writer;
 
-/// What is written is read back: wherever the bytes of a tree stand, a reader finds that tree.
+/// What is written reads back: wherever the bytes of a tree are placed, a reader finds that tree.
 pub fn written_is_read()
     ensures anywhere { (bytes : List ℕ) (at : ℕ) (n : Tree) → length bytes < 2 ^ 31 → Fits n → At bytes at (laid at n) → Has bytes (start at n) n }
     ensures size { (n : Tree) → length (metadata n) ≡ end_at 4 n + gap 8 (end_at 4 n) }

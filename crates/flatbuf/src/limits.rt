@@ -1,10 +1,10 @@
-// What a reader of bytes that may be malicious goes through at most.
+// The limits for reading bytes that may be malicious.
 
-/// The most bytes that a buffer may have.
+/// The maximum size of a buffer in bytes.
 pub const MAX_BUFFER_BYTES: usize = 16_777_216;
 
-/// How many tables may be entered, each visit counted.
+/// The maximum number of tables that are entered, counting each visit.
 pub const MAX_BUFFER_TABLES: u32 = 20_000;
 
-/// How deep tables may stand: the root is one deep.
+/// The maximum depth of tables: the root table is one deep.
 pub const MAX_LEVELS: u8 = 40;

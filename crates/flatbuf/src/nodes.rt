@@ -1,6 +1,6 @@
-// A tree of tables, strings and vectors, as it is to be written (FlatBuffers internals).
+// Trees of tables, strings and vectors to be written (FlatBuffers internals).
 
-/// A table by its slots from 0 on, a string, a vector of references, or a vector of structs of two numbers of 64 bits each.
+/// A table with its slots from 0 on, a string, a vector of references, or a vector of structs of two 64-bit numbers each.
 #[derive(Drop)]
 #[cycle(tree)]
 pub enum Node {
@@ -10,7 +10,7 @@ pub enum Node {
     Structs(Vec<(u64, u64)>),
 }
 
-/// What stands in a slot of a table: nothing, a number of 8, 16, 32 or 64 bits, or a reference.
+/// The content of a slot of a table: nothing, a number of 8, 16, 32 or 64 bits, or a reference.
 #[derive(Drop)]
 #[cycle(tree)]
 pub enum Slot {

@@ -1,4 +1,4 @@
-// Numbers and vectors at positions that a malicious buffer chose.
+// Reads numbers and vectors at positions that a malicious buffer may have chosen.
 
 ghost use Rattle.std.specs.Prelude.{◌≡◌, ◌≤◌, ◌<◌, ◌+◌, ◌*◌, ◌^◌, length, IfOk, OnOk, Some, ℕ, [], ◌∷◌};
 ghost use Rattle.flatbuf.specs.Lookup.{number, back, target, vector_of};
@@ -7,7 +7,7 @@ ghost use Rattle.flatbuf.specs.Walk.{run, reported, span, vector_at};
 use crate::FlatError;
 use byteorder::{ByteOrder, LittleEndian};
 
-/// The byte at a position.
+/// Reads the byte at a position.
 #[tactic(auto, unfolding(crate::specs::Walk::run, crate::specs::Lookup::number))]
 pub(crate) fn u8_at(bytes: &[u8], at: usize) -> Result<u8, FlatError>
     ensures walked { (n : ℕ) → run bytes.now (span at 1 ∷ []) n ≡ reported n result }
@@ -16,7 +16,7 @@ pub(crate) fn u8_at(bytes: &[u8], at: usize) -> Result<u8, FlatError>
     bytes.get(at).copied().ok_or(FlatError::Bounds)
 }
 
-/// The number in the two bytes at a position.
+/// Reads the 16-bit number at a position.
 #[tactic(auto, unfolding(crate::specs::Walk::run, crate::specs::Lookup::number))]
 pub(crate) fn u16_at(bytes: &[u8], at: usize) -> Result<u16, FlatError>
     ensures walked { (n : ℕ) → run bytes.now (span at 2 ∷ []) n ≡ reported n result }
@@ -28,7 +28,7 @@ pub(crate) fn u16_at(bytes: &[u8], at: usize) -> Result<u16, FlatError>
     Ok(LittleEndian::read_u16(&bytes[at..]))
 }
 
-/// The number in the four bytes at a position.
+/// Reads the 32-bit number at a position.
 #[tactic(auto, unfolding(crate::specs::Walk::run, crate::specs::Lookup::number))]
 pub(crate) fn u32_at(bytes: &[u8], at: usize) -> Result<u32, FlatError>
     ensures walked { (n : ℕ) → run bytes.now (span at 4 ∷ []) n ≡ reported n result }
@@ -41,7 +41,7 @@ pub(crate) fn u32_at(bytes: &[u8], at: usize) -> Result<u32, FlatError>
     Ok(LittleEndian::read_u32(&bytes[at..]))
 }
 
-/// The number in the eight bytes at a position.
+/// Reads the 64-bit number at a position.
 #[tactic(auto, unfolding(crate::specs::Walk::run, crate::specs::Lookup::number))]
 pub(crate) fn u64_at(bytes: &[u8], at: usize) -> Result<u64, FlatError>
     ensures walked { (n : ℕ) → run bytes.now (span at 8 ∷ []) n ≡ reported n result }
@@ -53,7 +53,7 @@ pub(crate) fn u64_at(bytes: &[u8], at: usize) -> Result<u64, FlatError>
     Ok(LittleEndian::read_u64(&bytes[at..]))
 }
 
-/// Where the vector begins that the reference at a position leads to, and how many elements of `width` bytes it has.
+/// Returns where the first element of the vector is that the reference at a position leads to, and how many elements of `width` bytes it has.
 #[tactic(auto, using(crate::proofs::FirstThing::first_err, crate::proofs::FirstThing::first_ok), unfolding(crate::specs::Walk::run, crate::specs::Lookup::target))]
 pub(crate) fn vector_from(bytes: &[u8], at: usize, width: u8) -> Result<(usize, usize), FlatError>
     requires small { length bytes.now < 2 ^ 32 }
@@ -71,7 +71,7 @@ pub(crate) fn vector_from(bytes: &[u8], at: usize, width: u8) -> Result<(usize, 
     Ok((start + 4, count))
 }
 
-/// The position `distance` before `at`, where the distance is a signed number of 32 bits.
+/// Returns the position `distance` before `at`, where the distance is a signed 32-bit number.
 pub(crate) fn position_before(distance: u32, at: usize) -> Option<usize>
     requires { at < 2 ^ 32 }
     ensures { result ≡ back distance at }
@@ -88,7 +88,7 @@ pub(crate) fn position_before(distance: u32, at: usize) -> Option<usize>
     }
 }
 
-/// What the reference at a position leads to.
+/// Returns where the reference at a position leads to.
 #[tactic(auto, unfolding(crate::specs::Lookup::target, crate::specs::Lookup::number))]
 pub(crate) fn target_of(bytes: &[u8], at: usize) -> usize
     requires small { length bytes.now < 2 ^ 32 }

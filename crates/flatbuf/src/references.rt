@@ -1,4 +1,4 @@
-// A vector of references to tables.
+// Vectors of references to tables.
 
 ghost use Rattle.std.specs.Prelude.{◌≡◌, ◌≤◌, ◌+◌, ◌*◌, length};
 ghost use Rattle.flatbuf.specs.declared.limits.TheConstants.{MAX_BUFFER_BYTES};
@@ -7,7 +7,7 @@ use crate::limits::MAX_BUFFER_BYTES;
 use crate::numbers::{target_of, vector_from};
 use crate::{Budget, FlatError, Table};
 
-/// A vector of references to tables, all of which lies within the bytes.
+/// A vector of references to tables that lies entirely within the bytes.
 #[derive(Clone, Copy)]
 pub struct References<'a> {
     bytes: &'a [u8],
@@ -25,7 +25,7 @@ impl<'a> References<'a> {
     ghost use Rattle.flatbuf.specs.Walk.{run, reported, vector_at};
     ghost use Rattle.flatbuf.specs.Walked.{Walks, child_things};
 
-    /// No references.
+    /// Returns an empty vector.
     pub(crate) fn none(bytes: &'a [u8], left: u8) -> References<'a>
         requires small { length bytes.now ≤ MAX_BUFFER_BYTES }
         ensures same { bytes_behind result ≡ bytes.now }
@@ -40,7 +40,7 @@ impl<'a> References<'a> {
         }
     }
 
-    /// The vector that the reference at a position leads to.
+    /// Reads the vector that the reference at a position leads to.
     #[tactic(auto, unfolding(crate::specs::Lookup::elements))]
     pub(crate) fn from(bytes: &'a [u8], at: usize, left: u8) -> Result<References<'a>, FlatError>
         requires small { length bytes.now ≤ MAX_BUFFER_BYTES }
@@ -58,7 +58,7 @@ impl<'a> References<'a> {
         })
     }
 
-    /// How many references there are.
+    /// Returns the number of references.
     #[tactic(auto, using(crate::proofs::Elements::length_targets))]
     pub fn len(&self) -> usize
         ensures { result ≡ length (places_in self.now) }
@@ -66,10 +66,10 @@ impl<'a> References<'a> {
         self.count
     }
 
-    /// The table that reference `i` leads to.
+    /// Enters the table that reference `i` leads to.
     ///
     /// # Errors
-    /// The first bad thing: `Bounds`, `VtableSize` or `Budget`. How many tables `budget` has counted then is not promised.
+    /// The first bad thing: `Bounds`, `VtableSize` or `Budget`. The count of `budget` is then unspecified.
     #[tactic(auto, using(crate::proofs::Elements::length_targets, crate::proofs::Elements::target_at))]
     pub fn table(&self, i: usize, budget: &mut Budget) -> Result<Table<'a>, FlatError>
         requires { i < length (places_in self.now) }

@@ -1,4 +1,4 @@
-// Where the parts of a tree stand and end, before any byte of it is written.
+// Computes where the parts of a tree begin and end, before any byte of it is written.
 ghost use Rattle.std.specs.Prelude.{ℕ, ◌≡◌, ◌<◌, ◌≤◌, ◌^◌, ◌+◌, ◌*◌, IfSome, length};
 ghost use Rattle.flatbuf.specs.Tree.{Slots, no_slot, table, text, references, structs};
 ghost use Rattle.flatbuf.specs.Laid.{gap, inline_end, distances, table_start, start};
@@ -8,7 +8,7 @@ ghost use Rattle.flatbuf.specs.View.{node_of, all_nodes, slot_before, all_slots}
 
 use crate::nodes::{Node, Slot};
 
-/// The next multiple at or after a position.
+/// Returns the first multiple at or after a position.
 pub(crate) fn aligned(multiple: u8, at: usize) -> usize
     requires positive { 0 < multiple }
     requires small { at < 2 ^ 62 }
@@ -18,7 +18,7 @@ pub(crate) fn aligned(multiple: u8, at: usize) -> usize
     at + (multiple - at % multiple) % multiple
 }
 
-/// The size of a slot's inline content, if it is present.
+/// Returns the size of a slot's inline content, if the slot is present.
 pub(crate) fn width(slot: &Slot) -> Option<u8>
     ensures inline { (offset : ℕ) (rest : Slots) → inline_end offset (slot_before slot.now rest) ≡ inline_end (after_slot offset result) rest }
     ensures vtable { (offset : ℕ) (rest : Slots) → distances offset (slot_before slot.now rest) ≡ then_distances offset result rest }
@@ -35,7 +35,7 @@ pub(crate) fn width(slot: &Slot) -> Option<u8>
     }
 }
 
-/// The size of a table's inline part.
+/// Returns the size of a table's inline part.
 #[tactic(auto, using(crate::proofs::ReadBack::inline_le_end))]
 pub(crate) fn inline_end(slots: &[Slot]) -> usize
     requires small { inline_end 4 (all_slots slots.now) < 2 ^ 31 }
@@ -51,7 +51,7 @@ pub(crate) fn inline_end(slots: &[Slot]) -> usize
     aligned(4, offset)
 }
 
-/// Where a table stands that is written at a cursor.
+/// Returns where a table begins that is written at a cursor.
 #[tactic(auto, using(crate::proofs::Cases::count_slots))]
 pub(crate) fn table_start(cursor: usize, slots: &[Slot]) -> usize
     requires small { table_start cursor (all_slots slots.now) < 2 ^ 31 }
@@ -60,7 +60,7 @@ pub(crate) fn table_start(cursor: usize, slots: &[Slot]) -> usize
     aligned(8, cursor + 4 + 2 * slots.len())
 }
 
-/// Where a node stands that is written at a cursor.
+/// Returns where a node begins that is written at a cursor.
 pub(crate) fn start_of(cursor: usize, node: &Node) -> usize
     requires small { start cursor (node_of node.now) < 2 ^ 31 }
     ensures { result ≡ start cursor (node_of node.now) }
@@ -73,7 +73,7 @@ pub(crate) fn start_of(cursor: usize, node: &Node) -> usize
     }
 }
 
-/// Where a string ends that is written at a cursor.
+/// Returns where a string ends that is written at a cursor.
 fn text_end(cursor: usize, bytes: &[u8]) -> usize
     requires small { end_at cursor (text bytes.now) < 2 ^ 31 }
     ensures { result ≡ end_at cursor (text bytes.now) }
@@ -81,7 +81,7 @@ fn text_end(cursor: usize, bytes: &[u8]) -> usize
     aligned(4, cursor) + 5 + bytes.len()
 }
 
-/// Where a vector of structs ends that is written at a cursor.
+/// Returns where a vector of structs ends that is written at a cursor.
 fn structs_end(cursor: usize, pairs: &[(u64, u64)]) -> usize
     requires small { end_at cursor (structs pairs.now) < 2 ^ 31 }
     ensures { result ≡ end_at cursor (structs pairs.now) }
@@ -89,7 +89,7 @@ fn structs_end(cursor: usize, pairs: &[(u64, u64)]) -> usize
     aligned(8, cursor + 4) + 16 * pairs.len()
 }
 
-/// Where all of a node ends that is written at a cursor.
+/// Returns where a node that is written at a cursor ends, with all that it refers to.
 #[cycle(ends)]
 pub(crate) fn end_of(cursor: usize, node: &Node) -> usize
     requires small { end_at cursor (node_of node.now) < 2 ^ 31 }
@@ -103,7 +103,7 @@ pub(crate) fn end_of(cursor: usize, node: &Node) -> usize
     }
 }
 
-/// Where a table ends, and all that it refers to.
+/// Returns where a table ends, with all that it refers to.
 #[tactic(auto, using(crate::proofs::Ends::below_le, crate::proofs::Cases::slot_fits, crate::proofs::ReadBack::inline_le_end))]
 #[cycle(ends)]
 fn table_end(cursor: usize, slots: &[Slot]) -> usize
@@ -117,7 +117,7 @@ fn table_end(cursor: usize, slots: &[Slot]) -> usize
     end
 }
 
-/// Where a vector of references ends, and all that it refers to.
+/// Returns where a vector of references ends, with all that it refers to.
 #[tactic(auto, using(crate::proofs::Ends::ends_le, crate::proofs::Cases::node_fits, crate::proofs::Cases::count_nodes))]
 #[cycle(ends)]
 fn references_end(cursor: usize, nodes: &[Node]) -> usize
@@ -131,7 +131,7 @@ fn references_end(cursor: usize, nodes: &[Node]) -> usize
     end
 }
 
-/// Where all ends that a slot refers to, if it is written at a cursor.
+/// Returns where everything that a slot refers to ends, if it is written at a cursor.
 #[cycle(ends)]
 pub(crate) fn slot_end(cursor: usize, slot: &Slot) -> usize
     requires small { below_ends_at cursor (slot_before slot.now no_slot) < 2 ^ 31 }

@@ -1,4 +1,4 @@
-// A table, and the content of its slots.
+// Tables and the content of their slots.
 
 ghost use Rattle.std.specs.Prelude.{◌≡◌, ◌≤◌, ◌<◌, ◌+◌, ◌^◌, length};
 ghost use Rattle.flatbuf.specs.declared.limits.TheConstants.{MAX_BUFFER_BYTES};
@@ -8,7 +8,7 @@ use crate::numbers::{position_before, u8_at, u16_at, u32_at, u64_at, vector_from
 use crate::{Budget, FlatError, References};
 use byteorder::{ByteOrder, LittleEndian};
 
-/// A table in the bytes, whose vtable lies within them.
+/// A table whose vtable lies within the bytes.
 #[derive(Clone, Copy)]
 pub struct Table<'a> {
     bytes: &'a [u8],
@@ -22,7 +22,7 @@ pub struct Table<'a> {
     ghost size_is: { size < 2 ^ 16 },
 }
 
-/// What stands in the two slots of a union: its kind, 0 for none, and the table that its reference leads to.
+/// The content of the two slots of a union: its kind, 0 for none, and the table that its reference leads to.
 #[derive(Clone, Copy)]
 pub struct Union<'a> {
     pub kind: u8,
@@ -36,7 +36,7 @@ impl<'a> Table<'a> {
     ghost use Rattle.flatbuf.specs.Walked.{Walks, slot_things};
     ghost use Rattle.flatbuf.specs.Walk.{run, reported, table_things, union_things, spans, vector_at};
 
-    /// The table at a position, with `left` levels left.
+    /// Enters the table at a position, with `left` levels left.
     #[tactic(auto, unfolding(crate::specs::Walk::run, crate::specs::Walk::table_things, crate::specs::Walk::head_things))]
     pub(crate) fn enter(
         bytes: &'a [u8],
@@ -76,7 +76,7 @@ impl<'a> Table<'a> {
         })
     }
 
-    /// Where the content of slot `k` stands, unless it is absent.
+    /// Returns where the content of slot `k` is, or `None` if the slot is absent.
     #[tactic(auto, unfolding(crate::specs::Lookup::number))]
     fn slot(&self, k: u16) -> Option<usize>
         ensures value { result ≡ slot_of self.now k }
@@ -94,17 +94,17 @@ impl<'a> Table<'a> {
         }
     }
 
-    /// Whether slot `k` is present. Its content is not tested.
+    /// Returns whether slot `k` is present. Its content is not tested.
     pub fn has(&self, k: u16) -> bool
         ensures { result ≡ is_some (slot_of self.now k) }
     {
         self.slot(k).is_some()
     }
 
-    /// The byte of slot `k`, or the default where it is absent.
+    /// Reads the byte of slot `k`, or returns the default if it is absent.
     ///
     /// # Errors
-    /// `Bounds` where it lies out of the bytes.
+    /// `Bounds` if it lies outside the bytes.
     #[tactic(auto, unfolding(crate::specs::Walk::run))]
     pub fn scalar_u8(&self, k: u16, default: u8) -> Result<u8, FlatError>
         ensures walked { (n : ℕ) → run (bytes_of self.now) (spans 1 (slot_of self.now k)) n ≡ reported n result }
@@ -116,10 +116,10 @@ impl<'a> Table<'a> {
         }
     }
 
-    /// The number of 16 bits of slot `k`, or the default where it is absent.
+    /// Reads the 16-bit number of slot `k`, or returns the default if it is absent.
     ///
     /// # Errors
-    /// `Bounds` where it lies out of the bytes.
+    /// `Bounds` if it lies outside the bytes.
     #[tactic(auto, unfolding(crate::specs::Walk::run))]
     pub fn scalar_u16(&self, k: u16, default: u16) -> Result<u16, FlatError>
         ensures walked { (n : ℕ) → run (bytes_of self.now) (spans 2 (slot_of self.now k)) n ≡ reported n result }
@@ -131,10 +131,10 @@ impl<'a> Table<'a> {
         }
     }
 
-    /// The number of 32 bits of slot `k`, or the default where it is absent.
+    /// Reads the 32-bit number of slot `k`, or returns the default if it is absent.
     ///
     /// # Errors
-    /// `Bounds` where it lies out of the bytes.
+    /// `Bounds` if it lies outside the bytes.
     #[tactic(auto, unfolding(crate::specs::Walk::run))]
     pub fn scalar_u32(&self, k: u16, default: u32) -> Result<u32, FlatError>
         ensures walked { (n : ℕ) → run (bytes_of self.now) (spans 4 (slot_of self.now k)) n ≡ reported n result }
@@ -146,10 +146,10 @@ impl<'a> Table<'a> {
         }
     }
 
-    /// The number of 64 bits of slot `k`, or the default where it is absent.
+    /// Reads the 64-bit number of slot `k`, or returns the default if it is absent.
     ///
     /// # Errors
-    /// `Bounds` where it lies out of the bytes.
+    /// `Bounds` if it lies outside the bytes.
     #[tactic(auto, unfolding(crate::specs::Walk::run))]
     pub fn scalar_u64(&self, k: u16, default: u64) -> Result<u64, FlatError>
         ensures walked { (n : ℕ) → run (bytes_of self.now) (spans 8 (slot_of self.now k)) n ≡ reported n result }
@@ -161,10 +161,10 @@ impl<'a> Table<'a> {
         }
     }
 
-    /// The bool of slot `k`, false where it is absent.
+    /// Reads the bool of slot `k`: false if it is absent.
     ///
     /// # Errors
-    /// `Bounds` where it lies out of the bytes.
+    /// `Bounds` if it lies outside the bytes.
     pub fn flag(&self, k: u16) -> Result<bool, FlatError>
         ensures walked { (n : ℕ) → run (bytes_of self.now) (spans 1 (slot_of self.now k)) n ≡ reported n result }
         ensures value { IfOk result (λ x. x ≡ is_set (scalar_of 1 0 (bytes_of self.now) (slot_of self.now k))) }
@@ -172,10 +172,10 @@ impl<'a> Table<'a> {
         Ok(self.scalar_u8(k, 0)? != 0)
     }
 
-    /// The bytes of the string of slot `k`, empty where it is absent.
+    /// Returns the bytes of the string of slot `k`: empty if it is absent.
     ///
     /// # Errors
-    /// `Bounds` where the reference to it or the string lies out of the bytes.
+    /// `Bounds` if the reference to it or the string lies outside the bytes.
     #[tactic(auto, unfolding(crate::specs::Walk::run))]
     pub fn text(&self, k: u16) -> Result<&'a [u8], FlatError>
         ensures walked { (n : ℕ) → run (bytes_of self.now) (vector_at 1 (bytes_of self.now) (slot_of self.now k)) n ≡ reported n result }
@@ -190,10 +190,10 @@ impl<'a> Table<'a> {
         }
     }
 
-    /// The elements, of `width` bytes each, of the vector of structs of slot `k`, one after another; none where it is absent.
+    /// Returns the elements, of `width` bytes each, of the vector of structs of slot `k`, one after another: none if it is absent.
     ///
     /// # Errors
-    /// `Bounds` where the reference to it or the vector lies out of the bytes.
+    /// `Bounds` if the reference to it or the vector lies outside the bytes.
     #[tactic(auto, unfolding(crate::specs::Walk::run))]
     pub fn vector(&self, k: u16, width: u8) -> Result<&'a [u8], FlatError>
         ensures walked { (n : ℕ) → run (bytes_of self.now) (vector_at width (bytes_of self.now) (slot_of self.now k)) n ≡ reported n result }
@@ -208,10 +208,10 @@ impl<'a> Table<'a> {
         }
     }
 
-    /// The vector of references to tables of slot `k`, empty where it is absent.
+    /// Returns the vector of references to tables of slot `k`: empty if it is absent.
     ///
     /// # Errors
-    /// `Bounds` where the reference to it or the vector lies out of the bytes.
+    /// `Bounds` if the reference to it or the vector lies outside the bytes.
     #[tactic(auto, unfolding(crate::specs::Walk::run, crate::specs::Lookup::elements))]
     pub fn references(&self, k: u16) -> Result<References<'a>, FlatError>
         ensures walked { (n : ℕ) → run (bytes_of self.now) (vector_at 4 (bytes_of self.now) (slot_of self.now k)) n ≡ reported n result }
@@ -225,10 +225,10 @@ impl<'a> Table<'a> {
         }
     }
 
-    /// The table that the reference of slot `k` leads to, unless it is absent.
+    /// Enters the table that the reference of slot `k` leads to, if the slot is present.
     ///
     /// # Errors
-    /// The first bad thing: `Bounds`, `VtableSize` or `Budget`. How many tables `budget` has counted then is not promised.
+    /// The first bad thing: `Bounds`, `VtableSize` or `Budget`. The count of `budget` is then unspecified.
     #[tactic(auto, using(crate::proofs::FirstThing::first_err, crate::proofs::FirstThing::first_ok), unfolding(crate::specs::Walk::run, crate::specs::Lookup::target))]
     pub fn reference(&self, k: u16, budget: &mut Budget) -> Result<Option<Table<'a>>, FlatError>
         ensures walked { Walks (bytes_of self.now) (slot_things self.now k) budget.old budget.new result }
@@ -247,10 +247,10 @@ impl<'a> Table<'a> {
         }
     }
 
-    /// The union whose kind stands in slot `k` and whose reference in the next: nothing is entered where the kind is 0.
+    /// Reads the union whose kind is in slot `k` and whose reference is in the next slot. No table is entered if the kind is 0.
     ///
     /// # Errors
-    /// The first bad thing: `Bounds`, `VtableSize` or `Budget`. How many tables `budget` has counted then is not promised.
+    /// The first bad thing: `Bounds`, `VtableSize` or `Budget`. The count of `budget` is then unspecified.
     #[tactic(auto, using(crate::specs::laws::Walk::run_append), unfolding(crate::specs::Walk::run))]
     pub fn union(&self, k: u16, budget: &mut Budget) -> Result<Union<'a>, FlatError>
         requires { k + 1 < 2 ^ 16 }

@@ -1,5 +1,3 @@
-// Trees of tables as the metadata of messages.
-
 ghost use Rattle.std.specs.Prelude.{◌≡◌, ◌<◌, ◌^◌, length, IfOk};
 ghost use Rattle.flatbuf.specs.Laid.{metadata};
 ghost use Rattle.flatbuf.specs.Held.{Fits};
@@ -21,14 +19,14 @@ impl Writer {
         Writer { alloc }
     }
 
-    /// The metadata whose root is this node (docs/formats/writing.md), by one allocation. Each byte is written
-    /// once; the size of a table is computed once for each level above it.
+    /// Returns the metadata whose root is this node (docs/formats/writing.md), in a single allocation. Each byte is written once; the size of a table
+    /// is computed once for each level above it.
     ///
-    /// The caller sees to it that it is shorter than 2 GiB, that each number fits its slot, and that each table fits
+    /// The caller ensures that the metadata is shorter than 2 GiB, that each number fits its slot, and that each table fits
     /// the 16 bits of its vtable.
     ///
     /// # Errors
-    /// `AllocError` where memory was refused.
+    /// `AllocError` if memory was refused.
     #[tactic(auto, using(crate::proofs::Ends::metadata_len))]
     pub fn write(&self, root: &Node) -> Result<Vec<u8>, AllocError>
         requires fits { Fits (node_of root.now) }

@@ -1,4 +1,4 @@
--- The tests of a schema in their order: the first that finds something is reported (docs/definitions/streams.md).
+-- The tests of a schema, in order: the first that fails is reported (docs/definitions/streams.md).
 use Rattle.std.specs.Prelude.{ℕ, ◌+◌, Bool, true, false, not, ◌&&◌, ◌||◌, ◌==◌, nat_lt, List, [], ◌∷◌, ◌++◌, flat_map, length, sum_by, Option, Some, None, option_map, is_some, find, Result, Ok}
 use Rattle.std.specs.List.{list_any, list_all}
 use Rattle.std.specs.Str.{is_utf8}
@@ -24,7 +24,7 @@ is_unsupported supported f = not (code_of f == NONE) && not (supported (code_of 
 abbrev pub name_of_type : RawField → TypeName
 name_of_type f = type_name (code_of f)
 
--- F13: it decodes to no type, or its dictionary no index type
+-- F13: the field decodes to no type, or its dictionary to no index type
 abbrev pub has_type : RawField → Bool
 has_type f = is_some (decoded_type (name_of_type f) (parameters_of f) (columns_of_fields (children_of f)))
 
@@ -35,7 +35,7 @@ is_index_type (Some e) = is_bit_width e.width && e.kind == 0
 abbrev pub is_bad : RawField → Bool
 is_bad f = not (has_type f && is_index_type (dictionary_of f))
 
--- all texts of a schema: the names, timezones, keys and values
+-- all texts of a schema: names, timezones, keys and values
 abbrev pub timezone_of : RawParameters → List ℕ
 timezone_of (timestamp_parameters unit timezone) = timezone
 timezone_of _ = []
@@ -57,7 +57,7 @@ exceeds_limit s =
     || nat_lt MAX_PAIRS (count_of_pairs s)
     || nat_lt MAX_TEXT_BYTES (sum_by length (texts_of s))
 
--- F24: two fields of one dictionary with different value types
+-- F24: two fields with the same dictionary id but different value types
 abbrev pub have_one_id : RawField → RawField → Bool
 have_one_id f g = one_id (dictionary_of f) (dictionary_of g)
 
@@ -70,7 +70,7 @@ has_other_type fields f = list_any (are_at_odds f) fields
 abbrev pub has_two_types : List RawField → Bool
 has_two_types fields = list_any (has_other_type fields) fields
 
--- F27: a dictionary of lists or structs
+-- F27: a dictionary whose values are lists or structs
 abbrev pub is_nested : TypeName → Bool
 is_nested types.List = true
 is_nested types.LargeList = true
@@ -81,7 +81,7 @@ is_nested _ = false
 abbrev pub is_dictionary_of_nested : RawField → Bool
 is_dictionary_of_nested f = is_some (dictionary_of f) && is_nested (name_of_type f)
 
--- the tests of a schema, where the codes with `supported` are of types that are supported
+-- the tests of a schema, if the type codes for which `supported` is true are supported
 unfoldable pub schema_checks : (ℕ → Bool) → RawSchema → List (Option Fault)
 schema_checks supported s =
     when (not (s.endianness == 0)) BigEndian
@@ -93,6 +93,6 @@ schema_checks supported s =
     ∷ when (list_any is_dictionary_of_nested (every_field s)) DictionaryOfNested
     ∷ []
 
--- the schema that is read, or the fault of the first test that finds something
+-- the schema, or the fault of the first test that fails
 unfoldable pub checked_schema : (ℕ → Bool) → RawSchema → Result PlainSchema Fault
 checked_schema supported s = unless (first_some (schema_checks supported s)) (Ok (plain_schema_of s))

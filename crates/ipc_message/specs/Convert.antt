@@ -1,4 +1,4 @@
--- The schema that a header decodes to: each field as a column, its dictionary as an index type, whatever the id.
+-- The schema that a header decodes to: each field becomes a column, and its dictionary an index type, whatever the id.
 use Rattle.std.specs.Prelude.{List, [], ◌∷◌, map, option_map, unwrap_or}
 use Rattle.arrow_schema.specs.Column.{Index, Column, nulls, column, PlainSchema}
 use Rattle.ipc_message.specs.Raw.{RawEncoding, RawField, RawFields, raw_field, no_raw_field, and_raw_field, RawSchema}
@@ -7,7 +7,7 @@ use Rattle.ipc_message.specs.Types.{type_name, decoded_type}
 abbrev pub decoded_index : RawEncoding → Index
 decoded_index e = record { bits = e.width; signed = e.signed }
 
--- what decodes to no type is read as Null: a schema with such a field is refused
+-- a field that decodes to no type reads as Null; a schema with such a field is refused
 unfoldable mutual
   pub column_of_field : RawField → Column
   column_of_field (raw_field name nullable code table dictionary children pairs) =

@@ -1,4 +1,4 @@
--- The dictionaries of a schema (Schema.fbs, "DictionaryEncoding"): their ids, and the types of their values.
+-- The dictionaries of a schema (Schema.fbs, "DictionaryEncoding"): their ids and value types.
 use Rattle.std.specs.Prelude.{ℕ, List, [], ◌∷◌, flat_map, Option, Some, None}
 use Rattle.arrow_schema.specs.Column.{Kind}
 use Rattle.arrow_schema.specs.Parts.{kind_of_column}
@@ -8,7 +8,7 @@ use Rattle.ipc_message.specs.Raw.{RawEncoding, RawField, RawSchema}
 use Rattle.ipc_message.specs.Fields.{every_field, dictionary_of}
 use Rattle.ipc_message.specs.Convert.{column_of_field}
 
--- the dictionary of a field: its id, and the type of its values
+-- the dictionary of a field: its id and the type of its values
 pub record PlainDictionary : Type 0 where
   pub id : ℕ
   pub kind : Kind
@@ -20,7 +20,7 @@ own_dictionary (Some e) f = record { id = e.id; kind = kind_of_column (column_of
 abbrev pub dictionaries_in : List RawField → List PlainDictionary
 dictionaries_in fields = flat_map (λ f. own_dictionary (dictionary_of f) f) fields
 
--- those of a schema, in preorder
+-- the dictionaries of a schema, in preorder
 abbrev pub dictionaries_of_schema : RawSchema → List PlainDictionary
 dictionaries_of_schema s = dictionaries_in (every_field s)
 

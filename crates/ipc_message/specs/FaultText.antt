@@ -1,4 +1,4 @@
--- What is reported of a fault: its code, its name, and the name of the type that it carries (Schema.fbs, the union `Type`).
+-- The text of a fault: its code, its name, and the name of the type that it carries (Schema.fbs, the union `Type`).
 use Rattle.std.specs.Prelude.{ℕ, List, ◌++◌, codes}
 use Rattle.ipc_message.specs.declared.fault.Fault.{Fault}
 use Rattle.ipc_message.specs.declared.fault.Fault.TheVariants as faults

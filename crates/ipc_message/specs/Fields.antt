@@ -1,10 +1,10 @@
--- The fields of a schema with all their children, each before its children, and how deep they go.
+-- The fields of a schema with all their descendants, in preorder, and their depth.
 use Rattle.std.specs.Prelude.{ℕ, ◌+◌, max, Bool, Option, List, [], ◌∷◌, ◌++◌}
 use Rattle.arrow_schema.specs.Column.{Pair}
 use Rattle.ipc_message.specs.Raw.{RawParameters, RawEncoding, RawField, RawFields, raw_field, no_raw_field, and_raw_field, raw_fields_of, RawSchema}
 
 unfoldable mutual
-  -- a field, and then all below it
+  -- a field, followed by all its descendants
   pub preorder : RawField → List RawField
   preorder (raw_field name nullable code table dictionary children pairs) = raw_field name nullable code table dictionary children pairs ∷ preorder_all children
 
@@ -17,11 +17,11 @@ abbrev pub every_field : RawSchema → List RawField
 every_field s = preorder_all (raw_fields_of s.fields)
 
 unfoldable mutual
-  -- how many levels a field has: itself, and those below it
+  -- the number of levels of a field: its own, and those of its descendants
   pub depth : RawField → ℕ
   depth (raw_field name nullable code table dictionary children pairs) = 1 + depth_all children
 
-  -- the most levels of any of them
+  -- the greatest depth of these fields
   pub depth_all : RawFields → ℕ
   depth_all no_raw_field = 0
   depth_all (and_raw_field f fs) = max (depth f) (depth_all fs)

@@ -1,4 +1,4 @@
--- How messages stand one after another (Arrow columnar format, "Encapsulated message format"; Message.fbs). Every number is little-endian.
+-- The framing of messages (Arrow columnar format, "Encapsulated message format"; Message.fbs). Every number is little-endian.
 use Rattle.std.specs.Prelude.{◌≡◌, ℕ, ◌+◌, ◌^◌, not, List, [], ◌∷◌, ◌++◌, length, drop, take, Option, Some, None, Result, Ok, Err, nat_lt, nat_eq, ◌==◌, if◌then◌else◌, is_none, ◌≤◌, ◌<◌}
 use Rattle.std.specs.List.{starts_with}
 use Rattle.byteorder.specs.Endian.{little_number}
@@ -19,20 +19,20 @@ use Rattle.ipc_message.specs.declared.fault.Fault.TheVariants.{Truncated, NoCont
 abbrev pub continuation_marker : List ℕ
 continuation_marker = 255 ∷ 255 ∷ 255 ∷ 255 ∷ []
 
--- what follows it at the end of a stream
+-- the size that follows it at the end of a stream
 abbrev pub no_size : List ℕ
 no_size = 0 ∷ 0 ∷ 0 ∷ 0 ∷ []
 
--- what the header of a message is, by its number (Message.fbs, `MessageHeader`); others are not read
+-- the kind of a message's header, by its number (Message.fbs, `MessageHeader`); other kinds are not read
 abbrev pub header_type : ℕ → Option HeaderType
 header_type n = if n == SCHEMA then Some Schema else if n == DICTIONARY_BATCH then Some DictionaryBatch else if n == RECORD_BATCH then Some RecordBatch else None
 
--- a message as it stands: its metadata and its body
+-- a message as bytes: its metadata and its body
 pub record Envelope : Type 0 where
   pub metadata : List ℕ
   pub body : List ℕ
 
--- what stands at the front of the bytes: the end of stream, or a message
+-- what the bytes start with: the end of stream, or a message
 pub data NextMessage : Type 0 where
   end_of_stream : NextMessage
   message : Envelope → NextMessage
@@ -44,11 +44,11 @@ taken (message m) = 8 + length m.metadata + length m.body
 
 -- ---- the Message table
 
--- the Message table is the root
+-- the Message table is the root table
 abbrev pub message_table : List ℕ → Place
 message_table metadata = table_at metadata (target metadata 0)
 
--- what is read of it before the header: the table, and the content of its slots version, header type, header and bodyLength
+-- what is read of it before the header: the table itself, and the content of its slots version, header type, header and bodyLength
 unfoldable pub message_things : List ℕ → List Thing
 message_things metadata =
     let t = message_table metadata in
@@ -60,13 +60,13 @@ version_of metadata = scalar_of 2 0 metadata (slot metadata (message_table metad
 unfoldable pub type_of : List ℕ → ℕ
 type_of metadata = scalar_of 1 0 metadata (slot metadata (message_table metadata) 1)
 
--- the length of the body, a number of 64 bits, as an unsigned one
+-- the length of the body, 64 bits read as unsigned
 unfoldable pub body_length : List ℕ → ℕ
 body_length metadata = scalar_of 8 0 metadata (slot metadata (message_table metadata) 3)
 
--- ---- the tests of the front, in order
+-- ---- the tests of the start of a stream, in order
 
--- the fault of something bad that a walk met
+-- the fault that is reported for what a walk met
 abbrev pub flat_fault : FlatError → Fault
 flat_fault Bounds = FlatBounds
 flat_fault VtableSize = FlatBounds
@@ -84,25 +84,25 @@ marker_faults bytes =
     ∷ when (nat_lt (length bytes) 8) Truncated
     ∷ []
 
--- the size of the metadata; a negative one is above its limit as an unsigned number
+-- the size of the metadata; a negative one exceeds the limit when it is read as unsigned
 unfoldable pub metadata_size : List ℕ → ℕ
 metadata_size bytes = number 4 bytes 4
 
--- the metadata, and all that follows it
+-- the metadata, and all bytes after it
 unfoldable pub metadata_in : List ℕ → List ℕ
 metadata_in bytes = take (metadata_size bytes) (drop 8 bytes)
 
 unfoldable pub after_metadata : List ℕ → List ℕ
 after_metadata bytes = drop (metadata_size bytes) (drop 8 bytes)
 
--- the metadata and the body
+-- the size and the presence of the metadata
 unfoldable pub size_faults : List ℕ → List (Option Fault)
 size_faults bytes =
     when (nat_lt MAX_BUFFER_BYTES (metadata_size bytes)) MetadataSize
     ∷ when (nat_lt (length bytes) (8 + metadata_size bytes)) Truncated
     ∷ []
 
--- the Message table, where n bytes follow the metadata
+-- the Message table, if `following` bytes come after the metadata
 unfoldable pub message_faults : List ℕ → ℕ → List (Option Fault)
 message_faults metadata following =
     walk_fault (run metadata (message_things metadata) 0)
@@ -112,11 +112,11 @@ message_faults metadata following =
     ∷ when (nat_lt following (body_length metadata)) Truncated
     ∷ []
 
--- the message whose metadata this is, where these bytes follow it
+-- the message with this metadata, followed by these bytes
 abbrev pub message_with : List ℕ → List ℕ → NextMessage
 message_with metadata following = message (record { metadata = metadata; body = take (body_length metadata) following })
 
--- what stands at the front, or the first fault: a size of 0 makes the end of stream
+-- what the bytes start with, or the first fault; a size of 0 is the end of stream
 unfoldable pub next_message : List ℕ → Result NextMessage Fault
 next_message bytes =
     unless (first_some (marker_faults bytes))
@@ -131,21 +131,21 @@ fault_of (Err f) = Some f
 
 -- ---- the relation
 
--- a message that may stand: its metadata passes the tests above, and its body is as long as they say
+-- a valid message: its metadata passes the tests above, and its body has the length that it states
 pub record IsMessage (m : Envelope) : Type 0 where
   pub small : length m.metadata ≤ MAX_BUFFER_BYTES
   pub some : 0 < length m.metadata
   pub sound : first_some (message_faults m.metadata (length m.body)) ≡ None
   pub whole : length m.body ≡ body_length m.metadata
 
--- the bytes are a message, and then others: the continuation marker, the size of the metadata, the metadata, the body
+-- the bytes are a message followed by others: continuation marker, size of the metadata, metadata, body
 pub record Framed (bytes : List ℕ) (m : Envelope) (others : List ℕ) : Type 0 where
   pub size : List ℕ
   pub parts : bytes ≡ continuation_marker ++ (size ++ (m.metadata ++ (m.body ++ others)))
   pub four : length size ≡ 4
   pub size_is : little_number 4 size ≡ length m.metadata
 
--- the bytes are these messages one after another, and then the rest
+-- the bytes are these messages one after another, followed by the rest
 abbrev pub Frames : List ℕ → List Envelope → List ℕ → Type 0
 Frames bytes [] rest = bytes ≡ rest
 Frames bytes (m ∷ ms) rest = IsMessage m × ((others : List ℕ) × Framed bytes m others × Frames others ms rest)

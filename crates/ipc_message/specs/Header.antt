@@ -1,6 +1,6 @@
--- The header of a message: what a reader meets in it, in order, and what it decodes to (Message.fbs, Schema.fbs). A table that is
--- absent reads as one whose slots are all absent. `supported` says which type codes are supported; `left` is how many levels of
--- tables may stand below the table in question.
+-- The header of a message: what a reader meets in it, in order, and what it decodes to (Message.fbs, Schema.fbs). An absent table reads as one whose
+-- slots are all absent. `supported` says which type codes are supported; `left` is the number of levels of tables that may be below the table in
+-- question.
 use Rattle.std.specs.Prelude.{ℕ, zero, suc, ◌-◌, Bool, true, false, ◌&&◌, ◌||◌, ◌==◌, if◌then◌else◌, List, [], ◌∷◌, ◌++◌, map, Option, Some, None, option_map, is_some, unwrap_or, Result, Ok, Err}
 use Rattle.std.specs.List.{flat_map, list_any}
 use Rattle.flatbuf.specs.declared.FlatError.{FlatError}
@@ -48,7 +48,7 @@ timestamp_things left bytes v =
     let t = table_behind bytes v in
     reference_things left bytes v ++ spans 2 (slot_in bytes t 0) ++ vector_at 1 bytes (slot_in bytes t 1)
 
--- the table of a type, by its code: those of other types are not read
+-- the table of a type, by its code; the tables of other types are not read
 unfoldable pub type_things : (ℕ → Bool) → ℕ → List ℕ → ℕ → Option ℕ → List Thing
 type_things supported left bytes code v =
     if code == INT then int_things left bytes v
@@ -94,12 +94,12 @@ slots_by child_things supported left bytes t =
     ++ flat_map child_things (elements bytes (slot bytes t 5))
     ++ pairs_things left bytes (slot bytes t 6)
 
--- a field and all below it, at a position from which n levels are left
+-- the field at a position with all its descendants, with `left` levels left
 unfoldable pub field_things : (ℕ → Bool) → ℕ → List ℕ → ℕ → List Thing
 field_things supported zero bytes at = too_deep ∷ []
 field_things supported (suc left) bytes at = head_things bytes at ++ slots_by (field_things supported left bytes) supported left bytes (table_at bytes at)
 
--- the slots of a field's table, below which n levels may stand
+-- the slots of a field's table, with `left` levels below it
 abbrev pub field_slots : (ℕ → Bool) → ℕ → List ℕ → Place → List Thing
 field_slots supported left bytes t = slots_by (field_things supported left bytes) supported left bytes t
 
@@ -115,7 +115,7 @@ schema_things supported left bytes t =
 unfoldable pub batch_things : List ℕ → Option Place → List Thing
 batch_things bytes t = spans 8 (slot_in bytes t 0) ++ vector_at 16 bytes (slot_in bytes t 1) ++ vector_at 16 bytes (slot_in bytes t 2)
 
--- a table that must be there
+-- a table that must be present
 abbrev pub needed_things : ℕ → List ℕ → Option ℕ → List Thing
 needed_things left bytes None = missing ∷ []
 needed_things left bytes (Some at) = reference_things left bytes (Some at)
@@ -128,11 +128,11 @@ dictionary_things left bytes t =
     ++ batch_things bytes (table_behind bytes (slot_in bytes t 1))
     ++ spans 1 (slot_in bytes t 2)
 
--- what the header of a message is
+-- the kind of a message's header
 abbrev pub type_in : List ℕ → HeaderType
 type_in metadata = unwrap_or (header_type (type_of metadata)) RecordBatch
 
--- where it stands
+-- where the header is
 abbrev pub header_slot : List ℕ → Option ℕ
 header_slot metadata = slot metadata (message_table metadata) 2
 
@@ -142,7 +142,7 @@ things_by_type supported left bytes t Schema = schema_things supported left byte
 things_by_type supported left bytes t DictionaryBatch = dictionary_things left bytes t
 things_by_type supported left bytes t RecordBatch = batch_things bytes t
 
--- the header of a message: the walk that comes after the Message's own things, one level below it
+-- the header of a message: the walk that follows the things of the Message table, one level below it
 unfoldable pub header_things : (ℕ → Bool) → List ℕ → List Thing
 header_things supported metadata =
     needed_things (MAX_LEVELS - 1) metadata (header_slot metadata)
@@ -150,7 +150,7 @@ header_things supported metadata =
 
 -- ---- what it decodes to
 
--- the bitWidth and is_signed of an Int, or what an absent one means
+-- the bitWidth and is_signed of an Int, or the default for an absent one
 abbrev pub int_or : ℕ × Bool → List ℕ → Option Place → ℕ × Bool
 int_or absent bytes None = absent
 int_or absent bytes (Some t) = (scalar_of 4 0 bytes (slot bytes t 0), is_set (scalar_of 1 0 bytes (slot bytes t 1)))
@@ -158,7 +158,7 @@ int_or absent bytes (Some t) = (scalar_of 4 0 bytes (slot bytes t 0), is_set (sc
 abbrev pub int_of : List ℕ → Option Place → ℕ × Bool
 int_of bytes t = int_or (0, false) bytes t
 
--- what the table of a type decodes to; a Date without a unit has milliseconds, 1
+-- what the table of a type decodes to; the default unit of a Date is 1, milliseconds
 unfoldable pub parameters_in : (ℕ → Bool) → List ℕ → ℕ → Option Place → RawParameters
 parameters_in supported bytes code t =
     if code == INT then (let i = int_of bytes t in integer_parameters i.0 i.1)
@@ -168,7 +168,7 @@ parameters_in supported bytes code t =
     else if code == TIMESTAMP && supported TIMESTAMP then timestamp_parameters (scalar_of 2 0 bytes (slot_in bytes t 0)) (text_of bytes (slot_in bytes t 1))
     else no_parameters
 
--- a DictionaryEncoding; an absent index type is signed with 32 bits
+-- a DictionaryEncoding; the default index type is a signed integer of 32 bits
 unfoldable pub encoding_in : List ℕ → Place → RawEncoding
 encoding_in bytes t =
     let index = int_or (32, true) bytes (table_behind bytes (slot bytes t 1)) in
@@ -193,7 +193,7 @@ field_with supported bytes t children =
     (raw_fields_of children)
     (pairs_in bytes (slot bytes t 6))
 
--- the field at a position, from which n levels are left
+-- the field at a position, with `left` levels left
 unfoldable pub field_at : (ℕ → Bool) → ℕ → List ℕ → ℕ → RawField
 field_at supported zero bytes at = raw_field [] false 0 no_parameters None no_raw_field []
 field_at supported (suc left) bytes at =
@@ -207,7 +207,7 @@ schema_in supported left bytes t = record {
   pairs = pairs_in bytes (slot_in bytes t 2);
 }
 
--- the presence of its compression is its vtable's entry alone
+-- whether a batch is compressed is read from its vtable alone
 unfoldable pub batch_in : List ℕ → Option Place → RawBatch
 batch_in bytes t = record {
   length = scalar_of 8 0 bytes (slot_in bytes t 0);
@@ -228,17 +228,17 @@ header_by_type supported left bytes t Schema = schema_header (schema_in supporte
 header_by_type supported left bytes t DictionaryBatch = dictionary_header (dictionary_in bytes t)
 header_by_type supported left bytes t RecordBatch = batch_header (batch_in bytes t)
 
--- what the header of a message decodes to, whatever its metadata is
+-- what the header of a message decodes to, for any metadata
 unfoldable pub header_of : (ℕ → Bool) → List ℕ → RawHeader
 header_of supported metadata = header_by_type supported (MAX_LEVELS - 2) metadata (table_behind metadata (header_slot metadata)) (type_in metadata)
 
 -- ---- the test of the header
 
--- what a walk found, or the fault of the first bad thing
+-- the decoded header, or the fault of the first bad thing in a walk
 abbrev pub decoded : Result ℕ FlatError → RawHeader → Result RawHeader Fault
 decoded (Ok n) h = Ok h
 decoded (Err e) h = Err (flat_fault e)
 
--- what the header decodes to, where the walk over it finds nothing bad; the Message table was the first that was entered
+-- the decoded header, if the walk over it meets nothing bad; the Message table counts as the first that was entered
 unfoldable pub header : (ℕ → Bool) → List ℕ → Result RawHeader Fault
 header supported metadata = decoded (run metadata (header_things supported metadata) 1) (header_of supported metadata)

@@ -1,4 +1,4 @@
--- A message of the code as it stands in the bytes.
+-- Messages of the code as plain messages.
 use Rattle.std.specs.Prelude.{Result, Ok, Err}
 use Rattle.flatbuf.specs.Seen.{bytes_of}
 use Rattle.ipc_message.specs.declared.message.Message.{Message}
@@ -12,12 +12,12 @@ use Rattle.ipc_message.specs.Framing as framing
 abbrev pub envelope_of : Message → Envelope
 envelope_of m = record { metadata = bytes_of m.table; body = m.body.now }
 
--- what stands at the front
+-- what the bytes start with
 abbrev pub next_message_of : NextMessage → framing.NextMessage
 next_message_of (next_messages.Message m) = message (envelope_of m)
 next_message_of next_messages.EndOfStream = end_of_stream
 
--- a result, with its value seen by a view
+-- a result with its value mapped by a view
 abbrev pub seen_by : {X Y : Type 0} → (X → Y) → Result X Fault → Result Y Fault
 seen_by view (Ok x) = Ok (view x)
 seen_by view (Err f) = Err f

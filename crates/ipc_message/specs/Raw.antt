@@ -3,7 +3,7 @@ use Rattle.std.specs.Prelude.{ℕ, zero, suc, ◌/◌, Bool, List, [], ◌∷◌
 use Rattle.byteorder.specs.Endian.{little_number}
 use Rattle.arrow_schema.specs.Column.{Pair}
 
--- what stands in the table of a field's type
+-- the content of the table of a field's type
 pub data RawParameters : Type 0 where
   no_parameters : RawParameters
   integer_parameters : (width : ℕ) → (signed : Bool) → RawParameters
@@ -12,7 +12,7 @@ pub data RawParameters : Type 0 where
   date_unit : ℕ → RawParameters
   timestamp_parameters : (unit : ℕ) → (timezone : List ℕ) → RawParameters
 
--- a DictionaryEncoding: an absent index type is a signed integer of 32 bits; `kind` is 0 for a dense one
+-- a DictionaryEncoding; the default index type is a signed integer of 32 bits, and `kind` is 0 for a dense array
 pub record RawEncoding : Type 0 where
   pub id : ℕ
   pub width : ℕ
@@ -50,17 +50,17 @@ pub record RawBuffer : Type 0 where
   pub offset : ℕ
   pub length : ℕ
 
--- the field nodes that stand in bytes, sixteen bytes each
+-- the first n field nodes in these bytes, sixteen bytes each
 abbrev pub nodes_from : ℕ → List ℕ → List RawNode
 nodes_from zero bytes = []
 nodes_from (suc n) bytes = record { length = little_number 8 bytes; null_count = little_number 8 (drop 8 bytes) } ∷ nodes_from n (drop 16 bytes)
 
--- the buffers that stand in bytes, sixteen bytes each
+-- the first n buffers in these bytes, sixteen bytes each
 abbrev pub buffers_from : ℕ → List ℕ → List RawBuffer
 buffers_from zero bytes = []
 buffers_from (suc n) bytes = record { offset = little_number 8 bytes; length = little_number 8 (drop 8 bytes) } ∷ buffers_from n (drop 16 bytes)
 
--- all of them
+-- all field nodes, and all buffers
 abbrev pub nodes_in : List ℕ → List RawNode
 nodes_in bytes = nodes_from (count bytes / 16) bytes
 

@@ -1,4 +1,4 @@
--- Whether two fields have one dictionary id, and whether they have one type: its parameters, and its children in full, ids apart.
+-- Whether two fields have the same dictionary id, and whether they have the same type, with its parameters and all children but not their ids.
 use Rattle.std.specs.Prelude.{ℕ, Bool, true, false, ◌&&◌, ◌==◌, bytes_eq, List, [], ◌∷◌, Option, Some, None, is_none}
 use Rattle.std.specs.Bool.{beq}
 use Rattle.arrow_schema.specs.Column.{Pair}
@@ -47,7 +47,7 @@ abbrev pub others_of : RawFields → RawFields
 others_of no_raw_field = no_raw_field
 others_of (and_raw_field f fs) = fs
 
--- all but their children
+-- all parts of a field but its children
 unfoldable pub same_parts : RawField → RawField → Bool
 same_parts f g =
     bytes_eq (name_of f) (name_of g) && beq (is_nullable f) (is_nullable g) && code_of f == code_of g && same_parameters (parameters_of f) (parameters_of g) && same_index (dictionary_of f) (dictionary_of g) && same_pairs (pairs_of f) (pairs_of g)
@@ -61,6 +61,6 @@ unfoldable mutual
   same_fields no_raw_field fs = is_empty fs
   same_fields (and_raw_field g gs) fs = first_is (same_field g) fs && same_fields gs (others_of fs)
 
--- the type of their values
+-- the value types are the same
 abbrev pub same_value_type : RawField → RawField → Bool
 same_value_type f g = code_of f == code_of g && same_parameters (parameters_of f) (parameters_of g) && same_fields (children_of f) (children_of g)

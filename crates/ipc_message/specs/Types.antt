@@ -1,4 +1,4 @@
--- The type that a field's code, its table and its children decode to (Schema.fbs, the union Type), where they decode to one.
+-- The type that a field's code, its table and its children decode to, if they decode to one (Schema.fbs, the union Type).
 use Rattle.std.specs.Prelude.{ℕ, ◌^◌, Bool, false, ◌==◌, nat_lt, if◌then◌else◌, List, [], ◌∷◌, Option, Some, None, option_map}
 use Rattle.ipc_message.specs.declared.type_codes.TheConstants.{NULL, INT, FLOATING_POINT, BINARY, UTF8, BOOL, DECIMAL, DATE, TIME, TIMESTAMP, INTERVAL, LIST, STRUCT, UNION, FIXED_SIZE_BINARY, FIXED_SIZE_LIST, MAP, DURATION, LARGE_BINARY, LARGE_UTF8, LARGE_LIST, RUN_END_ENCODED, BINARY_VIEW, UTF8_VIEW, LIST_VIEW, LARGE_LIST_VIEW}
 use Rattle.ipc_message.specs.declared.fault.TypeName.{TypeName}
@@ -37,7 +37,7 @@ type_name code =
     else if code == LARGE_LIST_VIEW then types.LargeListView
     else types.Unknown
 
--- a size of 32 bits with a sign, that is not negative
+-- a signed size of 32 bits that is not negative
 abbrev pub is_size : ℕ → Bool
 is_size n = nat_lt n (2 ^ 31)
 
@@ -47,7 +47,7 @@ date_kind n = if n == 0 then Some days else if n == 1 then Some date_millisecond
 abbrev pub time_kind : ℕ → Option TimeKind
 time_kind n = if n == 0 then Some seconds else if n == 1 then Some milliseconds else if n == 2 then Some microseconds else if n == 3 then Some nanoseconds else None
 
--- the tables of the types that have slots
+-- types that have slots in their table
 abbrev pub integer : RawParameters → Option Kind
 integer (integer_parameters width signed) = if is_bit_width width then Some (integers width signed) else None
 integer _ = None
@@ -83,7 +83,7 @@ with_item kind [] = None
 with_item kind (item ∷ []) = kind item
 with_item kind (item ∷ c ∷ cs) = None
 
--- what a type code's name, its table and its children decode to
+-- what the name of a type code, its table and its children decode to
 unfoldable pub decoded_type : TypeName → RawParameters → List Column → Option Kind
 decoded_type types.Null p children = without_children (Some nulls) children
 decoded_type types.Int p children = without_children (integer p) children

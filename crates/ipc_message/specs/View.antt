@@ -1,4 +1,4 @@
--- What a header of the code decodes to, whatever memory it takes.
+-- The plain header that a header of the code stands for.
 use Rattle.std.specs.Prelude.{map, option_map}
 use Rattle.ipc_message.specs.declared.raw_header.Parameters.{Parameters}
 use Rattle.ipc_message.specs.declared.raw_header.Parameters.TheVariants.{Nothing, Integer, ByteWidth, ListSize, DateUnit, Timestamp}

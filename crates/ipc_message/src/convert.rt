@@ -1,4 +1,4 @@
-// The schema that a header decodes to, as the types of a table.
+// Converts a decoded header to the schema of a table.
 ghost use Rattle.std.specs.Prelude.{◌≡◌, [], ◌∷◌, map, flat_map, true, false, is_some, Some, option_map, string_bytes, vec_len, IfOk};
 ghost use Rattle.std.specs.List.{list_any, list_all};
 ghost use Rattle.std.specs.Str.{is_utf8};
@@ -146,7 +146,7 @@ fn list_size(parameters: &Parameters) -> u32
     }
 }
 
-// The one field of a list of one.
+// Boxes the only field of a list.
 fn boxed(alloc: Global, fields: Vec<Field>) -> Result<Box<Field>, AllocError>
     requires { vec_len fields ≡ 1 }
     ensures { IfOk result (λ item. map column_of fields.items ≡ column_of item.value ∷ []) }
@@ -232,10 +232,10 @@ fn copy_schema(alloc: Global, raw: &RawSchema) -> Result<Schema, AllocError>
     Ok(Schema { fields, pairs })
 }
 
-/// The schema that a header decodes to. Strings are copied once all tests have passed.
+/// Checks the schema of a header and converts it. Strings are copied only once all tests have passed.
 ///
 /// # Errors
-/// `Fault` with that of the first test that fails; `OutOfMemory`.
+/// `Fault` with the fault of the first test that fails; `OutOfMemory` if memory was refused.
 #[tactic(auto, using(crate::specs::laws::Accepted::accepted_outcome, crate::proofs::Columns::accepted_within), unfolding(crate::specs::Checks::checked_schema))]
 pub fn read_schema(alloc: Global, raw: &RawSchema) -> Result<Schema, ImportError>
     ensures exact { Gives schema_of result (checked_schema supported_codes (raw_schema_of raw.now)) }

@@ -1,4 +1,4 @@
-// The dictionaries of a schema that passed its tests, field by field.
+// Lists the dictionaries of a schema that passed its tests, field by field.
 ghost use Rattle.std.specs.Prelude.{◌≡◌, true, false, map, OnOk, IfOk};
 ghost use Rattle.std.specs.List.{list_any, list_all};
 ghost use Rattle.std.specs.Str.{is_utf8};
@@ -60,10 +60,11 @@ fn list_fields(
     Ok(())
 }
 
-/// The dictionaries of a schema, in preorder: the id of each, and the type of its values. All fields decode to types, and all strings are UTF-8.
+/// Lists the dictionaries of a schema in preorder, each with its id and the type of its values. All fields must decode to types, and all strings must
+/// be UTF-8.
 ///
 /// # Errors
-/// `AllocError` where memory was refused.
+/// `AllocError` if memory was refused.
 pub fn read_dictionary_types(
     alloc: Global,
     raw: &RawSchema,

@@ -1,7 +1,7 @@
-// The dictionaries of a schema: their ids, and the types of their values.
+// The dictionaries of a schema: their ids and value types.
 use arrow_schema::DataType;
 
-/// The dictionary of a field: its id, and the type of its values.
+/// The dictionary of a field: its id and the type of its values.
 #[derive(Drop)]
 pub struct DictionaryType {
     pub id: u64,

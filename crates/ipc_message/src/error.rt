@@ -1,11 +1,11 @@
-// Why a reader answers nothing.
+// The errors of reading.
 ghost use Rattle.std.specs.Prelude.{◌≡◌};
 ghost use Rattle.ipc_message.specs.declared.error.ImportError.TheVariants.{OutOfMemory};
 
 use crate::fault::Fault;
 use std::alloc::{AllocError, AllocFailed};
 
-/// Why a stream was not read: it has a fault, or a growth was refused.
+/// Why a stream was not read: it has a fault, or memory was refused.
 #[derive(Clone, Copy, Debug, PartialEq, Eq)]
 pub enum ImportError {
     Fault(Fault),

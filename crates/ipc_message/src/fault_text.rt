@@ -1,8 +1,8 @@
-// How a fault is reported: its code, its name, and the type that it carries.
+// Formats a fault: its code, its name, and the type that it carries.
 use super::fault::{Fault, TypeName};
 use std::fmt;
 
-/// The name as Schema.fbs writes it, or `Unknown` for a code that it does not have.
+/// The name in Schema.fbs, or `Unknown` for a code that Schema.fbs does not have.
 impl fmt::Display for TypeName {
     ghost use Rattle.std.specs.Prelude.{Some};
     ghost use Rattle.ipc_message.specs.FaultText.{type_text};
@@ -42,7 +42,7 @@ impl fmt::Display for TypeName {
     }
 }
 
-/// Code and name, as `F1 Truncated`, and with a type that is not supported its name, as `F12 TypeNotHeld Decimal`.
+/// Code and name, as `F1 Truncated`; for an unsupported type also its name, as `F12 TypeNotHeld Decimal`.
 impl fmt::Display for Fault {
     ghost use Rattle.std.specs.Prelude.{Some};
     ghost use Rattle.ipc_message.specs.FaultText.{fault_text};

@@ -1,4 +1,4 @@
-// The fields of a schema with all their children, in preorder.
+// The fields of a schema with all their descendants, in preorder.
 ghost use Rattle.std.specs.Prelude.{◌≡◌, ◌++◌, map, OnOk, IfOk};
 ghost use Rattle.ipc_message.specs.Raw.{raw_fields_of};
 ghost use Rattle.ipc_message.specs.Fields.{preorder_all};
@@ -7,7 +7,7 @@ ghost use Rattle.ipc_message.specs.inner.Listed.{listed};
 
 use crate::raw_header::RawField;
 
-/// A field of a schema, wherever it stands.
+/// A reference to a field at any depth of a schema.
 #[derive(Clone, Copy)]
 pub(crate) struct FieldRef<'b, 'a> {
     pub(crate) field: &'b RawField<'a>,
@@ -29,7 +29,7 @@ fn list_fields<'a, 'b>(
     Ok(())
 }
 
-/// Each field before its children.
+/// Lists all fields, each before its children.
 pub(crate) fn every_field<'a, 'b>(
     alloc: Global,
     fields: &'b [RawField<'a>],

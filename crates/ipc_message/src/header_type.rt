@@ -1,4 +1,4 @@
-// What a message is about.
+// The kinds of messages.
 
 ghost use Rattle.std.specs.Prelude.{◌≡◌};
 ghost use Rattle.ipc_message.specs.Framing.{header_type};
@@ -12,7 +12,7 @@ pub const DICTIONARY_BATCH: u8 = 2;
 /// The header type of a record batch.
 pub const RECORD_BATCH: u8 = 3;
 
-/// What the header of a message is (Message.fbs, the union `MessageHeader`).
+/// The kind of a message's header (Message.fbs, the union `MessageHeader`).
 #[derive(Clone, Copy)]
 pub enum HeaderType {
     Schema,
@@ -20,7 +20,7 @@ pub enum HeaderType {
     RecordBatch,
 }
 
-/// The header type of this number.
+/// Returns the header type with this number, if it is one that is read.
 pub(crate) fn header_type(number: u8) -> Option<HeaderType>
     ensures { result ≡ header_type number }
 {

@@ -1,4 +1,4 @@
-// What the definitions say. The functions do nothing: their contracts are the laws.
+// Laws of the definitions. The functions do nothing: their contracts are the laws.
 ghost use Rattle.std.specs.Prelude.{◌≡◌, ◌≢◌, ℕ, Bool, true, List, [], ◌++◌, drop, Ok};
 ghost use Rattle.arrow_schema.specs.Column.{PlainSchema};
 ghost use Rattle.arrow_schema.specs.Limits.{IsWithinLimits};
@@ -9,8 +9,8 @@ ghost use Rattle.ipc_message.specs.Framing.{Envelope, Framed, IsMessage, next_me
 ghost use Rattle.ipc_message.specs.Header.{supported_codes, header, header_of};
 ghost use Rattle.ipc_message.specs.Raw.{RawSchema, schema_header};
 
-/// A message stands at the start exactly where the bytes are that message, framed, and then others; the end of stream exactly
-/// where they are the continuation marker, a size of 0, and then others.
+/// The bytes start with a message if and only if they are that message, framed, followed by other bytes; and with the end of stream if and only if
+/// they are the continuation marker and a size of 0, followed by other bytes.
 pub fn next_message_is_framed()
     ensures framed { (bytes : List ℕ) (m : Envelope) → next_message bytes ≡ Ok (message m)
         → IsMessage m × Framed bytes m (drop (taken (message m)) bytes) }
@@ -25,8 +25,9 @@ pub fn checked_schema_is_within_limits()
     ensures { (supported : ℕ → Bool) (raw : RawSchema) (s : PlainSchema) → checked_schema supported raw ≡ Ok s → IsWithinLimits s }
 {}
 
-/// Whether a type code is supported matters only to the messages that name it: it changes no code that they name, and where two sets of codes support the
-/// same of these, the header decodes to the same or fails alike, and the schema's checks find the same. Only a schema names any.
+/// Support for a type code affects only the messages that name it. The set of supported codes does not change which codes a message names; and if two
+/// sets agree on these, the header decodes to the same value or fails alike, and the checks of the schema find the same. Only a schema names type
+/// codes.
 pub fn only_named_codes_matter()
     ensures named { (supported : ℕ → Bool) (metadata : List ℕ) → codes_of (header_of supported metadata) ≡ codes_in metadata }
     ensures schemas { (metadata : List ℕ) → type_of metadata ≢ SCHEMA → codes_in metadata ≡ [] }
@@ -36,8 +37,8 @@ pub fn only_named_codes_matter()
         → schema_checks supported s ≡ schema_checks other s }
 {}
 
-/// Of the codes that a stream names the same are supported as before: where it names no later code, and where its schema was read and more codes are
-/// supported now.
+/// The codes that a stream names are supported exactly as before in two cases: it names no later code, or its schema passed the checks and support has
+/// only been added since.
 pub fn named_codes_stay_supported()
     ensures older { (bytes : List ℕ) → names_no_later_code bytes ≡ true → SupportAlike supported_codes earlier_codes (codes_named bytes) }
     ensures checked { (fewer more : ℕ → Bool) (raw : RawSchema) (s : PlainSchema) → ((code : ℕ) → fewer code ≡ true → more code ≡ true)

@@ -1,6 +1,6 @@
-//! Arrow IPC messages: framing, and what the metadata of a message decodes to.
+//! Arrow IPC messages: their framing, and the decoding of their metadata.
 //!
-//! A message is read without memory up to its header, and refused by the first test that fails; its header is
+//! A message is read up to its header without allocation, and refused by the first test that fails. Its header decodes to
 //! a tree that borrows its strings, so that hostile metadata cannot make a reader copy more than it was given.
 //!
 //! ```

@@ -1,4 +1,4 @@
-// The start of a stream of messages: one message, or the end of stream.
+// Reads the start of a stream: one message, or the end of stream.
 
 ghost use Rattle.std.specs.Prelude.{◌≡◌, ◌-◌, Some};
 ghost use Rattle.flatbuf.specs.declared.limits.TheConstants.{MAX_LEVELS};
@@ -12,10 +12,10 @@ use crate::{Fault, Header, HeaderType, ImportError};
 use flatbuf::{Budget, Buf, FlatError, MAX_BUFFER_BYTES, MAX_LEVELS, Table};
 use std::alloc::Global;
 
-/// The version of the metadata that is read and written (Message.fbs, `MetadataVersion`).
+/// The metadata version that is read and written (Message.fbs, `MetadataVersion`).
 pub const V5: u16 = 4;
 
-/// A message whose Message table was read: its header is not, and its body has the length that it says.
+/// A message whose Message table was read but whose header was not. Its body has the length that the metadata states.
 #[derive(Clone, Copy)]
 pub struct Message<'a> {
     kind: HeaderType,
@@ -28,15 +28,15 @@ pub struct Message<'a> {
     ghost type_is: { header_type (type_of (bytes_of table)) ≡ Some kind },
 }
 
-/// What stands at the start of a stream.
+/// What a stream starts with.
 #[derive(Clone, Copy)]
 pub enum NextMessage<'a> {
     Message(Message<'a>),
-    /// The end of stream: a continuation marker, and a size of 0.
+    /// The end of stream: a continuation marker and a size of 0.
     EndOfStream,
 }
 
-/// What is read of the Message table before the header.
+/// The Message table and what is read of it before the header.
 #[derive(Clone, Copy)]
 struct MessageHead<'a> {
     table: Table<'a>,
@@ -55,9 +55,9 @@ impl<'a> Message<'a> {
     ghost use Rattle.ipc_message.specs.View.{raw_header_of};
     ghost use Rattle.ipc_message.specs.inner.Walked.{Decodes};
 
-    /// The message whose metadata this is, where these bytes follow it, or the first of these faults: F4 where the
-    /// Message table or its first four slots are out of bounds, F6 a version that is not V5, F7 a header that is none
-    /// of the three, F8 a negative length of the body, F1 where fewer bytes follow than that.
+    /// Reads the message with this metadata and these bytes after it. Otherwise returns the first of these faults: F4 if the Message table or one of
+    /// its first four slots lies outside the bytes, F6 if the version is not V5, F7 if the header is none of the three kinds, F8 if the length of the
+    /// body is negative, F1 if fewer bytes follow than the body has.
     #[tactic(auto, unfolding(crate::specs::Framing::message_faults))]
     pub(crate) fn read(metadata: &'a [u8], following: &'a [u8]) -> Result<Message<'a>, Fault>
         requires small { length metadata.now ≤ MAX_BUFFER_BYTES }
@@ -85,25 +85,26 @@ impl<'a> Message<'a> {
         })
     }
 
-    /// What its header is.
+    /// Returns the kind of its header.
     pub fn header_type(&self) -> HeaderType
         ensures { header_type (type_of (envelope_of self.now).metadata) ≡ Some result }
     {
         self.kind
     }
 
-    /// Its body, whatever its metadata says of it.
+    /// Returns its body, uninterpreted.
     pub fn body(&self) -> &'a [u8]
         ensures { result.now ≡ (envelope_of self.now).body }
     {
         self.body
     }
 
-    /// What its header decodes to, with strings that borrow from the metadata.
+    /// Decodes its header. Strings are borrowed from the metadata.
     ///
     /// # Errors
-    /// `Fault` with that of the first bad thing in it: F4 where something lies out of bounds, a vtable is bad, or the header or the data of a
-    /// dictionary batch is absent; F5 where more tables would be entered than a message may have, or one deeper. `OutOfMemory`.
+    /// `Fault` with the fault of the first bad thing in it: F4 if something lies outside the bytes, a vtable is malformed, or the header or the data
+    /// of a dictionary batch is absent; F5 if more tables would be entered than a message may have, or one deeper. `OutOfMemory` if memory was
+    /// refused.
     pub fn header(&self, alloc: Global) -> Result<Header<'a>, ImportError>
         ensures exact { Gives raw_header_of result (header supported_codes (envelope_of self.now).metadata) }
     {
@@ -114,7 +115,7 @@ impl<'a> Message<'a> {
         }
     }
 
-    /// The walk over the header, which also reads it.
+    /// Walks over the header and decodes it.
     fn walk(&self, alloc: Global) -> Result<Header<'a>, WalkError>
         ensures { Decodes result (header supported_codes (bytes_of self.now.table)) }
     {
@@ -129,7 +130,7 @@ impl<'a> MessageHead<'a> {
     ghost use Rattle.flatbuf.specs.Walk.{run, reported};
     ghost use Rattle.ipc_message.specs.Framing.{message_things, version_of, body_length};
 
-    /// The Message table, and the content of its slots 0 to 3: where the header's reference leads is not tested.
+    /// Reads the Message table and its slots 0 to 3. The target of the header's reference is not tested.
     #[tactic(auto, using(flatbuf::specs::laws::Walk::run_append), unfolding(crate::specs::Framing::message_things, crate::specs::Framing::version_of, crate::specs::Framing::type_of, crate::specs::Framing::body_length))]
     fn read(metadata: &'a [u8]) -> Result<MessageHead<'a>, FlatError>
         requires small { length metadata.now ≤ MAX_BUFFER_BYTES }

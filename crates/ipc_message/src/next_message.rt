@@ -1,4 +1,4 @@
-// What stands at the start of a stream of messages.
+// Reads the first message of a stream.
 
 ghost use Rattle.std.specs.Prelude.{◌≡◌, ◌≤◌, ◌+◌, length, IfOk, OnOk};
 ghost use Rattle.ipc_message.specs.Framing.{next_message, taken, first_some, marker_faults, size_faults, metadata_size, fault_of};
@@ -8,16 +8,16 @@ use crate::{Fault, Message, NextMessage};
 use byteorder::{ByteOrder, LittleEndian};
 use flatbuf::MAX_BUFFER_BYTES;
 
-/// What every message begins with.
+/// The bytes that every message begins with.
 pub const CONTINUATION_MARKER: [u8; 4] = [0xff; 4];
 
-/// What stands at the start of the bytes, a message or the end of stream, and how many bytes it takes. It takes no memory. Nothing is asked of what
-/// follows the end of stream.
+/// Reads the message, or the end of stream, at the start of the bytes, and returns it with the number of bytes that it takes. It does not allocate.
+/// Whatever follows the end of stream is ignored.
 ///
 /// # Errors
-/// The first fault: F1 where the bytes end within it, F2 where they do not begin with the continuation marker, F3 where the size of the metadata is
-/// negative or over its limit, F4 where the Message table or its first four slots are out of bounds, F6 a version that
-/// is not V5, F7 a header that is none of the three, F8 a negative length of the body.
+/// The first fault: F1 if the bytes end within it, F2 if they do not begin with the continuation marker, F3 if the size of the metadata is negative
+/// or exceeds its limit, F4 if the Message table or one of its first four slots lies outside the bytes, F6 if the version is not V5, F7 if the header
+/// is none of the three kinds, F8 if the length of the body is negative.
 #[tactic(auto, unfolding(crate::specs::Framing::next_message))]
 pub fn read_message(bytes: &[u8]) -> Result<(NextMessage<'_>, usize), Fault>
     ensures exact { seen_by (λ r. next_message_of r.0) result ≡ next_message bytes.now }
@@ -36,7 +36,7 @@ pub fn read_message(bytes: &[u8]) -> Result<(NextMessage<'_>, usize), Fault>
     ))
 }
 
-/// The size of the metadata, after the continuation marker.
+/// Reads the size of the metadata, after the continuation marker.
 #[tactic(auto, unfolding(crate::specs::Framing::marker_faults, crate::specs::Framing::metadata_size, flatbuf::specs::Lookup::number))]
 fn marker_size(bytes: &[u8]) -> Result<usize, Fault>
     ensures faults { first_some (marker_faults bytes.now) ≡ fault_of result }
@@ -55,7 +55,7 @@ fn marker_size(bytes: &[u8]) -> Result<usize, Fault>
     Ok(LittleEndian::read_u32(&bytes[4..]) as usize)
 }
 
-/// Whether metadata of this size may be read.
+/// Tests whether metadata of this size may be read.
 #[tactic(auto, unfolding(crate::specs::Framing::size_faults))]
 fn test_size(bytes: &[u8], size: usize) -> Result<(), Fault>
     requires { size ≡ metadata_size bytes.now }

@@ -1,19 +1,19 @@
-// The header of a message as its metadata decodes to it, before any test. Strings are borrowed; numbers are unsigned.
+// The header of a message as decoded from its metadata, before any test. Strings are borrowed; numbers are unsigned.
 
-/// What stands in the table of a field's type.
+/// The content of the table of a field's type.
 #[derive(Clone, Copy)]
 pub enum Parameters<'a> {
     Nothing,
-    /// The bits of an integer, and whether it is signed.
+    /// The number of bits, and whether the integer is signed.
     Integer(u32, bool),
     ByteWidth(u32),
     ListSize(u32),
     DateUnit(u16),
-    /// The unit, and the timezone.
+    /// The unit and the timezone.
     Timestamp(u16, &'a [u8]),
 }
 
-/// A dictionary encoding: the width and sign of its index type.
+/// A dictionary encoding: `width` and `signed` are those of its index type.
 #[derive(Clone, Copy)]
 pub struct Encoding {
     pub id: u64,
@@ -49,7 +49,7 @@ pub struct RawSchema<'a> {
     pub pairs: Vec<KeyValue<'a>>,
 }
 
-/// A record batch: its nodes and buffers as they stand, sixteen bytes each.
+/// A record batch. Its nodes and buffers are raw structs of sixteen bytes each.
 #[derive(Clone, Copy)]
 pub struct RawBatch<'a> {
     pub length: u64,

@@ -1,4 +1,4 @@
-// The fields of a schema and the pairs of key and value, as they stand: what is read is kept, and strings are borrowed.
+// Reads the fields and the key/value pairs of a schema. Strings are borrowed.
 
 ghost use Rattle.std.specs.Prelude.{◌≡◌, ◌<◌, ◌++◌, length, map, IfOk, slice_index};
 ghost use Rattle.std.specs.List.{flat_map};
@@ -15,7 +15,7 @@ use crate::{KeyValue, RawField};
 use flatbuf::{Budget, References, Table};
 use std::alloc::Global;
 
-/// The key/value pairs of slot `k`.
+/// Reads the key/value pairs of slot `k`.
 #[tactic(auto, using(flatbuf::specs::laws::Walk::run_append), unfolding(crate::specs::Header::pairs_things, crate::specs::Header::pairs_in))]
 pub(crate) fn pairs_at<'a>(
     alloc: Global,
@@ -30,7 +30,7 @@ pub(crate) fn pairs_at<'a>(
     pairs_behind(alloc, &pairs, budget)
 }
 
-/// The pairs that references lead to.
+/// Reads the pairs that these references lead to.
 fn pairs_behind<'a>(
     alloc: Global,
     pairs: &References<'a>,
@@ -47,7 +47,7 @@ fn pairs_behind<'a>(
     Ok(found)
 }
 
-/// The field that reference `i` leads to and all below it: its own table, its children, its custom_metadata.
+/// Reads the field that reference `i` leads to, with its descendants: its own table, its children, its custom_metadata.
 #[cycle(walk)]
 fn field_behind<'a>(
     alloc: Global,
@@ -74,7 +74,7 @@ fn field_behind<'a>(
     })
 }
 
-/// The fields that references lead to.
+/// Reads the fields that these references lead to.
 #[cycle(walk)]
 pub(crate) fn fields_behind<'a>(
     alloc: Global,

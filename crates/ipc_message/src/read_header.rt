@@ -1,4 +1,4 @@
-// What the header of a message decodes to.
+// Decodes the header of a message.
 
 ghost use Rattle.std.specs.Prelude.{◌≡◌, ◌<◌, ◌-◌, IfOk, Some};
 ghost use Rattle.flatbuf.specs.Lookup.{table_behind, scalar_of};
@@ -15,7 +15,7 @@ use crate::{Header, HeaderType, RawBatch, RawDictionaryBatch, RawSchema};
 use flatbuf::{Budget, FlatError, Table};
 use std::alloc::Global;
 
-/// The table of a message's header, which must be there: its kind stands in slot 1 and is not 0, its reference in slot 2.
+/// Enters the table of a message's header, which must be present: slot 1 has its kind, which is not 0, and slot 2 its reference.
 pub(crate) fn header_table<'a>(
     table: &Table<'a>,
     budget: &mut Budget,
@@ -33,7 +33,7 @@ pub(crate) fn header_table<'a>(
     }
 }
 
-/// The table that slot `k` refers to, which must be there.
+/// Enters the table that slot `k` refers to, which must be present.
 #[tactic(auto, unfolding(flatbuf::specs::Walk::run))]
 fn needed<'a>(table: &Table<'a>, k: u16, budget: &mut Budget) -> Result<Table<'a>, FlatError>
     ensures walked { Walks (bytes_of table.now) (in_slot needed_things table.now k) budget.old budget.new result }
@@ -47,7 +47,7 @@ fn needed<'a>(table: &Table<'a>, k: u16, budget: &mut Budget) -> Result<Table<'a
     }
 }
 
-/// A Schema.
+/// Reads a Schema.
 #[tactic(auto, using(flatbuf::specs::laws::Walk::run_append), unfolding(crate::specs::Header::schema_things, crate::specs::Header::schema_in))]
 pub(crate) fn read_raw_schema<'a>(
     alloc: Global,
@@ -68,7 +68,7 @@ pub(crate) fn read_raw_schema<'a>(
     })
 }
 
-/// A RecordBatch.
+/// Reads a RecordBatch.
 #[tactic(auto, using(flatbuf::specs::laws::Walk::run_append), unfolding(crate::specs::Header::batch_things, crate::specs::Header::batch_in))]
 pub(crate) fn read_raw_batch<'a>(
     table: &Table<'a>,
@@ -89,7 +89,7 @@ pub(crate) fn read_raw_batch<'a>(
     })
 }
 
-/// A DictionaryBatch.
+/// Reads a DictionaryBatch.
 #[tactic(auto, using(flatbuf::specs::laws::Walk::run_append), unfolding(crate::specs::Header::dictionary_things, crate::specs::Header::dictionary_in))]
 pub(crate) fn read_raw_dictionary<'a>(
     table: &Table<'a>,
@@ -109,7 +109,7 @@ pub(crate) fn read_raw_dictionary<'a>(
     })
 }
 
-/// The header of this type in a table.
+/// Reads the header of this type from its table.
 pub(crate) fn header_by_type<'a>(
     alloc: Global,
     header_type: HeaderType,

@@ -1,4 +1,4 @@
-// The tables of a header that need no memory.
+// Reads the tables of a header that need no allocation.
 
 ghost use Rattle.std.specs.Prelude.{◌≡◌, ◌<◌, ℕ, List, length, IfOk, option_map, slice_index};
 ghost use Rattle.flatbuf.specs.Lookup.{slot, table_behind, elements, scalar_of, text_of};
@@ -13,7 +13,7 @@ use crate::type_codes::{DATE, FIXED_SIZE_BINARY, FIXED_SIZE_LIST, INT, TIMESTAMP
 use crate::{Encoding, KeyValue, Parameters};
 use flatbuf::{Budget, FlatError, References, Table};
 
-/// The bitWidth and is_signed of the Int that slot `k` refers to.
+/// Reads the bitWidth and is_signed of the Int that slot `k` refers to.
 #[tactic(auto, using(flatbuf::specs::laws::Walk::run_append), unfolding(crate::specs::Header::int_things))]
 fn int_at(
     table: &Table,
@@ -34,7 +34,7 @@ fn int_at(
     }
 }
 
-/// The byteWidth of the FixedSizeBinary or the listSize of the FixedSizeList that slot `k` refers to.
+/// Reads the byteWidth of the FixedSizeBinary, or the listSize of the FixedSizeList, that slot `k` refers to.
 #[tactic(auto, using(flatbuf::specs::laws::Walk::run_append), unfolding(crate::specs::Header::size_things))]
 fn size_at(table: &Table, k: u16, budget: &mut Budget) -> Result<u32, FlatError>
     ensures walked { Walks (bytes_of table.now) (in_slot size_things table.now k) budget.old budget.new result }
@@ -46,7 +46,7 @@ fn size_at(table: &Table, k: u16, budget: &mut Budget) -> Result<u32, FlatError>
     }
 }
 
-/// The unit of the Date that slot `k` refers to: milliseconds where it is absent.
+/// Reads the unit of the Date that slot `k` refers to: milliseconds if it is absent.
 #[tactic(auto, using(flatbuf::specs::laws::Walk::run_append), unfolding(crate::specs::Header::date_things))]
 fn date_unit_at(table: &Table, k: u16, budget: &mut Budget) -> Result<u16, FlatError>
     ensures walked { Walks (bytes_of table.now) (in_slot date_things table.now k) budget.old budget.new result }
@@ -58,7 +58,7 @@ fn date_unit_at(table: &Table, k: u16, budget: &mut Budget) -> Result<u16, FlatE
     }
 }
 
-/// The unit and the timezone of the Timestamp that slot `k` refers to.
+/// Reads the unit and the timezone of the Timestamp that slot `k` refers to.
 #[tactic(auto, using(flatbuf::specs::laws::Walk::run_append), unfolding(crate::specs::Header::timestamp_things))]
 fn timestamp_at<'a>(
     table: &Table<'a>,
@@ -79,7 +79,7 @@ fn timestamp_at<'a>(
     }
 }
 
-/// What stands in the table of the type of this code, to which slot 3 refers.
+/// Reads the table that slot 3 refers to, as the table of a type with this code.
 #[tactic(auto, using(flatbuf::specs::laws::Walk::run_append), unfolding(crate::specs::Header::type_things, crate::specs::Header::parameters_in, flatbuf::specs::Walk::run))]
 fn parameters_at<'a>(
     table: &Table<'a>,
@@ -105,7 +105,7 @@ fn parameters_at<'a>(
     }
 }
 
-/// The DictionaryEncoding that slot 4 refers to, unless it is absent.
+/// Reads the DictionaryEncoding that slot 4 refers to, if it is present.
 #[tactic(auto, using(flatbuf::specs::laws::Walk::run_append), unfolding(crate::specs::Header::encoding_things, crate::specs::Header::encoding_in, crate::specs::Header::int_things))]
 fn encoding_at(table: &Table, budget: &mut Budget) -> Result<Option<Encoding>, FlatError>
     ensures walked { Walks (bytes_of table.now) (in_slot encoding_things table.now 4) budget.old budget.new result }
@@ -128,7 +128,7 @@ fn encoding_at(table: &Table, budget: &mut Budget) -> Result<Option<Encoding>, F
     }
 }
 
-/// The KeyValue that reference `i` leads to.
+/// Reads the KeyValue that reference `i` leads to.
 #[tactic(auto, using(flatbuf::specs::laws::Walk::run_append), unfolding(crate::specs::Header::pair_things, crate::specs::Header::pair_at))]
 pub(crate) fn pair_behind<'a>(
     pairs: &References<'a>,
@@ -156,7 +156,7 @@ pub(crate) struct FieldTable<'a> {
     pub(crate) children: References<'a>,
 }
 
-/// What a field's own table says.
+/// Reads a field's own table.
 #[tactic(auto, using(flatbuf::specs::laws::Walk::run_append), unfolding(crate::specs::Header::field_table_things, crate::specs::Header::field_with))]
 pub(crate) fn read_field_table<'a>(
     table: &Table<'a>,

@@ -1,4 +1,4 @@
-// Whether two fields have values of one type.
+// Compares the value types of two fields.
 ghost use Rattle.std.specs.Prelude.{◌≡◌, map};
 ghost use Rattle.ipc_message.specs.Raw.{raw_fields_of};
 ghost use Rattle.ipc_message.specs.Same.{same_parameters, same_index, same_pairs, same_parts, same_field, same_fields, same_value_type};
@@ -81,7 +81,7 @@ fn are_same(one: &[RawField], other: &[RawField]) -> bool
     true
 }
 
-/// Whether the values of both have one type, its parameters and children in full, whatever their dictionaries' ids.
+/// Returns whether the values of both fields have the same type, with its parameters and all children; dictionary ids may differ.
 pub(crate) fn have_same_value_type(one: &RawField, other: &RawField) -> bool
     ensures { result ≡ same_value_type (raw_field_of one.now) (raw_field_of other.now) }
 {

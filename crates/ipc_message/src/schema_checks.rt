@@ -1,4 +1,4 @@
-// The tests of a schema in their order, and the first that finds something.
+// The tests of a schema, in order. The first that fails is reported.
 ghost use Rattle.std.specs.Prelude.{find, ◌≡◌, ◌+◌, ◌||◌, ◌==◌, not, map, length, sum_by, nat_le, nat_lt, option_map, is_some, IfOk};
 ghost use Rattle.std.specs.BTreeMap.{get};
 ghost use Rattle.std.specs.List.{list_any};
@@ -99,7 +99,7 @@ fn exceeds_limit(schema: &RawSchema, fields: &[FieldRef], texts: &[&[u8]]) -> bo
         || are_longer(texts, MAX_TEXT_BYTES)
 }
 
-// The place of the first field of a dictionary id: that of an earlier field, or this one's.
+// Returns the place of the first field with a dictionary id: that of an earlier field, or this one's.
 fn first_of(firsts: &mut BTreeMap<u64, usize>, id: u64, place: usize) -> Result<usize, AllocError>
     ensures { IfOk result (λ first. Adds (get nat_cmp firsts.old) (get nat_cmp firsts.new) id place first) }
 {
@@ -110,7 +110,7 @@ fn first_of(firsts: &mut BTreeMap<u64, usize>, id: u64, place: usize) -> Result<
     Ok(place)
 }
 
-// Each field is compared with the first of its dictionary id alone.
+// Comparing each field with the first one of its dictionary id is enough.
 fn has_two_types(alloc: Global, fields: &[FieldRef]) -> Result<bool, AllocError>
     ensures { IfOk result (λ b. b ≡ has_two_types (listed fields.now)) }
 {
@@ -178,7 +178,7 @@ fn first_fault(
     }
 }
 
-// The same tests, where the fields are listed.
+// Makes the tests, given the list of all fields.
 fn check_fields<'a>(
     alloc: Global,
     schema: &RawSchema<'a>,
@@ -194,7 +194,7 @@ fn check_fields<'a>(
     }
 }
 
-/// Whether a schema passes its tests, and else the fault of the first that it fails. It copies no string.
+/// Makes the tests of a schema and returns the fault of the first that fails. No string is copied.
 pub(crate) fn check_schema(alloc: Global, schema: &RawSchema) -> Result<(), ImportError>
     ensures { Gives (λ x. x) result (unless (first_some (schema_checks supported_codes (raw_schema_of schema.now))) (Ok tt)) }
 {

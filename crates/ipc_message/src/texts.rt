@@ -40,7 +40,7 @@ fn list_field<'a>(texts: &mut Vec<&'a [u8]>, field: &RawField<'a>) -> Result<(),
     list_pairs(texts, &field.pairs)
 }
 
-/// The strings of a schema with these pairs and fields.
+/// Lists the strings of a schema with these pairs and fields.
 pub(crate) fn list_texts<'a>(
     alloc: Global,
     pairs: &[KeyValue<'a>],
@@ -56,7 +56,7 @@ pub(crate) fn list_texts<'a>(
     Ok(texts)
 }
 
-/// Whether all strings together are longer than a limit.
+/// Returns whether all strings together are longer than a limit.
 pub(crate) fn are_longer(texts: &[&[u8]], limit: u64) -> bool
     ensures { result ≡ nat_lt limit (sum_by length (text_list texts.now)) }
 {
@@ -71,14 +71,14 @@ pub(crate) fn are_longer(texts: &[&[u8]], limit: u64) -> bool
     false
 }
 
-/// Whether bytes are UTF-8.
+/// Returns whether the bytes are UTF-8.
 pub fn is_utf8(text: &[u8]) -> bool
     ensures { result ≡ is_utf8 text.now }
 {
     simdutf8::basic::from_utf8(text).is_ok()
 }
 
-/// Whether each string is UTF-8.
+/// Returns whether each string is UTF-8.
 pub(crate) fn are_utf8(texts: &[&[u8]]) -> bool
     ensures { result ≡ list_all is_utf8 (text_list texts.now) }
 {

@@ -1,4 +1,4 @@
-// Whether a field decodes to a type that there is: its width, size, unit and children.
+// Tests whether a field decodes to a type: its width, size, unit and children.
 ghost use Rattle.std.specs.Prelude.{◌≡◌, List, is_some, length, option_map};
 ghost use Rattle.arrow_schema.specs.Column.{Column, is_bit_width};
 ghost use Rattle.ipc_message.specs.Types.{integer, date, timestamp, fixed_binary, has_list_size, decoded_type};
@@ -102,7 +102,7 @@ fn is_index_type(dictionary: &Option<Encoding>) -> bool
     }
 }
 
-/// Whether a field decodes to no type, or its dictionary no index type.
+/// Returns whether a field decodes to no type, or its dictionary to no index type.
 pub(crate) fn is_bad(field: &RawField) -> bool
     ensures { result ≡ is_bad (raw_field_of field.now) }
 {

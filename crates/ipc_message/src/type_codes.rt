@@ -5,7 +5,7 @@ ghost use Rattle.ipc_message.specs.Types.{type_name};
 
 use crate::fault::TypeName;
 
-/// No type.
+/// The code of no type.
 pub const NONE: u8 = 0;
 
 pub const NULL: u8 = 1;
@@ -60,7 +60,7 @@ pub const LIST_VIEW: u8 = 25;
 
 pub const LARGE_LIST_VIEW: u8 = 26;
 
-/// The name of a type code.
+/// Returns the name of a type code.
 #[tactic(auto, unfolding(crate::specs::Types::type_name))]
 pub(crate) fn type_name(code: u8) -> TypeName
     ensures { result ≡ type_name code }
@@ -96,7 +96,7 @@ pub(crate) fn type_name(code: u8) -> TypeName
     }
 }
 
-/// Whether types of this code are supported.
+/// Returns whether types of this code are supported.
 pub(crate) fn is_supported(code: u8) -> bool
     ensures { result ≡ supported_codes code }
 {

@@ -1,4 +1,4 @@
-// Why a walk that keeps what it reads stopped.
+// The errors of a walk that keeps what it reads.
 
 ghost use Rattle.std.specs.Prelude.{◌≡◌};
 ghost use Rattle.ipc_message.specs.Framing.{flat_fault};
@@ -8,7 +8,7 @@ use crate::Fault;
 use flatbuf::FlatError;
 use std::alloc::{AllocError, AllocFailed};
 
-/// Memory ran out, or something bad was met.
+/// Memory was refused, or something bad was met.
 #[derive(Clone, Copy)]
 pub(crate) enum WalkError {
     Memory,
@@ -39,7 +39,7 @@ impl<T: Drop> From<AllocFailed<T>> for WalkError {
     }
 }
 
-/// What is reported of something bad: F5 where the budget of tables or levels is spent, else F4.
+/// F5 if the budget of tables or levels is spent, and F4 otherwise.
 impl From<FlatError> for Fault {
     ghost from_gives = { λ f e. e ≡ flat_fault f };
 

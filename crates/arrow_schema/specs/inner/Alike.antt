@@ -85,7 +85,7 @@ abbrev pub is_no_column : Columns → Bool
 is_no_column no_column = true
 is_no_column (and_column c cs) = false
 
--- types without parameters: no other type is alike
+-- types without parameters; no type with parameters is alike
 abbrev pub alike_plain : Kind → Kind → Bool
 alike_plain nulls = is_nulls
 alike_plain booleans = is_booleans
@@ -95,7 +95,7 @@ alike_plain binaries = is_binaries
 alike_plain large_binaries = is_large_binaries
 alike_plain _ = λ _. false
 
--- types without children: no other type is alike
+-- types without children; no type with children is alike
 abbrev pub alike_flat : Kind → Kind → Bool
 alike_flat (integers bits signed) = integers_where (λ b s. bits == b && beq signed s)
 alike_flat (dates unit) = dates_where (λ u. date_unit_of unit == date_unit_of u)

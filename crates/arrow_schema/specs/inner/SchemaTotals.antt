@@ -1,4 +1,4 @@
--- What the test of a schema counts as it goes over the columns. Numbers stay at the greatest of 64 bits.
+-- The totals that the test of a schema counts over the columns. Numbers saturate at 2^64 - 1.
 use Rattle.std.specs.Prelude.{ℕ, ◌+◌, ◌-◌, ◌^◌, min, ◌&&◌, List, [], ◌∷◌}
 use Rattle.arrow_schema.specs.declared.limits.SchemaTotals.{SchemaTotals}
 use Rattle.arrow_schema.specs.Column.{Column}
@@ -7,7 +7,7 @@ use Rattle.arrow_schema.specs.Limits.{pairs_in, bytes_in, has_number_in_range, h
 abbrev pub saturated : ℕ → ℕ
 saturated n = min n (2 ^ 64 - 1)
 
--- after one column more
+-- the totals with one more column
 unfoldable pub tallied_one : SchemaTotals → Column → SchemaTotals
 tallied_one t c = record {
   fields = saturated (t.fields + 1);

@@ -1,4 +1,4 @@
--- Columns as a list and back, and among all of them with their children; a pair by its parts.
+-- Columns as a list and back, and among all columns with their descendants; pairs by their parts.
 use Rattle.std.proofs.Common.{◌≡◌, ◌≤◌, ℕ, List, [], ◌∷◌, length, refl, ap, ◌∙◌, arith, length-append}
 use Rattle.arrow_schema.specs.Column.{Pair, Column, Columns, column, no_column, and_column, columns_of, list_of}
 use Rattle.arrow_schema.specs.Preorder.{preorder, preorder_below, preorder_all}
@@ -15,7 +15,7 @@ pub pair_from_parts : (a b : Pair) → a.0 ≡ b.0 → a.1 ≡ b.1 → a ≡ b
 pair_from_parts a b p q =
     ap (λ (k : List ℕ). let r : Pair = (k, a.1) in r) p ∙ ap (λ (v : List ℕ). let r : Pair = (b.0, v) in r) q
 
--- there are no more of them than with their children
+-- there are at most as many columns as with their descendants
 pub columns_few : (cs : List Column) → length cs ≤ length (preorder_all (columns_of cs))
 unfolding preorder preorder_all
 columns_few [] = omega arith

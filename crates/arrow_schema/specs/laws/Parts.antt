@@ -1,4 +1,4 @@
--- The parts of the column that a field is.
+-- The parts of the column that a field stands for.
 use Rattle.std.proofs.Common.{◌≡◌, ap}
 use Rattle.std.specs.Prelude.{map, string_bytes, option_map}
 use Rattle.arrow_schema.specs.declared.types.Field.{Field, out-Field}

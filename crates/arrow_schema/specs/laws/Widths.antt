@@ -1,4 +1,4 @@
--- The widths that an integer may have are those of the code.
+-- The widths that an integer may have are the variants of `BitWidth`.
 use Rattle.std.proofs.Common.{◌≡◌, ℕ, Bool, true, false, refl}
 use Rattle.std.specs.Prelude.{◌==◌, ◌||◌}
 use Rattle.std.proofs.lemmas.Bool.{eqb-true}

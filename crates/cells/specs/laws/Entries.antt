@@ -1,4 +1,4 @@
--- Entries are gathered one by one, and never more than the cells.
+-- Entries are added one by one, and there are never more than cells.
 use Rattle.std.proofs.Common.{◌≡◌, ◌+◌, ◌≤◌, Bool, true, false, List, [], ◌∷◌, ◌++◌, length, refl, arith, length-append}
 use Rattle.std.specs.Prelude.{if◌then◌else◌, Option, Some, None}
 use Rattle.std.specs.List.{list_any}
@@ -15,19 +15,19 @@ length-with_option : (es : List Cell) (o : Option Cell) → (length es ≤ lengt
 length-with_option es None = (omega arith, omega arith)
 length-with_option es (Some c) = length-cond (list_any (is_entry c) es) es c
 
--- the entries only grow
+-- entries are never removed
 pub entries_grow : (es cs : List Cell) → length es ≤ length (with_entries es cs)
 unfolding with_entries
 entries_grow es [] = omega arith
 entries_grow es (c ∷ cs) = omega (arith, (length-with_option es (entry_in c)).0, entries_grow (with_entry es c) cs)
 
--- by one with each cell
+-- each cell adds at most one entry
 pub entries_few : (es cs : List Cell) → length (with_entries es cs) ≤ length es + length cs
 unfolding with_entries
 entries_few es [] = omega arith
 entries_few es (c ∷ cs) = omega (arith, (length-with_option es (entry_in c)).1, entries_few (with_entry es c) cs)
 
--- those of some cells, and then of others
+-- the entries of some cells and then of others
 pub entries_append : (es xs ys : List Cell) → with_entries es (xs ++ ys) ≡ with_entries (with_entries es xs) ys
 unfolding with_entries
 entries_append es [] ys = refl

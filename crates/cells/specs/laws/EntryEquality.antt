@@ -1,4 +1,4 @@
--- Entries of the code, as cells: equality, and a new entry of an index set.
+-- Entries of the code as cells: equality, and insertion into an index set.
 use Rattle.std.proofs.Common.{◌≡◌, Bool, true, false, List, [], ◌∷◌, ◌++◌, map, refl}
 use Rattle.std.specs.Prelude.{if◌then◌else◌, not}
 use mathlib.Core.Bool.{beq}

@@ -1,4 +1,4 @@
--- An integer that is read from bytes is one of as many bits.
+-- An integer that is read from bytes is in the range of its width.
 use Rattle.std.specs.Prelude.{pos, ℤ, ◌-ℤ◌, ◌≤ℤ◌, ◌<ℤ◌, neg_ℤ, int_le, int_lt}
 use Rattle.std.proofs.Common.{◌≡◌, ℕ, ◌-◌, ◌*◌, ◌/◌, ◌^◌, ◌<◌, Bool, true, false, inl, inr, arith}
 use Rattle.std.proofs.lemmas.Bool.{cases_lt, and_from, le-ltb, lt-ltb}
@@ -14,7 +14,7 @@ within low high z a b = grind (arith, ints)
 below : (z high : ℤ) → z <ℤ high → int_lt z high ≡ true
 below z high b = grind (arith, ints)
 
--- of each width
+-- for each width
 width_cases : (bits : ℕ) → is_bit_width bits ≡ true → (256 ^ (bits / 8) ≡ 2 ^ bits) × (8 * (bits / 8) ≡ bits) × (2 ^ bits ≡ 2 * 2 ^ (bits - 1))
 width_cases bits w = grind (arith, nat_tests)
 

@@ -1,4 +1,4 @@
--- Rows of one shape: dictionaries and pairs change nothing of what fits, nor of what it weighs.
+-- Rows of schemas with one shape: dictionaries and pairs affect neither fit nor weight.
 use Rattle.std.proofs.Common.{◌≡◌, ℕ, ◌+◌, Bool, List, sym, ap, ◌∙◌, refl}
 use Rattle.std.specs.Prelude.{◌&&◌, ◌==◌, sum_by}
 use Rattle.arrow_schema.specs.Column.{Kind, Column, Columns, nulls, booleans, integers, dates, timestamps, texts, large_texts, binaries, large_binaries, fixed_binaries, lists, large_lists, fixed_lists, structs, column, no_column, and_column, columns_of, PlainSchema}
@@ -8,7 +8,7 @@ use Rattle.cells.specs.Fit.{fits, fits_kind, each_fits, null_or, items_where, pa
 use Rattle.cells.specs.Weight.{weight, kind_weight, parts_weight, row_weight, first_part, other_parts, sum_of, fixed_sum, items_in, parts_in, table_weight}
 use Rattle.cells.specs.Row.{row_fits}
 
--- ---- what fits
+-- ---- fit
 
 mutual
   unfolding seen seen_kind seen_all fits fits_kind each_fits
@@ -38,7 +38,7 @@ mutual
   each_column_fits d (and_column c cs) no_cell = refl
   each_column_fits d (and_column c cs) (and_cell x xs) = λ i. column_fits d c i x && each_column_fits d cs xs i
 
--- ---- what it weighs
+-- ---- weight
 
 mutual
   unfolding seen seen_kind seen_all weight kind_weight parts_weight

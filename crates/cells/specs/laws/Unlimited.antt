@@ -1,4 +1,4 @@
--- A dictionary whose indices have no limit takes any values.
+-- A dictionary whose indices are unlimited accepts any values.
 use Rattle.std.proofs.Common.{◌≡◌, ℕ, ◌+◌, true, false, List, map, refl, ◌∙◌}
 use Rattle.std.specs.Prelude.{Option, Some, None, is_some, length}
 use Rattle.std.specs.List.{list_all, flat_map}
@@ -37,6 +37,6 @@ mutual
       let both = or_parts (is_limited c) (is_any_limited cs) h in
       list_all-append has_few_entries (holdings c (cells_at i rows)) (holdings_from (i + 1) cs rows) ∙ and_from _ _ (unlimited c (cells_at i rows) both.0) (from_unlimited (i + 1) cs rows both.1)
 
--- rows fit into dictionaries without limits
+-- rows always fit if no dictionary has a limit
 pub unlimited_fit : (s : PlainSchema) (rows : List (List Cell)) → is_any_limited (columns_of s.columns) ≡ false → dictionaries_fit s rows ≡ true
 unlimited_fit s rows h = from_unlimited 0 (columns_of s.columns) rows h

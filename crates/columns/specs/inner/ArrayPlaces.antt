@@ -3,7 +3,7 @@ use Rattle.std.specs.Prelude.{ℕ, ◌+◌, ◌≤◌, ◌<◌, List, length, ta
 use Rattle.columns.specs.declared.array.PlacedArray.{PlacedArray}
 use Rattle.columns.specs.Ends.{entry_count}
 
--- those before have no more entries than the index says, and with this one there are more; there is none where no array has it
+-- the arrays before place i have at most `index` entries, and with the one at i there are more; if no array has the entry, i is past the last
 pub record IsArrayPlace (arrays : List PlacedArray) (index i : ℕ) : Type 0 where
   pub within : i ≤ length arrays
   pub before : entry_count (take i arrays) ≤ index

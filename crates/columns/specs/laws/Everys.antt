@@ -1,4 +1,4 @@
--- How many arrays columns have: as many, whatever arrays they are.
+-- The number of arrays that columns have does not depend on the arrays.
 use Rattle.std.proofs.Common.{◌≡◌, ◌+◌, suc, ◌++◌, length, length-append, refl, sym, ap, ◌∙◌, Some, None}
 use Rattle.arrow_schema.specs.Column.{Kind, Column, Columns, nulls, booleans, integers, dates, timestamps, texts, large_texts, binaries, large_binaries, fixed_binaries, lists, large_lists, fixed_lists, structs, column, no_column, and_column}
 use Rattle.columns.specs.Array.{Array, Arrays, items_in, children_in, first_array, other_arrays}

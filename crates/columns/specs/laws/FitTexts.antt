@@ -25,7 +25,7 @@ good_text (large_lists item) t h = cc
 good_text (fixed_lists size item) t h = cc
 good_text (structs columns) t h = cc
 
--- cells that pass a test whose cells have such texts
+-- if each cell that passes a test has only UTF-8 texts, then so do cells that all pass it
 all_texts : (p : Cell → Bool) → ((x : Cell) → p x ≡ true → has_utf8_texts x ≡ true) → (cs : Cells) → all_cells p cs ≡ true → have_utf8_texts cs ≡ true
 unfolding have_utf8_texts
 all_texts p each no_cell h = refl

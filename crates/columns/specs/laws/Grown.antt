@@ -1,4 +1,4 @@
--- Arrays in longer bytes.
+-- Placed arrays in longer bytes.
 use Rattle.std.specs.Prelude.{◌&&◌, nat_le}
 use Rattle.std.specs.List.{list_all}
 use Rattle.std.proofs.Common.{◌≡◌, ℕ, zero, suc, ◌+◌, ◌-◌, ◌≤◌, Bool, true, List, [], ◌∷◌, ◌++◌, map, length, take, drop, refl, sym, ap, subst, arith, ◌∙◌}
@@ -23,7 +23,7 @@ taken_before (suc n) zero (x ∷ xs) ys le = ap (λ (zs : List ℕ). x ∷ zs) (
 taken_before (suc n) (suc start) [] ys le = absurd (omega arith)
 taken_before (suc n) (suc start) (x ∷ xs) ys le = taken_before (suc n) start xs ys (omega arith)
 
--- a span within some bytes is the same in longer ones
+-- a span that ends within some bytes has the same bytes in longer ones
 pub within_longer : (bytes more : List ℕ) (span : Span) → ends_within (length bytes) span ≡ true → within (bytes ++ more) span ≡ within bytes span
 within_longer bytes more span h = taken_before span.len span.start bytes more (leb-true (span.start + span.len) (length bytes) h)
 

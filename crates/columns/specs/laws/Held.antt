@@ -1,4 +1,4 @@
--- What is known of columns and of the cells that their dictionaries hold.
+-- What is known about columns and the entries of their dictionaries.
 use Rattle.std.specs.List.{list_all}
 use Rattle.std.proofs.Common.{◌≡◌, true, List}
 use Rattle.arrow_schema.specs.Column.{Column}

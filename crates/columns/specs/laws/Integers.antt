@@ -1,4 +1,4 @@
--- Integers as numbers of some bytes, and back.
+-- Integers as numbers of a fixed width, and back.
 use Rattle.std.specs.Prelude.{negsuc, pos, ℤ, ◌-ℤ◌, ◌≤ℤ◌, ◌<ℤ◌, neg_ℤ, int_le, int_lt, ◌&&◌, if◌then◌else◌}
 use Rattle.std.proofs.Common.{◌≡◌, ℕ, zero, suc, ◌+◌, ◌-◌, ◌*◌, ◌/◌, ◌^◌, ◌<◌, ◌≤◌, Bool, true, false, refl, arith}
 use Rattle.std.proofs.lemmas.Bool.{le-ltb, lt-ltb, and_parts}
@@ -39,7 +39,7 @@ signed_parts k z h =
     let high = p.1 in
     (grind (arith, ints), grind (arith, ints))
 
--- a number in range is one of so many bytes
+-- an integer in range becomes a number below 2 ^ (8 * w)
 pub number_small : (w : ℕ) (signed : Bool) (z : ℤ) → 1 ≤ w → in_range (8 * w) signed z ≡ true → number_of w z < 2 ^ (8 * w)
 number_small w false (pos n) one h = let p = unsigned_parts (2 ^ (8 * w)) (pos n) h in omega (arith, ints, p.1)
 number_small w false (negsuc n) one h = let p = unsigned_parts (2 ^ (8 * w)) (negsuc n) h in absurd (omega (arith, ints, p.0))
@@ -62,7 +62,7 @@ number_back w true z one h = let p = signed_parts (2 ^ (8 * w - 1)) z h in signe
 pub width_cases : (bits : ℕ) → is_bit_width bits ≡ true → (8 * (bits / 8) ≡ bits) × (1 ≤ bits / 8) × (bits / 8 ≤ 8)
 width_cases bits w = grind (arith, nat_tests)
 
--- a number below what an index type names is itself, with a sign or without
+-- a number below the index type's count of entries reads as itself, signed or unsigned
 pub index_fits : (w : ℕ) (signed : Bool) (k n : ℕ) → k < n → n ≤ (if signed then 2 ^ (8 * w - 1) else 2 ^ (8 * w)) → 1 ≤ w → (k < 256 ^ w) × (integer_of w signed k ≡ pos k)
 index_fits w false k n below most one = (rw (← powers w) (let lt : k < 2 ^ (8 * w) = omega arith in lt), refl)
 index_fits w true k n below most one =

@@ -1,4 +1,4 @@
--- Arrays that are placed within some bytes are so within more of them.
+-- Arrays that are placed within a size are placed within any larger one.
 use Rattle.std.specs.Prelude.{◌&&◌, nat_le}
 use Rattle.std.specs.List.{list_all}
 use Rattle.std.proofs.Common.{◌≡◌, ℕ, ◌+◌, ◌≤◌, Bool, true, List, [], ◌∷◌, map, length, take, refl, sym, ap, subst, arith, ◌∙◌}

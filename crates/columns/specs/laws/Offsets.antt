@@ -1,4 +1,4 @@
--- Offsets that are not out of order: where what slots have begins and ends.
+-- Offsets in order: where the spans of slots begin and end.
 use Rattle.std.specs.Prelude.{not, ◌&&◌, ◌||◌, ◌==◌, nat_lt}
 use Rattle.std.specs.List.{list_any, range_with_len}
 use Rattle.std.proofs.Common.{◌≡◌, ℕ, zero, suc, ◌+◌, ◌-◌, ◌≤◌, ◌<◌, Bool, false, arith}
@@ -7,7 +7,7 @@ use Rattle.columns.specs.Array.{Array, slots_in, offsets_in}
 use Rattle.columns.specs.CellAt.{number_at, span_start}
 use Rattle.columns.specs.Tests.{are_unordered, is_negative}
 
--- a test that holds of no number of a range
+-- a test that holds for no number of a range
 pub none : (p : ℕ → Bool) (start n i : ℕ) → list_any p (range_with_len start n) ≡ false → i < n → p (start + i) ≡ false
 none p start zero i h lt = absurd (omega arith)
 none p start (suc n) zero h lt = let e : start + 0 ≡ start = omega arith in rw e (or_parts (p start) (list_any p (range_with_len (start + 1) n)) h).0
@@ -23,7 +23,7 @@ ascend f i (suc d) h =
     let e : i + suc d ≡ i + d + 1 = omega arith in
     rw e (omega (arith, first, last))
 
--- none is less than one before it, and the last is not past what they speak of
+-- no offset is less than the one before it, and the last is at most `most`
 orders : (width most : ℕ) (a : Array) → are_unordered width most a ≡ false → 0 < slots_in a
     → (list_any (λ k. nat_lt (number_at width (offsets_in a) (k + 1)) (number_at width (offsets_in a) k)) (range_with_len 0 (slots_in a)) ≡ false)
     × (nat_lt most (number_at width (offsets_in a) (slots_in a)) ≡ false)
@@ -44,7 +44,7 @@ offsets_ascend width most a from count h filled le =
     let up : (k : ℕ) → k < slots_in a → f k ≤ f (k + 1) = λ k l. let z : 0 + k ≡ k = omega arith in ltb-false _ _ (rw z at (none (λ j. nat_lt (f (j + 1)) (f j)) 0 (slots_in a) k falls l)) in
     ascend f from count (λ k l. up k (omega arith))
 
--- what some slots have lies within what the offsets speak of
+-- the span of consecutive slots ends at `most` or before
 pub spans_fit : (width most : ℕ) (a : Array) (from count : ℕ) → are_unordered width most a ≡ false → 0 < slots_in a → from + count ≤ slots_in a
     → span_start width a from + (number_at width (offsets_in a) (from + count) - span_start width a from) ≤ most
 spans_fit width most a from count h filled le =

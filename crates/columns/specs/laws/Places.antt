@@ -6,7 +6,7 @@ use Rattle.columns.specs.declared.array.PlacedLayout.TheFolds.{fold_out-PlacedAr
 use Rattle.columns.specs.Array.{Array, Arrays, no_array, and_array, Layout, arrays_of, array_list, slots_in}
 use Rattle.columns.specs.View.{array_in, layout_step, array_step}
 
--- an array in bytes has as many slots as it says
+-- a placed array has the number of slots that it states
 pub slots_is : (bytes : List ℕ) (arrays_known : DictionaryPart → List Array) (x : PlacedArray) → slots_in (array_in bytes arrays_known x) ≡ x.slots
 slots_is bytes arrays_known x = ap slots_in (fold_out-PlacedArray Layout Array (layout_step bytes arrays_known) (array_step bytes) x)
 

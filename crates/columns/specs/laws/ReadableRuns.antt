@@ -23,7 +23,7 @@ has c (Slots view from len) h =
     rw (long c (view_array view) parts.0, parts.1) refl
 has c (Nulls n) h = refl
 
--- they have validity bitmaps that are long enough
+-- sound runs have validity bitmaps that are long enough
 pub sound_have_validity : (c : Column) (runs : List SlotRun) → are_runs_sound c runs ≡ true → list_all has_validity runs ≡ true
 sound_have_validity c [] h = refl
 sound_have_validity c (run ∷ runs) h =

@@ -1,4 +1,4 @@
--- Cells of slots one after another, and arrays of columns one by one.
+-- Cells of consecutive slots, and arrays of columns one by one.
 use Rattle.std.specs.Prelude.{not, nat_le, nat_lt, ◌==◌}
 use Rattle.std.specs.List.{list_any}
 use Rattle.std.proofs.Common.{◌≡◌, ℕ, zero, suc, ◌+◌, ◌≤◌, Bool, true, false, List, [], ◌∷◌, ◌++◌, map, length, drop, refl, ap, arith}
@@ -13,7 +13,7 @@ use Rattle.columns.specs.View.{placed_arrays}
 use Rattle.columns.specs.declared.array.Dictionary.{Dictionary}
 use Rattle.columns.specs.declared.array.PlacedArray.{PlacedArray}
 
--- the cells of so many slots, and then of so many
+-- the cells of m + n slots are those of the first m and then those of the next n
 pub cells_from-append : (f : ℕ → Cell) (from m n : ℕ) → cells_from f from (m + n) ≡ cells_from f from m ++ cells_from f (from + m) n
 cells_from-append f from zero n =
     let size : 0 + n ≡ n = omega arith in
@@ -35,14 +35,14 @@ unfolding part_cells
 other_rows c cs arrays [] = refl
 other_rows c cs arrays (i ∷ places) = ap (λ (rows : List (List Cell)). row_at cs (other_arrays arrays) i ∷ rows) (other_rows c cs arrays places)
 
--- the arrays behind one
+-- the arrays after the one at index i
 pub other_placed : (bytes : List ℕ) (all : List Dictionary) (xs : List PlacedArray) (i : ℕ) → other_arrays (placed_arrays bytes all (drop i xs)) ≡ placed_arrays bytes all (drop (i + 1) xs)
 other_placed bytes all [] zero = refl
 other_placed bytes all [] (suc i) = let e : suc i + 1 ≡ suc (i + 1) = omega arith in rw e refl
 other_placed bytes all (x ∷ xs) zero = refl
 other_placed bytes all (x ∷ xs) (suc i) = let e : suc i + 1 ≡ suc (i + 1) = omega arith in rw e (other_placed bytes all xs i)
 
--- fewer rows can be looked up where more can
+-- if rows can be looked up, so can fewer rows
 pub fewer_sound : (cs : Columns) (arrays : Arrays) (slots fewer : ℕ) → are_sound cs slots arrays ≡ true → fewer ≤ slots → are_sound cs fewer arrays ≡ true
 unfolding are_sound
 fewer_sound no_column arrays slots fewer h le = refl
@@ -52,7 +52,7 @@ fewer_sound (and_column c cs) arrays slots fewer h le =
     let most : slots ≤ slots_in (first_array arrays) = leb-true _ _ long.0 in
     rw (le-leb fewer (slots_in (first_array arrays)) (omega arith), parts.0) (fewer_sound cs (other_arrays arrays) slots fewer parts.1 le)
 
--- no array has fewer slots where each has so many
+-- if each array has exactly n slots, none has fewer
 pub none_shorter : (n : ℕ) (xs : List Array) → list_any (λ a. not (slots_in a == n)) xs ≡ false → list_any (λ a. nat_lt (slots_in a) n) xs ≡ false
 none_shorter n [] h = refl
 none_shorter n (x ∷ xs) h =
@@ -61,7 +61,7 @@ none_shorter n (x ∷ xs) h =
     let here : nat_lt (slots_in x) n ≡ false = le-ltb _ _ (omega (arith, same)) in
     or_from (nat_lt (slots_in x) n) (list_any (λ a. nat_lt (slots_in a) n) xs) here (none_shorter n xs parts.1)
 
--- an array that is built has a slot for each cell
+-- a built array has one slot for each cell
 pub slots_built : (kind : Kind) (cells : List Cell) → slots_in (built_kind kind cells) ≡ length cells
 unfolding built
 slots_built nulls cells = refl

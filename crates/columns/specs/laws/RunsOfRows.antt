@@ -1,4 +1,4 @@
--- Rows, and the runs that they have.
+-- Rows and their runs.
 use Rattle.std.proofs.Common.{◌≡◌, true, List, [], ◌∷◌, map, refl}
 use Rattle.std.proofs.lemmas.Bool.{and_parts}
 use Rattle.arrow_schema.specs.Column.{Columns, no_column, and_column}
@@ -8,7 +8,7 @@ use Rattle.cells.specs.Cell.{Cell}
 use Rattle.columns.specs.Buildable.{can_build, can_build_parts}
 use Rattle.columns.specs.Built.{first_cell, other_cells}
 
--- where the arrays of rows can be built, those of their runs can
+-- if the arrays of rows can be built, so can those of their runs
 pub runs_can_be_built : (cs : Columns) (rs : List (List SlotRun)) (rows : List (List Cell)) → HaveRuns cs rs rows → can_build_parts cs rows ≡ true → can_build_columns cs rs ≡ true
 unfolding HaveRuns can_build_columns can_build_parts
 runs_can_be_built no_column rs rows have can = refl

@@ -1,4 +1,4 @@
--- What soundness says of an array by itself.
+-- What soundness implies for one array by itself.
 use Rattle.std.specs.Prelude.{not, ◌&&◌}
 use Rattle.std.proofs.Common.{◌≡◌, true, false, subst}
 use Rattle.std.proofs.lemmas.Bool.{and_parts, not-true}
@@ -25,7 +25,7 @@ sound_offsets k a h = not-true _ (and_parts (not (has_bad_offsets k a)) _ (rest_
 pub sound_children : (k : Kind) (a : Array) → is_kind_sound k a ≡ true → has_sound_children k a ≡ true
 sound_children k a h = (and_parts (not (has_bad_offsets k a)) _ (rest_2 k a h)).1
 
--- the same of a kind that is known by another name
+-- for a kind that equals another
 pub sound_parts : (k kind : Kind) (a : Array) → k ≡ kind → is_kind_sound k a ≡ true → (has_short_buffer kind a ≡ false) × (has_bad_offsets kind a ≡ false) × (has_sound_children kind a ≡ true)
 sound_parts k kind a is sound =
     let own : is_kind_sound kind a ≡ true = subst (λ (x : Kind). is_kind_sound x a ≡ true) is sound in

@@ -1,4 +1,4 @@
--- Arrays of which no test finds anything can be looked up.
+-- Arrays that pass all tests can be looked up.
 use Rattle.std.specs.Prelude.{◌||◌, nat_lt, nat_le, ◌/◌}
 use Rattle.std.specs.List.{list_any, list_all, flat_map}
 use Rattle.std.proofs.Common.{◌≡◌, ℕ, ◌*◌, Bool, true, false, List, [], ◌∷◌, ◌++◌, map, drop, Some, None, refl, sym, arith, ◌∙◌}
@@ -15,7 +15,7 @@ use Rattle.columns.specs.FromBuffers.{array_from, kind_array_from, arrays_from, 
 abbrev pub is_typed_sound : Typed → Bool
 is_typed_sound t = is_sound t.column t.array
 
--- no test finds anything in these arrays, and their dictionaries can be looked up
+-- these arrays pass all tests, and their dictionaries can be looked up
 pub record AreClean (every : List Typed) : Type 0 where
   pub long : list_any (λ t. is_short t.column t.array) every ≡ false
   pub ordered : list_any (λ t. is_unordered t.column t.array) every ≡ false
@@ -53,7 +53,7 @@ clean_with t every s u c d h = record {
   dictionaries = list_all-append is_typed_sound (typed_dictionaries t) (flat_map typed_dictionaries every) ∙ rw d h.dictionaries;
 }
 
--- of two lists, one after another
+-- if two lists together are clean, the first one is
 front_clean : (xs ys : List Typed) → AreClean (xs ++ ys) → AreClean xs
 front_clean [] ys h = none_clean
 front_clean (x ∷ xs) ys h =
@@ -64,7 +64,7 @@ rest_clean : (xs ys : List Typed) → AreClean (xs ++ ys) → AreClean ys
 rest_clean [] ys h = h
 rest_clean (x ∷ xs) ys h = rest_clean xs ys (others_clean x (xs ++ ys) h)
 
--- an array without a dictionary, by its own tests and its children
+-- an array without a dictionary is sound if its own tests and its children's pass
 own_sound : (k : Kind) (a : Array) → (has_short_validity a || has_short_buffer k a) ≡ false → has_bad_offsets k a ≡ false → has_sound_children k a ≡ true → is_kind_sound k a ≡ true
 own_sound k a short ordered children =
     let parts = or_parts (has_short_validity a) (has_short_buffer k a) short in
@@ -118,7 +118,7 @@ mutual
   children_sound name nullable large_binaries pairs ns bs ds short h = refl
   children_sound name nullable (fixed_binaries width) pairs ns bs ds short h = refl
 
-  -- the arrays of columns, none of which is shorter than so many slots
+  -- the arrays of columns, none of which has fewer than `slots` slots, are sound
   pub all_sound : (cs : Columns) (slots : ℕ) (ns : List Node) (bs : List (List ℕ)) (ds : List (List Array)) → AreClean (every_array cs (arrays_from cs ns bs ds))
       → list_any (λ child. nat_lt (slots_in child) slots) (array_list (arrays_from cs ns bs ds)) ≡ false → are_sound cs slots (arrays_from cs ns bs ds) ≡ true
   all_sound no_column slots ns bs ds h short = refl

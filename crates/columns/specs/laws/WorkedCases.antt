@@ -1,4 +1,4 @@
--- Worked cases of the definitions: arrays as another writer may spell them, and what they hold.
+-- Worked examples of the definitions: arrays as another writer may lay them out, and their cells.
 use Rattle.std.specs.Prelude.{◌≡◌, ℕ, ◌++◌, Bool, true, false, pos, negsuc, List, [], ◌∷◌, codes, replicate, map, Option, Some, None}
 use Rattle.std.specs.List.{list_any}
 use Rattle.arrow_schema.specs.Column.{Kind, Column, seconds, days, booleans, integers, dates, timestamps, texts, large_texts, fixed_binaries, lists, fixed_lists, structs, column, columns_of}
@@ -31,7 +31,7 @@ int32s = array 2 (1 ∷ []) (fixed_layout (1 ∷ 0 ∷ 0 ∷ 0 ∷ 0 ∷ 0 ∷ 0
 abbrev pub Integers : Type 0
 Integers = cells_in (plain true (integers 32 true)) int32s ≡ int 1 ∷ null ∷ []
 
--- [1, 2] with a validity bitmap of 64 bytes: of the bits past the slots nothing is asked
+-- [1, 2] with a validity bitmap of 64 bytes: the bits past the slots are ignored
 abbrev pub padded : ℕ → Array
 padded first = array 2 (first ∷ replicate 63 0) (fixed_layout (1 ∷ 0 ∷ 0 ∷ 0 ∷ 2 ∷ 0 ∷ 0 ∷ 0 ∷ replicate 56 0))
 
@@ -110,7 +110,7 @@ VisibleNull = forbids struct_column (struct_array 3) 2 ≡ true
 
 -- ---- dictionaries
 
--- an array of one text of one byte, and one that has so many of them
+-- an array of one text of one byte, and an array of two such texts
 abbrev pub one_text : ℕ → Array
 one_text byte = array 1 [] (binary_layout (0 ∷ 0 ∷ 0 ∷ 0 ∷ 1 ∷ 0 ∷ 0 ∷ 0 ∷ []) (byte ∷ []))
 
@@ -123,11 +123,11 @@ Dictionaries =
     cells_in (encoded texts) (array 4 (7 ∷ []) (dictionary_layout (0 ∷ 1 ∷ 0 ∷ 0 ∷ []) (arrays_of (two_texts ∷ []))))
     ≡ text (codes "b") ∷ text (codes "a") ∷ text (codes "b") ∷ null ∷ []
 
--- one index, and a dictionary of these arrays
+-- one slot with this index, and a dictionary with these arrays
 abbrev pub indexed : ℕ → List Array → Array
 indexed index dictionary = array 1 [] (dictionary_layout (index ∷ []) (arrays_of dictionary))
 
--- "x", and then "y" in a batch of its own: where it replaces "x" index 0 is "y", and where it is appended index 0 is "x" and index 1 is "y"
+-- "x", and then "y" in a batch of its own: if it replaces "x", index 0 is "y"; if it is appended, index 0 is "x" and index 1 is "y"
 abbrev pub Replaced : Type 0
 Replaced = cells_in (encoded texts) (indexed 0 (one_text 121 ∷ [])) ≡ text (codes "y") ∷ []
 
@@ -137,7 +137,7 @@ Appended = cells_in (encoded texts) (indexed 0 (one_text 120 ∷ one_text 121 �
 abbrev pub misses : Array → Bool
 misses a = list_any names_no_entry (visible_in (columns_of (encoded texts ∷ [])) (arrays_of (a ∷ [])) 1)
 
--- a null before the first dictionary names no entry; an index does, and a negative one always
+-- before the first dictionary a null is fine, but an index names a missing entry; a negative index always does
 abbrev pub NullBeforeDictionary : Type 0
 NullBeforeDictionary = misses (array 1 (0 ∷ []) (dictionary_layout (0 ∷ []) no_array)) ≡ false
 
@@ -147,13 +147,13 @@ IndexBeforeDictionary = misses (indexed 0 []) ≡ true
 abbrev pub NegativeIndex : Type 0
 NegativeIndex = misses (indexed 255 (array 256 [] null_layout ∷ [])) ≡ true
 
--- a valid index of an entry that is null is a null
+-- a slot whose index names a null entry is a null
 abbrev pub NullEntry : Type 0
 NullEntry = cells_in (encoded texts) (indexed 0 (array 1 (0 ∷ []) (binary_layout (replicate 8 0) []) ∷ [])) ≡ null ∷ []
 
--- ---- the one array that cells are written as
+-- ---- the array that cells are written as
 
--- nodes and buffers of one column with these cells
+-- the buffers of one column with these cells
 abbrev pub written : Column → List Cell → List (List ℕ)
 written c cells = buffers_of (columns_of (c ∷ [])) (arrays_of (built c cells ∷ []))
 
@@ -163,7 +163,7 @@ WrittenLists =
     written (plain true (lists (plain true (integers 32 true)))) (items (cells_of (int 1 ∷ null ∷ [])) ∷ null ∷ items (cells_of []) ∷ [])
     ≡ (5 ∷ []) ∷ (replicate 4 0 ++ ((2 ∷ 0 ∷ 0 ∷ 0 ∷ []) ++ ((2 ∷ 0 ∷ 0 ∷ 0 ∷ []) ++ (2 ∷ 0 ∷ 0 ∷ 0 ∷ [])))) ∷ (1 ∷ []) ∷ (1 ∷ 0 ∷ 0 ∷ 0 ∷ 0 ∷ 0 ∷ 0 ∷ 0 ∷ []) ∷ []
 
--- [[1, 2], null]: below a null each item is null
+-- [[1, 2], null]: the items of a null list are nulls
 abbrev pub WrittenFixedLists : Type 0
 WrittenFixedLists =
     written (plain true (fixed_lists 2 (plain true (integers 8 true)))) (items (cells_of (int 1 ∷ int 2 ∷ [])) ∷ null ∷ [])
@@ -173,16 +173,16 @@ WrittenFixedLists =
 abbrev pub WrittenStructs : Type 0
 WrittenStructs = written struct_column (null ∷ parts (cells_of (int 5 ∷ [])) ∷ []) ≡ (2 ∷ []) ∷ (2 ∷ []) ∷ (0 ∷ 0 ∷ 5 ∷ 0 ∷ []) ∷ []
 
--- ["b", "a", "b", null]: the indices, and the entries in the order in which they are first seen
+-- ["b", "a", "b", null]: the indices, and the entries in order of first occurrence
 abbrev pub WrittenDictionaries : Type 0
 WrittenDictionaries = built (encoded texts) (text (codes "b") ∷ text (codes "a") ∷ text (codes "b") ∷ null ∷ []) ≡ array 4 (7 ∷ []) (dictionary_layout (0 ∷ 1 ∷ 0 ∷ 0 ∷ []) (arrays_of (two_texts ∷ [])))
 
--- without an entry there is still one offset
+-- a dictionary without entries still has one offset
 abbrev pub WrittenWithoutEntries : Type 0
 WrittenWithoutEntries =
     built (encoded texts) (null ∷ []) ≡ array 1 (0 ∷ []) (dictionary_layout (0 ∷ []) (arrays_of (array 0 [] (binary_layout (0 ∷ 0 ∷ 0 ∷ 0 ∷ []) []) ∷ [])))
 
--- what rows are written as is read as the same arrays, each dictionary by itself
+-- the arrays that rows are written as read back, each dictionary by itself
 abbrev pub IsReadAgain : List Column → List (List Cell) → Type 0
 IsReadAgain columns rows =
     let arrays : Arrays = built_parts (columns_of columns) rows in

@@ -1,4 +1,4 @@
--- Lists of bytes, put together and cut.
+-- Lists of bytes, joined and split.
 use Rattle.std.proofs.Common.{◌≡◌, ℕ, zero, suc, ◌+◌, ◌<◌, List, [], ◌∷◌, take, drop, arith}
 use Rattle.std.proofs.lemmas.List.{get_or-drop}
 use Rattle.facts.specs.Bytes.{AreBytes}

@@ -1,13 +1,13 @@
--- What follows from the answer of checks in order.
+-- What follows from the outcome of checks in order.
 use Rattle.std.proofs.Common.{◌≡◌, List, [], ◌∷◌, ◌++◌, Option, Some, None, Result, Ok, Err, refl}
 use Rattle.facts.specs.Checks.{first_some, unless}
 
--- an answer that is there: nothing was found before it
+-- if there is a result, nothing was found before it
 pub unless_passed : {A E : Type 0} (o : Option E) (r : Result A E) (x : A) → unless o r ≡ Ok x → (o ≡ None) × (r ≡ Ok x)
 unless_passed None r x h = (refl, h)
 unless_passed (Some e) r x h = absurd cc
 
--- two lists of checks in turn
+-- two lists of checks, one after the other
 pub first_some-after : {X : Type 0} (os ps : List (Option X)) → first_some os ≡ None → first_some (os ++ ps) ≡ first_some ps
 first_some-after [] ps h = refl
 first_some-after (None ∷ os) ps h = first_some-after os ps h

@@ -23,10 +23,10 @@ run_append bytes (before_all ∷ xs) ys n = refl
 run_append bytes (missing ∷ xs) ys n = refl
 run_append bytes (vtable_size size ∷ xs) ys n = ap (λ r. cond (nat_le 4 size && eqb (size % 2) 0) r (Err VtableSize)) (run_append bytes xs ys n) ∙ on_cond _ (run bytes xs n) (run bytes ys) VtableSize
 
--- the first part is fine
+-- if the first walk succeeds
 pub run_ok : (bytes : List ℕ) (xs ys : List Thing) (n m : ℕ) → run bytes xs n ≡ Ok m → run bytes (xs ++ ys) n ≡ run bytes ys m
 run_ok bytes xs ys n m h = run_append bytes xs ys n ∙ ap (λ r. goes_on r (run bytes ys)) h
 
--- the first part is not
+-- if the first walk fails
 pub run_err : (bytes : List ℕ) (xs ys : List Thing) (n : ℕ) (e : FlatError) → run bytes xs n ≡ Err e → run bytes (xs ++ ys) n ≡ Err e
 run_err bytes xs ys n e h = run_append bytes xs ys n ∙ ap (λ r. goes_on r (run bytes ys)) h

@@ -1,4 +1,4 @@
--- Dictionaries that are listed after others.
+-- Dictionaries that are appended to a list.
 use Rattle.std.specs.Prelude.{◌≡◌, ◌++◌, List, map}
 use Rattle.ipc_message.specs.declared.dictionary_type.DictionaryType.{DictionaryType}
 use Rattle.ipc_message.specs.DictionaryTypes.{PlainDictionary, plain_dictionary_of}

@@ -1,4 +1,4 @@
--- The words of `Header`, said of a table, its slots and its references in the code.
+-- The definitions of `Header`, applied to a table, its slots and its references in the code.
 use Rattle.std.specs.Prelude.{ℕ, List, map, Option, Some, option_map, slice_index}
 use Rattle.std.specs.List.{flat_map}
 use Rattle.flatbuf.specs.declared.table.Table.{Table}
@@ -11,31 +11,31 @@ use Rattle.ipc_message.specs.Header.{supported_codes, slot_in, type_things, fiel
 use Rattle.ipc_message.specs.Raw.{RawField, raw_field, raw_fields_of}
 use Rattle.ipc_message.specs.View.{parameters_of, encoding_of}
 
--- of a table that is there
+-- to the table, as one that is present
 abbrev pub in_table : {A : Type 0} → (ℕ → List ℕ → Option Place → A) → Table → A
 in_table f t = f (levels_of t) (bytes_of t) (Some (place_of t))
 
--- of its place
+-- to its place
 abbrev pub at_place : {A : Type 0} → (ℕ → List ℕ → Place → A) → Table → A
 at_place f t = f (levels_of t) (bytes_of t) (place_of t)
 
--- of its slot k
+-- to its slot k
 abbrev pub in_slot : {A : Type 0} → (ℕ → List ℕ → Option ℕ → A) → Table → ℕ → A
 in_slot f t k = f (levels_of t) (bytes_of t) (slot_of t k)
 
--- of reference i
+-- to reference i
 abbrev pub at_reference : {A : Type 0} → (ℕ → List ℕ → ℕ → A) → References → ℕ → A
 at_reference f r i = f (levels_behind r) (bytes_behind r) (slice_index (places_in r) i)
 
--- what is met behind all references
+-- what is met at the targets of all references
 abbrev pub over_references : (ℕ → List ℕ → ℕ → List Thing) → References → List Thing
 over_references things r = flat_map (things (levels_behind r) (bytes_behind r)) (places_in r)
 
--- the table behind slot k
+-- the table that slot k refers to
 abbrev pub behind : Table → ℕ → Option Place
 behind t k = table_behind (bytes_of t) (slot_of t k)
 
--- slot j of the table behind slot k
+-- slot j of the table that slot k refers to
 abbrev pub slot_behind : Table → ℕ → ℕ → Option ℕ
 slot_behind t k j = slot_in (bytes_of t) (behind t k) j
 
@@ -51,7 +51,7 @@ field_in t children = field_with supported_codes (bytes_of t) (place_of t) child
 abbrev pub fields_behind : References → List RawField
 fields_behind r = map (field_at supported_codes (levels_behind r) (bytes_behind r)) (places_in r)
 
--- the field of what was read of its table, with these children
+-- the field whose own table was read, with these children
 abbrev pub field_from : FieldTable → Table → List RawField → RawField
 field_from f t children =
     raw_field f.name.now f.nullable f.code (parameters_of f.parameters) (option_map encoding_of f.dictionary) (raw_fields_of children) (pairs_in (bytes_of t) (slot_of t 6))

@@ -1,4 +1,4 @@
--- What is known of a schema that passes its tests.
+-- What is known about a schema that passes its tests.
 use Rattle.std.specs.Prelude.{◌≡◌, ℕ, Bool, true, false, not, ◌==◌, List, [], ◌∷◌, find, Option, Some, None, option_map, Ok}
 use Rattle.std.specs.List.{list_any, list_all}
 use Rattle.std.specs.Str.{is_utf8}
@@ -18,7 +18,7 @@ pub record IsAccepted (s : RawSchema) : Type 0 where
   pub utf8 : list_all is_utf8 (texts_of s) ≡ true
   pub flat : list_any is_dictionary_of_nested (every_field s) ≡ false
 
--- no test finds anything
+-- no test fails
 abbrev pub AllNone : {A : Type 0} → List (Option A) → Type 0
 AllNone [] = Unit {0}
 AllNone (o ∷ os) = (o ≡ None) × AllNone os
@@ -32,12 +32,12 @@ pub when_none : (b : Bool) (f : Fault) → when b f ≡ None → b ≡ false
 when_none true f h = absurd cc
 when_none false f h = refl
 
--- the first test finds nothing, and neither do the others
+-- if no test fails, then neither the first nor any other does
 pub first_none : {A : Type 0} (o : Option A) (os : List (Option A)) → first_some (o ∷ os) ≡ None → (o ≡ None) × (first_some os ≡ None)
 first_none None os h = (refl, h)
 first_none (Some x) os h = absurd cc
 
--- what each test of a schema finds, where the first finding is none
+-- the outcome of each test of a schema that passes all of them
 pub record FindsNothing (supported : ℕ → Bool) (s : RawSchema) : Type 0 where
   pub big_endian : not (s.endianness == 0) ≡ false
   pub unsupported : find (is_unsupported supported) (every_field s) ≡ None
