@@ -1,15 +1,6 @@
-// Rows that are kept, and which is the next of them.
+// The rows that a mask selects, one after another.
 ghost use Rattle.std.specs.Prelude.{◌≡◌, ◌≤◌, ◌<◌, ◌*◌, ℕ, length, true, false};
 ghost use Rattle.bitmap.specs.Bits.{bit};
-
-use cells::Value;
-
-/// The cells of some rows, one after another.
-#[derive(Drop)]
-pub(crate) struct SelectedRows {
-    pub(crate) cells: Vec<Value>,
-    pub(crate) rows: usize,
-}
 
 /// The first row from one on whose bit is set, or the end.
 pub fn next_set(mask: &[u8], from: usize, end: usize) -> usize
