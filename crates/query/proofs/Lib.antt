@@ -10,11 +10,10 @@ pub mod Joining
 pub mod Keeping
 pub mod Choosing
 pub mod Binding
-pub mod MadeTables
+pub mod SelectionReports
 pub mod Numbers
 pub mod SlotFlags
 pub mod IntegerKinds
-pub mod IntegerRows
 pub mod Cuts
 pub mod SlotNumbers
 pub mod Lanes

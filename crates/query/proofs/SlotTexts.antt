@@ -2,6 +2,7 @@
 use Rattle.std.specs.Prelude.{not, nat_lt, ◌==◌, Option, Some, None, string_bytes, codes, IfSome, if◌then◌else◌}
 use Rattle.std.proofs.Common.{◌≡◌, ℕ, ◌+◌, ◌*◌, ◌/◌, ◌<◌, ◌≤◌, Bool, true, false, List, [], ◌∷◌, ◌++◌, length, map, refl, sym, ap, subst, ◌∙◌, arith}
 use Rattle.std.proofs.lemmas.Bool.{and_from, le-leb, ltb-false, ne_eqb}
+use Rattle.std.proofs.Math.Nat.{mul-le-mul_right}
 use Rattle.json.specs.Print.{escape}
 use Rattle.arrow_schema.specs.Column.{Kind, Column, column, texts, large_texts}
 use Rattle.arrow_schema.specs.View.{bits_of, column_of, kind_of, pair_of}
@@ -10,7 +11,7 @@ use Rattle.arrow_schema.specs.declared.types.IntegerType.{IntegerType}
 use Rattle.arrow_schema.specs.laws.Parts.{field_parts}
 use Rattle.bitmap.specs.Bits.{bytes_of}
 use Rattle.cells.specs.Cell.{Cell, null, number, text}
-use Rattle.columns.specs.Array.{Array, slots_in, validity_in, offsets_in}
+use Rattle.columns.specs.Array.{Array, slots_in, validity_in, values_in, offsets_in}
 use Rattle.columns.specs.CellAt.{cell_at, kind_cell, is_valid, contents_at, integer_at}
 use Rattle.columns.specs.Sound.{is_sound}
 use Rattle.columns.specs.Tests.{has_short_validity}
@@ -24,7 +25,6 @@ use Rattle.query.specs.inner.ColumnSlots.{IsTextKind, IsTextColumn, AreBuffers, 
 use Rattle.query.specs.inner.Contents.{has_contents, span_in}
 use Rattle.query.specs.inner.Slots.{IsIntegerColumn, has_integers, is_valid_in, width_of as integer_width}
 use Rattle.query.proofs.AnswerWords.{offsets_there}
-use Rattle.query.proofs.IntegerRows.{number_there}
 
 -- ---- the types
 
@@ -101,7 +101,10 @@ integer_bit c a b slot are sound within =
 pub integer_bytes : (c : Column) (a : Array) (b : IntegerBuffers) (slot : ℕ) → AreBuffers c a (Integers b) → is_sound c a ≡ true → slot < slots_in a
     → (slot + 1) * integer_width b.integer ≤ length b.values.now
 integer_bytes c a b slot are sound within =
-    subst (λ (v : List ℕ). (slot + 1) * integer_width b.integer ≤ length v) (sym are.2) (number_there b.integer slot a (integer_there c b.integer a slot are.0 sound within))
+    let width : ℕ = integer_width b.integer in
+    let enough : slots_in a * width ≤ length (values_in a) = ltb-false _ _ (are.0.values a sound) in
+    let less : (slot + 1) * width ≤ slots_in a * width = mul-le-mul_right width (omega (arith, within)) in
+    subst (λ (v : List ℕ). (slot + 1) * width ≤ length v) (sym are.2) (omega (arith, less, enough))
 
 -- a slot of strings
 pub text_bit : (c : Column) (a : Array) (b : TextBuffers) (slot : ℕ) → AreBuffers c a (Texts b) → is_sound c a ≡ true → slot < slots_in a → 0 < length b.validity.now → slot < 8 * length b.validity.now

@@ -2,8 +2,6 @@ pub mod BoundView
 pub mod ColumnSlots
 pub mod Contents
 pub mod Cuts
-pub mod IntegerRows
-pub mod Keeping
 pub mod Masks
 pub mod Nulls
 pub mod SlotTests

@@ -6,8 +6,7 @@ ghost use Rattle.columns.specs.CellAt.{integer_at};
 ghost use Rattle.columns.specs.View.{view_array, IsNoArray};
 ghost use Rattle.query.specs.inner.ColumnSlots.{IsTextKind, IsTextColumn, IsPlainText, AreBuffers, IsColumn, AreColumns};
 ghost use Rattle.query.specs.inner.Contents.{span_in};
-ghost use Rattle.query.specs.inner.IntegerRows.{number_or_null};
-ghost use Rattle.query.specs.inner.Slots.{array_of, is_valid_in, width_of};
+ghost use Rattle.query.specs.inner.Slots.{array_of, is_valid_in, number_or_null, width_of};
 
 use crate::integer_slots::{field_integer, number_at, unsigned_at};
 use crate::plain_text::are_plain;

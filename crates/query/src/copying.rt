@@ -42,7 +42,7 @@ fn struct_of(copies: Result<Vec<Value>, AllocError>) -> Result<Value, AllocError
 
 /// Copies a value into memory of its own.
 #[cycle(copy)]
-pub(crate) fn copy_value(alloc: Global, value: ValueRef<'_>) -> Result<Value, AllocError>
+fn copy_value(alloc: Global, value: ValueRef<'_>) -> Result<Value, AllocError>
     ensures { IfOk result (λ v. cell v ≡ borrowed_cell value.entry) }
 {
     match value {

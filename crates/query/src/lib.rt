@@ -1,18 +1,16 @@
 //! Queries: which rows and columns of a table they select, and a row as a line of JSON.
 //!
 //! A [`Query`] has columns, conditions that each row must meet, and a maximum number of rows. Contracts promise exactly which condition a string
-//! states; which columns and rows of a table a query chooses, or why it is refused; the table of these with its values copied; and the line of a
-//! row. They see tables, rows and queries as the plain trees of `specs/`, however they are kept.
+//! states; which columns and rows of a table a query chooses, or why it is refused; and the line of a row. They see tables, rows and queries as the
+//! plain trees of `specs/`, however they are kept.
 //!
 //! ```
 //! let condition = Condition::parse(alloc, "a >= 1")?;
 //! let query = Query { columns: Vec::new(alloc), conditions: vec![in alloc; condition]?, limit: Some(10) };
 //! let choice = choose(alloc, &table, &query)?;
-//! let found = chosen_cells(alloc, &table, &choice)?;
 //! ```
 //!
-//! This gives the first ten rows of `table` whose `a` is at least 1, with all columns; a null is not. `selection::select` does both, and keeps
-//! record batches as they are.
+//! This chooses the first ten rows of `table` whose `a` is at least 1, with all columns; a null is not. `selection::select` makes a table of them.
 #![tactic(auto)]
 
 mod blocks;
@@ -24,7 +22,6 @@ mod contents_slots;
 mod copying;
 mod cut;
 mod errors;
-mod integer_rows;
 mod integer_slots;
 mod laws;
 mod line;
@@ -35,8 +32,8 @@ mod operator;
 mod plain_text;
 mod query;
 mod row_form;
-mod selected_rows;
 mod selecting;
+mod set_rows;
 mod slot_test;
 mod slot_value;
 mod table_lines;
@@ -50,6 +47,6 @@ pub use object_line::{are_named_apart, push_line_in};
 pub use operator::Operator;
 pub use query::Query;
 pub use row_form::RowForm;
-pub use selected_rows::next_set;
-pub use selecting::{choose, chosen_cells, pick_schema};
+pub use selecting::{choose, pick_schema};
+pub use set_rows::next_set;
 pub use table_lines::push_lines;

@@ -10,7 +10,7 @@ ghost use Rattle.columns.specs.Texts.{has_utf8_texts};
 ghost use Rattle.columns.specs.View.{view_array};
 ghost use Rattle.query.specs.Line.{json_of};
 ghost use Rattle.query.specs.inner.ColumnSlots.{AreBuffers};
-ghost use Rattle.query.specs.inner.IntegerRows.{number_or_null};
+ghost use Rattle.query.specs.inner.Slots.{number_or_null};
 
 use crate::column_slots::{Buffers, ColumnSlots, FirstBytes};
 use crate::line::{

@@ -2,6 +2,8 @@
 ghost use Rattle.std.specs.Prelude.{◌≡◌, ◌≤◌, ◌<◌, ◌*◌, ◌^◌, Ok, true, length, IfOk, IfErr};
 ghost use Rattle.arrow_schema.specs.Column.{columns_of};
 ghost use Rattle.arrow_schema.specs.View.{schema_of};
+ghost use Rattle.cells.specs.Cell.{PlainTable};
+ghost use Rattle.ipc_canonical.specs.Canonical.{canonical};
 ghost use Rattle.query.specs.declared.errors.QueryError.TheVariants.{OutOfMemory};
 ghost use Rattle.query.specs.Choice.{chosen_table};
 ghost use Rattle.query.specs.Selection.{selection};
@@ -9,17 +11,31 @@ ghost use Rattle.query.specs.View.{query_in, Reports};
 ghost use Rattle.table_cut.specs.Rows.{runs_rows, runs_table, are_runs_sound};
 ghost use Rattle.values.specs.Parts.{are_parts_sound, parts_rows, parts_table};
 ghost use Rattle.values.specs.Table.{IsTable};
-ghost use Rattle.values.specs.TableView.{table_of};
+ghost use Rattle.values.specs.TableView.{is_in_parts, table_of};
 
 use crate::kept::{KeptRuns, keep_batches};
 use crate::picked::pick_batches;
-use arrow_schema::{DataType, Field, Schema};
+use arrow_schema::Schema;
 use ipc_canonical::canonical_means_its_table;
-use ipc_encode::encode_runs;
+use ipc_encode::{encode, encode_runs};
 use ipc_stream::decode;
-use query::{Choice, Query, QueryError, choose, chosen_cells, pick_schema, selection_is_a_table};
+use query::{Choice, Query, QueryError, choose, pick_schema, selection_is_a_table};
 use std::alloc::Global;
 use values::{Table, TablePart};
+
+// Reads a table back from its canonical stream.
+fn table_of_stream(alloc: Global, bytes: Vec<u8>) -> Result<Table, QueryError>
+    ensures ok { (t : PlainTable) → IsTable t → bytes.items ≡ canonical t → IfOk result (λ found. table_of found ≡ t) }
+    ensures in_parts { IfOk result (λ found. is_in_parts found ≡ true) }
+    ensures refused { IfErr result (λ e. e ≡ OutOfMemory) }
+{
+    canonical_means_its_table();
+    match decode(alloc, bytes) {
+        Ok(table) => Ok(table),
+        // A canonical stream has no fault.
+        Err(_) => Err(QueryError::OutOfMemory),
+    }
+}
 
 // Makes the table of rows that are runs of slots: they are written as one stream, which is read again.
 fn table_of_runs(alloc: Global, schema: &Schema, kept: KeptRuns<'_>) -> Result<Table, QueryError>
@@ -29,14 +45,9 @@ fn table_of_runs(alloc: Global, schema: &Schema, kept: KeptRuns<'_>) -> Result<T
     ensures ok { IfOk result (λ t. table_of t ≡ runs_table (schema_of schema.now) kept.entry.runs.items) }
     ensures refused { IfErr result (λ e. e ≡ OutOfMemory) }
 {
-    canonical_means_its_table();
     let KeptRuns { runs, rows } = kept;
     let bytes = encode_runs(alloc, schema, runs, rows)?;
-    match decode(alloc, bytes) {
-        Ok(table) => Ok(table),
-        // A stream that was written has no fault.
-        Err(_) => Err(QueryError::OutOfMemory),
-    }
+    table_of_stream(alloc, bytes)
 }
 
 // Makes the table of the chosen columns and rows of record batches, under the schema of these columns.
@@ -60,23 +71,25 @@ fn select_runs(
     table_of_runs(alloc, picked, kept)
 }
 
-fn is_integer(field: &Field) -> bool {
-    match field.data_type {
-        DataType::Int(_) => field.dictionary.is_none(),
-        DataType::Date(_) => field.dictionary.is_none(),
-        DataType::Timestamp(_, _) => field.dictionary.is_none(),
-        _ => false,
-    }
-}
-
-// Returns whether a row of these columns costs less as cells than as a run.
-fn are_integers(fields: &[Field]) -> bool {
-    for field in fields {
-        if !is_integer(field) {
-            return false;
-        }
-    }
-    true
+// Makes the same table from one that is kept as rows, by way of its stream.
+fn select_rows(
+    alloc: Global,
+    table: &Table,
+    picked: &Schema,
+    choice: &Choice,
+) -> Result<Table, QueryError>
+    requires picked { schema_of picked.now ≡ (chosen_table choice.now (table_of table.now)).schema }
+    requires table { IsTable (chosen_table choice.now (table_of table.now)) }
+    requires mask { length (table_of table.now).rows ≤ 8 * length choice.now.mask.items }
+    ensures ok { IfOk result (λ t. table_of t ≡ chosen_table choice.now (table_of table.now)) }
+    ensures refused { IfErr result (λ e. e ≡ OutOfMemory) }
+{
+    // a number of the code is below 2^64
+    let _rows = table.len();
+    let schema = table.schema();
+    let bytes = encode(alloc, table)?;
+    let parts = table_of_stream(alloc, bytes)?.into_parts();
+    select_runs(alloc, schema, picked, &parts, choice)
 }
 
 // Makes the table of the chosen columns and rows of another table.
@@ -90,20 +103,18 @@ fn select_chosen(alloc: Global, table: &Table, choice: &Choice) -> Result<Table,
     let _rows = table.len();
     let schema = table.schema();
     let picked = pick_schema(alloc, schema, &choice.columns)?;
-    if let Some(parts) = table.parts() {
-        if !are_integers(&picked.fields) {
-            return select_runs(alloc, schema, &picked, parts, choice);
-        }
+    match table.parts() {
+        Some(parts) => select_runs(alloc, schema, &picked, parts, choice),
+        None => select_rows(alloc, table, &picked, choice),
     }
-    chosen_cells(alloc, table, choice)
 }
 
 /// Returns the rows for which all conditions hold, then of these the columns asked for, then the first rows. The columns asked for are tested
 /// first, and then the conditions in order.
 ///
-/// If the table is kept in record batches, so is the result, in the memory of its stream, unless all columns asked for have integers, dates or
-/// timestamps: its rows are runs of slots, and it takes time linear in the mask, the runs and the bytes of the result; and in the cells of pieces
-/// of 4,096 rows that have rows under several dictionaries of 8 or 16 bit indices. Otherwise its cells are copied.
+/// The result is kept in record batches, in the memory of its stream. It takes time linear in the mask, the runs of kept rows and the bytes of the
+/// result; and in the cells of pieces of 4,096 rows that have rows under several dictionaries of 8 or 16 bit indices. A table that is kept as rows is
+/// written as a stream first.
 ///
 /// ```
 /// let cold = Query { columns: Vec::new(alloc), conditions: vec![in alloc; Condition::parse(alloc, "millidegrees < 0")?]?, limit: None };

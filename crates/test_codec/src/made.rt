@@ -63,15 +63,6 @@ pub fn table_of_rows(alloc: Global, columns: &[&str], rows: Vec<Row>) -> Result<
     Table::new(alloc, schema, rows).map_err(|_| NotMade)
 }
 
-/// Makes the table of a schema and the cells of `rows` rows, row after row.
-pub fn table_of_cells(schema: Schema, cells: Vec<Value>, rows: usize) -> Result<Table, NotMade> {
-    let filled = schema.fields.len().checked_mul(rows) == Some(cells.len());
-    if schema.check().is_err() || !filled {
-        return Err(NotMade);
-    }
-    Table::from_cells(*cells.allocator(), schema, cells, rows).map_err(|_| NotMade)
-}
-
 // Returns whether a text is the one after `'`, or has as many bytes as stands after `#`.
 fn is_text(text: &str, want: &str) -> bool {
     match want.strip_prefix("#") {

@@ -1,7 +1,7 @@
 // Tests of streams of tables that are made from rows (ipc_encode, ipc_stream). What the built program shows of streams is tested by scripts,
 // without a proof (tests/program, tests/refused_memory).
 use crate::made::{
-    NotMade, assert_no_row, has_rows, is_one_well, schema_of_columns, table_of_cells, table_of_rows,
+    NotMade, assert_no_row, has_rows, is_one_well, schema_of_columns, table_of_rows,
 };
 use crate::stream_bytes::{
     END, MINUS_ONE, NO_FIELDS, NUMBER_TEXTS, NUMBERS, SCHEMA, SEVEN, THREE_ROWS, TWO_COLUMNS,
@@ -20,7 +20,6 @@ const COLUMNS: &[&str] = &["a:int8", "b:uint64?"];
 #[derive(Clone, Copy)]
 enum Made {
     OfRows,
-    OfCells,
     WithoutColumns,
     OverAPiece,
 }
@@ -34,29 +33,30 @@ fn rows_of_numbers(alloc: Global) -> Result<Vec<Row>, AllocError> {
     Ok(rows)
 }
 
-// Returns the cells of `NUMBERS`, row after row.
-fn cells_of_numbers(alloc: Global) -> Result<Vec<Value>, AllocError> {
-    let mut cells = Vec::new(alloc);
-    for (first, second) in NUMBERS {
-        cells.push(Value::Int(*first))?;
-        cells.push(Value::Int(*second))?;
-    }
-    Ok(cells)
-}
-
 // One row more than a full batch has: 7, -1, and 2 to 4,096.
 const MANY: u32 = 4097;
 
-fn cells_of_many(alloc: Global) -> Result<Vec<Value>, AllocError> {
-    let mut cells = Vec::new(alloc);
+fn rows_of_many(alloc: Global) -> Result<Vec<Row>, AllocError> {
+    let mut rows = Vec::new(alloc);
     for number in 0..MANY {
-        cells.push(Value::Int(match number {
+        let value = Value::Int(match number {
             0 => 7,
             1 => -1,
             _ => i128::from(number),
-        }))?;
+        });
+        let cells = vec![in alloc; value]?;
+        rows.push(Row { cells })?;
     }
-    Ok(cells)
+    Ok(rows)
+}
+
+fn empty_rows(alloc: Global, count: usize) -> Result<Vec<Row>, AllocError> {
+    let mut rows = Vec::new(alloc);
+    for _ in 0..count {
+        let cells = Vec::new(alloc);
+        rows.push(Row { cells })?;
+    }
+    Ok(rows)
 }
 
 // Returns the same numbers as they stand in a batch.
@@ -92,24 +92,15 @@ fn stream_of_many(alloc: Global) -> Result<Vec<u8>, AllocError> {
 fn table_of(alloc: Global, made: Made) -> Result<Table, NotMade> {
     match made {
         Made::OfRows => table_of_rows(alloc, COLUMNS, rows_of_numbers(alloc)?),
-        Made::OfCells => table_of_cells(
-            schema_of_columns(alloc, COLUMNS)?,
-            cells_of_numbers(alloc)?,
-            3,
-        ),
-        Made::WithoutColumns => table_of_cells(schema_of_columns(alloc, &[])?, Vec::new(alloc), 3),
-        Made::OverAPiece => table_of_cells(
-            schema_of_columns(alloc, &["a:int32"])?,
-            cells_of_many(alloc)?,
-            4097,
-        ),
+        Made::WithoutColumns => table_of_rows(alloc, &[], empty_rows(alloc, 3)?),
+        Made::OverAPiece => table_of_rows(alloc, &["a:int32"], rows_of_many(alloc)?),
     }
 }
 
 // Returns the bytes that another writer makes of the table.
 fn bytes_of(alloc: Global, made: Made) -> Result<Vec<u8>, AllocError> {
     match made {
-        Made::OfRows | Made::OfCells => joined(alloc, &[&TWO_COLUMNS]),
+        Made::OfRows => joined(alloc, &[&TWO_COLUMNS]),
         Made::WithoutColumns => joined(alloc, &[&NO_FIELDS, &THREE_ROWS, &END]),
         Made::OverAPiece => stream_of_many(alloc),
     }
@@ -154,12 +145,7 @@ fn goes_out(alloc: Global, made: Made) -> Result<bool, NotMade> {
     Ok(well && writer.flushed == bytes_of(alloc, made)?.len())
 }
 
-const ALL: &[Made] = &[
-    Made::OfRows,
-    Made::OfCells,
-    Made::WithoutColumns,
-    Made::OverAPiece,
-];
+const ALL: &[Made] = &[Made::OfRows, Made::WithoutColumns, Made::OverAPiece];
 
 fn wrongly_written(alloc: Global) -> Result<Option<usize>, NotMade> {
     for (place, made) in ALL.iter().enumerate() {

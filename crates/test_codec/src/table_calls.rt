@@ -1,8 +1,7 @@
-// Tests of tables of many cells, and of what is reported of a refusal (values). Which rows a table takes is tested by scripts, without a proof
-// (tests/texts, tests/queries).
-use super::made::{NotMade, assert_no_row, schema_of_columns, table_of_cells};
-use std::alloc::{AllocError, Global};
-use values::{TableError, Value, ValueRef};
+// Tests of the text of each refusal of `values`. Which rows a table takes is tested by scripts, without a proof (tests/texts, tests/queries).
+use super::made::{NotMade, assert_no_row};
+use std::alloc::Global;
+use values::TableError;
 
 const REFUSALS: &[(TableError, &str)] = &[
     (
@@ -25,24 +24,4 @@ fn wrongly_printed(alloc: Global) -> Result<Option<usize>, NotMade> {
 #[test]
 fn refusals_have_a_text(rt: HostRuntime) {
     assert_no_row(&rt, wrongly_printed(rt.alloc()));
-}
-
-fn ten_million_cells(alloc: Global) -> Result<Vec<Value>, AllocError> {
-    let mut cells = Vec::with_capacity(alloc, 10_000_000)?;
-    for number in 0..10_000_000u32 {
-        cells.push(Value::Int(i128::from(number)))?;
-    }
-    Ok(cells)
-}
-
-fn has_ten_million_rows(alloc: Global) -> Result<bool, NotMade> {
-    let schema = schema_of_columns(alloc, &["a:int32?"])?;
-    let made = table_of_cells(schema, ten_million_cells(alloc)?, 10_000_000)?;
-    let last = made.row(9_999_999).and_then(|row| row.get(0));
-    Ok(made.len() == 10_000_000 && matches!(last, Some(ValueRef::Int(9_999_999))))
-}
-
-#[test]
-fn ten_million_rows_are_made_without_memory_for_each(rt: HostRuntime) {
-    assert!(rt; matches!(has_ten_million_rows(rt.alloc()), Ok(true)));
 }

@@ -79,23 +79,27 @@ fn schema_of(alloc: Global, columns: &[&str]) -> Result<Schema, NotMade> {
     })
 }
 
-// Makes the table of a schema and the cells of `rows` rows, row after row.
-fn table_of_cells(schema: Schema, cells: Vec<Value>, rows: usize) -> Result<Table, NotMade> {
-    let filled = schema.fields.len().checked_mul(rows) == Some(cells.len());
-    if schema.check().is_err() || !filled {
-        return Err(NotMade);
+// Returns rows of one cell each.
+fn rows_of_cells(alloc: Global, cells: Vec<Value>) -> Result<Vec<Row>, AllocError> {
+    let mut rows = Vec::with_capacity(alloc, cells.len())?;
+    for cell in cells {
+        let cells = vec![in alloc; cell]?;
+        rows.push(Row { cells })?;
     }
-    Table::from_cells(*cells.allocator(), schema, cells, rows).map_err(|_| NotMade)
+    Ok(rows)
 }
 
-// Returns the canonical stream of that table.
-fn stream_of(
-    alloc: Global,
-    columns: &[&str],
-    cells: Vec<Value>,
-    rows: usize,
-) -> Result<Vec<u8>, NotMade> {
-    let table = table_of_cells(schema_of(alloc, columns)?, cells, rows)?;
+fn table_of_rows(alloc: Global, schema: Schema, rows: Vec<Row>) -> Result<Table, NotMade> {
+    if schema.check().is_err() {
+        return Err(NotMade);
+    }
+    Table::new(alloc, schema, rows).map_err(|_| NotMade)
+}
+
+// Returns the canonical stream of a table with these values in its one column.
+fn stream_of(alloc: Global, columns: &[&str], cells: Vec<Value>) -> Result<Vec<u8>, NotMade> {
+    let rows = rows_of_cells(alloc, cells)?;
+    let table = table_of_rows(alloc, schema_of(alloc, columns)?, rows)?;
     Ok(encode(alloc, &table)?)
 }
 
@@ -198,24 +202,19 @@ fn front(alloc: Global, len: usize) -> Result<Vec<u8>, NotMade> {
 }
 
 fn bytes_of_values(alloc: Global, columns: &[&str], values: &[i32]) -> Result<Vec<u8>, NotMade> {
-    stream_of(alloc, columns, cells_of(alloc, values)?, values.len())
+    stream_of(alloc, columns, cells_of(alloc, values)?)
 }
 
 /// Returns the bytes of a stream.
 pub fn bytes_of(alloc: Global, input: Input) -> Result<Vec<u8>, NotMade> {
     match input {
         Input::Ints(values) => bytes_of_values(alloc, INT, values),
-        Input::First(count) => stream_of(alloc, INT, first_cells(alloc, count)?, count as usize),
+        Input::First(count) => stream_of(alloc, INT, first_cells(alloc, count)?),
         Input::Column(text, values) => bytes_of_values(alloc, &[text], values),
         Input::Range(columns, first, count) => {
             bytes_of_values(alloc, columns, &range(alloc, first, count)?)
         }
-        Input::Texts(counts) => stream_of(
-            alloc,
-            &["l:list<utf8>"],
-            lists_of(alloc, counts)?,
-            counts.len(),
-        ),
+        Input::Texts(counts) => stream_of(alloc, &["l:list<utf8>"], lists_of(alloc, counts)?),
         Input::NoColumns(rows) => rows_alone(alloc, rows),
         Input::Changed(changes) => changed(alloc, changes),
         Input::Front(len) => front(alloc, len),

@@ -1,7 +1,7 @@
 -- The rows of a table, however they are kept.
 use Rattle.std.specs.Prelude.{slice_get, Vec, sum, ◌==◌}
 use Rattle.std.specs.Global.{Global}
-use Rattle.std.proofs.Common.{◌≡◌, ℕ, ◌+◌, ◌*◌, ◌≤◌, ◌<◌, true, List, [], ◌∷◌, map, length, take, drop, Some, None, refl, sym, ◌∙◌, arith}
+use Rattle.std.proofs.Common.{◌≡◌, ℕ, ◌≤◌, ◌<◌, true, List, [], ◌∷◌, map, length, Some, None, refl, sym, ◌∙◌, arith}
 use Rattle.std.proofs.lemmas.Bool.{and_parts, eqb-true}
 use Rattle.std.proofs.lemmas.List.{length-map}
 use Rattle.std.proofs.lemmas.List.Elements.{All-get_or}
@@ -11,12 +11,11 @@ use Rattle.arrow_schema.specs.Column.{Columns, columns_of, PlainSchema}
 use Rattle.arrow_schema.specs.declared.types.Schema.{Schema}
 use Rattle.arrow_schema.specs.View.{schema_of}
 use Rattle.values.specs.declared.content.Content.{Content}
-use Rattle.values.specs.declared.content.Content.TheVariants.{Rows as Given, Cells, Batches as InBatches}
+use Rattle.values.specs.declared.content.Content.TheVariants.{Rows as Given, Batches as InBatches}
 use Rattle.values.specs.declared.batches.Batches.{Batches}
 use Rattle.values.specs.declared.table_part.TablePart.{TablePart}
 use Rattle.cells.specs.declared.limits.TheConstants.{MAX_TABLE_WEIGHT}
 use Rattle.cells.specs.declared.row.Row.{Row}
-use Rattle.cells.specs.declared.value.Value.{Value}
 use Rattle.cells.specs.Cell.{Cell, cells_of, PlainTable}
 use Rattle.cells.specs.Row.{is_row, row_fits, row_of}
 use Rattle.columns.specs.Texts.{have_utf8_texts}
@@ -26,24 +25,21 @@ use Rattle.values.specs.Parts.{are_parts_sound, parts_rows, parts_table}
 use Rattle.values.specs.Table.{IsTable}
 use Rattle.values.specs.inner.Starts.{part_lengths}
 use Rattle.values.proofs.PartLemmas.{length_parts}
-use Rattle.cells.specs.View.{cell}
 use Rattle.cells.specs.Weight.{row_weight, table_weight}
-use Rattle.values.proofs.RowLemmas.{length_rows, row_in, row_within}
 
 -- the columns of a schema of the code
 abbrev own_columns : Schema → Columns
 own_columns s = columns_of (schema_of s).columns
 
-pub length_content : (s : Schema) (n : ℕ) (content : Content) → is_filled s n content ≡ true → length (rows_of s n content) ≡ n
+pub length_content : (s : Schema) (n : ℕ) (content : Content) → is_filled s n content ≡ true → length (rows_of s content) ≡ n
 length_content s n (Given rows) filled = length-map rows.items row_of ∙ eqb-true _ _ filled
-length_content s n (Cells values) filled = length_rows (length s.fields.items) n (map cell values.items)
 length_content s n (InBatches batches) filled =
     let parts = and_parts (n == sum (part_lengths batches.parts.items)) (are_parts_sound (own_columns s) batches.parts.items) filled in
     length_parts (own_columns s) batches.parts.items ∙ sym (eqb-true _ _ parts.0)
 
 -- no row past the last
-pub none_past : (s : Schema) (n : ℕ) (content : Content) (i : ℕ) → is_filled s n content ≡ true → n ≤ i → None ≡ slice_get (rows_of s n content) i
-none_past s n content i filled le = sym (slice_get_past (rows_of s n content) i (omega (arith, length_content s n content filled, le)))
+pub none_past : (s : Schema) (n : ℕ) (content : Content) (i : ℕ) → is_filled s n content ≡ true → n ≤ i → None ≡ slice_get (rows_of s content) i
+none_past s n content i filled le = sym (slice_get_past (rows_of s content) i (omega (arith, length_content s n content filled, le)))
 
 -- each row weighs at least one
 pub few_rows : (s : PlainSchema) (rows : List (List Cell)) → length rows ≤ table_weight s rows
@@ -54,19 +50,8 @@ few_rows s (row ∷ rows) = omega (arith, sum_by-cons (row_weight s) row rows, f
 pub given_within : (s : Schema) (n : ℕ) (content : Content) (rows : Vec Row Global) (i : ℕ) → content ≡ Given rows → is_filled s n content ≡ true → i < n → i < length rows.items
 given_within s n content rows i is filled lt = omega (arith, eqb-true _ _ (rw is at filled))
 
-pub rows_given : (s : Schema) (n : ℕ) (content : Content) (rows : Vec Row Global) → content ≡ Given rows → rows_of s n content ≡ map row_of rows.items
-rows_given s n content rows is = rw is refl
-
--- as many cells as the rows have
-pub cells_within : (s : Schema) (n : ℕ) (content : Content) (values : Vec Value Global) (i : ℕ) → content ≡ Cells values → is_filled s n content ≡ true → i < n
-    → length s.fields.items * i + length s.fields.items ≤ length values.items
-cells_within s n content values i is filled lt =
-    row_within (length s.fields.items) n i (length values.items) lt (eqb-true _ _ (rw is at filled))
-
--- the row at a place
-pub row_of_cells : (s : Schema) (n : ℕ) (content : Content) (values : Vec Value Global) (i : ℕ) → content ≡ Cells values → i < n
-    → slice_get (rows_of s n content) i ≡ Some (take (length s.fields.items) (drop (length s.fields.items * i) (map cell values.items)))
-row_of_cells s n content values i is lt = rw is (row_in (length s.fields.items) n i (map cell values.items) lt)
+pub rows_given : (s : Schema) (content : Content) (rows : Vec Row Global) → content ≡ Given rows → rows_of s content ≡ map row_of rows.items
+rows_given s content rows is = rw is refl
 
 -- the record batches of a table
 pub parts_filled : (s : Schema) (n : ℕ) (content : Content) (batches : Batches) → content ≡ InBatches batches → is_filled s n content ≡ true
@@ -75,11 +60,11 @@ parts_filled s n content batches is filled =
     let parts = and_parts (n == sum (part_lengths batches.parts.items)) (are_parts_sound (own_columns s) batches.parts.items) (rw is at filled) in
     (eqb-true _ _ parts.0, parts.1)
 
-pub rows_of_parts : (s : Schema) (n : ℕ) (content : Content) (batches : Batches) → content ≡ InBatches batches → rows_of s n content ≡ parts_rows (own_columns s) batches.parts.items
-rows_of_parts s n content batches is = rw is refl
+pub rows_of_parts : (s : Schema) (content : Content) (batches : Batches) → content ≡ InBatches batches → rows_of s content ≡ parts_rows (own_columns s) batches.parts.items
+rows_of_parts s content batches is = rw is refl
 
-pub table_of_parts : (s : Schema) (n : ℕ) (content : Content) (batches : Batches) → content ≡ InBatches batches → table_with s n content ≡ parts_table (schema_of s) batches.parts.items
-table_of_parts s n content batches is = rw is refl
+pub table_of_parts : (s : Schema) (content : Content) (batches : Batches) → content ≡ InBatches batches → table_with s content ≡ parts_table (schema_of s) batches.parts.items
+table_of_parts s content batches is = rw is refl
 
 -- the texts of a row that a table has
 texts_in_row : (s : PlainSchema) (row : List Cell) → is_row s row ≡ true → have_utf8_texts (cells_of row) ≡ true

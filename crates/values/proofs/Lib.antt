@@ -1,4 +1,3 @@
-mod RowLemmas
 mod AcceptLemmas
 mod TableLaws
 mod ContentLemmas

@@ -8,15 +8,14 @@ use Rattle.cells.specs.Cell.{Cell, PlainTable}
 use Rattle.values.specs.Table.{Refusal, unfit, too_heavy}
 use Rattle.values.specs.Content.{table_with}
 use Rattle.values.specs.declared.content.Content.{Content}
-use Rattle.values.specs.declared.content.Content.TheVariants.{Rows as Given, Cells, Batches}
+use Rattle.values.specs.declared.content.Content.TheVariants.{Rows as Given, Batches}
 
 abbrev pub table_of : Table → PlainTable
-table_of t = table_with t.schema t.rows t.content
+table_of t = table_with t.schema t.content
 
 -- whether a table is kept as record batches
 abbrev pub has_batches : Content → Bool
 has_batches (Given rows) = false
-has_batches (Cells cells) = false
 has_batches (Batches batches) = true
 
 abbrev pub is_in_parts : Table → Bool

@@ -1,17 +1,14 @@
 // Which rows a table takes, and how much they weigh.
-ghost use Rattle.std.specs.Prelude.{◌≡◌, ◌*◌, map, length, IfOk, IfErr, None};
+ghost use Rattle.std.specs.Prelude.{◌≡◌, map, IfOk, IfErr, None};
 ghost use Rattle.arrow_schema.specs.View.{schema_of};
-ghost use Rattle.cells.specs.View.{cell};
 ghost use Rattle.cells.specs.Weight.{table_weight, capped_weight};
 ghost use Rattle.values.specs.Table.{first_unfit, table_from};
-ghost use Rattle.values.specs.Rows.{cell_rows};
 ghost use Rattle.values.specs.TableView.{Reports};
 ghost use Rattle.cells.specs.Row.{row_of};
 
 use crate::errors::TableError;
-use crate::rows::row_at;
 use arrow_schema::Schema;
-use cells::{Row, Value, accepted_weight, add_weights, has_limits};
+use cells::{Row, accepted_weight, add_weights, has_limits};
 use std::alloc::Global;
 
 // The weight of rows that a table takes, or the first that it does not take.
@@ -25,32 +22,6 @@ pub(crate) fn weigh_rows(schema: &Schema, rows: &[Row], alloc: Global) -> Result
     for (i, row) in rows.iter().enumerate() {
         match accepted_weight(schema, &row.cells, limited, alloc)? {
             None => return Err(TableError::Unfit(i)),
-            Some(weight) => total = add_weights(total, weight),
-        }
-    }
-    Ok(total)
-}
-
-// The same of rows whose cells stand one after another.
-pub(crate) fn weigh_cells(
-    schema: &Schema,
-    cells: &[Value],
-    rows: usize,
-    alloc: Global,
-) -> Result<u64, TableError>
-    requires { length cells.now ≡ length schema.now.fields.items * rows }
-    ensures taken { IfOk result (λ _. first_unfit (schema_of schema.now) (cell_rows (length schema.now.fields.items) rows (map cell cells.now)) ≡ None) }
-    ensures weight { IfOk result (λ w.
-        w ≡ capped_weight (table_weight (schema_of schema.now) (cell_rows (length schema.now.fields.items) rows (map cell cells.now)))) }
-    ensures refused { IfErr result (λ e.
-        Reports e (table_from (schema_of schema.now) (cell_rows (length schema.now.fields.items) rows (map cell cells.now)))) }
-{
-    let limited = has_limits(schema);
-    let width = schema.fields.len();
-    let mut total = 0;
-    for place in 0..rows {
-        match accepted_weight(schema, row_at(cells, width, place), limited, alloc)? {
-            None => return Err(TableError::Unfit(place)),
             Some(weight) => total = add_weights(total, weight),
         }
     }

@@ -1,5 +1,5 @@
 // The rows of a table, one after another.
-ghost use Rattle.std.specs.Prelude.{◌≡◌, ◌+◌, ◌*◌, ◌≤◌, ◌<◌, Some, map, take, drop, length, slice_get};
+ghost use Rattle.std.specs.Prelude.{◌≡◌, ◌<◌, Some, map, length, slice_get};
 ghost use Rattle.cells.specs.Row.{row_of};
 ghost use Rattle.cells.specs.View.{cell};
 
@@ -45,13 +45,4 @@ pub(crate) fn given_row(rows: &[Row], i: usize) -> &[Value]
     ensures { Some (map cell result.now) ≡ slice_get (map row_of rows.now) i }
 {
     &rows[i].cells
-}
-
-// The row at a place, of rows whose cells stand one after another.
-pub(crate) fn row_at(cells: &[Value], width: usize, i: usize) -> &[Value]
-    requires { width * i + width ≤ length cells.now }
-    ensures { map cell result.now ≡ take width (drop (width * i) (map cell cells.now)) }
-{
-    let start = width * i;
-    &cells[start..start + width]
 }

@@ -3,37 +3,36 @@ ghost use Rattle.std.specs.Prelude.{◌≡◌, IsTrue};
 ghost use Rattle.values.specs.Table.{IsTable};
 ghost use Rattle.values.specs.Content.{table_with, is_filled};
 
-use crate::accept::{weigh_cells, weigh_rows};
+use crate::accept::weigh_rows;
 use crate::batches::{BatchPlace, Batches, part_lengths};
 use crate::borrowed::{Form, Values};
 use crate::content::Content;
 use crate::errors::TableError;
-use crate::rows::{Rows, given_row, row_at};
+use crate::rows::{Rows, given_row};
 use crate::starts::total;
 use crate::table_part::TablePart;
 use arrow_schema::Schema;
-use cells::{MAX_TABLE_WEIGHT, Row, Value};
+use cells::{MAX_TABLE_WEIGHT, Row};
 use std::alloc::{AllocError, Global};
 
 /// A table: its schema, and its rows in order. Contracts see nothing else of it. Rows that were given one by one stay as
-/// they are; else the cells stand in one vector, row after row, or in record batches, so that a row takes no memory of its own.
+/// they are; else the table is kept in record batches, and a row takes no memory of its own.
 #[derive(Drop)]
 pub struct Table {
     schema: Schema,
     content: Content,
     rows: usize,
     ghost filled: { IsTrue (is_filled schema rows content) },
-    ghost kept: { IsTable (table_with schema rows content) },
+    ghost kept: { IsTable (table_with schema content) },
 }
 
 impl Table {
-    ghost use Rattle.std.specs.Prelude.{true, ◌==◌, ◌*◌, length, slice_get, option_map, map, IfOk, IfErr, IfSome, Ok};
+    ghost use Rattle.std.specs.Prelude.{true, ◌==◌, length, slice_get, option_map, map, IfOk, IfErr, IfSome, Ok};
     ghost use Rattle.arrow_schema.specs.Column.{columns_of};
     ghost use Rattle.arrow_schema.specs.View.{schema_of};
     ghost use Rattle.arrow_schema.specs.Limits.{IsWithinLimits};
     ghost use Rattle.values.specs.Borrowed.{borrowed_cells};
     ghost use Rattle.values.specs.Parts.{are_parts_sound, parts_table};
-    ghost use Rattle.values.specs.Rows.{table_in};
     ghost use Rattle.values.specs.Table.{table_from};
     ghost use Rattle.cells.specs.Row.{row_of};
     ghost use Rattle.cells.specs.Weight.{table_weight};
@@ -85,33 +84,6 @@ impl Table {
             rows: count,
         };
         Ok((table, weight))
-    }
-
-    /// The same of `rows` rows whose cells stand one after another: no row takes memory of its own.
-    ///
-    /// # Errors
-    /// Those of [`Table::new`].
-    pub fn from_cells(
-        alloc: Global,
-        schema: Schema,
-        cells: Vec<Value>,
-        rows: usize,
-    ) -> Result<Table, TableError>
-        requires limits { IsWithinLimits (schema_of schema) }
-        requires filled { length cells.items ≡ length schema.fields.items * rows }
-        ensures made { IfOk result (λ t. table_of t ≡ table_in schema rows cells.items) }
-        ensures taken { IfOk result (λ t. table_from (schema_of schema) (table_in schema rows cells.items).rows ≡ Ok (table_of t)) }
-        ensures refused { IfErr result (λ e. Reports e (table_from (schema_of schema) (table_in schema rows cells.items).rows)) }
-    {
-        let weight = weigh_cells(&schema, &cells, rows, alloc)?;
-        if weight > MAX_TABLE_WEIGHT {
-            return Err(TableError::Weight);
-        }
-        Ok(Table {
-            schema,
-            content: Content::Cells(cells),
-            rows,
-        })
     }
 
     /// The table of the rows of some record batches, in order. No cell is copied.
@@ -228,7 +200,6 @@ impl Table {
         }
         let form = match &self.content {
             Content::Rows(rows) => Form::Cells(given_row(rows, i)),
-            Content::Cells(cells) => Form::Cells(row_at(cells, self.schema.fields.len(), i)),
             Content::Batches(batches) => {
                 let place = batches.find(i, *near);
                 *near = place;

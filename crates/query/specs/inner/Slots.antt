@@ -1,11 +1,11 @@
 -- A comparison with an integer, slot by slot of an array.
-use Rattle.std.specs.Prelude.{◌≡◌, ℕ, ◌/◌, Bool, true, false, not, ◌&&◌, ◌||◌, ◌==◌, nat_le, List, length, drop, slice_get, Some}
+use Rattle.std.specs.Prelude.{◌≡◌, ℕ, ℤ, ◌/◌, Bool, true, false, not, ◌&&◌, ◌||◌, ◌==◌, nat_le, List, length, drop, slice_get, Option, Some, None}
 use Rattle.std.specs.Ordering.{int_cmp}
 use Rattle.arrow_schema.specs.Column.{Kind, Column}
 use Rattle.arrow_schema.specs.View.{bits_of}
 use Rattle.arrow_schema.specs.declared.types.IntegerType.{IntegerType}
 use Rattle.bitmap.specs.Bits.{bit}
-use Rattle.cells.specs.Cell.{Cell, number}
+use Rattle.cells.specs.Cell.{Cell, null, number}
 use Rattle.columns.specs.Array.{Array, slots_in, validity_in, values_in, first_array}
 use Rattle.columns.specs.CellAt.{cell_at, kind_cell, integer_at, unless_null}
 use Rattle.columns.specs.Sound.{is_sound}
@@ -21,6 +21,10 @@ width_of t = bits_of t.width / 8
 
 abbrev pub integer_cell : IntegerType → Array → ℕ → Cell
 integer_cell t a i = number (integer_at (width_of t) t.signed (values_in a) i)
+
+abbrev pub number_or_null : Option ℤ → Cell
+number_or_null (Some n) = number n
+number_or_null None = null
 
 -- the values of a type are integers
 pub record IsIntegerKind (kind : Kind) (t : IntegerType) : Type 0 where

@@ -5,7 +5,7 @@ use Rattle.values.specs.TableView.{table_of}
 use Rattle.query.specs.Selection.{selected}
 use Rattle.query.specs.View.{query_in}
 use Rattle.query.specs.inner.BoundView.{bound_in}
-use Rattle.query.proofs.MadeTables.{same_choice, same_bounds, columns_report, conditions_report, selection_is}
+use Rattle.query.proofs.SelectionReports.{same_choice, same_bounds, columns_report, conditions_report, selection_is}
 use Rattle.query.proofs.selecting.choose.Goals as goal
 
 pub returns-in_err-places-clause-refused : goal.returns-in_err-places-clause-refused

@@ -5,8 +5,7 @@ use mir.Syntax.{w128}
 use mir.Val.{to_z, of_z}
 use Rattle.cells.specs.Cell.{null, number}
 use Rattle.columns.specs.CellAt.{integer_at}
-use Rattle.query.specs.inner.IntegerRows.{number_or_null}
-use Rattle.query.specs.inner.Slots.{is_valid_in, width_of}
+use Rattle.query.specs.inner.Slots.{is_valid_in, number_or_null, width_of}
 use Rattle.query.proofs.column_slots.IntegerBuffers.number.Goals as goal
 
 pub returns-then-is_valid : goal.returns-then-is_valid

@@ -1,11 +1,11 @@
-use Rattle.std.proofs.Common.{◌≡◌, ◌<◌, ◌∙◌, List, length, Some, ap, sym, arith, rules}
+use Rattle.std.proofs.Common.{◌<◌, ◌∙◌, List, Some, ap, sym, arith}
 use Rattle.std.specs.Prelude.{slice_get}
 use Rattle.cells.specs.Cell.{Cell}
 use Rattle.values.specs.Content.{table_with}
 use Rattle.values.specs.declared.borrowed.Form.{Form}
 use Rattle.values.specs.Borrowed.{form_cells}
-use Rattle.values.proofs.ContentLemmas.{length_content, none_past, given_within, rows_given, cells_within, row_of_cells, parts_filled, rows_of_parts, texts_in_table}
-use Rattle.values.proofs.table.Table.row_near.Goals.{in-Rows, in-Cells, in-Batches}
+use Rattle.values.proofs.ContentLemmas.{length_content, none_past, given_within, rows_given, parts_filled, rows_of_parts, texts_in_table}
+use Rattle.values.proofs.table.Table.row_near.Goals.{in-Rows, in-Batches}
 use Rattle.values.proofs.table.Table.row_near.Goals as goal
 
 pub returns-then-i-len : goal.returns-then-i-len
@@ -19,27 +19,15 @@ given_row-requires c =
     let within : c.args.i < c.args.self.now.rows = omega (arith, count, c.len.ensures, c.if-i-len.false) in
     rw c.deref.ensures.value (given_within c.args.self.now.schema c.args.self.now.rows c.args.self.now.content c.in-Rows.rows c.args.i c.in-Rows.is c.args.self.now.filled within)
 
-pub row_at-requires : goal.row_at-requires
-row_at-requires c =
-    let count = length_content c.args.self.now.schema c.args.self.now.rows c.args.self.now.content c.args.self.now.filled in
-    let within : c.args.i < c.args.self.now.rows = omega (arith, count, c.len.ensures, c.if-i-len.false) in
-    let width : c.len-in-Cells.result ≡ length c.args.self.now.schema.fields.items = search rules in
-    let cells : length c.deref-in-Cells.result.now ≡ length c.in-Cells.cells.items = search rules in
-    rw (width, cells) (cells_within c.args.self.now.schema c.args.self.now.rows c.args.self.now.content c.in-Cells.cells c.args.i c.in-Cells.is c.args.self.now.filled within)
-
 pub returns : goal.returns
 returns c =
     let count = length_content c.args.self.now.schema c.args.self.now.rows c.args.self.now.content c.args.self.now.filled in
     let within : c.args.i < c.args.self.now.rows = omega (arith, count, c.len.ensures, c.if-i-len.false) in
     elim c.match-self.branch [
-      | in-Rows w ↦ (let there = rows_given c.args.self.now.schema c.args.self.now.rows c.args.self.now.content w.in-Rows.rows w.in-Rows.is in
+      | in-Rows w ↦ (let there = rows_given c.args.self.now.schema c.args.self.now.content w.in-Rows.rows w.in-Rows.is in
           let row = rw w.deref.ensures.value at w.given_row.ensures in
           ap (λ (f : Form). Some (form_cells f)) w.form-is ∙ (row ∙ ap (λ (rows : List (List Cell)). slice_get rows c.args.i) (sym there)))
-      | in-Cells w ↦ (let width : w.len-in-Cells.result ≡ length c.args.self.now.schema.fields.items = search rules in
-          let there = row_of_cells c.args.self.now.schema c.args.self.now.rows c.args.self.now.content w.in-Cells.cells c.args.i w.in-Cells.is within in
-          let cells = rw (width, w.deref-in-Cells.ensures.value) at w.row_at.ensures in
-          ap (λ (f : Form). Some (form_cells f)) w.form-is ∙ (ap Some cells ∙ sym there))
-      | in-Batches w ↦ (let there = rows_of_parts c.args.self.now.schema c.args.self.now.rows c.args.self.now.content w.in-Batches.batches w.in-Batches.is in
+      | in-Batches w ↦ (let there = rows_of_parts c.args.self.now.schema c.args.self.now.content w.in-Batches.batches w.in-Batches.is in
           let row = rw w.deref-in-Batches.ensures.value at w.row.ensures in
           ap (λ (f : Form). Some (form_cells f)) w.form-is ∙ (row ∙ ap (λ (rows : List (List Cell)). slice_get rows c.args.i) (sym there)))
     ]
@@ -56,6 +44,6 @@ row-requires-clause-sound c =
 
 pub row-requires-clause-texts : goal.row-requires-clause-texts
 row-requires-clause-texts c = λ cells there.
-    let rows = rows_of_parts c.args.self.now.schema c.args.self.now.rows c.args.self.now.content c.in-Batches.batches c.in-Batches.is in
+    let rows = rows_of_parts c.args.self.now.schema c.args.self.now.content c.in-Batches.batches c.in-Batches.is in
     let own = rw c.deref-in-Batches.ensures.value at there in
-    texts_in_table (table_with c.args.self.now.schema c.args.self.now.rows c.args.self.now.content) c.args.i cells c.args.self.now.kept (ap (λ (xs : List (List Cell)). slice_get xs c.args.i) rows ∙ own)
+    texts_in_table (table_with c.args.self.now.schema c.args.self.now.content) c.args.i cells c.args.self.now.kept (ap (λ (xs : List (List Cell)). slice_get xs c.args.i) rows ∙ own)

@@ -1,15 +1,6 @@
-// Kept rows, and the search for the next one.
+// Finds the next row that a mask selects.
 ghost use Rattle.std.specs.Prelude.{◌≡◌, ◌≤◌, ◌<◌, ◌*◌, ℕ, length, true, false};
 ghost use Rattle.bitmap.specs.Bits.{bit};
-
-use cells::Value;
-
-/// The cells of some rows, one after another.
-#[derive(Drop)]
-pub(crate) struct SelectedRows {
-    pub(crate) cells: Vec<Value>,
-    pub(crate) rows: usize,
-}
 
 /// Returns the first row from `from` on whose bit is set, or `end` if there is none.
 pub fn next_set(mask: &[u8], from: usize, end: usize) -> usize
