@@ -115,7 +115,7 @@ pub(crate) fn build_field(
     build_column(alloc, levels, name, rest)
 }
 
-// Builds further fields, at most `turns`, and returns the text after the bracket.
+// Builds further fields in at most `turns` steps, and returns the text after the bracket.
 #[tactic(auto, unfolding(crate::specs::inner::Build::more_from))]
 #[cycle(build)]
 fn build_more(

@@ -28,7 +28,7 @@ field_from read text = option_and_then (λ p. read p.0 p.1) (name_at text)
 abbrev pub closed : List ℕ → Option (List Column × List ℕ)
 closed text = option_map (λ rest. ([], rest)) (stripped (codes ">") text)
 
--- at most n - 1 more fields, and the bracket
+-- further fields and the bracket after them, in at most this many steps
 unfoldable pub more_from : Reader → ℕ → List ℕ → Option (List Column × List ℕ)
 more_from read zero text = None
 more_from read (suc turns) text = option_or (closed text) (option_and_then (λ next. option_and_then (λ p. option_map (λ q. (p.0 ∷ q.0, q.1)) (more_from read turns p.1)) (field_from read next)) (stripped (codes ",") text))
