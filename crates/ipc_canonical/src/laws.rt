@@ -45,7 +45,7 @@ pub fn worked_cases()
     ensures two_dictionaries { TwoDictionaries }
 {}
 
-/// Each piece of a table fulfils `IsPieceOf`: in particular, the arrays of its record batch can be built.
+/// Each piece of a table satisfies `IsPieceOf`: in particular, the arrays of its record batch can be built.
 pub fn pieces_can_be_built()
     ensures { (t : PlainTable) → IsTable t → AllByRecursion (IsPieceOf t.schema) (pieces_of t) }
 {

@@ -5,7 +5,7 @@ use thiserror::Error;
 /// Why no run was taken.
 #[derive(Clone, Copy, Debug, PartialEq, Eq, Error)]
 pub enum TakeError {
-    /// There are nowhere this many free sectors in a row.
+    /// No run of this many sectors is free.
     #[error("no room for {0} sectors")]
     NoRoom(u64),
     #[error("out of memory")]

@@ -35,7 +35,7 @@ pub enum Command {
         name: String,
         rows: Vec<Row>,
     },
-    /// Appends the rows of a table with any schema. If it is the schema of the stored table, the rows are not tested one by one.
+    /// Appends the rows of a table with any schema, with the same tests. If its schema is that of the stored table, the rows are not tested one by one.
     AppendTable {
         name: String,
         new: WeighedTable,

@@ -48,7 +48,7 @@ pub enum Refusal {
     RowUnfit(usize),
     /// S7: a limit would be exceeded.
     TooMany(Limit),
-    /// S8: there are nowhere this many free sectors in a row.
+    /// S8: no run of this many sectors is free.
     NoRoom(u64),
     /// S9: the device failed. Reopening the store shows whether the command is done.
     Device,

@@ -141,8 +141,8 @@ impl<F: Read + Write + Seek + OpenFile + LockFile + Drop> FileDevice<F> {
     /// ```
     ///
     /// # Errors
-    /// `BadSize`, which is tested first, if `sectors` is outside 16 to 4,194,304; `Io` if the path exists or the system refuses. No file is then
-    /// left, unless the system refuses to remove it, too.
+    /// `BadSize`, which is tested first, if `sectors` is outside 16 to 4,194,304; `Io` if something exists at the path, or
+    /// the system refuses. No new file is then left, unless the system refuses to remove it, too.
     pub fn create<R: Files<File = F> + AllocGlobal>(
         rt: &R,
         path: &str,

@@ -83,7 +83,6 @@ impl ModelDevice {
     ///
     /// # Errors
     /// `AllocError` if memory was refused.
-    /// `AllocError` where memory was refused.
     pub fn crash(&self, choice: CrashChoice) -> Result<ModelDevice, AllocError>
         ensures size { IfOk result (λ d. size_of d ≡ size_of self.now) }
         ensures synced { IfOk result (λ d. history_of d ≡ all_synced (shown_image (now (history_of d))) ∷ []) }
