@@ -52,7 +52,7 @@ failures_of d = d.failed
 abbrev pub IsDeviceLength : ℕ → Type 0
 IsDeviceLength bytes = (bytes % 512 ≡ 0) × (512 * LEAST_SECTORS ≤ bytes) × (bytes ≤ 512 * MOST_SECTORS)
 
--- a file with a known position and known bytes has a length that no device has
+-- if the position and bytes of the file are known, its length is that of no device
 abbrev pub HasOtherLength : {F : Type 0} → SeekGhosts F → F → Type 0
 HasOtherLength s file = IfSome (s.stream_position file) (λ _. IfSome (s.stream_bytes file) (λ bytes. ¬ IsDeviceLength (length bytes)))
 

@@ -22,7 +22,7 @@ pub record WritesOnly (runs : List Run) (old d : Disk) : Type 0 where
 abbrev pub OnlyWrites : List Run → Story → Story → Type 0
 OnlyWrites runs old new = Grows (WritesOnly runs (now old)) old new
 
--- in a sector outside these runs, no image that a crash may have left since then holds anything new
+-- in a sector outside these runs, each image that a crash may have left since then holds what a crash could leave there before
 abbrev pub LeavesOthers : List Run → Story → Story → Type 0
 LeavesOthers runs old new = (image : Image) → LeftSince new (moment old) image → (n : ℕ) → OutOf runs n → MayHold ((now old).at n) (image n)
 

@@ -264,7 +264,7 @@ fn is_table_t(entries: &[TableEntry], form: SegmentForm) -> bool {
     }
 }
 
-// Returns whether the list is encoded as the bytes it was read from.
+// Returns `Same` if the list has the table and is encoded as the bytes it was read from.
 fn seen_again(
     alloc: Global,
     list: &Catalogue,

@@ -169,7 +169,7 @@ line_row s line = and_then (line_value line) (value_row s)
 abbrev pub is_blank : List ℕ → Bool
 is_blank line = list_all (λ b. b == 32 || b == 9 || b == 13) line
 
--- the lines of a text, which end with line feeds
+-- the lines of a text, separated by line feeds, without the blank ones
 abbrev pub lines_of : List ℕ → List (List ℕ)
 lines_of t = filter (λ line. not (is_blank line)) (slice_split (λ b. b == 10) t)
 

@@ -5,7 +5,7 @@ use Rattle.cells.specs.Cell.{null, number, text}
 use Rattle.ipc_write.specs.Written.{schema_message, dictionary_message, batch_message, end_of_stream}
 use Rattle.ipc_canonical.specs.Canonical.{canonical, piece_messages}
 
--- a schema of one nullable column
+-- schemas of one nullable column
 abbrev pub one_column : Kind → Option Index → PlainSchema
 one_column kind dictionary = record { columns = column [] true kind dictionary [] ∷ []; pairs = [] }
 
