@@ -1,4 +1,4 @@
--- What a catalogue keeps: the name of each table, its schema, its segments and its page (docs/formats/store.md).
+-- The contents of a catalogue: the name of each table, its schema, its segments and its page (docs/formats/store.md).
 use Rattle.std.specs.Prelude.{◌≡◌, ◌≤◌, ◌^◌, ◌==◌, ◌&&◌, ◌||◌, ℕ, Bool, true, false, nat_le, nat_lt, List, [], ◌∷◌, ◌++◌, length, map, flat_map, sum_by, string_bytes, Option, Some, None}
 use Rattle.std.specs.List.{list_all}
 use Rattle.std.specs.Cmp.Lexicographic.{slice_cmp}
@@ -16,7 +16,7 @@ use Rattle.catalogue.specs.declared.entry.SegmentForm.TheVariants.{Bare, Digeste
 use Rattle.catalogue.specs.declared.entry.TableEntry.{TableEntry}
 use Rattle.catalogue.specs.declared.entry.RootEntry.{RootEntry}
 
--- a table as the catalogue keeps it; its page, if it has one, is where its text lies by itself
+-- a table as the catalogue keeps it; its page, if it has one, is where its own text lies
 pub record PlainEntry : Type 0 where
   pub name : List ℕ
   pub schema : PlainSchema
@@ -27,21 +27,21 @@ pub record PlainEntry : Type 0 where
 abbrev pub PlainCatalogue : Type 0
 PlainCatalogue = List PlainEntry
 
--- what an entry of the code is
+-- the plain value of an entry of the code
 abbrev pub plain_entry : TableEntry → PlainEntry
 plain_entry e =
     record { name = string_bytes e.table.value.name; schema = schema_of e.table.value.schema; segments = e.table.value.segments.items; page = e.page }
 
--- a table of a root: its name, and where its page lies
+-- a table in a root: its name, and where its page lies
 pub record PlainRoot : Type 0 where
   pub name : List ℕ
   pub page : Extent
 
--- what one of the code is
+-- the plain value of a root entry of the code
 abbrev pub plain_root : RootEntry → PlainRoot
 plain_root r = record { name = r.name.now; page = r.page }
 
--- a number from this one to that one
+-- low ≤ n ≤ high
 abbrev pub is_between : ℕ → ℕ → ℕ → Bool
 is_between low high n = nat_le low n && nat_le n high
 
@@ -53,7 +53,7 @@ is_name_byte b = is_between 97 122 b || (is_between 65 90 b || (is_between 48 57
 abbrev pub is_name : List ℕ → Bool
 is_name name = is_between 1 MAX_NAME_BYTES (length name) && list_all is_name_byte name
 
--- a run of just the sectors that its bytes need, which are so many at least; its numbers have 64 bits
+-- the extent has at least `least` bytes and exactly the sectors that they need, and its numbers fit in 64 bits
 abbrev pub is_filled : (least : ℕ) → Extent → Bool
 is_filled least e = (nat_lt e.run.start (2 ^ 64) && nat_lt e.bytes (2 ^ 64)) && (nat_le least e.bytes && (e.run.count == sector_count e.bytes))
 
@@ -62,44 +62,44 @@ abbrev pub is_digest : Option (List ℕ) → Bool
 is_digest None = true
 is_digest (Some digest) = length digest == 32
 
--- a segment has some bytes, just the sectors that they need, 1 to 4,096 rows, and a digest or none
+-- a segment has at least one byte, exactly the sectors that its bytes need, 1 to 4,096 rows, and either no digest or one of 32 bytes
 abbrev pub is_segment : Segment → Bool
 is_segment s = is_filled 1 s.place && (is_between 1 MAX_SEGMENT_ROWS s.rows && is_digest s.digest)
 
--- a page has eight bytes at least, those of its two numbers
+-- a page has at least eight bytes, those of its two numbers
 abbrev pub is_page : Option Extent → Bool
 is_page None = true
 is_page (Some page) = is_filled 8 page
 
--- an entry that may stand
+-- an entry that may be in a catalogue
 abbrev pub is_entry : PlainEntry → Bool
 is_entry e = is_name e.name && (is_within_limits e.schema && (list_all is_segment e.segments && is_page e.page))
 
--- the same entry without its page, as a list says it
+-- the entry without its page, as it is in a list
 abbrev pub bare : PlainEntry → PlainEntry
 bare e = record { name = e.name; schema = e.schema; segments = e.segments; page = None }
 
 abbrev pub names_of : PlainCatalogue → List (List ℕ)
 names_of c = map (λ e. e.name) c
 
--- the name comes before the first of these, byte by byte
+-- the name sorts before the first of these, byte by byte
 abbrev pub comes_before : List ℕ → List (List ℕ) → Bool
 comes_before name [] = true
 comes_before name (other ∷ others) = is_lt (slice_cmp nat_cmp name other)
 
--- each name comes before the next, so none stands twice
+-- each name sorts before the next, so no name occurs twice
 abbrev pub ascends : List (List ℕ) → Bool
 ascends [] = true
 ascends (name ∷ names) = comes_before name names && ascends names
 
--- the rows of a table
+-- the number of rows in a table
 abbrev pub row_count : PlainEntry → ℕ
 row_count e = sum_by (λ (s : Segment). s.rows) e.segments
 
 abbrev pub segment_count : PlainCatalogue → ℕ
 segment_count c = sum_by (λ e. length e.segments) c
 
--- the runs of some segments
+-- the runs of segments
 abbrev pub runs_in_segments : List Segment → List Run
 runs_in_segments segments = map (λ (s : Segment). s.place.run) segments
 
@@ -107,25 +107,25 @@ abbrev pub page_runs : Option Extent → List Run
 page_runs None = []
 page_runs (Some page) = page.run ∷ []
 
--- the runs that it names, table after table: that of the page, if there is one, and those of the segments
+-- the runs that an entry names: that of its page, if it has one, and those of its segments
 abbrev pub runs_in : PlainEntry → List Run
 runs_in e = page_runs e.page ++ runs_in_segments e.segments
 
 abbrev pub runs_of : PlainCatalogue → List Run
 runs_of c = flat_map runs_in c
 
--- a catalogue of a store: its entries in order of their names, within the limits of a store
+-- a catalogue of a store: its entries in the order of their names, within the limits of a store
 pub record IsCatalogue (c : PlainCatalogue) : Type 0 where
   pub entries : list_all is_entry c ≡ true
   pub order : ascends (names_of c) ≡ true
   pub tables : length c ≤ MAX_TABLES
   pub segments : segment_count c ≤ MAX_SEGMENTS
 
--- the same as a test
+-- the same as a Boolean
 abbrev pub is_catalogue : PlainCatalogue → Bool
 is_catalogue c = (list_all is_entry c && ascends (names_of c)) && (nat_le (length c) MAX_TABLES && nat_le (segment_count c) MAX_SEGMENTS)
 
--- there is a digest just where the form asks for one
+-- there is a digest exactly if the form has one
 abbrev pub has_digest : SegmentForm → Option (List ℕ) → Bool
 has_digest Bare None = true
 has_digest Bare (Some digest) = false
@@ -135,17 +135,17 @@ has_digest Digested (Some digest) = true
 abbrev pub has_digests : SegmentForm → List Segment → Bool
 has_digests form segments = list_all (λ (s : Segment). has_digest form s.digest) segments
 
--- each segment of each table is of this form
+-- each segment of each table has this form
 abbrev pub has_form : SegmentForm → PlainCatalogue → Bool
 has_form form c = list_all (λ (e : PlainEntry). has_digests form e.segments) c
 
--- a table whose text may be that of a page
+-- a table whose text can be that of a page
 pub record IsTable (e : PlainEntry) : Type 0 where
   pub schema : is_within_limits e.schema ≡ true
   pub segments : list_all is_segment e.segments ≡ true
   pub few : length e.segments ≤ MAX_SEGMENTS
 
--- a root that may be written: each table has a name and a page, in order of the names, and there are not too many
+-- a root that can be written: each table has a name and a page, the names ascend, and there are not too many
 abbrev pub is_root_entry : PlainRoot → Bool
 is_root_entry r = is_name r.name && is_filled 8 r.page
 

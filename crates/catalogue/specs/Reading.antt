@@ -1,4 +1,4 @@
--- The catalogue, the root and the page that a text spells. A part of a text is read as a value and the bytes after it.
+-- The catalogue, the root and the page of a text. Each part of a text is read as a value and the bytes after it.
 use Rattle.std.specs.Prelude.{◌≡◌, ◌&&◌, ◌==◌, ℕ, zero, suc, nat_le, if◌then◌else◌, List, [], ◌∷◌, length, take, drop, Option, Some, None, Result, Ok, Err}
 use Rattle.std.specs.List.{list_all}
 use Rattle.std.specs.Str.{bytes_eq}
@@ -27,7 +27,7 @@ abbrev pub ◌>>=◌ : {A B : Type 0} → Option A → (A → Option B) → Opti
 None >>= f = None
 (Some x) >>= f = f x
 
--- what a call answered, seen by `view`, is what is read, unless memory was refused
+-- the result of a call, seen through `view`, is the value that is read, unless memory was refused
 abbrev pub Fails : {Y : Type 0} → DecodeError → Option Y → Type 0
 Fails OutOfMemory read = Unit {0}
 Fails NoText read = read ≡ None
@@ -36,22 +36,22 @@ abbrev pub Gives : {X Y : Type 0} → (X → Y) → Result X DecodeError → Opt
 Gives view (Ok x) read = read ≡ Some (view x)
 Gives view (Err e) read = Fails e read
 
--- why a message was not read, as reported of the text
+-- the error of the text if a message was not read
 abbrev pub decode_error : ImportError → DecodeError
 decode_error (errors.Fault f) = NoText
 decode_error errors.OutOfMemory = OutOfMemory
 
--- a number of n bytes
+-- a number of `size` bytes
 abbrev pub front_number : ℕ → List ℕ → Option (ℕ × List ℕ)
 front_number size bytes = if nat_le size (length bytes) then Some (little_number size bytes, drop size bytes) else None
 
--- four bytes of length, and n bytes
+-- a length in four bytes, and that many bytes
 unfoldable pub sized_at : List ℕ → Option (List ℕ × List ℕ)
 sized_at bytes = do
   size ← front_number 4 bytes
   if nat_le size.0 (length size.1) then Some (take size.0 size.1, drop size.0 size.1) else None
 
--- n parts
+-- `count` parts
 unfoldable pub many_at : {A : Type 0} → (List ℕ → Option (A × List ℕ)) → ℕ → List ℕ → Option (List A × List ℕ)
 many_at one_at zero bytes = Some ([], bytes)
 many_at one_at (suc count) bytes = do
@@ -59,7 +59,7 @@ many_at one_at (suc count) bytes = do
   others ← many_at one_at count first.1
   Some (first.0 ∷ others.0, others.1)
 
--- four bytes of number, and n parts
+-- a count in four bytes, and that many parts
 abbrev pub counted_at : {A : Type 0} → (List ℕ → Option (A × List ℕ)) → List ℕ → Option (List A × List ℕ)
 counted_at one_at bytes = do
   count ← front_number 4 bytes
@@ -72,11 +72,11 @@ extent_in bytes = do
   size ← front_number 8 count.1
   Some (record { run = record { start = start.0; count = count.0 }; bytes = size.0 }, size.1)
 
--- so many bytes as they are
+-- this many bytes
 abbrev pub bytes_in : ℕ → List ℕ → Option (List ℕ × List ℕ)
 bytes_in size bytes = if nat_le size (length bytes) then Some (take size bytes, drop size bytes) else None
 
--- the digest, where the form has one
+-- the digest, if the form has one
 unfoldable pub digest_in : SegmentForm → List ℕ → Option (Option (List ℕ) × List ℕ)
 digest_in Bare bytes = Some (None, bytes)
 digest_in Digested bytes = do
@@ -90,13 +90,13 @@ segment_at form bytes = do
   digest ← digest_in form rows.1
   Some (record { place = place.0; rows = rows.0; digest = digest.0 }, digest.1)
 
--- four bytes of length, and a name of a table
+-- the name of a table after its length in four bytes
 unfoldable pub name_at : List ℕ → Option (List ℕ × List ℕ)
 name_at bytes = do
   name ← sized_at bytes
   if is_name name.0 then Some name else None
 
--- ---- the schema that a message has
+-- ---- the schema of a message
 
 abbrev pub unfaulted : {A : Type 0} → Result A Fault → Option A
 unfaulted (Ok x) = Some x
@@ -118,7 +118,7 @@ raw_schema_in bytes = do
   found ← unfaulted (header supported_codes envelope.metadata)
   schema_of_header found
 
--- only the bytes that a schema is written as are its message
+-- the bytes are a schema's message only if they are those that the schema is written as
 unfoldable pub schema_in : List ℕ → Option PlainSchema
 schema_in bytes = do
   raw ← raw_schema_in bytes
@@ -135,7 +135,7 @@ body_at form bytes = do
   segments ← counted_at (segment_at form) text.1
   Some ((schema, segments.0), segments.1)
 
--- the table of this name and page that has them
+-- the table with this name, page, schema and segments
 abbrev pub entry_from : List ℕ → Option Extent → PlainSchema × List Segment → PlainEntry
 entry_from name page body = record { name = name; schema = body.0; segments = body.1; page = page }
 
@@ -145,7 +145,7 @@ entry_at form bytes = do
   body ← body_at form name.1
   Some (entry_from name.0 None body.0, body.1)
 
--- the catalogue whose text of this form these bytes are: its entries, which may stand so, and nothing behind them
+-- the catalogue of a text in this form: valid entries, and no bytes after them
 unfoldable pub catalogue_at : SegmentForm → List ℕ → Option PlainCatalogue
 catalogue_at form bytes = do
   entries ← counted_at (entry_at form) bytes
@@ -153,7 +153,7 @@ catalogue_at form bytes = do
 
 -- ---- a root and pages
 
--- what a page of this form says, with at most so many segments, and nothing behind them
+-- the contents of a page in this form, with at most `most` segments and no bytes after them
 unfoldable pub page_at : SegmentForm → (most : ℕ) → List ℕ → Option (PlainSchema × List Segment)
 page_at form most bytes = do
   body ← body_at form bytes
@@ -165,7 +165,7 @@ root_entry_at bytes = do
   page ← extent_in name.1
   Some (record { name = name.0; page = page.0 }, page.1)
 
--- the tables of a root: each name comes before the next, there are not too many, and nothing stands after them
+-- the tables of a root: the names ascend, there are not too many, and no bytes follow
 unfoldable pub root_at : List ℕ → Option (List PlainRoot)
 root_at bytes = do
   entries ← counted_at root_entry_at bytes

@@ -6,11 +6,11 @@ use Rattle.segments.specs.declared.extent.Extent.{Extent}
 use Rattle.catalogue.specs.Entries.{PlainEntry, PlainCatalogue, PlainRoot}
 use Rattle.catalogue.specs.declared.entry.Segment.{Segment}
 
--- four bytes of length, and n bytes
+-- a length in four bytes, and the bytes
 abbrev pub sized : List ℕ → List ℕ
 sized bytes = little_bytes 4 (length bytes) ++ bytes
 
--- four bytes of number, and the text of each
+-- a count in four bytes, and the text of each value
 abbrev pub counted : {A : Type 0} → (A → List ℕ) → List A → List ℕ
 counted text xs = little_bytes 4 (length xs) ++ flat_map text xs
 
@@ -18,23 +18,23 @@ counted text xs = little_bytes 4 (length xs) ++ flat_map text xs
 abbrev pub extent_text : Extent → List ℕ
 extent_text e = little_bytes 8 e.run.start ++ (little_bytes 8 e.run.count ++ little_bytes 8 e.bytes)
 
--- the bytes of a digest as they are, if there is one
+-- the bytes of a digest, if there is one
 abbrev pub digest_text : Option (List ℕ) → List ℕ
 digest_text None = []
 digest_text (Some digest) = digest
 
--- where it lies, its rows as a number of 64 bits, and its digest, if it has one
+-- the extent, the number of rows in 64 bits, and the digest if there is one
 abbrev pub segment_text : Segment → List ℕ
 segment_text s = extent_text s.place ++ (little_bytes 8 s.rows ++ digest_text s.digest)
 
--- a table without its name: the message of its schema, and its segments. It is the text of a page
+-- a table without its name: the message of its schema, and its segments. This is the text of a page
 unfoldable pub table_text : PlainEntry → List ℕ
 table_text e = sized (schema_message e.schema) ++ counted segment_text e.segments
 
 abbrev pub entry_text : PlainEntry → List ℕ
 entry_text e = sized e.name ++ table_text e
 
--- the whole list of the tables
+-- the list of all tables
 abbrev pub list_text : PlainCatalogue → List ℕ
 list_text c = counted entry_text c
 
@@ -45,7 +45,7 @@ root_entry_text r = sized r.name ++ extent_text r.page
 abbrev pub root_text : List PlainRoot → List ℕ
 root_text rs = counted root_entry_text rs
 
--- how many bytes they have; where runs start doesn't matter
+-- the sizes of these texts in bytes; they do not depend on where runs start
 abbrev pub segment_size : Segment → ℕ
 segment_size s = 32 + length (digest_text s.digest)
 

@@ -1,4 +1,4 @@
--- What a catalogue of the code is, whatever memory it takes.
+-- The plain value of a catalogue of the code, whatever memory it uses.
 use Rattle.std.specs.Prelude.{map}
 use Rattle.catalogue.specs.declared.catalogue.Catalogue.{Catalogue}
 use Rattle.catalogue.specs.Entries.{PlainCatalogue, plain_entry}

@@ -13,7 +13,7 @@ use crate::{Segment, TableEntry};
 use segments::Run;
 use std::alloc::{AllocError, Global};
 
-/// The tables of a store, in order of their names, byte by byte.
+/// The tables of a store, in byte order of their names.
 #[derive(Drop)]
 pub struct Catalogue {
     entries: Vec<TableEntry>,
@@ -28,7 +28,7 @@ impl Catalogue {
     ghost use Rattle.catalogue.specs.Edits.{entry_of, with_entry, without, renamed, with_more, with_exchanged, digested, tables_of};
     ghost use Rattle.catalogue.specs.View.{catalogue_of};
 
-    /// Without tables.
+    /// Creates a catalogue without tables.
     pub fn empty(alloc: Global) -> Self
         ensures { catalogue_of result ≡ [] }
     {
@@ -37,7 +37,7 @@ impl Catalogue {
         }
     }
 
-    // These entries, if they may stand so.
+    // Returns a catalogue of these entries, or `None` if they break its invariant.
     pub(crate) fn of(entries: Vec<TableEntry>) -> Option<Self>
         ensures { option_map catalogue_of result ≡ (if is_catalogue (map plain_entry entries.items) then Some (map plain_entry entries.items) else None) }
     {
@@ -52,7 +52,7 @@ impl Catalogue {
         }
     }
 
-    /// These entries, which may stand so: their order, names, schemas, segments and pages are known to be sound.
+    /// Creates a catalogue of these entries, whose order, names, schemas, segments and pages are already known to be valid.
     pub fn of_entries(entries: Vec<TableEntry>) -> Self
         requires { is_catalogue (map plain_entry entries.items) ≡ true }
         ensures { catalogue_of result ≡ map plain_entry entries.items }
@@ -60,7 +60,7 @@ impl Catalogue {
         Catalogue { entries }
     }
 
-    /// How many tables there are.
+    /// Returns the number of tables.
     pub fn len(&self) -> usize
         ensures tables { result ≡ length (catalogue_of self.now) }
         ensures kept { IsCatalogue (catalogue_of self.now) }
@@ -68,7 +68,7 @@ impl Catalogue {
         self.entries.len()
     }
 
-    /// The tables in order.
+    /// Returns the tables in order.
     pub fn entries(&self) -> &[TableEntry]
         ensures entries { map plain_entry result.now ≡ catalogue_of self.now }
         ensures kept { IsCatalogue (catalogue_of self.now) }
@@ -76,14 +76,14 @@ impl Catalogue {
         &self.entries
     }
 
-    /// The tables in order, in the memory that they have.
+    /// Returns the tables in order, without copying them.
     pub fn into_entries(self) -> Vec<TableEntry>
         ensures { map plain_entry result.items ≡ catalogue_of self }
     {
         self.entries
     }
 
-    /// The table of a name, if there is one.
+    /// Returns the table of this name, if there is one.
     pub fn get(&self, name: &str) -> Option<&TableEntry>
         ensures entry { option_map (λ e. plain_entry e.now) result ≡ entry_of (catalogue_of self.now) name.now }
         ensures kept { IsCatalogue (catalogue_of self.now) }
@@ -94,11 +94,11 @@ impl Catalogue {
         }
     }
 
-    /// Puts a table into its place, instead of the one of its name, and hands back what stood there. What it asks for:
-    /// `TableEntry::is_sound` and the laws of [`crate::counts_after_changes`].
+    /// Inserts a table, replacing one of the same name, and returns the replaced one. `TableEntry::is_sound` and the laws of
+    /// [`crate::counts_after_changes`] help to show the preconditions.
     ///
     /// # Errors
-    /// `AllocError` where memory was refused. The catalogue is as it was then, and the entry is freed.
+    /// `AllocError` if memory was refused. The catalogue is then unchanged, and the entry is freed.
     pub fn put(&mut self, entry: TableEntry) -> Result<Option<TableEntry>, AllocError>
         requires entry { is_entry (plain_entry entry) ≡ true }
         requires tables { length (with_entry (catalogue_of self.old) (plain_entry entry)) ≤ MAX_TABLES }
@@ -110,7 +110,7 @@ impl Catalogue {
         put_entry(&mut self.entries, entry)
     }
 
-    /// Takes the table of a name out, and hands it back. It takes no memory.
+    /// Removes the table of this name and returns it. Allocates no memory.
     pub fn remove(&mut self, name: &str) -> Option<TableEntry>
         ensures removed { catalogue_of self.new ≡ without (catalogue_of self.old) name.now }
         ensures stood { option_map plain_entry result ≡ entry_of (catalogue_of self.old) name.now }
@@ -118,10 +118,10 @@ impl Catalogue {
         take_entry(&mut self.entries, name)
     }
 
-    /// Gives the table of a name another name, and with it its place; its page stays.
+    /// Renames a table, which moves to its new place in the order and keeps its page.
     ///
     /// # Errors
-    /// `AllocError` where memory was refused. The catalogue is as it was then.
+    /// `AllocError` if memory was refused. The catalogue is then unchanged.
     pub fn rename(&mut self, from: &str, to: String) -> Result<(), AllocError>
         requires name { is_name (string_bytes to) ≡ true }
         ensures renamed { OnOk result (catalogue_of self.new ≡ renamed (catalogue_of self.old) from.now (string_bytes to)) }
@@ -130,11 +130,10 @@ impl Catalogue {
         rename_entry(&mut self.entries, from, to)
     }
 
-    /// Puts segments after those of a table, which is without a page then. Where there are none, or no table of the name,
-    /// nothing changes.
+    /// Appends segments to a table, which then has no page. Does nothing if there are no segments, or no table of this name.
     ///
     /// # Errors
-    /// `AllocError` where memory was refused. The catalogue is as it was then.
+    /// `AllocError` if memory was refused. The catalogue is then unchanged.
     pub fn append_segments(&mut self, name: &str, more: &[Segment]) -> Result<(), AllocError>
         requires segments { list_all is_segment more.now ≡ true }
         requires most { segment_count (catalogue_of self.old) + length more.now ≤ MAX_SEGMENTS }
@@ -144,11 +143,10 @@ impl Catalogue {
         append_to(&mut self.entries, name, more)
     }
 
-    /// Exchanges n segments of a table, from a place on, for others; the table is without a page then. Where there is
-    /// no table of the name, nothing changes.
+    /// Replaces `count` segments of a table from `place` on; the table then has no page. Does nothing if there is no table of this name.
     ///
     /// # Errors
-    /// `AllocError` where memory was refused. The catalogue is as it was then.
+    /// `AllocError` if memory was refused. The catalogue is then unchanged.
     pub fn exchange_segments(
         &mut self,
         name: &str,
@@ -163,11 +161,10 @@ impl Catalogue {
         exchange_in(&mut self.entries, name, place, count, others)
     }
 
-    /// Gives each segment its digest, in the order of the tables and of their segments; a table that has some is without a
-    /// page then.
+    /// Sets the digest of each segment, in the order of the tables and of their segments. A table that has segments then has no page.
     ///
     /// # Errors
-    /// `AllocError` where memory was refused. The catalogue is as it was then.
+    /// `AllocError` if memory was refused. The catalogue is then unchanged.
     pub fn set_digests(&mut self, digests: &[[u8; 32]]) -> Result<(), AllocError>
         requires count { segment_count (catalogue_of self.old) ≡ length digests.now }
         requires digests { list_all (λ digest. is_digest (Some digest)) digests.now ≡ true }
@@ -179,7 +176,7 @@ impl Catalogue {
         Ok(())
     }
 
-    /// All segments of all tables.
+    /// Returns the number of segments of all tables.
     pub fn segment_count(&self) -> u64
         ensures { result ≡ segment_count (catalogue_of self.now) }
     {
@@ -190,10 +187,10 @@ impl Catalogue {
         count
     }
 
-    /// The name of each table and its rows, in order.
+    /// Returns the name and the number of rows of each table, in order.
     ///
     /// # Errors
-    /// `AllocError` where memory was refused.
+    /// `AllocError` if memory was refused.
     pub fn tables(&self, alloc: Global) -> Result<Vec<(String, u64)>, AllocError>
         ensures { IfOk result (λ tables. map (λ t. (string_bytes t.0, t.1)) tables.items ≡ tables_of (catalogue_of self.now)) }
     {
@@ -205,10 +202,10 @@ impl Catalogue {
         Ok(tables)
     }
 
-    /// The runs that it names, table after table: that of the page, if it has one, and those of its segments.
+    /// Returns the runs that the catalogue names, table by table: the run of its page, if it has one, and those of its segments.
     ///
     /// # Errors
-    /// `AllocError` where memory was refused.
+    /// `AllocError` if memory was refused.
     pub fn runs(&self, alloc: Global) -> Result<Vec<Run>, AllocError>
         ensures { IfOk result (λ runs. runs.items ≡ runs_of (catalogue_of self.now)) }
     {
@@ -219,10 +216,10 @@ impl Catalogue {
         Ok(runs)
     }
 
-    /// The same catalogue: a list of its own, whose entries it shares.
+    /// Copies the catalogue: the list is new, its entries are shared.
     ///
     /// # Errors
-    /// `AllocError` where memory was refused.
+    /// `AllocError` if memory was refused.
     pub fn copy(&self, alloc: Global) -> Result<Catalogue, AllocError>
         ensures { IfOk result (λ c. catalogue_of c ≡ catalogue_of self.now) }
     {

@@ -1,4 +1,4 @@
-// A text is read.
+// Decodes the text of a catalogue or of a page.
 ghost use Rattle.std.specs.Prelude.{◌≡◌, ◌≤◌, map, length, IfOk};
 ghost use Rattle.catalogue.specs.Entries.{plain_entry};
 ghost use Rattle.catalogue.specs.Reading.{Gives, front_number, sized_at, name_at, many_at, extent_in, digest_in, segment_at, raw_schema_in, schema_in, body_at, entry_at, catalogue_at, page_at};
@@ -17,7 +17,7 @@ use segments::{Extent, Run};
 use std::alloc::{AllocError, AllocFailed, Global};
 use thiserror::Error;
 
-/// Why no catalogue was read.
+/// Why a text was not decoded.
 #[derive(Clone, Copy, Debug, PartialEq, Eq, Error)]
 pub enum DecodeError {
     #[error("no text of a catalogue")]
@@ -56,7 +56,7 @@ fn sized_at(bytes: &[u8]) -> Result<(&[u8], &[u8]), DecodeError>
     Ok(rest.split_at(size))
 }
 
-// A name of a table.
+// Reads the name of a table.
 #[tactic(auto, unfolding(crate::specs::Reading::name_at))]
 pub(crate) fn name_at(bytes: &[u8]) -> Result<(&str, &[u8]), DecodeError>
     ensures { Gives (λ x. (x.0.now, x.1.now)) result (name_at bytes.now) }
@@ -82,7 +82,7 @@ pub(crate) fn extent_in(bytes: &[u8]) -> Result<(Extent, &[u8]), DecodeError>
     Ok((Extent { run, bytes }, rest))
 }
 
-// The digest of a segment, where the form has one.
+// Reads the digest of a segment, if the form has one.
 #[tactic(auto, unfolding(crate::specs::Reading::digest_in))]
 fn digest_in(form: SegmentForm, bytes: &[u8]) -> Result<(Option<[u8; 32]>, &[u8]), DecodeError>
     ensures { Gives (λ x. (x.0, x.1.now)) result (digest_in form bytes.now) }
@@ -161,7 +161,7 @@ fn schema_in(alloc: Global, bytes: &[u8]) -> Result<Schema, DecodeError>
     }
 }
 
-// A schema, segments, and the bytes behind them.
+// Reads a schema and segments, and returns the bytes after them.
 #[tactic(auto, unfolding(crate::specs::Reading::body_at))]
 fn body_at(
     alloc: Global,
@@ -210,10 +210,10 @@ fn entries_at(
     Ok((entries, rest))
 }
 
-/// The catalogue whose text of this form these bytes are.
+/// Decodes the text of a catalogue in this form.
 ///
 /// # Errors
-/// `NoText` where they are the text of none; `OutOfMemory` where memory was refused.
+/// `NoText` if the bytes are not the text of a catalogue; `OutOfMemory` if memory was refused.
 #[tactic(auto, unfolding(crate::specs::Reading::catalogue_at))]
 pub fn decode(alloc: Global, form: SegmentForm, bytes: &[u8]) -> Result<Catalogue, DecodeError>
     ensures exact { Gives catalogue_of result (catalogue_at form bytes.now) }
@@ -226,10 +226,10 @@ pub fn decode(alloc: Global, form: SegmentForm, bytes: &[u8]) -> Result<Catalogu
     Catalogue::of(entries).ok_or(DecodeError::NoText)
 }
 
-/// The schema and the segments, at most so many, that a page of this text and form says.
+/// Decodes the text of a page in this form into its schema and its segments, of which there are at most `most`.
 ///
 /// # Errors
-/// `NoText` where they are the text of no such page; `OutOfMemory` where memory was refused.
+/// `NoText` if the bytes are not the text of such a page; `OutOfMemory` if memory was refused.
 #[tactic(auto, unfolding(crate::specs::Reading::page_at))]
 pub fn decode_page(
     alloc: Global,

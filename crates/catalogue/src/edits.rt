@@ -1,4 +1,4 @@
-// Changes of a list of entries, and copies of it.
+// Changes and copies of a list of entries.
 ghost use Rattle.std.specs.Prelude.{◌≡◌, ◌<◌, ◌++◌, true, map, length, option_map, string_bytes, vec_len, OnOk, OnErr, IfOk, IsOk, IsSome};
 ghost use Rattle.std.specs.Vec.{vec_capacity};
 ghost use Rattle.catalogue.specs.Entries.{plain_entry, names_of, ascends, segment_count, runs_in};
@@ -11,7 +11,7 @@ use crate::{Segment, TableEntry};
 use segments::Run;
 use std::alloc::{AllocError, Global};
 
-// Puts an entry into its place, and gives the one that stood there. It fails only where there is no room.
+// Inserts an entry and returns the one it replaces. Fails only if there is no room.
 pub(crate) fn put_entry(
     entries: &mut Vec<TableEntry>,
     entry: TableEntry,
@@ -31,7 +31,6 @@ pub(crate) fn put_entry(
     }
 }
 
-// Takes the entry of a name out.
 pub(crate) fn take_entry(entries: &mut Vec<TableEntry>, name: &str) -> Option<TableEntry>
     ensures removed { map plain_entry entries.new.items ≡ without (map plain_entry entries.old.items) name.now }
     ensures stood { option_map plain_entry result ≡ entry_of (map plain_entry entries.old.items) name.now }
@@ -43,7 +42,7 @@ pub(crate) fn take_entry(entries: &mut Vec<TableEntry>, name: &str) -> Option<Ta
     }
 }
 
-// Gives the entry of a name another one.
+// Renames the entry of a name.
 pub(crate) fn rename_entry(
     entries: &mut Vec<TableEntry>,
     from: &str,
@@ -64,14 +63,14 @@ pub(crate) fn rename_entry(
     }
 }
 
-// These segments, and more after them.
+// Returns the segments followed by more.
 fn joined(alloc: Global, segments: &[Segment], more: &[Segment]) -> Result<Vec<Segment>, AllocError>
     ensures { IfOk result (λ all. all.items ≡ segments.now ++ more.now) }
 {
     segments.iter().chain(more.iter()).copied().collect(alloc)
 }
 
-// Puts segments after those of an entry, whose page doesn't say them.
+// Appends segments to an entry, which loses its page: its text does not list them.
 fn append_more(entry: &mut TableEntry, more: &[Segment]) -> Result<(), AllocError>
     ensures more { OnOk result (plain_entry entry.new ≡ refilled (plain_entry entry.old) ((plain_entry entry.old).segments ++ more.now)) }
     ensures err { OnErr result (plain_entry entry.new ≡ plain_entry entry.old) }
@@ -81,7 +80,7 @@ fn append_more(entry: &mut TableEntry, more: &[Segment]) -> Result<(), AllocErro
     Ok(())
 }
 
-// Puts segments after those of the entry of a name.
+// Appends segments to the entry of a name.
 pub(crate) fn append_to(
     entries: &mut Vec<TableEntry>,
     name: &str,
@@ -90,7 +89,7 @@ pub(crate) fn append_to(
     ensures appended { OnOk result (map plain_entry entries.new.items ≡ with_more (map plain_entry entries.old.items) name.now more.now) }
     ensures err { OnErr result (map plain_entry entries.new.items ≡ map plain_entry entries.old.items) }
 {
-    // A table that gets none keeps its page.
+    // An entry that gets no segments keeps its page.
     if more.is_empty() {
         return Ok(());
     }
@@ -100,7 +99,7 @@ pub(crate) fn append_to(
     }
 }
 
-// These segments, with others in place of n of them from a place on.
+// Returns the segments with `count` of them, from `place` on, replaced by others.
 fn exchanged(
     alloc: Global,
     segments: &[Segment],
@@ -119,7 +118,7 @@ fn exchanged(
         .collect(alloc)
 }
 
-// Exchanges n segments of an entry from a place on for others, which its page doesn't say.
+// Replaces `count` segments of an entry from `place` on. The entry loses its page, whose text does not list the new ones.
 fn exchange(
     entry: &mut TableEntry,
     place: usize,
@@ -135,7 +134,7 @@ fn exchange(
     Ok(())
 }
 
-// Exchanges segments of the entry of a name for others.
+// Replaces segments of the entry of a name.
 pub(crate) fn exchange_in(
     entries: &mut Vec<TableEntry>,
     name: &str,
@@ -152,7 +151,7 @@ pub(crate) fn exchange_in(
     }
 }
 
-// Gives segments their digests, in order.
+// Sets the digests of segments, in order.
 fn digest_segments(segments: &mut Vec<Segment>, digests: &[[u8; 32]])
     requires { vec_len segments.old ≡ length digests.now }
     ensures { segments.new.items ≡ with_digests segments.old.items digests.now }
@@ -162,7 +161,7 @@ fn digest_segments(segments: &mut Vec<Segment>, digests: &[[u8; 32]])
     }
 }
 
-// The same entry, its segments with their digests. Its page, which says none, stays only where it has no segments.
+// Copies an entry with the digests of its segments. It keeps its page, whose text has no digests, only if it has no segments.
 fn digested_entry(entry: &TableEntry, digests: &[[u8; 32]]) -> Result<TableEntry, AllocError>
     requires { length (plain_entry entry.now).segments ≡ length digests.now }
     ensures { IfOk result (λ e. plain_entry e ≡ entry_digested (plain_entry entry.now) digests.now) }
@@ -175,7 +174,7 @@ fn digested_entry(entry: &TableEntry, digests: &[[u8; 32]]) -> Result<TableEntry
     entry.refilled(segments)
 }
 
-// The same entries, the segments of each with the next digests.
+// Copies the entries; the segments of each one take the next digests.
 pub(crate) fn digested_entries(
     alloc: Global,
     entries: &[TableEntry],
@@ -207,7 +206,7 @@ pub(crate) fn put_entry_runs(runs: &mut Vec<Run>, entry: &TableEntry) -> Result<
 /// Appends the runs of segments.
 ///
 /// # Errors
-/// `AllocError` where memory was refused: then some of the runs may be appended.
+/// `AllocError` if memory was refused; then some of the runs may have been appended.
 pub fn put_runs(runs: &mut Vec<Run>, segments: &[Segment]) -> Result<(), AllocError>
     ensures { OnOk result (runs.new.items ≡ runs.old.items ++ map (λ (s : Segment). s.place.run) segments.now) }
 {

@@ -1,4 +1,4 @@
-// The text of a catalogue is written.
+// Encodes the text of a catalogue or of a page.
 ghost use Rattle.std.specs.Prelude.{◌≡◌, ◌≤◌, ◌<◌, ◌*◌, ◌^◌, ◌++◌, true, length, sum_by, OnOk, IfOk};
 ghost use Rattle.std.specs.List.{list_all};
 ghost use Rattle.byteorder.specs.Endian.{little_bytes};
@@ -72,7 +72,7 @@ fn put_segments(out: &mut Vec<u8>, segments: &[Segment]) -> Result<(), AllocErro
     Ok(())
 }
 
-// The message of a schema.
+// Returns the message of a schema.
 pub(crate) fn message_of(alloc: Global, schema: &Schema) -> Result<Vec<u8>, AllocError>
     requires { IsWithinLimits (schema_of schema.now) }
     ensures message { IfOk result (λ bytes. bytes.items ≡ schema_message (schema_of schema.now)) }
@@ -84,7 +84,7 @@ pub(crate) fn message_of(alloc: Global, schema: &Schema) -> Result<Vec<u8>, Allo
     Ok(message)
 }
 
-// The text of a table without its name.
+// Appends the text of a table without its name.
 #[tactic(auto, unfolding(crate::specs::Text::table_text))]
 fn put_table(alloc: Global, out: &mut Vec<u8>, entry: &TableEntry) -> Result<(), AllocError>
     requires sound { is_entry (plain_entry entry.now) ≡ true }
@@ -105,10 +105,10 @@ fn put_entry(alloc: Global, out: &mut Vec<u8>, entry: &TableEntry) -> Result<(),
     put_table(alloc, out, entry)
 }
 
-/// The text of a catalogue.
+/// Returns the text of a catalogue.
 ///
 /// # Errors
-/// `AllocError` where memory was refused.
+/// `AllocError` if memory was refused.
 pub fn encode(alloc: Global, catalogue: &Catalogue) -> Result<Vec<u8>, AllocError>
     ensures text { IfOk result (λ text. text.items ≡ list_text (catalogue_of catalogue.now)) }
 {
@@ -121,10 +121,10 @@ pub fn encode(alloc: Global, catalogue: &Catalogue) -> Result<Vec<u8>, AllocErro
     Ok(out)
 }
 
-/// The text of the page of a table: its schema and its segments, and nothing of its name.
+/// Returns the text of a table's page: its schema and segments, without its name.
 ///
 /// # Errors
-/// `AllocError` where memory was refused.
+/// `AllocError` if memory was refused.
 pub fn encode_page(alloc: Global, entry: &TableEntry) -> Result<Vec<u8>, AllocError>
     requires sound { is_entry (plain_entry entry.now) ≡ true }
     requires segments { length (plain_entry entry.now).segments < 2 ^ 32 }
@@ -159,10 +159,10 @@ fn segments_size(segments: &[Segment]) -> u64
     size
 }
 
-/// How many bytes the text of the page of a table has. Where its segments lie makes no difference.
+/// Returns the size in bytes of the text of a table's page. It does not depend on where the segments lie.
 ///
 /// # Errors
-/// `AllocError` where memory was refused.
+/// `AllocError` if memory was refused.
 pub fn page_size(alloc: Global, entry: &TableEntry) -> Result<u64, AllocError>
     requires sound { is_entry (plain_entry entry.now) ≡ true }
     requires segments { length (plain_entry entry.now).segments < 2 ^ 32 }

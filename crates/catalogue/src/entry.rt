@@ -16,7 +16,7 @@ use segments::{Extent, Run};
 use std::alloc::{AllocError, Global};
 use std::rc::Rc;
 
-/// How a text says segments.
+/// How a text lists segments.
 #[derive(Clone, Copy, Debug, PartialEq, Eq)]
 pub enum SegmentForm {
     /// Without digests.
@@ -25,8 +25,7 @@ pub enum SegmentForm {
     Digested,
 }
 
-/// A run that holds one stream of a table, how many rows it has, and the SHA-256 of its bytes (FIPS 180-4), if the text that
-/// names it says one.
+/// A run that holds one stream of a table, the number of its rows, and the SHA-256 of its bytes (FIPS 180-4) if the text that names it has digests.
 #[derive(Clone, Copy)]
 pub struct Segment {
     pub place: Extent,
@@ -34,7 +33,7 @@ pub struct Segment {
     pub digest: Option<[u8; 32]>,
 }
 
-// A table as it is listed, wherever its text lies: the entries that are copies of one another share it.
+// The name, schema and segments of a table, which copies of an entry share.
 #[derive(Drop)]
 struct ListedTable {
     name: String,
@@ -42,15 +41,15 @@ struct ListedTable {
     segments: Vec<Segment>,
 }
 
-/// A table: its name, its schema, and its rows in segments, in order. Copies of an entry share these.
+/// A table: its name, its schema, and the segments of its rows in order. Copies of an entry share these.
 #[derive(Drop)]
 pub struct TableEntry {
     table: Rc<ListedTable>,
-    /// Where the text of the table lies, if it lies in a page of its own.
+    /// Where the text of the table lies, if it has a page of its own.
     pub page: Option<Extent>,
 }
 
-/// A table of a root: its name, and where its page lies.
+/// A table in a root: its name, and where its page lies.
 #[derive(Drop)]
 pub struct RootEntry<'a> {
     pub name: &'a str,
@@ -58,7 +57,7 @@ pub struct RootEntry<'a> {
 }
 
 impl Segment {
-    /// Whether a catalogue may name it: it has some bytes, just the sectors that they need, and 1 to 4,096 rows.
+    /// Returns whether a catalogue may name the segment: it has at least one byte, exactly the sectors that its bytes need, and 1 to 4,096 rows.
     pub fn is_sound(self) -> bool
         ensures { result ≡ is_segment self }
     {
@@ -70,7 +69,7 @@ impl Segment {
     }
 }
 
-// Whether it has the bytes of a digest, if there is one, as each array of 32 has.
+// Returns whether a digest, if there is one, has 32 bytes, as every array of this type has.
 fn is_digest(digest: Option<[u8; 32]>) -> bool
     ensures { result ≡ is_digest digest }
 {
@@ -80,7 +79,8 @@ fn is_digest(digest: Option<[u8; 32]>) -> bool
     }
 }
 
-// Whether a catalogue may name it, if there is one: it has the bytes of its two numbers, and just the sectors that it needs.
+// Returns whether a catalogue may name the page, if there is one: it has at least the bytes of its two numbers, and exactly the sectors that its
+// bytes need.
 fn is_page(page: Option<Extent>) -> bool
     ensures { result ≡ is_page page }
 {
@@ -90,7 +90,7 @@ fn is_page(page: Option<Extent>) -> bool
     }
 }
 
-// Whether it keeps the limits of schemas.
+// Returns whether the schema is within the limits.
 #[tactic(auto, using(crate::specs::laws::Kept::passes_limits, crate::specs::laws::Kept::fails_limits))]
 pub(crate) fn is_within_limits(schema: &Schema) -> bool
     ensures { result ≡ is_within_limits (schema_of schema.now) }
@@ -113,10 +113,10 @@ pub(crate) fn are_sound(segments: &[Segment]) -> bool
 }
 
 impl TableEntry {
-    /// A table of this name, this schema and these segments, whose text lies in this page, if it lies in one of its own.
+    /// Creates a table of this name, schema and segments, whose text lies in `page`, if it has one of its own.
     ///
     /// # Errors
-    /// `AllocError` where memory was refused. The parts are freed then.
+    /// `AllocError` if memory was refused. The parts are then freed.
     pub fn new(
         alloc: Global,
         name: String,
@@ -137,33 +137,33 @@ impl TableEntry {
         })
     }
 
-    /// Its name.
+    /// Returns the name.
     pub fn name(&self) -> &str
         ensures { result.now ≡ (plain_entry self.now).name }
     {
         &self.table.name
     }
 
-    /// Its schema.
+    /// Returns the schema.
     pub fn schema(&self) -> &Schema
         ensures { schema_of result.now ≡ (plain_entry self.now).schema }
     {
         &self.table.schema
     }
 
-    /// Its segments, in order.
+    /// Returns the segments in order.
     pub fn segments(&self) -> &[Segment]
         ensures { result.now ≡ (plain_entry self.now).segments }
     {
         &self.table.segments
     }
 
-    // The heap that it lies on.
+    // Returns the allocator of the entry.
     pub(crate) fn alloc(&self) -> Global {
         *self.table.segments.allocator()
     }
 
-    /// Its rows, those of all its segments.
+    /// Returns the number of rows in all segments.
     pub fn rows(&self) -> u64
         requires { row_count (plain_entry self.now) < 2 ^ 64 }
         ensures { result ≡ row_count (plain_entry self.now) }
@@ -175,10 +175,10 @@ impl TableEntry {
         rows
     }
 
-    /// The runs of its segments, in order.
+    /// Returns the runs of the segments in order.
     ///
     /// # Errors
-    /// `AllocError` where memory was refused.
+    /// `AllocError` if memory was refused.
     pub fn runs(&self, alloc: Global) -> Result<Vec<Run>, AllocError>
         ensures { IfOk result (λ runs. runs.items ≡ runs_in_segments (plain_entry self.now).segments) }
     {
@@ -187,7 +187,7 @@ impl TableEntry {
         Ok(runs)
     }
 
-    /// Whether it may stand in a catalogue.
+    /// Returns whether the entry may be in a catalogue.
     pub fn is_sound(&self) -> bool
         ensures { result ≡ is_entry (plain_entry self.now) }
     {
@@ -197,7 +197,7 @@ impl TableEntry {
             && is_page(self.page)
     }
 
-    // The same table under another name. Its page says nothing of the name, and stays.
+    // Copies the table under another name. It keeps its page, whose text does not have the name.
     pub(crate) fn named(&self, name: String) -> Result<TableEntry, AllocError>
         ensures { IfOk result (λ e. plain_entry e ≡ named (string_bytes name) (plain_entry self.now)) }
     {
@@ -207,7 +207,7 @@ impl TableEntry {
         TableEntry::new(alloc, name, schema, segments, self.page)
     }
 
-    // The same table with other segments, which its page doesn't say.
+    // Copies the table with other segments and without its page, whose text does not list them.
     pub(crate) fn refilled(&self, segments: Vec<Segment>) -> Result<TableEntry, AllocError>
         ensures { IfOk result (λ e. plain_entry e ≡ refilled (plain_entry self.now) segments.items) }
     {
@@ -217,10 +217,10 @@ impl TableEntry {
         TableEntry::new(alloc, name, schema, segments, None)
     }
 
-    /// The same entry. It shares all but the page, and takes no memory.
+    /// Copies the entry. Everything but the page is shared, and no memory is allocated.
     ///
     /// # Errors
-    /// `AllocError` where so many share it that they can't be counted.
+    /// `AllocError` if it already has as many copies as can be counted.
     pub fn copy(&self) -> Result<TableEntry, AllocError>
         ensures { IfOk result (λ e. plain_entry e ≡ plain_entry self.now) }
     {

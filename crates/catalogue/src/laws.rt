@@ -1,4 +1,4 @@
-// Laws of the definitions, for the crates above: each call does nothing, and its contract is the law.
+// Laws of the definitions for the crates above: the functions do nothing, and their contracts are the laws.
 ghost use Rattle.std.specs.Prelude.{◌≡◌, ◌≤◌, ◌*◌, ◌++◌, ℕ, true, List, length, map, Some};
 ghost use Rattle.std.specs.List.{Contains, list_all};
 ghost use Rattle.facts.specs.Bytes.{AreBytes};
@@ -13,7 +13,7 @@ ghost use Rattle.catalogue.specs.Text.{list_text, list_size, table_text, table_s
 ghost use Rattle.catalogue.specs.Reading.{catalogue_at, page_at, root_at};
 ghost use Rattle.catalogue.specs.inner.Messages.{AllAgain};
 
-// The message of a schema is read again, and its length has 32 bits.
+// The message of a schema is read back, and its length fits in 32 bits.
 fn schemas_are_read_again()
     ensures { AllAgain }
 {
@@ -21,9 +21,9 @@ fn schemas_are_read_again()
     ipc_write::metadata_is_within_its_limit();
 }
 
-/// One text for each catalogue, and in each form one catalogue for each text. `kept`: what is read is a catalogue;
-/// `formed`: of the form in which it is read; `found`: it was written so; `again`: what is written is read, without the pages,
-/// of which a list says nothing; `pageless`: what is read has none; `apart`: no text begins another one of its form.
+/// Each catalogue has one text, and in each form each text has one catalogue. `kept`: what is decoded is a catalogue; `formed`: it has the form in
+/// which it is decoded; `found`: the bytes are its text; `again`: a text is decoded to the catalogue it was written from, without the pages, which a
+/// list does not have; `pageless`: a decoded catalogue has no pages; `apart`: no text begins another one of its form.
 pub fn one_text_each()
     ensures kept { (form : SegmentForm) (bytes : List ℕ) (c : PlainCatalogue) → catalogue_at form bytes ≡ Some c → IsCatalogue c }
     ensures formed { (form : SegmentForm) (bytes : List ℕ) (c : PlainCatalogue) → catalogue_at form bytes ≡ Some c → has_form form c ≡ true }
@@ -38,8 +38,8 @@ pub fn one_text_each()
     schemas_are_read_again();
 }
 
-/// One text for the page of each table, and one table for each page; a name makes no difference to it. The clauses are
-/// those of [`one_text_each`]; `size`: how many bytes it has.
+/// Each table has one page text, and each page text has one table, up to its name. The clauses are those of [`one_text_each`]; `size`: the size of
+/// the text in bytes.
 pub fn one_page_each()
     ensures kept { (form : SegmentForm) (most : ℕ) (bytes : List ℕ) (e : PlainEntry) → page_at form most bytes ≡ Some (e.schema, e.segments)
         → (is_within_limits e.schema ≡ true) × (list_all is_segment e.segments ≡ true) × (length e.segments ≤ most) }
@@ -56,7 +56,7 @@ pub fn one_page_each()
     schemas_are_read_again();
 }
 
-/// One text for each root, and one root for each text, as [`one_page_each`].
+/// Each root has one text, and each text has one root. The clauses are those of [`one_page_each`].
 pub fn one_root_each()
     ensures kept { (bytes : List ℕ) (rs : List PlainRoot) → root_at bytes ≡ Some rs
         → (list_all (λ (r : PlainRoot). is_name r.name) rs ≡ true) × (ascends (root_names rs) ≡ true) × (length rs ≤ MAX_TABLES) }
@@ -66,24 +66,24 @@ pub fn one_root_each()
     ensures size { (rs : List PlainRoot) → length (root_text rs) ≡ root_size rs }
 {}
 
-/// How many bytes a text has. Where runs start makes no difference.
+/// The size of a text in bytes. It does not depend on where runs start.
 pub fn texts_have_these_sizes()
     ensures { (c : PlainCatalogue) → length (list_text c) ≡ list_size c }
 {}
 
-/// How many tables and segments there are after a change.
+/// The numbers of tables and segments after a change.
 pub fn counts_after_changes()
     ensures put { (c : PlainCatalogue) (e : PlainEntry) → HasMore c e (with_entry c e) }
     ensures replaced { (c : PlainCatalogue) (e old : PlainEntry) → IsCatalogue c → entry_of c e.name ≡ Some old → HasSame c old e (with_entry c e) }
     ensures removed { (c : PlainCatalogue) (name : List ℕ) (e : PlainEntry) → entry_of c name ≡ Some e → HasFewer c e (without c name) }
 {}
 
-/// The run of each segment is among those that the catalogue names.
+/// The runs that a catalogue names include the run of each segment.
 pub fn runs_are_named()
     ensures { (c : PlainCatalogue) (e : PlainEntry) (s : Segment) → Contains c e → Contains e.segments s → Contains (runs_of c) s.place.run }
 {}
 
-/// The rows of a table are at most 268,435,456: those of all segments that a catalogue may have.
+/// A table has at most 268,435,456 rows: those of all the segments that a catalogue may have.
 pub fn rows_are_few()
     ensures { (c : PlainCatalogue) (e : PlainEntry) → IsCatalogue c → Contains c e → row_count e ≤ MAX_SEGMENTS * MAX_SEGMENT_ROWS }
 {}

@@ -1,11 +1,11 @@
-//! The catalogue of a store: its tables, and the texts in which they are kept.
+//! The catalogue of a store: its tables, and the texts in which they are stored.
 //!
-//! `encode` writes the text of a catalogue, and `decode` reads just such texts: each catalogue has one text, and each
-//! text is that of one catalogue. A catalogue is changed by name. The segments of a text have digests or they have none: that
-//! is its form, which a reader must know.
+//! `encode` writes the text of a catalogue, and `decode` accepts only such texts: each catalogue has one text, and each text has one catalogue. A
+//! catalogue is changed by the names of its tables. All segments of a text have digests, or none has: this is the form of the text, which a reader
+//! must know.
 //!
-//! A long one is kept in pages: `encode_page` writes the text of one table, and `encode_root` where the page of each lies;
-//! `decode_page` and `decode_root` read just such texts. A renamed table keeps its page.
+//! A long catalogue is stored in pages: `encode_page` writes the text of one table, and `encode_root` a list of where each table's page lies;
+//! `decode_page` and `decode_root` accept only such texts. A renamed table keeps its page.
 //!
 //! ```
 //! let mut catalogue = decode(alloc, SegmentForm::Bare, &text)?;

@@ -1,10 +1,10 @@
 // The limits of a catalogue.
 
-/// The most bytes of a table's name.
+/// The maximum size in bytes of a table's name.
 pub const MAX_NAME_BYTES: usize = 64;
-/// The most rows of a segment: those of a piece (`MAX_PIECE_ROWS` of `cells`), as `store` proves, which cuts tables into pieces.
+/// The maximum number of rows in a segment: that of a piece (`MAX_PIECE_ROWS` of `cells`), as `store`, which cuts tables into pieces, proves.
 pub const MAX_SEGMENT_ROWS: u64 = 4096;
-/// The most tables of a store.
+/// The maximum number of tables in a store.
 pub const MAX_TABLES: usize = 1024;
-/// The most segments of a store, all its tables together.
+/// The maximum number of segments of all tables in a store.
 pub const MAX_SEGMENTS: u64 = 65_536;

@@ -22,7 +22,7 @@ fn are_name_bytes(bytes: &[u8]) -> bool
     true
 }
 
-/// Whether a table may have this name: 1 to 64 bytes, each an ASCII letter or digit, `_`, `-` or `.`.
+/// Returns whether a table may have this name: 1 to 64 bytes, each an ASCII letter or digit, `_`, `-` or `.`.
 pub fn is_name(name: &str) -> bool
     ensures { result ≡ is_name name.now }
 {

@@ -1,4 +1,4 @@
-// Where entries stand.
+// Finds the places of entries.
 ghost use Rattle.std.specs.Prelude.{◌≡◌, map};
 ghost use Rattle.catalogue.specs.Entries.{plain_entry};
 ghost use Rattle.catalogue.specs.inner.Places.{place_of, seat_of};
@@ -6,7 +6,7 @@ ghost use Rattle.catalogue.specs.inner.Places.{place_of, seat_of};
 use crate::TableEntry;
 use std::cmp::Ordering;
 
-// Where the entry of a name stands, if there is one.
+// Returns the place of the entry with this name, if there is one.
 pub(crate) fn place_of(entries: &[TableEntry], name: &str) -> Option<usize>
     ensures { result ≡ place_of name.now 0 (map plain_entry entries.now) }
 {
@@ -18,7 +18,7 @@ pub(crate) fn place_of(entries: &[TableEntry], name: &str) -> Option<usize>
     None
 }
 
-// Where an entry of this name is to stand: instead of one, or between the others.
+// Returns the place of the entry with this name as `Ok`, or the place to insert one as `Err`.
 pub(crate) fn seat_of(entries: &[TableEntry], name: &str) -> Result<usize, usize>
     ensures { result ≡ seat_of name.now 0 (map plain_entry entries.now) }
 {

@@ -1,4 +1,4 @@
-// The text of a root is written and read.
+// Encodes and decodes the text of a root.
 ghost use Rattle.std.specs.Prelude.{◌≡◌, ◌^◌, ◌<◌, ◌++◌, map, length, IfOk, OnOk};
 ghost use Rattle.catalogue.specs.Entries.{plain_root, ascends, comes_before, root_names, is_name, IsRoot};
 ghost use Rattle.catalogue.specs.Reading.{Gives, many_at, root_entry_at, root_at};
@@ -37,7 +37,7 @@ fn root_entries_at(
     Ok((entries, rest))
 }
 
-// Whether the name comes before that of the first entry.
+// Returns whether the name sorts before that of the first entry.
 fn comes_before(name: &str, entries: &[RootEntry<'_>]) -> bool
     ensures { result ≡ comes_before name.now (root_names (map plain_root entries.now)) }
 {
@@ -47,7 +47,7 @@ fn comes_before(name: &str, entries: &[RootEntry<'_>]) -> bool
     }
 }
 
-// Whether the name of each comes before that of the next.
+// Returns whether the names strictly ascend.
 fn are_in_order(entries: &[RootEntry<'_>]) -> bool
     ensures { result ≡ ascends (root_names (map plain_root entries.now)) }
 {
@@ -59,10 +59,10 @@ fn are_in_order(entries: &[RootEntry<'_>]) -> bool
     true
 }
 
-/// The root whose text these bytes are: the name of each table, and where its page lies.
+/// Decodes the text of a root: the name of each table, and where its page lies.
 ///
 /// # Errors
-/// `NoText` where they are the text of none; `OutOfMemory` where memory was refused.
+/// `NoText` if the bytes are not the text of a root; `OutOfMemory` if memory was refused.
 #[tactic(auto, unfolding(crate::specs::Reading::root_at))]
 pub fn decode_root(alloc: Global, bytes: &[u8]) -> Result<Vec<RootEntry<'_>>, DecodeError>
     ensures exact { Gives (λ x. map plain_root x.items) result (root_at bytes.now) }
@@ -84,10 +84,10 @@ fn put_root_entry(out: &mut Vec<u8>, entry: &RootEntry<'_>) -> Result<(), AllocE
     put_extent(out, entry.page)
 }
 
-/// The text of a root.
+/// Returns the text of a root.
 ///
 /// # Errors
-/// `AllocError` where memory was refused.
+/// `AllocError` if memory was refused.
 pub fn encode_root(alloc: Global, entries: &[RootEntry<'_>]) -> Result<Vec<u8>, AllocError>
     requires { IsRoot (map plain_root entries.now) }
     ensures text { IfOk result (λ text. text.items ≡ root_text (map plain_root entries.now)) }

@@ -1,4 +1,4 @@
-// Whether entries may stand in a catalogue.
+// Tests whether entries may form a catalogue.
 ghost use Rattle.std.specs.Prelude.{◌≡◌, map, nat_le};
 ghost use Rattle.std.specs.List.{list_all};
 ghost use Rattle.catalogue.specs.Entries.{plain_entry, is_entry, names_of, comes_before, ascends, segment_count};
@@ -18,7 +18,7 @@ pub(crate) fn are_sound(entries: &[TableEntry]) -> bool
     true
 }
 
-// Whether the name comes before that of the first entry.
+// Returns whether the name sorts before that of the first entry.
 fn comes_before(name: &str, entries: &[TableEntry]) -> bool
     ensures { result ≡ comes_before name.now (names_of (map plain_entry entries.now)) }
 {
@@ -28,7 +28,7 @@ fn comes_before(name: &str, entries: &[TableEntry]) -> bool
     }
 }
 
-// Whether the name of each comes before that of the next.
+// Returns whether the names strictly ascend.
 pub(crate) fn are_in_order(entries: &[TableEntry]) -> bool
     ensures { result ≡ ascends (names_of (map plain_entry entries.now)) }
 {

@@ -1,4 +1,4 @@
--- Whether the two commit sectors hold what commits leave there, whatever stopped them.
+-- Whether the two commit sectors hold only what commits leave there, whenever they were interrupted.
 use Rattle.std.specs.Prelude.{◌+◌, ◌==◌, ◌||◌, ℕ, Bool, true, false, nat_eq, List, Option, Some, None}
 use Rattle.std.specs.Cmp.Lexicographic.{pointwise}
 use Rattle.sector_dev.specs.Disk.{Image}
@@ -8,23 +8,23 @@ use Rattle.commit.specs.declared.agreeing.CommitSector.TheVariants.{Empty, Holds
 use Rattle.commit.specs.declared.sector.Commit.{Commit}
 use Rattle.commit.specs.Sector.{commit_at}
 
--- what a sector holds that can be read, where this commit stands in it or none does
+-- the content of a readable sector, by the commit in it, if there is one
 abbrev pub content_by : Option Commit → (are_zeros : Bool) → CommitSector
 content_by (Some c) are_zeros = Holds c
 content_by None true = Empty
 content_by None false = Changed
 
--- what the commit sector of this number holds: a commit; nothing, where it has zeros, as before its first commit, or can't be read, as a stop may leave it; or
--- what no commit leaves there
+-- the content of the commit sector with this number: a commit; empty, if it has zeros, as before its first commit, or can't be read, as a crash may
+-- leave it; or something that no commit leaves there
 unfoldable pub content_at : ℕ → Option (List ℕ) → CommitSector
 content_at n None = Empty
 content_at n (Some bytes) = content_by (commit_at n (Some bytes)) (pointwise nat_eq bytes zeros)
 
--- a commit has the epoch after that of another one
+-- the epoch of b follows that of a
 abbrev pub is_next : Commit → Commit → Bool
 is_next a b = a.epoch + 1 == b.epoch
 
--- neither of two commit sectors was changed, and of two commits one is the next after the other
+-- neither commit sector was changed, and of two commits one has the epoch after that of the other
 abbrev pub agree : CommitSector → CommitSector → Bool
 agree Empty Empty = true
 agree Empty (Holds b) = true

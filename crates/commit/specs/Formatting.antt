@@ -1,4 +1,4 @@
--- What may lie on a disk while it is formatted.
+-- The possible contents of a disk while it is formatted.
 use Rattle.std.specs.Prelude.{◌≡◌, ◌⊎◌, ◌≤◌, ◌<◌, ◌+◌, ◌-◌, ◌^◌, ℕ, min, List, [], ◌∷◌, Some, None, Result, Ok, Err}
 use Rattle.sector_dev.specs.Disk.{Disk, Image, synced_image}
 use Rattle.sector_dev.specs.Time.{LeavesOnly}
@@ -16,7 +16,7 @@ use Rattle.commit.specs.Ruling.{ruling, Rests}
 abbrev pub HoldsNoCommit : Image → Type 0
 HoldsNoCommit image = (commit_at 0 (image 0) ≡ None) × (commit_at 1 (image 1) ≡ None)
 
--- no stop leaves a commit
+-- no crash leaves a commit
 abbrev pub HasNoCommit : Disk → Type 0
 HasNoCommit d = LeavesOnly HoldsNoCommit d
 
@@ -34,7 +34,7 @@ first_commit size version = record {
   kind = Whole;
 }
 
--- the empty store: its commit rules and its catalogue has no table
+-- the empty store: its commit rules, and its catalogue has no tables
 pub record IsEmptyStore (size : ℕ) (version : FormatVersion) (image : Image) : Type 0 where
   pub rules : ruling image ≡ Some (first_commit size version)
   pub text : bytes_at image 2 4 ≡ Some empty_text
@@ -43,25 +43,25 @@ pub record IsEmptyStore (size : ℕ) (version : FormatVersion) (image : Image) :
 abbrev pub IsNoneOrEmpty : ℕ → FormatVersion → Image → Type 0
 IsNoneOrEmpty size version image = HoldsNoCommit image ⊎ IsEmptyStore size version image
 
--- at a moment of the formatting: the disk is as it was, or each image that a stop may leave is no store or the empty one
+-- at a moment of formatting: the disk is unchanged, or each image that a crash may leave is no store or the empty one
 abbrev pub IsFormatting : ℕ → FormatVersion → Disk → Disk → Type 0
 IsFormatting size version before d = (d ≡ before) ⊎ LeavesOnly (IsNoneOrEmpty size version) d
 
--- after the formatting: all is synced, it is the empty store, and a write had begun
+-- after formatting: everything is synced, the store is the empty one, and a write has begun
 pub record IsFormatted (size : ℕ) (version : FormatVersion) (before d : Disk) : Type 0 where
   pub rests : Rests d (first_commit size version)
   pub text : bytes_at (synced_image d) 2 4 ≡ Some empty_text
   pub begun : before.writes < d.writes
 
--- what a formatting makes of a device, as reads give it: zeros in sector 0, the first commit in sector 1, the empty text with zeros after
--- it in sector 2, which are zeros too, and all else as it was
+-- the effect of formatting on what reads return: zeros in sector 0, the first commit in sector 1, zeros in sector 2, which start with the empty text,
+-- and no change elsewhere
 pub record IsMadeEmpty (size : ℕ) (version : FormatVersion) (before after : Image) : Type 0 where
   pub zeroth : after 0 ≡ Some zeros
   pub first : after 1 ≡ Some (commit_text (first_commit size version))
   pub second : after 2 ≡ Some zeros
   pub others : (n : ℕ) → 3 ≤ n → after n ≡ before n
 
--- a failed call of the device is counted, up to the greatest number; no other answer is
+-- a failed call of the device is counted, up to the greatest number; no other result is
 abbrev pub CountsFormat : {T : Type 0} → ℕ → ℕ → Result T FormatError → Type 0
 CountsFormat before after (Ok x) = after ≡ before
 CountsFormat before after (Err AlreadyAStore) = after ≡ before

@@ -21,33 +21,33 @@ abbrev pub kind_number : CatalogueKind → ℕ
 kind_number Whole = 0
 kind_number Pages = 1
 
--- the fields of the sector one after the other
+-- the fields of the sector in order
 abbrev pub fields_text : Commit → List ℕ
 fields_text c =
     letters ++ (little_bytes 8 c.epoch ++ (little_bytes 8 c.catalogue.run.start ++ (little_bytes 8 c.catalogue.run.count ++ (little_bytes 8 c.catalogue.bytes
     ++ (little_bytes 8 c.device_sectors ++ (little_bytes 4 (version_number c.version) ++ little_bytes 4 (kind_number c.kind)))))))
 
--- the text of a commit: zeros after its fields
+-- the text of a commit: its fields, and then zeros
 unfoldable pub commit_text : Commit → List ℕ
 commit_text c = filled (fields_text c)
 
--- a number of 64 bits at this byte
+-- a number of 64 bits at the offset `at`
 abbrev pub u64_at : ℕ → List ℕ → ℕ
 u64_at at bytes = little_number 8 (drop at bytes)
 
--- a number of 32 bits at this byte
+-- a number of 32 bits at the offset `at`
 abbrev pub u32_at : ℕ → List ℕ → ℕ
 u32_at at bytes = little_number 4 (drop at bytes)
 
--- the version whose number stands there. Where another number stands, the text of the commit is another one too
+-- the version with the number at its offset. With any other number, the bytes are not the text of the commit
 abbrev pub version_in : List ℕ → FormatVersion
 version_in bytes = if u32_at 48 bytes == 2 then Two else One
 
--- the kind whose number stands there. Where another number stands, the text of the commit is another one too
+-- the kind with the number at its offset. With any other number, the bytes are not the text of the commit
 abbrev pub kind_in : List ℕ → CatalogueKind
 kind_in bytes = if u32_at 52 bytes == 1 then Pages else Whole
 
--- the commit that a sector spells, if it spells one
+-- the commit of a sector's fields, if the sector is the text of one
 abbrev pub fields_of : List ℕ → Commit
 fields_of bytes = record {
   epoch = u64_at 8 bytes;
@@ -57,16 +57,16 @@ fields_of bytes = record {
   kind = kind_in bytes;
 }
 
--- a commit of an epoch stands in the sector of its number: even epochs in sector 0, odd ones in sector 1; epochs count from 1
+-- the sector of a commit: 0 for even epochs and 1 for odd ones; epochs count from 1
 abbrev pub is_placed : ℕ → Commit → Bool
 is_placed n c = nat_lt 0 c.epoch && (c.epoch % 2 == n)
 
--- the commit that stands in a sector of this number: its fields, written again, give these very bytes. None stands in one that can't be read
+-- the commit in the sector with this number: its fields, written again, are these very bytes. A sector that can't be read has none
 unfoldable pub commit_at : ℕ → Option (List ℕ) → Option Commit
 commit_at n None = None
 commit_at n (Some bytes) = if is_placed n (fields_of bytes) && pointwise nat_eq bytes (commit_text (fields_of bytes)) then Some (fields_of bytes) else None
 
--- a commit that can be written: its epoch counts from 1, and each number has 64 bits
+-- a commit that can be written: its epoch counts from 1, and each number fits in 64 bits
 pub record IsCommit (c : Commit) : Type 0 where
   pub epoch : 1 ≤ c.epoch
   pub epoch_fits : c.epoch < 2 ^ 64

@@ -13,7 +13,7 @@ cause_text causes.CatalogueText = codes "CatalogueText"
 cause_text causes.RunRange = codes "RunRange"
 cause_text causes.RunOverlap = codes "RunOverlap"
 
--- code, name and what it carries, split by spaces
+-- code, name and value, separated by spaces
 abbrev pub opening_text : OpeningRefusal → List ℕ
 opening_text refusals.NotAStore = codes "C1 NotAStore"
 opening_text refusals.AlreadyAStore = codes "C2 AlreadyAStore"

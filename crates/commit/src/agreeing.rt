@@ -1,4 +1,4 @@
-// Whether the commit sectors hold what commits leave there.
+// Tests whether the commit sectors hold only what commits leave there.
 ghost use Rattle.std.specs.Prelude.{◌≡◌, ◌<◌, ◌+◌, ◌==◌, true, Some, IfOk, IfErr};
 ghost use Rattle.sector_dev.specs.Disk.{now, shown_image, Counts};
 ghost use Rattle.sector_dev.specs.Time.{OnlyReads};
@@ -9,17 +9,17 @@ use crate::Commit;
 use crate::sector::commit_in;
 use sector_dev::{DevError, SectorDevice};
 
-// What a commit sector holds.
+// The content of a commit sector.
 #[derive(Clone, Copy)]
 enum CommitSector {
-    // Zeros, as before its first commit, or nothing that can be read, as a stop may leave it.
+    // Zeros, as before its first commit, or unreadable, as a crash may leave it.
     Empty,
     Holds(Commit),
-    // What no commit leaves there.
+    // Anything that no commit leaves there.
     Changed,
 }
 
-// What stands in the sector of this number.
+// Returns the content of these bytes in the sector with this number.
 fn content_in(n: u64, sector: &[u8; 512]) -> CommitSector
     ensures { result ≡ content_at n (Some sector.now) }
 {
@@ -35,7 +35,7 @@ fn content_in(n: u64, sector: &[u8; 512]) -> CommitSector
     }
 }
 
-// What the sector of this number holds.
+// Reads the content of the sector with this number.
 fn read_content<D: SectorDevice>(device: &mut D, n: u64) -> Result<CommitSector, DevError>
     requires { n < D.size device.old }
     ensures size { D.size device.new ≡ D.size device.old }
@@ -52,7 +52,7 @@ fn read_content<D: SectorDevice>(device: &mut D, n: u64) -> Result<CommitSector,
     }
 }
 
-// Whether a commit has the epoch after that of another one.
+// Returns whether the epoch of `b` follows that of `a`.
 fn is_next(a: Commit, b: Commit) -> bool
     ensures { result ≡ is_next a b }
 {
@@ -77,12 +77,12 @@ fn agree(zeroth: CommitSector, first: CommitSector) -> bool
     }
 }
 
-/// Whether the two commit sectors hold what commits leave there, whatever stopped them: each holds a commit, zeros, or nothing that can be read, and of two
-/// commits one has the epoch after that of the other. If not, something else has changed one, and the commit that rules may not be the newest that was
-/// acknowledged. Both sectors are read; nothing changes.
+/// Returns whether the two commit sectors hold only what commits leave there, whenever they were interrupted: each holds a commit or zeros, or can't
+/// be read, and of two commits one has the epoch after that of the other. If not, something else has changed a sector, and the commit that rules may
+/// not be the newest that was acknowledged. Reads both sectors and changes nothing.
 ///
 /// # Errors
-/// `Failed` alone: the device failed.
+/// `Failed` only: the device failed.
 pub fn commits_agree<D: SectorDevice>(device: &mut D) -> Result<bool, DevError>
     requires { is_size (D.size device.old) ≡ true }
     ensures size { D.size device.new ≡ D.size device.old }

@@ -1,4 +1,4 @@
-// A catalogue, as commits know it.
+// The catalogue as commits see it.
 ghost use Rattle.std.specs.Prelude.{◌≡◌, ◌≢◌, true, Ok, IfOk, IfErr};
 ghost use Rattle.sector_dev.specs.Time.{OnlyReads};
 ghost use Rattle.commit.specs.Standing.{Reading, IsLocal, is_size};
@@ -9,19 +9,18 @@ use sector_dev::SectorDevice;
 use segments::Run;
 use std::alloc::{AllocError, Global};
 
-/// A catalogue: how it is read from the text that a commit names, and which runs it names itself.
-/// Commits know no more of it.
+/// A catalogue: how it is read from the text that a commit names, and which runs it names itself. Commits need nothing else of it.
 pub trait ReadCatalogue: Drop {
-    /// What a catalogue says, as definitions speak of it.
+    /// The plain value of a catalogue in definitions.
     ghost Plain: { Type 0 };
 
-    /// What this one says.
+    /// The plain value of this catalogue.
     ghost plain_of: { Self → Plain };
 
-    /// How it is read, and the runs that it names.
+    /// How a catalogue is read, and the runs that it names.
     ghost reading: { Reading Plain };
 
-    /// The catalogue that this text spells. Parts of it may be read from the device. Nothing changes.
+    /// Reads the catalogue of this text, parts of which may be read from the device. Changes nothing.
     ///
     /// # Errors
     /// `Damaged` with its cause, `Device` or `OutOfMemory`.
@@ -41,13 +40,13 @@ pub trait ReadCatalogue: Drop {
             → TellsCause e (spelled_shown reading (D.size device.old) (D.story device.old) commit text.now)) }
         ensures a_store { IfErr result (λ e. e ≢ OpenError.NotAStore) };
 
-    /// The runs that it names.
+    /// Returns the runs that the catalogue names.
     ///
     /// # Errors
-    /// `AllocError` where memory was refused.
+    /// `AllocError` if memory was refused.
     fn runs(&self, alloc: Global) -> Result<Vec<Run>, AllocError>
         ensures { IfOk result (λ runs. runs.items ≡ reading.runs (plain_of self.now)) };
 
-    /// What is read depends on the sectors of those runs alone.
+    /// Reading depends only on the sectors of those runs.
     ghost local: { IsLocal reading };
 }

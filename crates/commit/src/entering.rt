@@ -1,4 +1,4 @@
-// The runs of a catalogue come into use.
+// Marks the runs of a catalogue as in use.
 ghost use Rattle.std.specs.Prelude.{◌≡◌, ◌≢◌, ◌∷◌, [], true, None, Some, OnOk, IfOk, IfErr, IsPermutation};
 ghost use Rattle.commit.specs.Placing.{Uses};
 ghost use Rattle.commit.specs.Standing.{is_on_device, all_on_device, runs_fault};
@@ -9,7 +9,6 @@ use crate::{Cause, OpenError};
 use segments::{EnterError, FreeMap, Run};
 use std::alloc::{AllocError, Global};
 
-// Whether each run lies on the device.
 fn are_on_device(size: u64, runs: &[Run]) -> bool
     ensures { result ≡ all_on_device size runs.now }
 {
@@ -21,7 +20,7 @@ fn are_on_device(size: u64, runs: &[Run]) -> bool
     true
 }
 
-// A map in which this run alone is in use.
+// Returns a map in which only this run is in use.
 fn map_of(alloc: Global, sectors: u64, text: Run) -> Result<FreeMap, OpenError>
     requires { is_on_device sectors text ≡ true }
     ensures entered { IfOk result (λ map. HasEntered sectors map (text ∷ [])) }
@@ -34,7 +33,7 @@ fn map_of(alloc: Global, sectors: u64, text: Run) -> Result<FreeMap, OpenError>
     }
 }
 
-// The runs by their starts, so that each comes into use after those before it.
+// Sorts the runs by their starts, so that each one comes into use after those before it.
 fn by_start(alloc: Global, runs: &[Run]) -> Result<Vec<Run>, AllocError>
     ensures { IfOk result (λ sorted. IsPermutation runs.now sorted.items) }
 {
@@ -43,7 +42,7 @@ fn by_start(alloc: Global, runs: &[Run]) -> Result<Vec<Run>, AllocError>
     Ok(sorted)
 }
 
-// The map in which these runs are in use, entered one by one.
+// Returns the map in which these runs are in use, entered one by one.
 fn occupy_each(alloc: Global, sectors: u64, text: Run, runs: &[Run]) -> Result<FreeMap, OpenError>
     requires text { is_on_device sectors text ≡ true }
     requires runs { all_on_device sectors runs.now ≡ true }
@@ -60,11 +59,11 @@ fn occupy_each(alloc: Global, sectors: u64, text: Run, runs: &[Run]) -> Result<F
     Ok(map)
 }
 
-/// The map in which the run of a catalogue's text is in use, and those that the catalogue names. The time that it takes
-/// doesn't depend on the order of the runs.
+/// Returns the map in which the run of a catalogue's text and those that the catalogue names are in use. The running time does not depend on the
+/// order of the runs.
 ///
 /// # Errors
-/// `Damaged(RunRange)` where one lies outside the device, then `Damaged(RunOverlap)` where two share a sector; `OutOfMemory`.
+/// `Damaged(RunRange)` if a run lies outside the device, or else `Damaged(RunOverlap)` if two share a sector; `OutOfMemory`.
 pub fn occupy_runs(
     alloc: Global,
     sectors: u64,

@@ -1,4 +1,4 @@
-// A device becomes an empty store.
+// Formats a device as an empty store.
 ghost use Rattle.std.specs.Prelude.{◌≡◌, ◌≢◌, ◌≤◌, ◌+◌, ◌∷◌, [], true, false, None, Err, OnOk, OnErr, IfOk, IfErr, IsErrOf};
 ghost use Rattle.sector_dev.specs.Disk.{now, shown_image, Counts};
 ghost use Rattle.sector_dev.specs.Time.{Grows, OnlyReads};
@@ -20,10 +20,10 @@ use thiserror::Error;
 /// Why a device was not formatted.
 #[derive(Clone, Copy, Debug, PartialEq, Eq, Error)]
 pub enum FormatError {
-    /// C2: a commit rules already.
+    /// C2: a commit already rules.
     #[error("a store already")]
     AlreadyAStore,
-    /// C3: the device has a size that no store has.
+    /// C3: no store has a device of this size.
     #[error("a device of a size that no store has")]
     Damaged(Cause),
     /// C4: the device failed.
@@ -35,7 +35,6 @@ pub enum FormatError {
 
 const FIRST_RUN: Run = Run { start: 2, count: 1 };
 
-// The commit of an empty store.
 fn first_commit(sectors: u64, version: FormatVersion) -> Commit
     ensures { result ≡ first_commit sectors version }
 {
@@ -51,7 +50,7 @@ fn first_commit(sectors: u64, version: FormatVersion) -> Commit
     }
 }
 
-// Writes zeros over the first commit sector, and the empty catalogue, whose text is zeros too, and syncs.
+// Writes zeros over the first commit sector and over the sector of the empty catalogue, whose text is zeros, and syncs.
 fn prepare<D: SectorDevice>(device: &mut D) -> Result<(), DevError>
     requires room { LEAST_SECTORS ≤ D.size device.old }
     ensures size { D.size device.new ≡ D.size device.old }
@@ -69,7 +68,7 @@ fn prepare<D: SectorDevice>(device: &mut D) -> Result<(), DevError>
     Ok(())
 }
 
-// Writes the first commit, and syncs.
+// Writes the first commit and syncs.
 fn begin<D: SectorDevice>(device: &mut D, version: FormatVersion) -> Result<(), DevError>
     requires room { LEAST_SECTORS ≤ D.size device.old }
     requires most { D.size device.old ≤ MOST_SECTORS }
@@ -88,7 +87,7 @@ fn begin<D: SectorDevice>(device: &mut D, version: FormatVersion) -> Result<(), 
     Ok(())
 }
 
-// Makes what reads give safe, so that no stop brings back an older commit, and then writes the empty store.
+// Syncs what reads return, so that no crash brings back an older commit, and then writes the empty store.
 fn clear_and_begin<D: SectorDevice>(device: &mut D, version: FormatVersion) -> Result<(), DevError>
     requires room { LEAST_SECTORS ≤ D.size device.old }
     requires most { D.size device.old ≤ MOST_SECTORS }
@@ -106,7 +105,7 @@ fn clear_and_begin<D: SectorDevice>(device: &mut D, version: FormatVersion) -> R
     Ok(())
 }
 
-// A map in which the first catalogue's run is in use.
+// Returns a map in which the first catalogue's run is in use.
 fn first_map(alloc: Global, sectors: u64, version: FormatVersion) -> Result<FreeMap, FormatError>
     requires { LEAST_SECTORS ≤ sectors }
     ensures size { IfOk result (λ map. map.size ≡ sectors) }
@@ -120,13 +119,13 @@ fn first_map(alloc: Global, sectors: u64, version: FormatVersion) -> Result<Free
     }
 }
 
-/// Makes an empty store of this version of a device on which none is: its commit, and the runs in use.
+/// Formats a device without a store as an empty store of this version, and returns its commit and the runs in use.
 ///
-/// At each moment a stop leaves the disk as it was, or no store, or the empty one.
+/// At each moment a crash leaves the disk as it was, no store, or the empty one.
 ///
 /// # Errors
-/// `Damaged(DeviceSize)` without a read; `AlreadyAStore` where a commit rules; `Device` where the device failed; `OutOfMemory`. After any
-/// error but `Device` nothing has changed.
+/// `Damaged(DeviceSize)`, before any read; `AlreadyAStore` if a commit rules; `Device` if the device failed; `OutOfMemory`. After any error but
+/// `Device` nothing has changed.
 pub fn format<D: SectorDevice>(
     alloc: Global,
     device: &mut D,

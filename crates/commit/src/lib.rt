@@ -1,7 +1,7 @@
-//! Which catalogue rules a device: opening and formatting a store, and how a new catalogue is published so that a stop at any
-//! moment leaves the old store or the new one whole. A catalogue is any type with the trait `ReadCatalogue`.
+//! Commits of a store: opening and formatting a store, and publishing a new catalogue so that a crash at any moment leaves either the old store or
+//! the new one whole. A catalogue is any type that implements `ReadCatalogue`.
 //!
-//! A store is opened, and gets a segment and a catalogue that names it:
+//! Opening a store, and adding a segment and a catalogue that names it:
 //!
 //! ```
 //! let mut store = recover::<Tables, _>(alloc, &mut device)?;

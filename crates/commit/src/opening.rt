@@ -1,4 +1,4 @@
-// What rules a device is read.
+// Reads the commit that rules a device.
 ghost use Rattle.std.specs.Prelude.{◌≡◌, ◌<◌, ◌≤◌, true, IfOk, IfErr};
 ghost use Rattle.sector_dev.specs.Disk.{now, shown_image, Counts};
 ghost use Rattle.sector_dev.specs.Time.{OnlyReads};
@@ -9,7 +9,7 @@ use crate::Commit;
 use crate::sector::commit_in;
 use sector_dev::{DevError, SectorDevice};
 
-// The commit in the sector of this number. None stands in one that can't be read.
+// Reads the commit in the sector with this number. A sector that can't be read has none.
 fn read_commit<D: SectorDevice>(device: &mut D, n: u64) -> Result<Option<Commit>, DevError>
     requires { n < D.size device.old }
     ensures size { D.size device.new ≡ D.size device.old }
@@ -26,7 +26,7 @@ fn read_commit<D: SectorDevice>(device: &mut D, n: u64) -> Result<Option<Commit>
     }
 }
 
-// The one of the greater epoch.
+// Returns the commit of the greater epoch.
 fn newer(zeroth: Option<Commit>, first: Option<Commit>) -> Option<Commit>
     ensures { result ≡ newer zeroth first }
 {
@@ -39,10 +39,10 @@ fn newer(zeroth: Option<Commit>, first: Option<Commit>) -> Option<Commit>
     }
 }
 
-/// The commit that rules, if one does. Both commit sectors are read; nothing changes.
+/// Returns the commit that rules, if there is one. Reads both commit sectors and changes nothing.
 ///
 /// # Errors
-/// `Failed` alone: the device failed.
+/// `Failed` only: the device failed.
 pub fn read_ruling<D: SectorDevice>(device: &mut D) -> Result<Option<Commit>, DevError>
     requires { 2 ≤ D.size device.old }
     ensures size { D.size device.new ≡ D.size device.old }

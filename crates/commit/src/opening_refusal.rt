@@ -5,18 +5,18 @@ ghost use Rattle.commit.specs.Told.{cause_text};
 use crate::Cause;
 use std::fmt;
 
-/// Why a device is not opened or formatted. The device is given back beside it.
+/// Why a device is not opened or formatted. The caller gets the device back together with it.
 #[derive(Clone, Copy, Debug, PartialEq, Eq)]
 pub enum OpeningRefusal {
     /// C1: no commit rules.
     NotAStore,
-    /// C2: a commit rules already, so nothing is formatted.
+    /// C2: a commit already rules, so nothing is formatted.
     AlreadyAStore,
     /// C3: the store is damaged, or no store has a device of this size.
     Damaged(Cause),
     /// C4: the device failed.
     Device,
-    /// A growth was refused.
+    /// Memory was refused.
     OutOfMemory,
 }
 
@@ -33,7 +33,7 @@ fn cause_name(cause: Cause) -> &'static str
     }
 }
 
-/// As `C3 Damaged CatalogueText`.
+/// For example `C3 Damaged CatalogueText`.
 impl fmt::Display for OpeningRefusal {
     ghost use Rattle.std.specs.Prelude.{Some};
     ghost use Rattle.commit.specs.Told.{opening_text};

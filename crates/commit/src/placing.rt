@@ -1,4 +1,4 @@
-// Runs are taken for what is to be written.
+// Takes runs for what is to be written.
 ghost use Rattle.std.specs.Prelude.{◌≡◌, ◌≤◌, ◌<◌, ◌+◌, ◌++◌, ◌∷◌, [], ℕ, Ok, Err, OnOk, OnErr, IfOk, IfErr, length, take, slice_index, vec_len, vec_capacity};
 ghost use Rattle.segments.specs.Pieces.{plain_pieces};
 ghost use Rattle.segments.specs.Usages.{IsUsedIn, SameUsages};
@@ -10,20 +10,20 @@ use sector_dev::SECTOR_BYTES;
 use segments::{FreeMap, Piece, PiecePart, Run, SearchCursor, TakeError, byte_count};
 use std::alloc::{AllocError, Global};
 
-/// Where contents are to go, and the text that is to name them.
+/// The runs for contents, and for the text that will name them.
 #[derive(Drop)]
 pub struct Places<'a> {
     pub pieces: Vec<Piece<'a>>,
     pub text: Run,
-    /// All that were taken, in order: those of the pieces, of the pages, and the text's.
+    /// All runs that were taken, in order: those of the pieces, of the pages, and of the text.
     pub runs: Vec<Run>,
 }
 
-/// Takes runs of these numbers of sectors in order, each the lowest one that is free then.
+/// Takes runs of these numbers of sectors in order, each at the lowest place that is then free.
 ///
 /// # Errors
-/// `NoRoom(n)` where n sectors in a row are nowhere free when they are asked for; `OutOfMemory`. After an error each run is used
-/// for what it was: those that were taken are given back.
+/// `NoRoom(n)` if no n sectors in a row are free when they are requested; `OutOfMemory`. After an error each run has its earlier usage: those that
+/// were taken are given back.
 pub fn take_runs(alloc: Global, map: &mut FreeMap, counts: &[u64]) -> Result<Vec<Run>, TakeError>
     requires some { (i : ℕ) → i < length counts.now → 1 ≤ slice_index counts.now i }
     ensures ok { IfOk result (λ runs. Takes map.old.size (IsUsedIn map.old.entries) counts.now (Ok runs.items)) }
@@ -46,7 +46,7 @@ pub fn take_runs(alloc: Global, map: &mut FreeMap, counts: &[u64]) -> Result<Vec
     Ok(runs)
 }
 
-// How many sectors each of these contents takes, each of these pages, and then a text of `text_bytes` bytes.
+// Returns the numbers of sectors for each of these contents, each of these pages, and a text of `text_bytes` bytes.
 fn counts_for(
     alloc: Global,
     contents: &[Vec<PiecePart<'_>>],
@@ -68,7 +68,7 @@ fn counts_for(
     Ok(counts)
 }
 
-// Each of these contents goes into the run in its place, after those of the pieces so far.
+// Puts each of these contents into the run at its place, after those of the earlier pieces.
 pub(crate) fn pieces_of<'a>(
     contents: Vec<Vec<PiecePart<'a>>>,
     runs: &[Run],
@@ -90,12 +90,12 @@ pub(crate) fn pieces_of<'a>(
     pieces
 }
 
-/// Takes a run for each of these contents in order, then one for each of these pages, whose bytes are given, and then one for a text of `text_bytes`,
-/// each the lowest one that is free then. The contents are given as their parts.
+/// Takes a run for each of these contents in order, then one for each page, of which the size in bytes is given, and then one for a text of
+/// `text_bytes` bytes, each at the lowest place that is then free. The contents are given in parts.
 ///
 /// # Errors
-/// `NoRoom(n)` where n sectors in a row are nowhere free when they are asked for; `OutOfMemory` also where a content has
-/// 2^64 bytes or more. After an error each run is used for what it was.
+/// `NoRoom(n)` if no n sectors in a row are free when they are requested; `OutOfMemory`, also if contents have 2^64 bytes or more. After an error
+/// each run has its earlier usage.
 pub fn place<'a>(
     alloc: Global,
     map: &mut FreeMap,

@@ -1,4 +1,4 @@
-// A new commit takes the place of the one that rules.
+// Publishes a new commit in place of the one that rules.
 ghost use Rattle.std.specs.Prelude.{◌≡◌, ◌<◌, ◌+◌, ◌^◌, ◌++◌, ℕ, true, OnOk, IfErr, vec_len};
 ghost use Rattle.sector_dev.specs.Disk.{Counts};
 ghost use Rattle.segments.specs.Pieces.{plain_pieces};
@@ -19,12 +19,12 @@ pub struct Plan<'a, C> {
     pub commit: Commit,
     pub catalogue: C,
     pub pieces: Vec<Piece<'a>>,
-    /// The runs of the pieces, in order. Where the plan is not published, they go back.
+    /// The runs of the pieces, in order. If the plan is not published, they must be given back.
     pub runs: Vec<Run>,
 }
 
-/// The plan of the next commit: what was placed, after it the texts of pages, and then the one of its catalogue, which has `text_bytes`
-/// bytes. It takes no memory.
+/// Plans the next commit: the pieces that were placed, then the texts of pages, and then the text of its catalogue, which has `text_bytes` bytes.
+/// Allocates no memory.
 pub fn plan_next<'a, C>(
     old: Commit,
     version: FormatVersion,
@@ -62,7 +62,7 @@ pub fn plan_next<'a, C>(
     }
 }
 
-// Writes and syncs the pieces, then the commit.
+// Writes and syncs the pieces, and then the commit.
 fn write_and_commit<D: SectorDevice>(
     device: &mut D,
     old: Commit,
@@ -84,11 +84,11 @@ fn write_and_commit<D: SectorDevice>(
     Ok(())
 }
 
-/// Writes the pieces into their runs, syncs, writes the new commit into the sector of its epoch, and syncs.
-/// A stop at any moment leaves the store that stood, or the new one with all of its pieces.
+/// Writes the pieces into their runs, syncs, writes the new commit into the sector of its epoch, and syncs. A crash at any moment leaves the old
+/// store, or the new one with all of its pieces.
 ///
 /// # Errors
-/// `Failed` alone: the device failed. The old store stands, or the new one.
+/// `Failed` only: the device failed. The store is the old one or the new one.
 pub fn publish<C: ReadCatalogue, D: SectorDevice>(
     device: &mut D,
     old: &Opened<C>,
@@ -98,15 +98,15 @@ pub fn publish<C: ReadCatalogue, D: SectorDevice>(
     ensures size { D.size device.new ≡ D.size device.old }
     ensures count { Counts (D.failed device.old) (D.failed device.new) result }
     ensures error { IfErr result (λ e. e ≡ DevError.Failed) }
-    // At each moment a stop leaves the old store or the new one, and nothing else is touched.
+    // At each moment a crash leaves the old store or the new one, and nothing else is changed.
     ensures moments { D.tells ≡ true →
         Replaces C.reading (D.size device.old) (change_of C.plain_of old.now plan.now) (D.story device.old) (D.story device.new) }
     ensures left { D.tells ≡ true →
         LeavesEither C.reading (D.size device.old) (change_of C.plain_of old.now plan.now) (D.story device.old) (D.story device.new) }
-    // Commit sectors that agree still do, whatever a stop leaves.
+    // If the commit sectors agreed, they do so in each image that a crash may leave.
     ensures agree { D.tells ≡ true →
         KeepsAgreement C.reading (D.size device.old) (change_of C.plain_of old.now plan.now) (D.story device.old) (D.story device.new) }
-    // After Ok the new one stands, and all is synced.
+    // After `Ok` the new store is in place, and everything is synced.
     ensures published { OnOk result
         (D.tells ≡ true → EndsReplaced C.reading (D.size device.old) (change_of C.plain_of old.now plan.now) (D.story device.old) (D.story device.new)) }
 {

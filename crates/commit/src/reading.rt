@@ -1,4 +1,4 @@
-// The text of a catalogue is read.
+// Reads the text of a catalogue.
 ghost use Rattle.std.specs.Prelude.{◌≡◌, ◌≢◌, ◌≤◌, ◌+◌, ◌*◌, ◌<◌, ◌^◌, true, false, Ok, Err, OnOk, IfOk, IfErr};
 ghost use Rattle.sector_dev.specs.Time.{OnlyReads};
 ghost use Rattle.sector_dev.specs.declared.file.TheConstants.{MOST_SECTORS};
@@ -27,14 +27,14 @@ pub enum OpenError {
     OutOfMemory,
 }
 
-// Whether the run has a sector, begins after the commit sectors and ends on the device.
+// Returns whether the run has at least one sector, starts after the commit sectors and ends on the device.
 pub(crate) fn is_on_device(size: u64, run: Run) -> bool
     ensures { result ≡ is_on_device size run }
 {
     run.start >= 2 && run.count >= 1 && run.start <= size && run.count <= size - run.start
 }
 
-// Whether it lies on the device with at least `least` bytes, and has just the sectors that they need.
+// Returns whether the extent lies on the device, has at least `least` bytes, and exactly the sectors that they need.
 fn is_extent(size: u64, least: u64, extent: Extent) -> bool
     requires { size ≤ MOST_SECTORS }
     ensures { result ≡ is_extent size least extent }
@@ -44,10 +44,10 @@ fn is_extent(size: u64, least: u64, extent: Extent) -> bool
         && is_on_device(size, extent.run)
 }
 
-/// The bytes of an extent with at least `least` bytes. Nothing changes.
+/// Reads the bytes of an extent, which must be at least `least`. Changes nothing.
 ///
 /// # Errors
-/// `Damaged` where no text can lie there, or a sector of it can't be read; `Device`; `OutOfMemory`.
+/// `Damaged` if the extent can't be that of a text, or if a sector of it can't be read; `Device`; `OutOfMemory`.
 pub fn read_extent<D: SectorDevice>(
     alloc: Global,
     device: &mut D,
@@ -61,7 +61,7 @@ pub fn read_extent<D: SectorDevice>(
     ensures found { IfOk result (λ bytes. D.tells ≡ true → extent_shown (D.size device.old) (D.story device.old) least extent ≡ Ok bytes.items) }
     ensures damaged { IfErr result (λ e. D.tells ≡ true → TellsCause e (extent_shown (D.size device.old) (D.story device.old) least extent)) }
     ensures a_store { IfErr result (λ e. e ≢ OpenError.NotAStore) }
-    // Also of a device that doesn't tell its story.
+    // This also holds for a device that does not tell its story.
     ensures extent { OnOk result (is_extent (D.size device.old) least extent ≡ true) }
 {
     if !is_extent(device.sectors(), least, extent) {
@@ -75,11 +75,10 @@ pub fn read_extent<D: SectorDevice>(
     }
 }
 
-/// The text of the catalogue that a commit names. Nothing changes.
+/// Reads the text of the catalogue that a commit names. Changes nothing.
 ///
 /// # Errors
-/// `Damaged` where the commit is of another device, its run can't be a catalogue's, or a sector of it can't be read; `Device`;
-/// `OutOfMemory`.
+/// `Damaged` if the commit is that of another device, its run can't be that of a catalogue, or a sector of it can't be read; `Device`; `OutOfMemory`.
 pub fn read_text<D: SectorDevice>(
     alloc: Global,
     device: &mut D,
@@ -92,7 +91,7 @@ pub fn read_text<D: SectorDevice>(
     ensures found { IfOk result (λ text. D.tells ≡ true → text_shown (D.size device.old) (D.story device.old) commit ≡ Ok text.items) }
     ensures damaged { IfErr result (λ e. D.tells ≡ true → TellsCause e (text_shown (D.size device.old) (D.story device.old) commit)) }
     ensures a_store { IfErr result (λ e. e ≢ OpenError.NotAStore) }
-    // Also of a device that doesn't tell its story.
+    // These also hold for a device that does not tell its story.
     ensures device { OnOk result (commit.device_sectors ≡ D.size device.old) }
     ensures extent { OnOk result (is_extent (D.size device.old) 4 commit.catalogue ≡ true) }
 {

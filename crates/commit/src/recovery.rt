@@ -1,4 +1,4 @@
-// A store is opened.
+// Opens a store.
 ghost use Rattle.std.specs.Prelude.{◌≡◌, ◌≢◌, ◌∷◌, [], true, false, None, Some, Ok, Err, OnOk, OnErr, IfOk, IfErr};
 ghost use Rattle.sector_dev.specs.Disk.{now, flushed, Flushes, Passes};
 ghost use Rattle.sector_dev.specs.Time.{Grows, OnlyReads};
@@ -14,7 +14,7 @@ use sector_dev::{LEAST_SECTORS, MOST_SECTORS, SectorDevice};
 use segments::{FreeMap, Run};
 use std::alloc::Global;
 
-/// What opening a store found: the commit that rules, its catalogue, and the runs in use.
+/// The result of opening a store: the commit that rules, its catalogue, and the runs in use.
 #[derive(Drop)]
 pub struct Opened<C: ReadCatalogue> {
     pub commit: Commit,
@@ -22,7 +22,7 @@ pub struct Opened<C: ReadCatalogue> {
     pub map: FreeMap,
 }
 
-// The catalogue that a commit names.
+// Reads the catalogue that a commit names.
 fn read_catalogue<C: ReadCatalogue, D: SectorDevice>(
     alloc: Global,
     device: &mut D,
@@ -43,7 +43,7 @@ fn read_catalogue<C: ReadCatalogue, D: SectorDevice>(
     C::read(alloc, device, commit, &text)
 }
 
-// The map in which the runs of a catalogue are in use.
+// Returns the map in which the runs of a catalogue are in use.
 fn map_of<C: ReadCatalogue>(
     alloc: Global,
     sectors: u64,
@@ -62,7 +62,7 @@ fn map_of<C: ReadCatalogue>(
     occupy_runs(alloc, sectors, text, &runs)
 }
 
-// What stands on the device. Nothing changes.
+// Reads the store on the device. Changes nothing.
 fn read_store<C: ReadCatalogue, D: SectorDevice>(
     alloc: Global,
     device: &mut D,
@@ -92,7 +92,7 @@ fn read_store<C: ReadCatalogue, D: SectorDevice>(
     })
 }
 
-// Makes safe what was read of a store.
+// Syncs what was read of a store.
 fn make_safe<C: ReadCatalogue, D: SectorDevice>(
     device: &mut D,
     store: Opened<C>,
@@ -108,11 +108,11 @@ fn make_safe<C: ReadCatalogue, D: SectorDevice>(
     Ok(store)
 }
 
-/// Opens a store: reads both commit sectors, the catalogue that the ruling one names, and makes safe what was read.
+/// Opens a store: reads both commit sectors and the catalogue that the ruling commit names, and syncs what was read.
 ///
 /// # Errors
-/// `NotAStore` where no commit rules; `Damaged` with the first cause; `Device` where the device failed; `OutOfMemory`. A device of a size
-/// that no store has is reported without a read. After any error but `Device` nothing has changed.
+/// `NotAStore` if no commit rules; `Damaged` with the first cause; `Device` if the device failed; `OutOfMemory`. A device whose size no store has is
+/// reported before any read. After any error but `Device` nothing has changed.
 pub fn recover<C: ReadCatalogue, D: SectorDevice>(
     alloc: Global,
     device: &mut D,
@@ -129,7 +129,7 @@ pub fn recover<C: ReadCatalogue, D: SectorDevice>(
         (λ store. D.tells ≡ true → Stands C.reading (D.size device.old) (now (D.story device.new)) store.commit (C.plain_of store.catalogue)) }
     ensures refused { IfErr result (λ e. D.tells ≡ true → TellsStanding e (standing_shown C.reading (D.size device.old) (D.story device.old))) }
     ensures quiet { IfErr result (λ e. e ≢ OpenError.Device → D.tells ≡ true → now (D.story device.new) ≡ now (D.story device.old)) }
-    // Also of a device that doesn't tell its story.
+    // These also hold for a device that does not tell its story.
     ensures in_limits { OnOk result (is_size (D.size device.old) ≡ true) }
     ensures device { IfOk result (λ store. store.commit.device_sectors ≡ D.size device.old) }
     ensures placed { IfOk result (λ store. is_on_device (D.size device.old) store.commit.catalogue.run ≡ true) }

@@ -7,12 +7,12 @@ ghost use Rattle.commit.specs.laws.Sectors.{IsFoundAt};
 use byteorder::{ByteOrder, LittleEndian};
 use segments::{Extent, Run};
 
-/// How the catalogue is kept that a commit names.
+/// How the catalogue that a commit names is stored.
 #[derive(Clone, Copy, Debug, PartialEq, Eq)]
 pub enum CatalogueKind {
-    /// One text has all of it.
+    /// In a single text.
     Whole,
-    /// A root names the page of each table.
+    /// In a root that names the page of each table.
     Pages,
 }
 
@@ -25,7 +25,7 @@ pub enum FormatVersion {
     Two,
 }
 
-/// A state of the store: where its catalogue lies. The newest one rules.
+/// A state of the store: where its catalogue lies. The newest commit rules.
 #[derive(Clone, Copy, Debug, PartialEq, Eq)]
 pub struct Commit {
     /// Counted from 1.
@@ -40,7 +40,7 @@ pub struct Commit {
 const LETTERS: [u8; 8] = *b"ARWSTOR1";
 
 impl FormatVersion {
-    /// The number of the version, as it stands in a commit sector.
+    /// Returns the number of the version in a commit sector.
     pub fn number(self) -> u32
         ensures { result ≡ version_number self }
     {
@@ -62,7 +62,7 @@ impl CatalogueKind {
     }
 }
 
-// Writes the next field of a sector.
+// Appends a field to the sector.
 fn put(sector: &mut [u8; 512], at: usize, bytes: &[u8])
     requires { at + length bytes.now ≤ 512 }
     ensures { (front : List ℕ) → length front ≡ at → sector.old ≡ filled front → sector.new ≡ filled (front ++ bytes.now) }
@@ -70,7 +70,7 @@ fn put(sector: &mut [u8; 512], at: usize, bytes: &[u8])
     sector[at..at + bytes.len()].copy_from_slice(bytes);
 }
 
-// The sector that spells a commit.
+// Returns the text of a commit.
 pub(crate) fn commit_sector(commit: Commit) -> [u8; 512]
     ensures { result ≡ commit_text commit }
 {
@@ -86,7 +86,6 @@ pub(crate) fn commit_sector(commit: Commit) -> [u8; 512]
     sector
 }
 
-// The number at this byte.
 fn u64_at(sector: &[u8; 512], at: usize) -> u64
     requires { at + 8 ≤ 512 }
     ensures { result ≡ u64_at at sector.now }
@@ -101,7 +100,7 @@ fn u32_at(sector: &[u8; 512], at: usize) -> u32
     LittleEndian::read_u32(&sector[at..])
 }
 
-// The version whose number stands here. The text of the commit that is found has the same number, so no other one is taken for it.
+// Returns the version with the number in the sector. Any other number is rejected later, when the sector is compared with the text of the commit.
 fn version(sector: &[u8; 512]) -> FormatVersion
     ensures { result ≡ version_in sector.now }
 {
@@ -112,7 +111,7 @@ fn version(sector: &[u8; 512]) -> FormatVersion
     }
 }
 
-// The kind whose number stands here. The text of the commit that is found has the same number, so no other one is taken for it.
+// Returns the kind with the number in the sector. Any other number is rejected later, when the sector is compared with the text of the commit.
 fn kind(sector: &[u8; 512]) -> CatalogueKind
     ensures { result ≡ kind_in sector.now }
 {
@@ -123,7 +122,7 @@ fn kind(sector: &[u8; 512]) -> CatalogueKind
     }
 }
 
-// The commit whose fields stand here, if the sector spells one.
+// Returns the commit of the sector's fields, if the sector is the text of one.
 fn fields(sector: &[u8; 512]) -> Commit
     ensures { result ≡ fields_of sector.now }
 {
@@ -142,7 +141,7 @@ fn fields(sector: &[u8; 512]) -> Commit
     }
 }
 
-// The commit that stands in the sector of this number.
+// Returns the commit in the sector with this number, if there is one.
 pub(crate) fn commit_in(n: u64, sector: &[u8; 512]) -> Option<Commit>
     ensures { result ≡ commit_at n (Some sector.now) }
 {
@@ -154,8 +153,8 @@ pub(crate) fn commit_in(n: u64, sector: &[u8; 512]) -> Option<Commit>
     }
 }
 
-/// One text for each commit, and one commit for each text. A commit is found only in a sector whose 512 bytes are its text, so
-/// the version, the kind and the zeros after them are tested too; none is found in a sector that can't be read.
+/// Each commit has one text, and each text has one commit. A commit is found only in a sector whose 512 bytes are its text, so the version, the kind
+/// and the zeros after them are tested, too; none is found in a sector that can't be read.
 #[tactic(auto, using(crate::specs::laws::Sectors::found_again, crate::specs::laws::Sectors::found_is))]
 pub fn one_text_each()
     ensures again { (c : Commit) → IsCommit c → commit_at (c.epoch % 2) (Some (commit_text c)) ≡ Some c }

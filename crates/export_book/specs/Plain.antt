@@ -1,4 +1,4 @@
--- What the parts of a book of the code are.
+-- The plain values of the parts of a book.
 use Rattle.std.specs.Prelude.{◌^◌, ℕ, Bool, true, nat_lt, List, map, Option, Some, None}
 use Rattle.catalogue.specs.Entries.{plain_entry}
 use Rattle.export_book.specs.declared.export.OpenExport.{OpenExport}
@@ -12,7 +12,7 @@ abbrev pub next_id : Option ℕ → ℕ
 next_id None = 2 ^ 64
 next_id (Some id) = id
 
--- it has 64 bits
+-- the id has 64 bits
 abbrev pub is_counted : Option ℕ → Bool
 is_counted None = true
 is_counted (Some id) = nat_lt id (2 ^ 64)

@@ -1,4 +1,4 @@
--- What becomes of a book, one call after another.
+-- A book after one call and another.
 use Rattle.std.specs.Prelude.{◌≡◌, ◌⊎◌, ℕ, List, [], ◌∷◌}
 use Rattle.arrow_schema.specs.Column.{PlainSchema}
 use Rattle.catalogue.specs.declared.entry.Segment.{Segment}
@@ -11,7 +11,7 @@ IsStep b c =
     ⊎ ((id : ℕ) × (c ≡ with_given id b))
     ⊎ ((id : ℕ) × (c ≡ without id b))
 
--- these books, each one step after the one before it
+-- each book is one step after the one before it
 abbrev pub AreSteps : PlainBook → List PlainBook → Type 0
 AreSteps b [] = Unit {0}
 AreSteps b (c ∷ cs) = IsStep b c × AreSteps c cs

@@ -1,4 +1,4 @@
--- What a book of the code is, whatever memory it takes.
+-- The plain value of a book of the code, whatever memory it uses.
 use Rattle.export_book.specs.declared.book.ExportBook.{ExportBook}
 use Rattle.export_book.specs.Book.{PlainBook}
 use Rattle.export_book.specs.Plain.{book_in}

@@ -1,4 +1,4 @@
-// The exports that are open.
+// The open exports.
 ghost use Rattle.std.specs.Prelude.{◌≡◌, ◌≤◌, ◌==◌, true, false, length};
 ghost use Rattle.std.specs.List.{position};
 ghost use Rattle.segments.specs.declared.run.Run.{Run};
@@ -13,20 +13,20 @@ use catalogue::TableEntry;
 use segments::Run;
 use std::alloc::{AllocError, Global};
 
-/// How many exports may be open at once.
+/// The maximum number of open exports.
 pub const MAX_EXPORTS: usize = 64;
 
-/// The exports that are open, in the order in which they were opened, and the id of the next one.
+/// The open exports in the order in which they were opened, and the id of the next one.
 #[derive(Drop)]
 pub struct ExportBook {
     exports: Vec<OpenExport>,
-    // none: the last id was given
+    // `None` after the last id was used
     next: Option<u64>,
     ghost counted: { is_counted next ≡ true },
     ghost sound: { IsBook (book_in exports.items next) } by { book_prop (book_in exports.items next) },
 }
 
-// Where the export of an id stands, if it is open.
+// Returns the place of the export with this id, if it is open.
 fn place_of(exports: &[OpenExport], id: u64) -> Option<usize>
     ensures { result ≡ position (λ e. e.id == id) exports.now }
 {
@@ -38,7 +38,7 @@ impl ExportBook {
     ghost use Rattle.catalogue.specs.declared.limits.TheConstants.{MAX_SEGMENTS};
     ghost use Rattle.export_book.specs.View.{book_of};
 
-    /// No export is open, and the first id is 0.
+    /// Creates a book without open exports, whose first id is 0.
     pub fn new(alloc: Global) -> Self
         ensures { book_of result ≡ no_exports }
     {
@@ -48,7 +48,7 @@ impl ExportBook {
         }
     }
 
-    /// Whether no other export can be opened: 64 are open, or the last id was given.
+    /// Returns whether no further export can be opened: 64 are open, or the last id was used.
     pub fn is_full(&self) -> bool
         ensures full { result ≡ is_full (book_of self.now) }
         ensures sound { IsBook (book_of self.now) }
@@ -56,7 +56,7 @@ impl ExportBook {
         self.exports.len() >= MAX_EXPORTS || self.next.is_none()
     }
 
-    /// The export of an id, if it is open.
+    /// Returns the export with this id, if it is open.
     pub fn get(&self, id: u64) -> Option<&OpenExport>
         ensures export { option_map (λ e. plain_export e.now) result ≡ open_at (book_of self.now) id }
         ensures sound { IsBook (book_of self.now) }
@@ -67,10 +67,10 @@ impl ExportBook {
         }
     }
 
-    /// The runs that the exports keep from being written, each as often as they have it.
+    /// Returns the runs that the exports protect from being overwritten, each as often as exports name it.
     ///
     /// # Errors
-    /// `AllocError` where memory was refused.
+    /// `AllocError` if memory was refused.
     pub fn runs(&self, alloc: Global) -> Result<Vec<Run>, AllocError>
         ensures { IfOk result (λ runs. runs.items ≡ runs_kept (book_of self.now).exports) }
     {
@@ -81,10 +81,10 @@ impl ExportBook {
         Ok(runs)
     }
 
-    /// Opens an export of the table of this entry, and gives its id.
+    /// Opens an export of the table of this entry, and returns its id.
     ///
     /// # Errors
-    /// `AllocError` where memory was refused: the book is as it was.
+    /// `AllocError` if memory was refused; the book is then unchanged.
     pub fn open(&mut self, entry: TableEntry) -> Result<u64, AllocError>
         requires room { is_full (book_of self.old) ≡ false }
         requires short { length (plain_entry entry).segments ≤ MAX_SEGMENTS }
@@ -105,7 +105,7 @@ impl ExportBook {
         Ok(id)
     }
 
-    /// One more piece of the export of this id was given. Where it isn't open nothing changes.
+    /// Counts one more piece of this export as given. Does nothing if it is not open.
     pub fn give(&mut self, id: u64)
         requires { MayGive (open_at (book_of self.old) id) }
         ensures { book_of self.new ≡ with_given id (book_of self.old) }
@@ -119,7 +119,7 @@ impl ExportBook {
         }
     }
 
-    /// Closes the export of an id, and hands back what it had. It takes no memory.
+    /// Closes the export with this id and returns it. Allocates no memory.
     pub fn close(&mut self, id: u64) -> Option<OpenExport>
         ensures closed { book_of self.new ≡ without id (book_of self.old) }
         ensures export { option_map plain_export result ≡ open_at (book_of self.old) id }

@@ -1,8 +1,7 @@
-// An export that is open.
+// An open export.
 use catalogue::TableEntry;
 
-/// An export that is open: the entry that it found, and how many of its pieces were given. They are the schema's, one for
-/// each segment, and the end.
+/// An open export: the entry at its opening, and the number of its pieces that were given. They are the schema, one for each segment, and the end.
 #[derive(Drop)]
 pub struct OpenExport {
     pub id: u64,

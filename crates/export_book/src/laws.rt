@@ -10,12 +10,12 @@ ghost use Rattle.catalogue.specs.Entries.{runs_in_segments};
 ghost use Rattle.export_book.specs.Book.{PlainExport, PlainBook, IsBook, runs_kept, open_at, with_open, with_given, without};
 ghost use Rattle.export_book.specs.Steps.{AreSteps};
 
-/// A run is kept by each export once at the most, so pins of it can be counted.
+/// Each export names a run at most once, so the pins of the run can be counted.
 pub fn runs_are_kept_few_times()
     ensures { (b : PlainBook) (run : Run) → IsBook b → times_among (runs_kept b.exports) run ≤ MAX_EXPORTS }
 {}
 
-/// How often runs are kept after each change: an opening adds the runs of its segments, and a closing takes them off.
+/// How often runs are named after each change: opening adds the runs of the segments, and closing removes them.
 pub fn kept_runs_after_changes()
     ensures opened { (b : PlainBook) (schema : PlainSchema) (segments : List Segment) (run : Run)
         → times_among (runs_kept (with_open schema segments b).exports) run
@@ -26,7 +26,7 @@ pub fn kept_runs_after_changes()
         ≡ times_among (runs_kept b.exports) run }
 {}
 
-/// The next id is that of no open export, it never goes down, and an export that was closed is never open again.
+/// The next id is that of no open export, it never decreases, and a closed export is never open again.
 pub fn ids_are_given_once()
     ensures new { (b : PlainBook) → IsBook b → open_at b b.next ≡ None }
     ensures up { (b : PlainBook) (later : List PlainBook) → AreSteps b later → AllByRecursion (λ c. b.next ≤ c.next) later }

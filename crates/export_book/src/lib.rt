@@ -1,7 +1,6 @@
-//! The exports that are open, and the runs that they keep from being written.
+//! The open exports, and the runs that they protect from being overwritten.
 //!
-//! An export has what it found when it was opened: whatever is done to the table, its pieces are those of the segments as
-//! they were. An id is given once.
+//! An export has the state of its opening: whatever happens to the table, the pieces are those of the segments at that time. An id is used only once.
 //!
 //! ```
 //! let id = book.open(entry)?;

@@ -1,4 +1,4 @@
--- The text of a field: its name, a colon, its type, and a question mark where it is nullable (docs/definitions/field_texts.md).
+-- The text of a field: its name, a colon, its type, and a question mark if it is nullable (docs/definitions/field_texts.md).
 use Rattle.std.specs.Prelude.{ℕ, Bool, List, [], ◌∷◌, ◌++◌, codes, Option, None, Some, if◌then◌else◌}
 use Rattle.json.specs.Print.{quoted}
 use Rattle.arrow_schema.specs.Column.{Index, Kind, Column, Columns, nulls, booleans, integers, dates, timestamps, texts, large_texts, binaries, large_binaries, fixed_binaries, lists, large_lists, fixed_lists, structs, column, no_column, and_column}
@@ -11,11 +11,11 @@ pub record Style : Type 0 where
   pub item : List ℕ → List ℕ
   pub timezone : List ℕ → List ℕ
 
--- as they are typed in: an item's name is left out
+-- as typed in: the name of an item is left out
 abbrev pub plain : Style
 plain = record { field = λ name. name ++ codes ":"; item = λ _. []; timezone = λ timezone. timezone }
 
--- as they are printed: each name and each timezone is a JSON text
+-- as printed: each name and each timezone is a JSON string
 abbrev pub printed : Style
 printed = record { field = λ name. quoted name ++ codes ":"; item = λ name. quoted name ++ codes ":"; timezone = quoted }
 
@@ -24,11 +24,11 @@ abbrev pub timezone_text : Style → List ℕ → List ℕ
 timezone_text style [] = []
 timezone_text style (x ∷ xs) = codes "(" ++ style.timezone (x ∷ xs) ++ codes ")"
 
--- the suffix of what is nullable
+-- the suffix of a nullable field
 abbrev pub nullable_suffix : Bool → List ℕ
 nullable_suffix nullable = if nullable then codes "?" else []
 
--- what stands before the type of a dictionary's values
+-- the text before the type of a dictionary's values
 abbrev pub dictionary_text : Index → List ℕ
 dictionary_text index = keyword_text keywords.Dictionary ++ integer_text index.bits index.signed ++ codes ","
 
@@ -62,7 +62,7 @@ unfoldable mutual
   pub field_text : Style → Column → List ℕ
   field_text style (column name nullable kind dictionary pairs) = style.field name ++ with_dictionary dictionary (type_text style kind) ++ nullable_suffix nullable
 
-  -- the fields of a struct, with a comma between two
+  -- the fields of a struct, separated by commas
   pub fields_text : Style → Columns → List ℕ
   fields_text style no_column = []
   fields_text style (and_column c cs) = field_text style c ++ more_text style cs

@@ -25,7 +25,7 @@ time_text milliseconds = codes "timestamp_ms"
 time_text microseconds = codes "timestamp_us"
 time_text nanoseconds = codes "timestamp_ns"
 
--- the keyword that begins a type, and the bracket after it
+-- the keyword at the start of a type, with the bracket after it
 unfoldable pub keyword_text : Keyword → List ℕ
 keyword_text keywords.Null = codes "null"
 keyword_text keywords.Bool = codes "bool"

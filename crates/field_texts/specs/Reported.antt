@@ -1,4 +1,4 @@
--- What parsing field texts reports (docs/definitions/field_texts.md).
+-- The result of parsing field texts (docs/definitions/field_texts.md).
 use Rattle.std.specs.Prelude.{◌≡◌, ◌⊎◌, ℕ, ◌+◌, ◌<◌, true, false, List, [], ◌∷◌, length, get_or, Result, Ok, Err}
 use Rattle.field_texts.specs.declared.parse.ParseError.{ParseError}
 use Rattle.field_texts.specs.declared.parse.ParseError.TheVariants.{BadText, Limit, OutOfMemory}
@@ -15,32 +15,32 @@ AreTextsOf _ _ = ⊥
 abbrev pub schema_with : List Column → PlainSchema
 schema_with columns = record { columns = columns; pairs = [] }
 
--- the first text, counted from 0, that is not one of a field whose numbers are in range
+-- the first text, counted from 0, that is not that of a field with numbers in range
 pub record IsFirstRefused (texts : List (List ℕ)) (i : ℕ) : Type 0 where
   pub among : i < length texts
   pub before : (k : ℕ) → k < i → IsFieldText true (get_or texts k [])
   pub refused : IsFieldText true (get_or texts i []) → ⊥
 
--- no text of a field at all; the number counts from 1
+-- the first refused text is not that of a field with any numbers; `number` counts from 1
 pub record IsBadText (texts : List (List ℕ)) (number : ℕ) : Type 0 where
   pub index : ℕ
   pub counted : number ≡ index + 1
   pub first : IsFirstRefused texts index
   pub bad : IsFieldText false (get_or texts index []) → ⊥
 
--- the text of a field whose number is past the limit
+-- the first refused text is that of a field with a number above the limit
 pub record IsPastNumber (texts : List (List ℕ)) : Type 0 where
   pub index : ℕ
   pub first : IsFirstRefused texts index
   pub text : IsFieldText false (get_or texts index [])
 
--- a schema past its limits
+-- a schema that exceeds its limits
 pub record IsPastLimits (texts : List (List ℕ)) : Type 0 where
   pub columns : List Column
   pub texts_of : AreTextsOf texts columns
   pub past : IsWithinLimits (schema_with columns) → ⊥
 
--- what is reported is so
+-- the result is the right one
 abbrev pub IsReported : List (List ℕ) → Result (List Column) ParseError → Type 0
 IsReported texts (Ok columns) = AreTextsOf texts columns × IsWithinLimits (schema_with columns)
 IsReported texts (Err (BadText number)) = IsBadText texts number

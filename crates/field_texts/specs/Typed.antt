@@ -1,4 +1,4 @@
--- Which columns can be typed in: what their names, types and timezones hold (docs/definitions/field_texts.md).
+-- The columns that can be typed in, by their names, types and timezones (docs/definitions/field_texts.md).
 use Rattle.std.specs.Prelude.{◌≡◌, ℕ, ◌<◌, ◌==◌, Bool, true, false, not, ◌&&◌, ◌||◌, length, List, [], ◌∷◌, codes, Option, None, Some}
 use Rattle.std.specs.List.{list_all}
 use Rattle.arrow_schema.specs.declared.limits.TheConstants.{NUMBER_END}
@@ -10,22 +10,22 @@ abbrev pub is_one_of : List ℕ → ℕ → Bool
 is_one_of [] b = false
 is_one_of (x ∷ xs) b = b == x || is_one_of xs b
 
--- what a name may hold, and what a timezone may
+-- the bytes of a name, and those of a timezone
 abbrev pub is_name_byte : ℕ → Bool
 is_name_byte b = not (is_one_of (codes " :,<>()?\"") b)
 
 abbrev pub is_timezone_byte : ℕ → Bool
 is_timezone_byte b = not (is_one_of (codes " ()\"") b)
 
--- a name has one byte or more
+-- a name has at least one byte
 abbrev pub is_name : List ℕ → Bool
 is_name name = list_all is_name_byte name && not (length name == 0)
 
--- any number can be typed in; where limited, those below `NUMBER_END`
+-- any number can be typed in; if limited, those below `NUMBER_END`
 abbrev pub IsSize : Bool → ℕ → Type 0
 IsSize limited n = limited ≡ true → n < NUMBER_END
 
--- a dictionary holds no lists and no structs
+-- the values of a dictionary are not lists or structs
 abbrev pub IsTypedDictionary : Option Index → Kind → Type 0
 IsTypedDictionary None kind = Unit {0}
 IsTypedDictionary (Some index) kind = (is_bit_width index.bits ≡ true) × (is_nested kind ≡ false)
@@ -52,7 +52,7 @@ unfoldable mutual
   AreTyped limited no_column = Unit {0}
   AreTyped limited (and_column c cs) = IsTypedField limited c × AreTyped limited cs
 
--- a text is that of a field; where limited, its numbers are below `NUMBER_END`
+-- the text is that of the field; if limited, its numbers are below `NUMBER_END`
 abbrev pub IsTextOf : Bool → List ℕ → Column → Type 0
 IsTextOf limited text c = IsTypedField limited c × (text ≡ field_text plain c)
 

@@ -1,4 +1,4 @@
-// Fields from their texts, to a depth.
+// Builds fields from their texts, up to a depth.
 ghost use Rattle.std.specs.Prelude.{◌≡◌, IfOk, map, option_map};
 ghost use Rattle.arrow_schema.specs.View.{kind_of, column_of, index_of};
 ghost use Rattle.field_texts.specs.inner.OpeningView.{flat_kind, opening_view};
@@ -9,7 +9,7 @@ use crate::scan::{Flat, Opening, name_of, nullable_suffix_of, opening_of, strip}
 use arrow_schema::{DataType, DictSpec, Field};
 use std::alloc::{AllocError, AllocFailed, Global};
 
-/// Why a field was not built: it is no text of a field, or of one that is too deep, or there was no memory.
+/// Why a field was not built: the text is not that of a field, or of one that is not too deep, or memory was refused.
 #[derive(Drop)]
 pub(crate) enum BuildError {
     Unread,
@@ -51,7 +51,7 @@ fn flat_type(alloc: Global, flat: Flat) -> Result<DataType, AllocError>
     }
 }
 
-// The types of lists, as they are built of their items.
+// The kinds of lists, which are built from their items.
 #[derive(Clone, Copy)]
 pub(crate) enum Listing {
     List,
@@ -60,7 +60,7 @@ pub(crate) enum Listing {
 }
 
 impl Listing {
-    // The bracket after the item.
+    // Returns the bracket after the item.
     fn close(self) -> &'static str
         ensures { result.now ≡ close_of self }
     {
@@ -81,7 +81,7 @@ impl Listing {
     }
 }
 
-// A list by the text of its item, which has no dictionary, and what follows the bracket.
+// Builds a list from the text of its item, which has no dictionary, and returns the text after the bracket.
 #[tactic(auto, unfolding(crate::specs::inner::Build::item_from))]
 #[cycle(build)]
 fn build_list<'a>(
@@ -115,7 +115,7 @@ pub(crate) fn build_field(
     build_column(alloc, levels, name, rest)
 }
 
-// Further fields, at most `turns`, and what follows the bracket after them.
+// Builds further fields in at most `turns` steps, and returns the text after the bracket.
 #[tactic(auto, unfolding(crate::specs::inner::Build::more_from))]
 #[cycle(build)]
 fn build_more(
@@ -142,7 +142,7 @@ fn build_more(
     Err(BuildError::Unread)
 }
 
-// The fields of a struct, and what follows the bracket after them.
+// Builds the fields of a struct, and returns the text after the bracket.
 #[tactic(auto, unfolding(crate::specs::inner::Build::fields_from))]
 #[cycle(build)]
 fn build_fields(alloc: Global, levels: u64, text: &str) -> Result<(Vec<Field>, &str), BuildError>
@@ -157,7 +157,7 @@ fn build_fields(alloc: Global, levels: u64, text: &str) -> Result<(Vec<Field>, &
     build_more(alloc, levels, fields, rest, text.len())
 }
 
-// The parts of a type, after its opening.
+// Builds the parts of a type, after its opening.
 #[tactic(auto, unfolding(crate::specs::inner::Build::parts_from))]
 #[cycle(build)]
 fn build_parts<'a>(
@@ -180,7 +180,7 @@ fn build_parts<'a>(
     }
 }
 
-// The column of a name whose parts have at most `levels` levels, and what follows it.
+// Builds the column with this name, whose parts have at most `levels` levels, and returns the rest of the text.
 #[tactic(auto, unfolding(crate::specs::inner::Build::column_from))]
 #[cycle(build)]
 fn build_above<'a>(
@@ -206,7 +206,7 @@ fn build_above<'a>(
     Ok((field, rest))
 }
 
-/// The column of a name, at most `levels` levels deep, from the text after its colon, and what follows it.
+/// Builds the column with this name, at most `levels` levels deep, from the text after its colon, and returns the rest of the text.
 #[cycle(build)]
 fn build_column<'a>(
     alloc: Global,

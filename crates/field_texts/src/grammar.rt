@@ -1,4 +1,4 @@
-// Whether a text is that of a field. What is open stands on the heap: no nesting runs out of stack.
+// Tests whether a text is that of a field. Enclosures are kept on the heap, so no nesting overflows the stack.
 ghost use Rattle.std.specs.Prelude.{◌≡◌, ◌↔◌, IfOk, Bool, reverse, true};
 ghost use Rattle.field_texts.specs.Typed.{IsFieldText};
 ghost use Rattle.field_texts.specs.inner.OpeningView.{opening_view};
@@ -9,7 +9,7 @@ ghost use Rattle.field_texts.specs.declared.grammar.Place.TheVariants.{BeforeTyp
 use crate::scan::{Opening, name_of, nullable_suffix_of, opening_of, strip};
 use std::alloc::{AllocError, Global};
 
-/// What a type stands in.
+/// What a type is enclosed in.
 #[derive(Clone, Copy)]
 pub(crate) enum Enclosure {
     List,
@@ -17,7 +17,7 @@ pub(crate) enum Enclosure {
     Struct,
 }
 
-/// Where the test stands.
+/// The position of the test.
 #[derive(Clone, Copy)]
 pub(crate) enum Place {
     BeforeType,
@@ -35,7 +35,7 @@ impl Enclosure {
     }
 }
 
-// After the opening of a type: the enclosure that it begins, or none where the type ends there.
+// Reads on after the opening of a type: returns the enclosure that it begins, or `None` if the type ends there.
 #[tactic(auto, unfolding(crate::specs::inner::Standing::begun))]
 fn begin<'a>(opening: Opening, text: &'a str) -> Option<(Option<Enclosure>, &'a str)>
     ensures { Reads (λ p. (p.0, p.1.now)) result (begun (opening_view opening.entry) text.now) }
@@ -54,7 +54,7 @@ fn begin<'a>(opening: Opening, text: &'a str) -> Option<(Option<Enclosure>, &'a 
     }
 }
 
-// After a type: whether what it stands in is closed, or has a field more.
+// Reads on after a type: returns whether its enclosure is closed; if not, it has another field.
 #[tactic(auto, unfolding(crate::specs::inner::Standing::continued))]
 fn go_on(innermost: Enclosure, text: &str) -> Option<(bool, &str)>
     ensures { Reads (λ p. (p.0, p.1.now)) result (continued innermost text.now) }
@@ -117,7 +117,7 @@ fn take_step<'a>(
     }
 }
 
-// A type was read, and nothing is open around it.
+// Returns whether a type was read and no enclosure is open.
 fn is_over(place: Place, around: &[Enclosure]) -> bool
     ensures { result ≡ is_over place around.now }
 {
@@ -127,7 +127,7 @@ fn is_over(place: Place, around: &[Enclosure]) -> bool
     }
 }
 
-/// Whether the text is that of a field. Where limited, its numbers are below `NUMBER_END`.
+/// Returns whether the text is that of a field. If `limited`, its numbers must be below `NUMBER_END`.
 pub(crate) fn is_field_text(alloc: Global, text: &str, limited: bool) -> Result<bool, AllocError>
     ensures { IfOk result (λ is. (is ≡ true) ↔ IsFieldText limited text.now) }
 {

@@ -1,4 +1,4 @@
-// The keywords that begin a type, with the bracket that follows some of them.
+// The keywords at the start of a type, some with the bracket that follows.
 ghost use Rattle.std.specs.Prelude.{◌≡◌};
 ghost use Rattle.arrow_schema.specs.View.{bits_of, date_kind, time_kind};
 ghost use Rattle.field_texts.specs.Keywords.{integer_text, date_text, time_text, keyword_text};
@@ -24,7 +24,7 @@ pub(crate) enum Keyword {
     Dictionary,
 }
 
-/// Each keyword once. None of them begins another.
+/// Each keyword once. No keyword is a prefix of another.
 pub(crate) const KEYWORDS: [Keyword; 26] = [
     Keyword::Null,
     Keyword::Bool,

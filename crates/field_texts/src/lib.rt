@@ -1,8 +1,7 @@
-//! Field texts: the fields of a schema as they are typed in, and as they are printed.
+//! Field texts: the fields of a schema as they are typed in and printed.
 //!
-//! Promised are, exactly: what a field prints as, which fields texts state and else why they are refused, and that a
-//! text is that of at most one column. The grammar stands in docs/formats/field_texts.md. Contracts see fields as the
-//! plain trees of `arrow_schema`.
+//! The contracts say exactly how a field is printed, which fields a list of texts means or why it is refused, and that a text is that of at most one
+//! column. The grammar is in docs/formats/field_texts.md. Contracts see fields as the plain trees of `arrow_schema`.
 //!
 //! ```
 //! let fields = parse_fields(alloc, &["id:uint64", "tags:list<utf8?>?"])?;

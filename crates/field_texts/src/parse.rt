@@ -1,4 +1,4 @@
-// Fields from the texts that are typed in.
+// Parses fields from their texts.
 ghost use Rattle.std.specs.Prelude.{◌≡◌, map};
 ghost use Rattle.std.specs.Result.{result_map_both};
 ghost use Rattle.arrow_schema.specs.View.{column_of};
@@ -12,12 +12,12 @@ use crate::grammar::is_field_text;
 use arrow_schema::{Field, MAX_DEPTH, Schema};
 use std::alloc::{AllocError, AllocFailed, Global};
 
-/// Why field texts were refused.
+/// Why field texts are refused.
 #[derive(Clone, Copy, Debug, PartialEq, Eq)]
 pub enum ParseError {
-    /// The text of this number, counted from 1, is not that of a field.
+    /// The text with this number, counted from 1, is not that of a field.
     BadText(usize),
-    /// A number past 2,147,483,647, or a schema past its limits.
+    /// A number above 2,147,483,647, or a schema that exceeds its limits.
     Limit,
     OutOfMemory,
 }
@@ -70,15 +70,15 @@ fn build_texts(alloc: Global, texts: &[&str]) -> Result<Vec<Field>, BuildError>
     Ok(fields)
 }
 
-/// The fields that the texts state, within a schema's limits (docs/formats/field_texts.md). Nesting of any depth runs out of no stack.
+/// Parses fields from their texts, within the limits of a schema (docs/formats/field_texts.md). No nesting overflows the stack.
 ///
 /// ```
 /// let fields = parse_fields(alloc, &["day:int32", "millidegrees:int32?"])?;
 /// ```
 ///
 /// # Errors
-/// `BadText` where the first text that is refused, counted from 1, is not that of a field; `Limit` where that text has a number past 2,147,483,647,
-/// or where no text is refused and the schema passes its limits; `OutOfMemory`.
+/// `BadText` if the first refused text, counted from 1, is not that of a field; `Limit` if that text has a number above 2,147,483,647, or if no text
+/// is refused and the schema exceeds its limits; `OutOfMemory`.
 pub fn parse_fields(alloc: Global, texts: &[&str]) -> Result<Vec<Field>, ParseError>
     ensures reported { IsReported (map (λ t. t.now) texts.now) (result_map_both (λ v. map column_of v.items) (λ e. e) result) }
 {

@@ -1,4 +1,4 @@
-// Field texts, as they are printed.
+// Prints field texts.
 ghost use Rattle.std.specs.Prelude.{◌≡◌, ◌++◌, IfOk, OnOk, string_bytes, map, option_map, codes};
 ghost use Rattle.json.specs.Print.{quoted};
 ghost use Rattle.arrow_schema.specs.Column.{columns_of};
@@ -14,7 +14,7 @@ use serde_json::Value;
 use std::alloc::{AllocError, Global};
 use std::fmt::Write;
 
-// Appends the JSON string of a part.
+// Appends a part as a JSON string.
 fn push_json(alloc: Global, text: &mut String, part: &str) -> Result<(), AllocError>
     ensures { OnOk result (string_bytes text.new ≡ string_bytes text.old ++ quoted part.now) }
 {
@@ -22,10 +22,10 @@ fn push_json(alloc: Global, text: &mut String, part: &str) -> Result<(), AllocEr
     text.push_str(json.as_str())
 }
 
-/// The form that `schema` prints: names, items' names and timezones are JSON strings. Pairs are not printed.
+/// Returns the text that `schema` prints: names, the names of items, and timezones are JSON strings. Pairs are not printed.
 ///
 /// # Errors
-/// `AllocError` where memory was refused.
+/// `AllocError` if memory was refused.
 pub fn field_text(alloc: Global, field: &Field) -> Result<String, AllocError>
     ensures { IfOk result (λ text. string_bytes text ≡ field_text printed (column_of field.now)) }
 {
@@ -41,7 +41,7 @@ fn push_number(text: &mut String, number: u32) -> Result<(), AllocError>
     write!(text, "{number}")
 }
 
-// The keyword that begins a type.
+// Returns the keyword at the start of a type.
 #[tactic(auto, unfolding(crate::specs::Keywords::keyword_text))]
 fn keyword_of(data_type: &DataType) -> Keyword
     ensures { keyword_text result ≡ front_text (kind_of data_type.now) }
@@ -64,7 +64,7 @@ fn keyword_of(data_type: &DataType) -> Keyword
     }
 }
 
-// What stands before the type of a dictionary's values.
+// Appends the text before the type of a dictionary's values.
 #[tactic(auto, unfolding(crate::specs::Keywords::keyword_text))]
 fn push_dictionary(text: &mut String, dictionary: DictSpec) -> Result<(), AllocError>
     ensures { OnOk result (string_bytes text.new ≡ string_bytes text.old ++ dictionary_text (index_of dictionary)) }
@@ -74,7 +74,7 @@ fn push_dictionary(text: &mut String, dictionary: DictSpec) -> Result<(), AllocE
     text.push_str(",")
 }
 
-// A timezone in parentheses, where there is one.
+// Appends a timezone in parentheses, if there is one.
 fn push_timezone(alloc: Global, text: &mut String, timezone: &str) -> Result<(), AllocError>
     ensures { OnOk result (string_bytes text.new ≡ string_bytes text.old ++ timezone_text printed timezone.now) }
 {
@@ -86,7 +86,7 @@ fn push_timezone(alloc: Global, text: &mut String, timezone: &str) -> Result<(),
     text.push_str(")")
 }
 
-// A name, an item's too, and its type.
+// Appends the name of a field or an item, and its type.
 #[tactic(auto, unfolding(crate::specs::FieldText::field_text))]
 #[cycle(print)]
 fn push_field(alloc: Global, text: &mut String, field: &Field) -> Result<(), AllocError>
@@ -124,7 +124,7 @@ fn push_type(alloc: Global, text: &mut String, data_type: &DataType) -> Result<(
     push_rest(alloc, text, data_type)
 }
 
-// What stands after the keyword of a type.
+// Appends the text after the keyword of a type.
 #[cycle(print)]
 fn push_rest(alloc: Global, text: &mut String, data_type: &DataType) -> Result<(), AllocError>
     ensures { OnOk result (string_bytes text.new ≡ string_bytes text.old ++ rest_text (kind_of data_type.now)) }
@@ -151,7 +151,7 @@ fn push_rest(alloc: Global, text: &mut String, data_type: &DataType) -> Result<(
     }
 }
 
-// The item of a list.
+// Appends the item of a list.
 #[cycle(print)]
 fn push_item(alloc: Global, text: &mut String, item: &Field) -> Result<(), AllocError>
     ensures { OnOk result (string_bytes text.new ≡ string_bytes text.old ++ (field_text printed (column_of item.now) ++ codes ">")) }

@@ -1,4 +1,4 @@
-// What a field text begins with, and what follows it. No call here takes memory.
+// Reads the parts at the start of a field text. Nothing here allocates memory.
 ghost use Rattle.std.specs.Prelude.{◌≡◌, ◌<◌};
 ghost use Rattle.std.specs.List.{list_all};
 ghost use Rattle.facts.specs.Outcomes.{Reads};
@@ -9,7 +9,7 @@ ghost use Rattle.field_texts.specs.inner.OpeningView.{flat_kind, opening_view};
 use crate::keyword::{KEYWORDS, Keyword};
 use arrow_schema::{DateUnit, DictSpec, IntegerType, NUMBER_END, TimeUnit};
 
-/// A type without parts.
+/// A flat type.
 #[derive(Clone, Copy)]
 pub(crate) enum Flat<'a> {
     Null,
@@ -24,7 +24,7 @@ pub(crate) enum Flat<'a> {
     FixedBinary(u32),
 }
 
-/// How a type begins: all of a flat type, or what stands before the parts of a nested one. Numbers past 32 bits are the greatest of 32 bits.
+/// How a type begins: a whole flat type, or the text before the parts of a nested one. Numbers above 32 bits are capped at the greatest of 32 bits.
 #[derive(Clone, Copy)]
 pub(crate) enum Opening<'a> {
     Flat(Flat<'a>, Option<DictSpec>),
@@ -40,7 +40,7 @@ pub(crate) fn strip<'a>(text: &'a str, beginning: &str) -> Option<&'a str>
     text.strip_prefix(beginning)
 }
 
-// The delimiter is ASCII.
+// Splits the text at the first delimiter, which is ASCII.
 fn cut(text: &str, delimiter: char) -> Option<(&str, &str)>
     requires { delimiter < 128 }
     ensures { Reads (λ p. (p.0.now, p.1.now)) result (cut_at delimiter text.now) }
@@ -48,7 +48,7 @@ fn cut(text: &str, delimiter: char) -> Option<(&str, &str)>
     text.split_once(delimiter)
 }
 
-// The first of the keywords that the text begins with.
+// Returns the first of these keywords that the text starts with.
 #[tactic(auto, unfolding(crate::specs::inner::Scan::keyword_in))]
 fn keyword_among<'a>(keywords: &[Keyword], text: &'a str) -> Option<(Keyword, &'a str)>
     ensures { Reads (λ p. (p.0, p.1.now)) result (keyword_in keywords.now text.now) }
@@ -61,7 +61,7 @@ fn keyword_among<'a>(keywords: &[Keyword], text: &'a str) -> Option<(Keyword, &'
     None
 }
 
-// The keyword that the text begins with.
+// Returns the keyword that the text starts with.
 #[tactic(auto, unfolding(crate::specs::inner::Scan::keyword_at, crate::specs::inner::Scan::every_keyword))]
 fn keyword_of(text: &str) -> Option<(Keyword, &str)>
     ensures { Reads (λ p. (p.0, p.1.now)) result (keyword_at text.now) }
@@ -106,7 +106,7 @@ fn is_timezone(text: &str) -> bool
     !text.is_empty()
 }
 
-// Decimal digits without leading zeros.
+// Returns whether these are decimal digits without leading zeros.
 #[tactic(auto, unfolding(crate::specs::inner::Scan::is_numeral))]
 fn is_numeral(digits: &str) -> bool
     ensures { result ≡ is_numeral digits.now }
@@ -120,7 +120,7 @@ fn is_numeral(digits: &str) -> bool
     !all.is_empty() && (all.len() == 1 || all[0] != b'0')
 }
 
-// The number that digits write.
+// Returns the value of digits, capped at the greatest number of 32 bits.
 #[tactic(auto, unfolding(crate::specs::inner::Scan::value))]
 fn number_of(digits: &str) -> u32
     ensures { result ≡ capped_number (value digits.now) }
@@ -134,7 +134,7 @@ fn number_of(digits: &str) -> u32
     number
 }
 
-// A number, and what follows its delimiter. Where limited, it is below `NUMBER_END`.
+// Reads a number up to its delimiter. If `limited`, it must be below `NUMBER_END`.
 #[tactic(auto, unfolding(crate::specs::inner::Scan::size_at))]
 fn size_of(text: &str, delimiter: char, limited: bool) -> Option<(u32, &str)>
     requires { delimiter < 128 }
@@ -146,7 +146,7 @@ fn size_of(text: &str, delimiter: char, limited: bool) -> Option<(u32, &str)>
     fits.then_some((number, rest))
 }
 
-// The timezone of a timestamp, and what follows it: an empty one where no parenthesis opens.
+// Reads the timezone of a timestamp, which is empty if there is no parenthesis.
 #[tactic(auto, unfolding(crate::specs::inner::Scan::timezone_at, crate::specs::inner::Scan::timezone_within))]
 fn timezone_of(text: &str) -> Option<(&str, &str)>
     ensures { Reads (λ p. (p.0.now, p.1.now)) result (timezone_at text.now) }
@@ -158,7 +158,7 @@ fn timezone_of(text: &str) -> Option<(&str, &str)>
     is_timezone(timezone).then_some((timezone, rest))
 }
 
-// A type without parts, after its keyword.
+// Reads a flat type, after its keyword.
 #[tactic(auto, unfolding(crate::specs::inner::Scan::flat_at))]
 fn flat_of(keyword: Keyword, text: &str, limited: bool) -> Option<(Flat<'_>, &str)>
     ensures { Reads (λ p. (flat_kind p.0, p.1.now)) result (flat_at limited keyword text.now) }
@@ -189,7 +189,7 @@ fn flat_of(keyword: Keyword, text: &str, limited: bool) -> Option<(Flat<'_>, &st
     Some((flat, text))
 }
 
-// The index type, the type of the values, and the bracket that closes a dictionary.
+// Reads the index type and the value type of a dictionary, and its closing bracket.
 #[tactic(auto, unfolding(crate::specs::inner::Scan::dictionary_at, crate::specs::inner::Scan::values_at))]
 fn dictionary_of(text: &str, limited: bool) -> Option<(Opening<'_>, &str)>
     ensures { Reads (λ p. (opening_view p.0, p.1.now)) result (dictionary_at limited text.now) }
@@ -205,7 +205,7 @@ fn dictionary_of(text: &str, limited: bool) -> Option<(Opening<'_>, &str)>
     ))
 }
 
-/// How a type begins. Where limited, its numbers are below `NUMBER_END`.
+/// Reads the opening of a type. If `limited`, its numbers must be below `NUMBER_END`.
 #[tactic(auto, unfolding(crate::specs::inner::Scan::opening_at, crate::specs::inner::Scan::opening_after))]
 pub(crate) fn opening_of(text: &str, limited: bool) -> Option<(Opening<'_>, &str)>
     ensures { Reads (λ p. (opening_view p.0, p.1.now)) result (opening_at limited text.now) }
@@ -227,7 +227,7 @@ pub(crate) fn opening_of(text: &str, limited: bool) -> Option<(Opening<'_>, &str
     }
 }
 
-/// The name of a field, and what follows its colon.
+/// Reads the name of a field and its colon.
 #[tactic(auto, unfolding(crate::specs::inner::Scan::name_at))]
 pub(crate) fn name_of(text: &str) -> Option<(&str, &str)>
     ensures { Reads (λ p. (p.0.now, p.1.now)) result (name_at text.now) }
@@ -236,7 +236,7 @@ pub(crate) fn name_of(text: &str) -> Option<(&str, &str)>
     is_name(name).then_some((name, rest))
 }
 
-/// Whether the nullable suffix `?` comes next, and what follows it.
+/// Returns whether the nullable suffix `?` comes next, and the text after it.
 pub(crate) fn nullable_suffix_of(text: &str) -> (bool, &str)
     ensures nullable { result.0 ≡ has_nullable_suffix text.now }
     ensures rest { result.1.now ≡ after_nullable_suffix text.now }

@@ -1,7 +1,7 @@
-//! The numbers of the format, each as the Arrow columnar format, its schema files or the pages of docs/formats write it.
+//! The numbers of the format as the Arrow columnar format, its schema files or the pages of docs/formats write them.
 //!
-//! The definitions of other crates name these numbers as constants, so a wrong constant would change the code and the definition alike. Here each is
-//! stated as a number. The functions do nothing: their contracts are the laws.
+//! The definitions of other crates name these numbers as constants, so a wrong constant would change the code and the definition alike. Here each one
+//! is stated as a number. The functions do nothing: their contracts are the laws.
 #![tactic(auto)]
 
 mod limits;

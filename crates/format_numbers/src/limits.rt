@@ -1,4 +1,4 @@
-// The limits of this store's readers and writers (docs/formats/reading.md, docs/formats/store.md).
+// The limits of readers and writers and of the store (docs/formats/reading.md, docs/formats/store.md).
 ghost use Rattle.std.specs.Prelude.{◌≡◌};
 ghost use Rattle.arrays.specs.declared.limits.TheConstants.{MAX_SLOTS};
 ghost use Rattle.arrow_schema.specs.declared.limits.TheConstants.{MAX_DEPTH, MAX_FIELDS, MAX_PAIRS, MAX_TEXT_BYTES, NUMBER_END};
@@ -10,7 +10,7 @@ ghost use Rattle.sector_dev.specs.declared.device.TheConstants.{SECTOR_BYTES};
 ghost use Rattle.sector_dev.specs.declared.file.TheConstants.{LEAST_SECTORS, MOST_SECTORS};
 ghost use Rattle.tables.specs.declared.limits.TheConstants.{MAX_IMPORT_BYTES};
 
-/// The limits of a message's metadata: its bytes, its tables, how deep they stand, and what a schema and a batch may have.
+/// The limits of a message's metadata: its bytes, its tables and their depth, and those of a schema and a batch.
 pub fn limits_of_metadata()
     ensures metadata_bytes { MAX_BUFFER_BYTES ≡ 16777216 }
     ensures tables { MAX_BUFFER_TABLES ≡ 20000 }
@@ -33,7 +33,7 @@ pub fn limits_of_tables()
     ensures piece_weight { MAX_PIECE_WEIGHT ≡ 16777216 }
 {}
 
-/// The limits of a store and of what it is given.
+/// The limits of a store and of its inputs.
 pub fn limits_of_stores()
     ensures sector_bytes { SECTOR_BYTES ≡ 512 }
     ensures least_sectors { LEAST_SECTORS ≡ 16 }

@@ -1,4 +1,4 @@
--- What a piece of a table is.
+-- The properties of a piece of a table.
 use Rattle.std.specs.Prelude.{◌≡◌, ◌≤◌, true, List, length}
 use Rattle.arrow_schema.specs.Column.{PlainSchema, columns_of}
 use Rattle.cells.specs.Cell.{Cell}
@@ -6,7 +6,7 @@ use Rattle.columns.specs.Buildable.{can_build_rows}
 use Rattle.values.specs.Table.{IsTable}
 use Rattle.table_cut.specs.Piece.{within_piece}
 
--- rows of a table that are a piece: at least one, within the limits of a piece, a table by themselves, and of which the arrays of a batch can be built
+-- rows that are a piece: at least one, within the limits of a piece, a table by themselves, and such that the arrays of a batch can be built of them
 pub record IsPieceOf (s : PlainSchema) (rows : List (List Cell)) : Type 0 where
   pub some : 1 ≤ length rows
   pub within : within_piece s rows ≡ true

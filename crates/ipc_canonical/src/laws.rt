@@ -1,4 +1,4 @@
-// What is written is read again. The functions do nothing: their contracts are the laws.
+// Laws that what is written is read back. The functions do nothing: their contracts are the laws.
 ghost use Rattle.std.specs.List.{AllByRecursion, AllPass, range_with_len};
 ghost use Rattle.std.specs.Prelude.{◌≡◌, ◌≤◌, ◌+◌, ℕ, List, [], ◌∷◌, map, length, None, Ok, ◌++◌, false, Some};
 ghost use Rattle.arrow_schema.specs.Column.{Columns, PlainSchema, columns_of};
@@ -36,7 +36,6 @@ ghost use Rattle.ipc_canonical.specs.Canonical.{canonical, stream_parts};
 
 use cells::MAX_TABLE_WEIGHT;
 
-/// The worked cases of the definitions.
 #[tactic(auto, unfolding(crate::specs::Canonical::canonical, crate::specs::Canonical::piece_messages, columns::specs::Built::built, columns::specs::Tests::arrays_at, cells::specs::Dictionary::with_entries))]
 pub fn worked_cases()
     ensures no_rows { NoRows }
@@ -46,7 +45,7 @@ pub fn worked_cases()
     ensures two_dictionaries { TwoDictionaries }
 {}
 
-/// Each piece of a table is a piece: the arrays of its record batch can be built of it.
+/// Each piece of a table satisfies `IsPieceOf`: in particular, the arrays of its record batch can be built.
 pub fn pieces_can_be_built()
     ensures { (t : PlainTable) → IsTable t → AllByRecursion (IsPieceOf t.schema) (pieces_of t) }
 {
@@ -54,8 +53,8 @@ pub fn pieces_can_be_built()
     values::tables_are_joined_and_cut();
 }
 
-/// The batch of rows that can be written. `writable`: a message may be framed of it; `checks`: no check of its arrays finds anything; `arrays`: with
-/// their own dictionaries its arrays are those that the rows were written as.
+/// The batch of rows that can be written. `writable`: a message can be framed of it; `checks`: no check refuses its arrays; `arrays`: with their own
+/// dictionaries, its arrays are those that the rows were written as.
 pub fn written_batches_pass()
     ensures writable { (columns : Columns) (rows : List (List Cell)) → IsWritable columns rows
         → let arrays = built_parts columns rows in IsWritableBatch (length rows) (raw_nodes columns arrays) (buffers_of columns arrays) }
@@ -72,7 +71,7 @@ pub fn written_batches_pass()
     ipc_write::buffers_stand_in_their_body();
 }
 
-/// The record batch of rows of a table is read as the arrays that they were written as, after rows with which they are not too heavy.
+/// The record batch of rows of a table is read back as the arrays it was written from, if the rows before it leave room for its weight.
 pub fn written_rows_are_read()
     ensures { (s : PlainSchema) (before : ℕ) (rows : List (List Cell)) → IsWritable (columns_of s.columns) rows → AllPass (is_row s) rows
         → before + table_weight s rows ≤ MAX_TABLE_WEIGHT
@@ -86,7 +85,7 @@ pub fn written_rows_are_read()
     columns::dictionaries_are_written_alone();
 }
 
-/// The batch of a dictionary's entries may be framed, and is read as the array that they were written as, where it has no dictionary of its own.
+/// The batch of a dictionary's entries can be framed, and is read back as the array it was written from if that has no dictionary of its own.
 pub fn written_entries_are_read()
     ensures writable { (t : Typed) → IsBuiltAlone MAX_SLOTS t → length (preorder_all (own_column t)) ≤ MAX_FIELDS
         → IsWritableBatch (slots_in t.array) (raw_nodes (own_column t) (own_array t)) (buffers_of (own_column t) (own_array t)) }
@@ -99,28 +98,28 @@ pub fn written_entries_are_read()
     written_batches_pass();
 }
 
-/// The dictionaries of a written schema have the ids 0, 1, 2 .. in preorder; and where ids count up so, each id leads to its own column.
+/// The dictionaries of a written schema have the ids 0, 1, 2 .. in preorder; and if ids count like this, each id finds its own column.
 pub fn written_ids_count_dictionaries()
     ensures ids { (s : PlainSchema) → map (λ c. c.id) (dictionary_columns (raw_schema s)) ≡ range_with_len 0 (ids_of_all (columns_of s.columns)) }
     ensures own { (columns : List DictionaryColumn) → map (λ c. c.id) columns ≡ range_with_len 0 (length columns)
         → AllByRecursion (λ (c : DictionaryColumn). column_of_id c.id columns ≡ Some c) columns }
 {}
 
-/// After each dictionary was replaced the new arrays alone are in effect, whatever stood before.
+/// After each dictionary was replaced, only the new arrays are in effect, whatever came before.
 pub fn replaced_dictionaries_are_in_effect()
     ensures { (columns : List DictionaryColumn) (before : List DictionaryBatch) (arrays : List Array)
         → map (λ c. c.id) columns ≡ range_with_len 0 (length arrays)
         → dictionaries_after (before ++ replacing 0 arrays) columns ≡ map (λ a. a ∷ []) arrays }
 {}
 
-/// A dictionary batch that is no delta is read with the array that its entries are read as, whatever stood before.
+/// A dictionary batch that is not a delta is read with the array of its entries, whatever came before.
 pub fn replacing_batches_are_read()
     ensures { (columns : List DictionaryColumn) (before : List DictionaryBatch) (d : RawDictionaryBatch) (body : List ℕ) (c : DictionaryColumn) (a : Array)
         → column_of_id d.id columns ≡ Some c → d.is_delta ≡ false → entries_read c.values d.batch body ≡ Ok a
         → dictionary_read columns before d body ≡ Ok (batch_with d a) }
 {}
 
-/// A stream whose rows come one list after another, each in the pieces that it makes by itself, means the table of all of them.
+/// A stream of several lists of rows, each cut into pieces by itself, means the table of all the rows.
 pub fn joined_parts_mean_their_table()
     ensures { (s : PlainSchema) (lists : List (List (List Cell))) → IsTable (plain_table s (joined lists))
         → meaning supported_codes (joined (stream_parts s lists)) ≡ Ok (plain_table s (joined lists)) }
@@ -142,7 +141,7 @@ pub fn joined_parts_mean_their_table()
     written_ids_count_dictionaries();
 }
 
-/// The canonical stream of a table means that table: it is the stream of one list of rows.
+/// The canonical stream of a table means that table: it is the stream of a single list of rows.
 pub fn canonical_means_its_table()
     ensures { (t : PlainTable) → IsTable t → meaning supported_codes (canonical t) ≡ Ok t }
 {

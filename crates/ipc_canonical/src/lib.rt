@@ -1,8 +1,8 @@
-//! The canonical stream of a table of any types: what bytes a table is written as (`specs/Canonical`), and that what is written is read again.
+//! The canonical stream of a table of any types: the bytes that a table is written as (`specs/Canonical`), and laws that they are read back.
 //!
-//! Arrays that are written as a record batch or as a dictionary's entries are read as these arrays; the dictionaries of a written schema count up; and
-//! the whole stream, also one whose rows come one list after another, means its table ([`canonical_means_its_table`], [`joined_parts_mean_their_table`];
-//! docs/definitions/writing.md). The functions do nothing: their contracts are the laws.
+//! Arrays that are written as a record batch or as a dictionary's entries are read back as the same arrays; the dictionaries of a written schema have
+//! ascending ids; and the whole stream, even if its rows come in several lists, means its table ([`canonical_means_its_table`],
+//! [`joined_parts_mean_their_table`]; docs/definitions/writing.md). The functions do nothing: their contracts are the laws.
 #![tactic(auto)]
 
 mod laws;

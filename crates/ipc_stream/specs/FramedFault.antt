@@ -1,4 +1,4 @@
--- A stream and its fault: messages that are read, and then what is refused.
+-- A stream and its fault: messages that are read, and then bytes that are refused.
 use Rattle.std.specs.Prelude.{◌≡◌, ◌≢◌, ℕ, Bool, List, [], drop, Option, Some, None, Ok, Err}
 use Rattle.arrays.specs.Dictionaries.{dictionary_read}
 use Rattle.ipc_message.specs.declared.header_type.TheConstants.{SCHEMA}
@@ -14,13 +14,13 @@ use Rattle.ipc_stream.specs.Progress.{known_batch}
 
 -- ---- one message
 
--- the first message has the type of a schema, and each other has another
+-- the first message is of the schema type, and every other message of another type
 abbrev pub IsInOrder : (before : Option Known) → Envelope → Type 0
 IsInOrder None m = type_of m.metadata ≡ SCHEMA
 IsInOrder (Some k) m = type_of m.metadata ≢ SCHEMA
 
--- why a message is refused where this is known: it is out of order, its header does not decode, or what it decodes to is refused. The order is given by the
--- type alone, and comes first
+-- why a message is refused in this state: it is out of order, its header does not decode, or the decoded content is refused. The order depends on the
+-- type alone and is checked first
 pub data IsBad (supported : ℕ → Bool) (before : Option Known) (m : Envelope) (fault : Fault) : Type 0 where
   no_schema : before ≡ None → type_of m.metadata ≢ SCHEMA → fault ≡ NoSchema → IsBad supported before m fault
   second_schema : before ≢ None → type_of m.metadata ≡ SCHEMA → fault ≡ SecondSchema → IsBad supported before m fault
@@ -34,8 +34,8 @@ pub data IsBad (supported : ℕ → Bool) (before : Option Known) (m : Envelope)
 
 -- ---- messages one after another
 
--- why the bytes that follow the messages that were read are refused: no message stands there, the message that does is refused, the stream ends before its
--- schema, or something follows its end of stream
+-- why the bytes after the messages that were read are refused: they are no message, the message is refused, the stream ends before its schema, or
+-- bytes follow its end of stream
 pub data IsRefused (supported : ℕ → Bool) (before : Option Known) (rest : List ℕ) (fault : Fault) : Type 0 where
   no_next_message : rest ≢ [] → next_message rest ≡ Err fault → IsRefused supported before rest fault
   bad_message : (m : Envelope) → next_message rest ≡ Ok (message m) → IsBad supported before m fault → IsRefused supported before rest fault
@@ -44,7 +44,7 @@ pub data IsRefused (supported : ℕ → Bool) (before : Option Known) (rest : Li
   after_end_of_stream : next_message rest ≡ Ok end_of_stream → before ≢ None → drop (taken end_of_stream) rest ≢ [] → fault ≡ AfterEnd
       → IsRefused supported before rest fault
 
--- the fault is true of the stream
+-- the stream has this fault
 pub record FaultStands (supported : ℕ → Bool) (bytes : List ℕ) (fault : Fault) : Type 0 where
   pub messages : List Envelope
   pub known : Option Known

@@ -1,5 +1,5 @@
--- What a stream of bytes means: a table, or the first fault (Arrow columnar format, "IPC Streaming Format"). `supported` says which type codes are
--- supported.
+-- The meaning of a stream of bytes: a table, or the first fault (Arrow columnar format, "IPC Streaming Format"). `supported` says which type codes
+-- are supported.
 use Rattle.std.specs.Prelude.{ℕ, zero, suc, Bool, true, false, not, ◌==◌, List, [], ◌∷◌, ◌++◌, length, drop, Option, Some, None, Result, Ok, Err, if◌then◌else◌}
 use Rattle.arrow_schema.specs.Column.{PlainSchema, columns_of}
 use Rattle.cells.specs.Cell.{Cell, PlainTable}
@@ -26,7 +26,7 @@ abbrev pub is_empty : {A : Type 0} → List A → Bool
 is_empty [] = true
 is_empty (x ∷ xs) = false
 
--- ---- what is known in the middle of a stream
+-- ---- the state after some messages
 
 -- the schema, its columns with dictionaries, the dictionary batches so far, and the rows of the record batches so far
 pub record Known : Type 0 where
@@ -47,14 +47,14 @@ with_rows k rows = record { schema = k.schema; columns = k.columns; dictionaries
 abbrev pub known_table : Known → PlainTable
 known_table k = record { schema = k.schema; rows = k.rows }
 
--- ---- a message after those before it
+-- ---- one message after those before it
 
--- F9, F10: a batch before the schema, and a schema after it
+-- F9, F10: a batch before the schema, or a second schema
 abbrev pub order_fault : Option Known → (header_type : ℕ) → Option Fault
 order_fault None header_type = when (not (header_type == SCHEMA)) NoSchema
 order_fault (Some k) header_type = when (header_type == SCHEMA) SecondSchema
 
--- a batch takes the dictionaries that are in effect where it stands
+-- a batch uses the dictionaries that are in effect where it comes
 abbrev pub read_after : Known → (body : List ℕ) → RawHeader → Result Known Fault
 read_after k body (schema_header s) = Err SecondSchema
 read_after k body (dictionary_header d) = dictionary_read k.columns k.dictionaries d body >>= λ b. Ok (with_dictionary k b)
@@ -62,7 +62,7 @@ read_after k body (batch_header b) =
     batch_read k.schema (table_weight k.schema k.rows) b body (dictionaries_after k.dictionaries k.columns)
     >>= λ arrays. Ok (with_rows k (rows_in (columns_of k.schema.columns) arrays b.length))
 
--- what its header and its body add, or the first fault of their checks; the order of messages is given by the type of the header alone
+-- the state after a header and its body, or the first fault of their checks; the order of messages depends on the type of the header alone
 abbrev pub read_header : (ℕ → Bool) → Option Known → (body : List ℕ) → RawHeader → Result Known Fault
 read_header supported None body (schema_header s) = unless (first_some (schema_checks supported s)) (Ok (known_first s))
 read_header supported None body _ = Err NoSchema
@@ -73,12 +73,12 @@ read_next supported before m = unless (order_fault before (type_of m.metadata)) 
 
 -- ---- the stream
 
--- the end of the bytes, between two messages
+-- the state at the end of the bytes, between two messages
 abbrev pub known_at_end : Option Known → Result Known Fault
 known_at_end None = Err NoSchema
 known_at_end (Some k) = Ok k
 
--- the end of stream, and what follows it
+-- the state at the end of stream, after which no bytes may follow
 abbrev pub known_at_end_of_stream : Option Known → (rest : List ℕ) → Result Known Fault
 known_at_end_of_stream before rest = known_at_end before >>= λ k. if is_empty rest then Ok k else Err AfterEnd
 
@@ -86,7 +86,7 @@ abbrev pub by_next_message : {A : Type 0} → NextMessage → A → (Envelope �
 by_next_message end_of_stream x f = x
 by_next_message (message m) x f = f m
 
--- what is known at the end, or the first fault; each message takes bytes, so that as many steps as bytes are enough
+-- the state at the end, or the first fault; each message takes bytes, so as many steps as bytes are enough
 unfoldable pub read_from : (ℕ → Bool) → (steps : ℕ) → Option Known → List ℕ → Result Known Fault
 read_from supported zero before bytes = Err Truncated
 read_from supported (suc steps) before bytes =

@@ -1,5 +1,5 @@
--- Where the first fault of a stream stands: the number of its first faulty message, counted from 0, and that message's first byte. The end of stream counts
--- as a message.
+-- Where the first fault of a stream lies: the number of the first faulty message, counted from 0, and the offset of its first byte. The end of stream
+-- counts as a message.
 use Rattle.std.specs.Prelude.{ℕ, zero, suc, Bool, List, [], ◌∷◌, length, drop, Option, Some, None, Result, Ok, Err, is_ok, if◌then◌else◌}
 use Rattle.std.specs.List.{sum_by}
 use Rattle.ipc_message.specs.declared.fault.Fault.{Fault}
@@ -15,7 +15,7 @@ abbrev pub accepted_known : Result Known Fault → (Known → List Envelope) →
 accepted_known (Ok k) f = f k
 accepted_known (Err fault) f = []
 
--- the messages before the first faulty one, and before the end; each takes bytes, so that as many steps as bytes are enough
+-- the messages before the first faulty one, or before the end; each takes bytes, so as many steps as bytes are enough
 unfoldable pub accepted : (ℕ → Bool) → (steps : ℕ) → Option Known → List ℕ → List Envelope
 accepted supported zero before bytes = []
 accepted supported (suc steps) before bytes =
@@ -25,7 +25,7 @@ accepted supported (suc steps) before bytes =
 abbrev pub bytes_taken : List Envelope → ℕ
 bytes_taken messages = sum_by (λ m. taken (message m)) messages
 
--- the faulty message follows those that are accepted; there is none where the bytes mean a table
+-- the faulty message follows the accepted ones; there is none if the bytes mean a table
 unfoldable pub place_of : (ℕ → Bool) → List ℕ → Option (ℕ × ℕ)
 place_of supported bytes =
     let before : List Envelope = accepted supported (length bytes) None bytes in

@@ -1,4 +1,4 @@
--- What is known in the middle of a stream, as the code keeps it, and what a call gives that adds to it.
+-- The state of a stream as the code keeps it, and the results of calls that add to it.
 use Rattle.std.specs.Prelude.{◌≡◌, ℕ, Bool, true, List, Option, Some, None, Result, Ok, Err, length, map}
 use Rattle.std.specs.List.{flat_map, list_all}
 use Rattle.arrow_schema.specs.Column.{Columns, columns_of}
@@ -27,14 +27,14 @@ use Rattle.ipc_message.specs.Outcome.{Fails}
 use Rattle.ipc_stream.specs.declared.front.Front.{Front}
 use Rattle.ipc_stream.specs.Meaning.{Known, known_table}
 
--- the rows of batches that were read, in these bytes and with these dictionaries
+-- the rows of batches that were read, over these bytes and these dictionaries
 abbrev pub placed_rows : Columns → List ℕ → List Dictionary → List Batch → List (List Cell)
 placed_rows columns bytes lists batches = flat_map (λ b. rows_in columns (placed_arrays bytes lists b.arrays.items) b.rows) batches
 
 abbrev pub are_batches_sound : Columns → List ℕ → List Dictionary → List Batch → Bool
 are_batches_sound columns bytes lists batches = list_all (λ b. are_sound columns b.rows (placed_arrays bytes lists b.arrays.items)) batches
 
--- the arrays of batches end within n bytes, and so do those that they know of dictionaries
+-- the arrays of the batches end within `size` bytes, and so do the dictionary arrays that they know
 abbrev pub are_batches_within : (size : ℕ) → List Dictionary → List Batch → Bool
 are_batches_within size lists batches = list_all (λ b. list_all (is_placed_within size lists) b.arrays.items) batches
 
@@ -45,7 +45,7 @@ pub record HasDictionaries (k : Known) : Type 0 where
   pub readable : list_all (is_readable_batch k.columns) k.dictionaries ≡ true
   pub bytes : list_all (λ b. has_bytes b.array) k.dictionaries ≡ true
 
--- what is known stands in these bytes, as the code keeps it
+-- the front holds the state k, over these bytes
 pub record IsFront (bytes : List ℕ) (f : Front) (k : Known) : Type 0 where
   pub schema : schema_of f.schema ≡ k.schema
   pub columns : dictionary_columns_of f.columns ≡ k.columns
@@ -58,34 +58,34 @@ pub record IsFront (bytes : List ℕ) (f : Front) (k : Known) : Type 0 where
   pub weight : f.weight ≡ table_weight k.schema k.rows
   pub table : IsTable (known_table k)
 
--- what a call gives where this is what is known then, or the first fault
+-- the result of a call is a front with the expected state, or the first fault
 abbrev pub GivesFront : List ℕ → Result Front ImportError → Result Known Fault → Type 0
 GivesFront bytes (Ok f) exact = (k : Known) × (exact ≡ Ok k) × IsFront bytes f k
 GivesFront bytes (Err e) exact = Fails e exact
 
--- what a call gives that adds to what is known where it stands
+-- the same for a call that changes a front in place
 abbrev pub GivesGrown : List ℕ → Front → Result (Unit {0}) ImportError → Result Known Fault → Type 0
 GivesGrown bytes f (Ok u) exact = (k : Known) × (exact ≡ Ok k) × IsFront bytes f k
 GivesGrown bytes f (Err e) exact = Fails e exact
 
--- the same where there may be no message yet
+-- `IsFront`, if there may be no message yet
 abbrev pub IsBefore : List ℕ → Option Front → Option Known → Type 0
 IsBefore bytes None None = Unit {0}
 IsBefore bytes (Some f) (Some k) = IsFront bytes f k
 IsBefore bytes _ _ = ⊥
 
--- the arrays of a record batch after what is known, or the first fault
+-- the arrays of a record batch in this state, or the first fault
 abbrev pub known_batch : Known → RawBatch → (body : List ℕ) → Result Arrays Fault
 known_batch k b body = batch_read k.schema (table_weight k.schema k.rows) b body (dictionaries_after k.dictionaries k.columns)
 
--- these are the arrays of a record batch, which end within these bytes; their slots can be looked up
+-- these are the arrays of a record batch; they end within these bytes, and their slots can be looked up
 pub record AreArrays (bytes : List ℕ) (lists : List Dictionary) (k : Known) (b : RawBatch) (body : List ℕ) (v : PlacedBatch) : Type 0 where
   pub read : known_batch k b body ≡ Ok (placed_arrays bytes lists v.arrays.items)
   pub weight : v.weight ≡ batch_weight k.schema b.length (placed_arrays bytes lists v.arrays.items)
   pub within : list_all (is_placed_within (length bytes) lists) v.arrays.items ≡ true
   pub sound : are_sound (columns_of k.schema.columns) b.length (placed_arrays bytes lists v.arrays.items) ≡ true
 
--- what reading them gives
+-- the result of reading these arrays
 abbrev pub GivesArrays : List ℕ → List Dictionary → Known → RawBatch → (body : List ℕ) → Result PlacedBatch ImportError → Type 0
 GivesArrays bytes lists k b body (Ok v) = AreArrays bytes lists k b body v
 GivesArrays bytes lists k b body (Err e) = Fails e (known_batch k b body)

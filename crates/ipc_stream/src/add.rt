@@ -1,4 +1,4 @@
-// What one message adds to what is known.
+// Adds one message to the state of a stream.
 ghost use Rattle.std.specs.Prelude.{◌≡◌, ◌≤◌, ◌<◌, ◌+◌, ◌++◌, ℕ, length, map, take, slice_index, List, [], ◌∷◌, IfOk, OnOk, Option, None, Some};
 ghost use Rattle.columns.specs.Places.{within};
 ghost use Rattle.columns.specs.View.{array_in, arrays_in, no_dictionary};
@@ -29,7 +29,7 @@ use ipc_message::{
 use std::alloc::{AllocError, Global};
 use values::Batch;
 
-/// What is known after the schema.
+/// Returns the state after the schema message.
 fn begin(alloc: Global, raw: &RawSchema) -> Result<Front, ImportError>
     ensures { (bytes body : List ℕ) → GivesFront bytes result (read_header supported_codes None body (schema_header (raw_schema_of raw.now))) }
 {
@@ -45,7 +45,7 @@ fn begin(alloc: Global, raw: &RawSchema) -> Result<Front, ImportError>
     })
 }
 
-// How many columns have an id and values.
+// Returns the number of columns that have both an id and values.
 #[tactic(auto, using(crate::proofs::Ids::all_values, crate::proofs::Ids::all_ids))]
 fn column_count(columns: &DictionaryColumns) -> usize
     ensures within { result ≤ length columns.now.ids.items }
@@ -58,7 +58,7 @@ fn column_count(columns: &DictionaryColumns) -> usize
     columns.ids.len()
 }
 
-// The dictionaries that the columns of a record batch take.
+// Returns the dictionaries in effect for the columns of a record batch.
 fn dictionary_parts(
     alloc: Global,
     columns: &DictionaryColumns,
@@ -74,7 +74,7 @@ fn dictionary_parts(
     Ok(parts)
 }
 
-// The arrays of a record batch.
+// Reads the arrays of a record batch.
 fn read_arrays(
     alloc: Global,
     front: &Front,
@@ -103,7 +103,6 @@ fn read_arrays(
     )
 }
 
-// Adds a record batch to what is known.
 fn add_batch(
     alloc: Global,
     front: &mut Front,
@@ -129,7 +128,7 @@ fn add_batch(
     Ok(())
 }
 
-// Keeps the array of a dictionary batch: a delta is appended, and any other begins its dictionary anew.
+// Keeps the array of a dictionary batch. A delta is appended; any other array replaces the entries of its dictionary.
 fn keep_array(
     alloc: Global,
     dictionaries: &mut Dictionaries,
@@ -149,14 +148,13 @@ fn keep_array(
     }
 }
 
-// There are dictionaries of which these lists are kept: a contract knows it of what is borrowed.
+// Gives a contract, where the dictionaries are only borrowed, that plain lists of them exist.
 fn lists_are_kept(dictionaries: &Dictionaries)
     ensures { (lists : List DictionaryList) × (lists_of lists ≡ dictionaries.now.lists) }
 {
     let _lists = dictionaries.lists();
 }
 
-// Adds a dictionary batch to what is known.
 fn add_dictionary(
     alloc: Global,
     front: &mut Front,
@@ -177,12 +175,12 @@ fn add_dictionary(
     Ok(())
 }
 
-// A byte is below 256: a contract knows it of a slice that it is given.
+// Gives a contract that every element of a slice of bytes is below 256.
 fn bytes_are_small(bytes: &[u8])
     ensures { (i : ℕ) → slice_index bytes.now i < 256 }
 {}
 
-// Adds a message that is no schema to what is known.
+// Adds a message after the schema to the state.
 fn grow(
     alloc: Global,
     front: &mut Front,
@@ -206,7 +204,7 @@ fn grow(
     }
 }
 
-// What is known after a message that is no schema.
+// Returns the state after a message that follows the schema.
 fn add_after(
     alloc: Global,
     front: Front,
@@ -226,7 +224,7 @@ fn add_after(
     }
 }
 
-// What is known after the first message.
+// Returns the state after the first message, which must be a schema.
 fn add_first(alloc: Global, message: &Message) -> Result<Front, ImportError>
     ensures { (bytes : List ℕ) → GivesFront bytes result (read_next supported_codes None (envelope_of message.now)) }
 {
@@ -239,10 +237,10 @@ fn add_first(alloc: Global, message: &Message) -> Result<Front, ImportError>
     }
 }
 
-/// What is known after one message more, whose body stands in the bytes.
+/// Returns the state after one more message, whose body lies at `body` in `bytes`.
 ///
 /// # Errors
-/// `Fault` with the first of its checks that fails; `OutOfMemory`.
+/// `Fault` with the first check of the message that fails; `OutOfMemory`.
 pub fn add_message(
     alloc: Global,
     front: Option<Front>,

@@ -16,8 +16,8 @@ use std::alloc::Global;
 use std::marker::Model;
 use values::Table;
 
-/// Reads a stream that comes in pieces, cut wherever they are. It keeps the bytes so far, in which the arrays of the table will stand; after a fault it keeps
-/// that alone. Each message is read once, unless memory was refused.
+/// Reads a stream that arrives in pieces, cut anywhere. It keeps all bytes so far, since the arrays of the table are places in them; after a fault it
+/// keeps only the fault. Each message is read once, unless memory was refused.
 #[derive(Drop)]
 pub struct Decoder {
     bytes: Vec<u8>,
@@ -37,14 +37,14 @@ impl Model for Decoder {
     ghost invariant = { λ d. IsDecoding d.fault d.bytes.items d.reading };
 }
 
-/// Why a decoder gives no table: its stream has a fault, or memory was refused, and then the decoder is given back as it was.
+/// Why a decoder returns no table: its stream has a fault, or memory was refused. In the second case the decoder is returned unchanged.
 #[derive(Drop)]
 pub enum FinishError {
     Fault(Fault),
     OutOfMemory(Decoder),
 }
 
-// Nothing was read.
+// The state before anything is read.
 fn unread(held: usize) -> Reading
     ensures { result ≡ record { front = None; number = 0; start = 0; held = held } }
 {
@@ -56,7 +56,7 @@ fn unread(held: usize) -> Reading
     }
 }
 
-// A decoder of bytes that are to be read again.
+// Returns a decoder that reads these bytes again from the start.
 fn decoder_of(bytes: Vec<u8>, held: usize) -> Decoder
     requires settled { settled_fault supported_codes bytes.items ≡ None }
     requires held { held ≡ held_of supported_codes bytes.items }
@@ -69,7 +69,7 @@ fn decoder_of(bytes: Vec<u8>, held: usize) -> Decoder
     }
 }
 
-// Why bytes give no table, which are given back where memory was refused.
+// Returns why the bytes have no table. If memory was refused, the bytes come back in a decoder.
 fn failed(error: ImportError, bytes: Vec<u8>, held: usize) -> FinishError
     requires settled { settled_fault supported_codes bytes.items ≡ None }
     requires held { held ≡ held_of supported_codes bytes.items }
@@ -81,7 +81,7 @@ fn failed(error: ImportError, bytes: Vec<u8>, held: usize) -> FinishError
     }
 }
 
-// Reads on with a piece after the bytes. Where memory is refused they are as they were, and will be read again.
+// Appends a piece and reads on. If memory is refused, the bytes are restored and will be read again from the start.
 fn feed_bytes(
     alloc: Global,
     bytes: &mut Vec<u8>,
@@ -115,18 +115,18 @@ fn feed_bytes(
 impl Decoder {
     ghost use Rattle.ipc_stream.specs.Feeding.{Tells, UnlessRefused, Finishes, GivesBack};
 
-    /// A decoder that was fed no bytes.
+    /// Creates a decoder that was fed no bytes.
     pub fn new(alloc: Global) -> Decoder
         ensures { result ≡ fed supported_codes [] }
     {
         decoder_of(Vec::new(alloc), 0)
     }
 
-    /// Reads on with the next bytes of the stream.
+    /// Appends the next bytes of the stream and reads on.
     ///
     /// # Errors
-    /// `Fault` with the first fault of the bytes so far, as soon as no bytes after them can take it away, and again whatever comes then.
-    /// `OutOfMemory`: then nothing has changed, and the piece may be fed again.
+    /// `Fault` with the first fault of the bytes so far, as soon as no further bytes can change it; every later call returns it again. `OutOfMemory`:
+    /// nothing has changed, and the piece may be fed again.
     pub fn feed(&mut self, alloc: Global, piece: &[u8]) -> Result<(), ImportError>
         ensures told { (bytes : List ℕ) → self.old ≡ fed supported_codes bytes → Tells result (settled_fault supported_codes (bytes ++ piece.now)) }
         ensures fed { (bytes : List ℕ) → self.old ≡ fed supported_codes bytes
@@ -147,17 +147,17 @@ impl Decoder {
         }
     }
 
-    /// How many bytes wait for the rest of their message: those after the last whole message, and none after a fault or the end of stream.
+    /// Returns the number of bytes after the last whole message, which wait for the rest of theirs; 0 after a fault or the end of stream.
     pub fn held(&self) -> usize
         ensures { (bytes : List ℕ) → self.now ≡ fed supported_codes bytes → result ≡ held_of supported_codes bytes }
     {
         self.reading.held
     }
 
-    /// The table that the bytes mean, as [`crate::decode`] gives it of all of them.
+    /// Returns the table that the bytes mean, the same one that [`crate::decode`] returns for all of them.
     ///
     /// # Errors
-    /// `Fault` with the first fault of the bytes. `OutOfMemory` with the decoder as it was.
+    /// `Fault` with the first fault of the bytes. `OutOfMemory` with the unchanged decoder.
     pub fn finish(self, alloc: Global) -> Result<Table, FinishError>
         ensures exact { (bytes : List ℕ) → self ≡ fed supported_codes bytes → Finishes result (meaning supported_codes bytes) }
         ensures back { GivesBack result self }

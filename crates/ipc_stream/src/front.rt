@@ -1,12 +1,12 @@
-// What is known in the middle of a stream, as the code keeps it.
+// The state of a stream after its first messages.
 
 use arrays::DictionaryColumns;
 use arrow_schema::Schema;
 use dictionary::Dictionaries;
 use values::Batch;
 
-/// What is known after some messages of a stream: the schema, its columns with dictionaries, the dictionaries and the record batches
-/// so far, and what their rows weigh.
+/// The state after some messages of a stream: the schema, its columns with dictionaries, the dictionaries and record batches so far, and the weight
+/// of their rows.
 #[derive(Drop)]
 pub struct Front {
     pub(crate) schema: Schema,

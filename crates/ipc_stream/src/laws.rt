@@ -1,4 +1,4 @@
-// What the definitions say. The functions do nothing: their contracts are the laws.
+// Laws about the definitions. The functions do nothing: their contracts are the laws.
 ghost use Rattle.std.specs.Prelude.{◌≡◌, ◌++◌, ℕ, Bool, true, List, Ok, Err, None, Some, length};
 ghost use Rattle.facts.specs.Bytes.{AreBytes};
 ghost use Rattle.cells.specs.Cell.{PlainTable};
@@ -20,9 +20,10 @@ use ipc_message::{
     only_named_codes_matter,
 };
 
-/// A stream means the table that it encodes, and no other: framed messages, of which the first is the table's schema and each other a dictionary batch or a
-/// record batch that is read after those before it, whose rows one batch after another are the table's, and then nothing or the end of stream. A stream that
-/// means none has messages that are read, one after another, and then what the fault refuses; and a fault that stands is reported.
+/// A stream means a table exactly if it encodes it: the messages are framed, the first is the table's schema, each other one is a dictionary batch or
+/// a record batch that is read after those before it, their rows in order are the table's, and then come no bytes or the end of stream. A stream
+/// encodes at most one table. A stream has a fault exactly if that fault stands: some messages are read, and the bytes after them are refused with
+/// it.
 pub fn meaning_is_framed()
     ensures table { (supported : ℕ → Bool) (bytes : List ℕ) (t : PlainTable) → meaning supported bytes ≡ Ok t → StreamEncodes supported bytes t }
     ensures once { (supported : ℕ → Bool) (bytes : List ℕ) (t u : PlainTable) → StreamEncodes supported bytes t
@@ -36,7 +37,7 @@ pub fn meaning_is_framed()
     next_message_is_framed();
 }
 
-/// A fault stands after the messages that its place counts, at the byte where they end; a stream that means a table has no such place.
+/// A fault stands after as many messages as its place counts, at the byte where they end. A stream that means a table has no such place.
 pub fn faults_stand_at_their_place()
     ensures placed { (supported : ℕ → Bool) (bytes : List ℕ) (fault : Fault) → (stands : FaultStands supported bytes fault)
         → place_of supported bytes ≡ Some (length stands.messages, bytes_taken stands.messages) }
@@ -46,7 +47,7 @@ pub fn faults_stand_at_their_place()
     next_message_is_framed();
 }
 
-/// What a stream of bytes means is a table.
+/// The meaning of a stream of bytes, if not a fault, is a table.
 pub fn meaning_is_a_table()
     ensures { (supported : ℕ → Bool) (bytes : List ℕ) (t : PlainTable) → AreBytes bytes → meaning supported bytes ≡ Ok t → IsTable t }
 {
@@ -58,15 +59,15 @@ pub fn meaning_is_a_table()
     read_rows_are_rows();
 }
 
-/// A fault that a decoder has reported stays: it is the first fault of the bytes so far, and of these with any bytes after them.
+/// A settled fault, which a decoder reports, stays: it is the first fault of the bytes so far, and of these with any bytes appended.
 pub fn settled_faults_stay()
     ensures stays { (bytes more : List ℕ) (fault : Fault) → settled_fault supported_codes bytes ≡ Some fault
         → settled_fault supported_codes (bytes ++ more) ≡ Some fault }
     ensures meant { (bytes : List ℕ) (fault : Fault) → settled_fault supported_codes bytes ≡ Some fault → meaning supported_codes bytes ≡ Err fault }
 {}
 
-/// Whether a type code is supported matters only to the streams whose schema names it. So a stream that names no later code has the meaning that it had before
-/// these were supported, its table or its fault. And a table that a stream means stays its meaning, whichever codes are supported beside.
+/// Whether a type code is supported matters only to streams whose schema names it. So a stream that names no later code has the meaning that it had
+/// before these codes were supported, table or fault. And a table that a stream means stays its meaning if more codes are supported.
 pub fn older_streams_keep_their_meaning()
     ensures named { (supported other : ℕ → Bool) (bytes : List ℕ) → SupportAlike supported other (codes_named bytes)
         → meaning supported bytes ≡ meaning other bytes }

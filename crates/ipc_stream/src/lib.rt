@@ -1,10 +1,10 @@
-//! Arrow IPC streams of any types: what a stream of bytes means, and what is known after each of its messages.
+//! Arrow IPC streams of any types: the meaning of a stream of bytes, and the state after each of its messages.
 //!
-//! The meaning of a stream goes message by message: a schema, then dictionary batches and record batches, each read with what is known from those before it.
-//! [`add_message`] gives exactly what is known after one message more, or its first fault, and [`read_front`] the same of all messages of a stream up to its
-//! end.
-//! [`decode`] gives the table that a stream means. Arrays are places in the bytes of the stream: no cell is copied. A [`Decoder`] gives the same of a stream
-//! that comes in pieces, and [`place`] says where the first fault of a stream stands.
+//! A stream is read message by message: a schema, then dictionary batches and record batches, each in the state that the messages before it left.
+//! [`add_message`] returns exactly the state after one more message, or its first fault, and [`read_front`] the state at the end of a stream.
+//!
+//! [`decode`] returns the table that a stream means. Arrays are places in the bytes of the stream: no cell is copied. A [`Decoder`] does the same for
+//! a stream that arrives in pieces, and [`place`] locates the first fault of a stream.
 //!
 //! ```ignore
 //! let table = decode(alloc, bytes)?;

@@ -1,4 +1,4 @@
-// Where the first fault of a stream stands.
+// Locates the first fault of a stream.
 ghost use Rattle.std.specs.Prelude.{◌≡◌, ℕ, List, IfOk};
 ghost use Rattle.ipc_message.specs.Header.{supported_codes};
 ghost use Rattle.ipc_stream.specs.Place.{place_of};
@@ -8,7 +8,7 @@ use crate::reading::{Reading, read_on};
 use ipc_message::ImportError;
 use std::alloc::{AllocError, Global};
 
-// Where the first fault of bytes stands that were read as far as they go.
+// Returns the place of the first fault once the bytes were read as far as they go.
 fn place_at_end(reading: &Reading) -> Option<(usize, usize)>
     ensures { (bytes : List ℕ) → Rests bytes reading.now → result ≡ place_of supported_codes bytes }
 {
@@ -21,11 +21,11 @@ fn place_at_end(reading: &Reading) -> Option<(usize, usize)>
     }
 }
 
-/// The number of the first faulty message of a stream, counted from 0, and its first byte; the end of stream counts as a message. There is none where the
-/// stream means a table.
+/// Returns the number of the first faulty message of a stream, counted from 0, and the offset of its first byte, or `None` if the stream means a
+/// table. The end of stream counts as a message.
 ///
 /// # Errors
-/// `AllocError` where memory was refused.
+/// `AllocError` if memory was refused.
 pub fn place(alloc: Global, bytes: &[u8]) -> Result<Option<(usize, usize)>, AllocError>
     ensures { IfOk result (λ place. place ≡ place_of supported_codes bytes.now) }
 {

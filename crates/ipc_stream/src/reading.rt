@@ -14,7 +14,8 @@ use columns::Span;
 use ipc_message::{Fault, ImportError, Message, NextMessage, next_message_is_framed, read_message};
 use std::alloc::Global;
 
-/// How far a stream was read: what is known after its first messages, how many they are, where they end, and how many bytes wait for the rest of their message.
+/// How far a stream was read: the state after its first messages, the number of these messages, the offset where they end, and the number of bytes
+/// that wait for the rest of their message.
 #[derive(Drop)]
 pub(crate) struct Reading {
     pub(crate) front: Option<Front>,
@@ -23,7 +24,7 @@ pub(crate) struct Reading {
     pub(crate) held: usize,
 }
 
-/// Why a stream was read no further, after how many messages, and where they end.
+/// Why reading stopped, after how many messages, and the offset where they end.
 #[derive(Clone, Copy)]
 pub(crate) struct Stopped {
     pub(crate) error: ImportError,
@@ -31,7 +32,7 @@ pub(crate) struct Stopped {
     pub(crate) start: usize,
 }
 
-// What stands at the start of the bytes, and how many bytes it takes. There is none where they are cut off.
+// Reads the next message or the end of stream, with its size in bytes. Returns `None` if it is cut off.
 fn find_next(bytes: &[u8]) -> Result<Option<(NextMessage<'_>, usize)>, Fault>
     ensures { FindsNext bytes.now result }
 {
@@ -42,7 +43,7 @@ fn find_next(bytes: &[u8]) -> Result<Option<(NextMessage<'_>, usize)>, Fault>
     }
 }
 
-// Where the body of a message of this size in bytes stands.
+// Returns where the body of a message with this size in bytes lies.
 fn body_at(bytes: &[u8], start: usize, size: usize, message: &Message) -> Span
     requires fits { start + size ≤ length bytes.now }
     requires next { next_message (drop start bytes.now) ≡ Ok (framed_message (envelope_of message.now)) }
@@ -58,7 +59,7 @@ fn body_at(bytes: &[u8], start: usize, size: usize, message: &Message) -> Span
     }
 }
 
-// The end of stream, and how many bytes stand after it.
+// Returns the state at the end of stream; `behind` bytes follow it.
 fn end_of_stream(
     front: Option<Front>,
     number: usize,
@@ -91,7 +92,7 @@ fn stop(error: ImportError, number: usize, start: usize) -> Stopped
     }
 }
 
-/// Reads on, as far as the bytes go.
+/// Reads messages up to the end of the bytes.
 pub(crate) fn read_on(
     alloc: Global,
     front: Option<Front>,
@@ -138,7 +139,7 @@ pub(crate) fn read_on(
     })
 }
 
-/// What is known where no more bytes come, or the first fault.
+/// Returns the state if no more bytes follow, or the first fault.
 pub(crate) fn at_end(reading: Reading) -> Result<Front, ImportError>
     ensures { (bytes : List ℕ) → Rests bytes reading → GivesFront bytes result (read_from supported_codes (suc (length bytes)) None bytes) }
 {
@@ -151,7 +152,7 @@ pub(crate) fn at_end(reading: Reading) -> Result<Front, ImportError>
     }
 }
 
-/// What is known at the end of bytes that were read so far, or their first fault.
+/// Reads messages up to the end of the bytes and returns the state there, or the first fault.
 pub(crate) fn read_to_end(
     alloc: Global,
     front: Option<Front>,
@@ -168,7 +169,7 @@ pub(crate) fn read_to_end(
     }
 }
 
-/// What is known at the end of a stream.
+/// Returns the state at the end of a stream.
 ///
 /// # Errors
 /// `Fault` with the first fault of the stream; `OutOfMemory`.

@@ -1,4 +1,4 @@
-// The table of a whole stream.
+// Decodes a whole stream in memory.
 ghost use Rattle.std.specs.Prelude.{◌≡◌, true, [], ◌∷◌, length, IfOk, IfErr};
 ghost use Rattle.cells.specs.Weight.{table_weight};
 ghost use Rattle.ipc_message.specs.Header.{supported_codes};
@@ -14,7 +14,7 @@ use ipc_message::ImportError;
 use std::alloc::Global;
 use values::{Table, TablePart, WeighedTable};
 
-// The bytes of the only one of some parts.
+// Returns the bytes of the only part.
 fn only_bytes(parts: Vec<TablePart>) -> Vec<u8>
     requires { length parts.items ≡ 1 }
     ensures { (p : PlainPart) → parts.items ≡ p ∷ [] → result.items ≡ p.bytes.items }
@@ -24,7 +24,7 @@ fn only_bytes(parts: Vec<TablePart>) -> Vec<u8>
     bytes
 }
 
-// The table of what is known, whose arrays stand in these bytes. The bytes are given back where memory is refused.
+// Returns the table whose arrays lie in these bytes. Returns the bytes if memory is refused.
 pub(crate) fn table_of_front(alloc: Global, front: Front, bytes: Vec<u8>) -> Result<Table, Vec<u8>>
     requires { (k : Known) × IsFront bytes.items front k }
     ensures table { (k : Known) → IsFront bytes.items front k → IfOk result (λ table. table_of table ≡ known_table k) }
@@ -51,7 +51,7 @@ pub(crate) fn table_of_front(alloc: Global, front: Front, bytes: Vec<u8>) -> Res
     }
 }
 
-/// The table that a stream means with the weight of its rows. It keeps the bytes as one part, so that no cell is copied.
+/// Returns the table that a stream means, and the weight of its rows. The table keeps the bytes as one part, so no cell is copied.
 ///
 /// # Errors
 /// `Fault` with the first fault of the stream; `OutOfMemory`. The bytes are freed.
@@ -68,8 +68,8 @@ pub fn decode_weighed(alloc: Global, bytes: Vec<u8>) -> Result<WeighedTable, Imp
     }
 }
 
-/// The table that a stream means, as [`decode_weighed`] gives it. Streams that name none of the types that were supported last have the meaning
-/// that they had before ([`crate::older_streams_keep_their_meaning`]).
+/// Returns the table that a stream means, as [`decode_weighed`] does. A stream that names no later type code has the meaning that it had before these
+/// codes were supported ([`crate::older_streams_keep_their_meaning`]).
 ///
 /// ```
 /// let rows = decode(alloc, bytes)?.len();

@@ -1,4 +1,4 @@
--- What a batch is written from, as plain values.
+-- The contents of a written batch, as plain values.
 use Rattle.std.specs.Borrow.{Bor}
 use Rattle.std.specs.Prelude.{ℕ, List, map, length}
 use Rattle.ipc_message.specs.Raw.{RawNode}
@@ -12,6 +12,6 @@ nodes_in contents = map raw_node contents.nodes.items
 abbrev pub buffers_in : BatchContents → List (List ℕ)
 buffers_in contents = map (λ (b : Bor (List ℕ)). b.now) contents.buffers.now
 
--- a message has room for it
+-- a message has room for the contents
 abbrev pub CanBeWritten : BatchContents → Type 0
 CanBeWritten contents = HasRoom (length contents.nodes.items) (buffers_in contents)

@@ -1,4 +1,4 @@
--- What the header of a written message decodes to.
+-- The decoded header of a written message.
 use Rattle.std.specs.Prelude.{ℕ, ◌+◌, Option, Some, None}
 use Rattle.arrow_schema.specs.Column.{Index, date_unit_of, time_unit_of, Kind, Column, Columns, nulls, booleans, integers, dates, timestamps, texts, large_texts, binaries, large_binaries, fixed_binaries, lists, large_lists, fixed_lists, structs, column, no_column, and_column, columns_of, PlainSchema}
 use Rattle.ipc_message.specs.Raw.{RawParameters, no_parameters, integer_parameters, byte_width, list_size, date_unit, timestamp_parameters, RawEncoding, RawField, RawFields, raw_field, no_raw_field, and_raw_field, raw_list_of, RawSchema}
@@ -25,7 +25,7 @@ encoding_of id None = None
 encoding_of id (Some index) = Some (record { id = id; width = index.bits; signed = index.signed; kind = 0 })
 
 unfoldable mutual
-  -- a field whose dictionaries have ids from this one on
+  -- a field, whose dictionaries have ids from `id` on
   pub raw_of : ℕ → Column → RawField
   raw_of id (column name nullable kind dictionary pairs) =
       raw_field name nullable (code_of kind) (parameters_of kind) (encoding_of id dictionary) (raw_below (id + ids_for dictionary) kind) pairs

@@ -1,5 +1,5 @@
--- The tables that a message is made of, as they are written (docs/formats/writing.md; Message.fbs, Schema.fbs). Each scalar is
--- written, also where it is the default; each vector of fields, children, nodes and buffers too, also where it is empty.
+-- The tables of a message as they are written (docs/formats/writing.md; Message.fbs, Schema.fbs). Each scalar is written even if it is the default,
+-- and each vector of fields, children, nodes and buffers even if it is empty.
 use Rattle.std.specs.Prelude.{ℕ, ◌+◌, Bool, true, false, List, [], ◌∷◌, map, Option, Some, None}
 use Rattle.flatbuf.specs.Tree.{Tree, Nodes, Slots, table, text, references, structs, no_node, and_node, no_slot, absent, scalar, refers}
 use Rattle.arrow_schema.specs.Column.{Index, Pair, date_unit_of, time_unit_of, Kind, Column, Columns, nulls, booleans, integers, dates, timestamps, texts, large_texts, binaries, large_binaries, fixed_binaries, lists, large_lists, fixed_lists, structs as struct_kind, column, no_column, and_column, columns_of, PlainSchema}
@@ -32,7 +32,7 @@ code_of (large_lists item) = LARGE_LIST
 abbrev pub int_tree : ℕ → Bool → Tree
 int_tree bits signed = table (scalar 4 bits (scalar 1 (bit signed) no_slot))
 
--- a timezone is written where there is one
+-- a timezone is written if there is one
 abbrev pub timezone_slot : List ℕ → Slots
 timezone_slot [] = no_slot
 timezone_slot (b ∷ bs) = refers (text (b ∷ bs)) no_slot
@@ -62,7 +62,7 @@ abbrev pub pair_nodes : List Pair → Nodes
 pair_nodes [] = no_node
 pair_nodes (p ∷ ps) = and_node (pair_tree p) (pair_nodes ps)
 
--- custom_metadata is written where there are pairs
+-- custom_metadata is written if there are pairs
 abbrev pub pairs_slot : List Pair → Slots
 pairs_slot [] = no_slot
 pairs_slot (p ∷ ps) = refers (references (pair_nodes (p ∷ ps))) no_slot
@@ -75,12 +75,12 @@ abbrev pub dictionary_slot : ℕ → Option Index → Slots → Slots
 dictionary_slot id None rest = absent rest
 dictionary_slot id (Some index) rest = refers (encoding_tree id index) rest
 
--- one id for a dictionary
+-- a dictionary takes one id
 abbrev pub ids_for : Option Index → ℕ
 ids_for None = 0
 ids_for (Some index) = 1
 
--- how many dictionaries a column has, with its children
+-- the number of dictionaries of a column and its children
 abbrev mutual
   pub ids_of : Column → ℕ
   ids_of (column name nullable kind dictionary pairs) = ids_for dictionary + ids_below kind
@@ -105,7 +105,7 @@ abbrev mutual
   ids_of_all no_column = 0
   ids_of_all (and_column c cs) = ids_of c + ids_of_all cs
 
--- a Field: name, nullable, type code, type, dictionary, children, custom_metadata. Ids count the dictionaries in preorder, from this one on.
+-- a Field: name, nullable, type code, type, dictionary, children, custom_metadata. Dictionary ids count in preorder, from `id` on.
 unfoldable mutual
   pub field_tree : ℕ → Column → Tree
   field_tree id (column name nullable kind dictionary pairs) =

@@ -1,14 +1,14 @@
--- How many tables a reader enters for what was written, and which types it must hold.
+-- The number of tables that a reader enters for a written message, and the types that it must support.
 use Rattle.std.specs.Prelude.{is_none, false, ◌≡◌, ℕ, ◌+◌, Bool, true, length, Option, Some, None}
 use Rattle.ipc_message.specs.declared.type_codes.TheConstants.{DATE, TIMESTAMP}
 use Rattle.ipc_message.specs.Framing.{header_type}
 use Rattle.arrow_schema.specs.Column.{Index, Kind, Column, Columns, nulls, booleans, integers, dates, timestamps, texts, large_texts, binaries, large_binaries, fixed_binaries, lists, large_lists, fixed_lists, structs, column, no_column, and_column}
 
--- dates and timestamps are held: the types that not every reader holds, and whose tables are read
+-- the reader supports dates and timestamps, the types with a table of their own that not every reader supports
 abbrev pub HoldsTimes : (ℕ → Bool) → Type 0
 HoldsTimes supported = (supported DATE ≡ true) × (supported TIMESTAMP ≡ true)
 
--- the tables that are entered for a type: none where it has no parameters
+-- the tables entered for a type: none if it has no parameters
 abbrev pub type_tables : Kind → ℕ
 type_tables (integers bits signed) = 1
 type_tables (fixed_binaries width) = 1
@@ -22,7 +22,7 @@ abbrev pub encoding_tables : Option Index → ℕ
 encoding_tables None = 0
 encoding_tables (Some index) = 2
 
--- the tables that are entered for a column, with its children
+-- the tables entered for a column and its children
 abbrev mutual
   pub tables_of : Column → ℕ
   tables_of (column name nullable kind dictionary pairs) = 1 + type_tables kind + encoding_tables dictionary + tables_below kind + length pairs
@@ -47,6 +47,6 @@ abbrev mutual
   tables_of_all no_column = 0
   tables_of_all (and_column c cs) = tables_of c + tables_of_all cs
 
--- a header type that is read
+-- a header type that a reader accepts
 abbrev pub IsHeaderType : ℕ → Type 0
 IsHeaderType type = is_none (header_type type) ≡ false

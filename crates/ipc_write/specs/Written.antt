@@ -11,7 +11,7 @@ use Rattle.ipc_message.specs.Raw.{RawNode, RawBuffer, RawBatch, RawDictionaryBat
 use Rattle.ipc_write.specs.declared.contents.TheConstants.{MAX_BATCH_NODES, MAX_BATCH_BUFFERS}
 use Rattle.ipc_write.specs.Trees.{schema_tree, batch_tree, dictionary_tree, message_tree, node_pair}
 
--- the continuation marker, the size of the metadata, the metadata, the body
+-- the continuation marker, the size of the metadata, the metadata, and the body
 abbrev pub framed : List ℕ → List ℕ → List ℕ
 framed metadata body = continuation_marker ++ (little_bytes 4 (length metadata) ++ (metadata ++ body))
 
@@ -23,25 +23,25 @@ envelope type header body = record { metadata = metadata (message_tree type head
 abbrev pub message_bytes : ℕ → Tree → List ℕ → List ℕ
 message_bytes type header body = framed (metadata (message_tree type header (length body))) body
 
--- bytes, and zeros up to a multiple of 8
+-- bytes padded with zeros to a multiple of 8
 abbrev pub padded : List ℕ → List ℕ
 padded bytes = bytes ++ replicate ((8 - length bytes % 8) % 8) 0
 
--- the body of a batch: its buffers one after another, each filled to a multiple of 8
+-- the body of a batch: its buffers, each padded to a multiple of 8
 abbrev pub body : List (List ℕ) → List ℕ
 body [] = []
 body (buffer ∷ buffers) = padded buffer ++ body buffers
 
--- where each buffer stands, the first at this offset
+-- the offset and length of each buffer, the first at the offset `at`
 abbrev pub placed : ℕ → List (List ℕ) → List RawBuffer
 placed at [] = []
 placed at (buffer ∷ buffers) = record { offset = at; length = length buffer } ∷ placed (at + length (padded buffer)) buffers
 
--- a batch of so many rows with these nodes and buffers
+-- a batch of `rows` rows with these nodes and buffers
 abbrev pub batch_of : ℕ → List RawNode → List (List ℕ) → RawBatch
 batch_of rows nodes buffers = record { length = rows; nodes = nodes; buffers = placed 0 buffers; compressed = false }
 
--- the entries of the dictionary with this id: all of them, or more
+-- the entries of the dictionary with this id: all of them, or more of them in a delta
 abbrev pub dictionary_batch_of : ℕ → Bool → ℕ → List RawNode → List (List ℕ) → RawDictionaryBatch
 dictionary_batch_of id is_delta rows nodes buffers = record { id = id; batch = batch_of rows nodes buffers; is_delta = is_delta }
 
@@ -55,7 +55,7 @@ dictionary_message id is_delta rows nodes buffers = message_bytes DICTIONARY_BAT
 unfoldable pub batch_message : ℕ → List RawNode → List (List ℕ) → List ℕ
 batch_message rows nodes buffers = message_bytes RECORD_BATCH (batch_tree (batch_of rows nodes buffers)) (body buffers)
 
--- these messages as a reader finds them
+-- the same messages as a reader finds them
 abbrev pub schema_envelope : PlainSchema → Envelope
 schema_envelope s = envelope SCHEMA (schema_tree s) []
 
@@ -65,13 +65,13 @@ dictionary_envelope id is_delta rows nodes buffers = envelope DICTIONARY_BATCH (
 abbrev pub batch_envelope : ℕ → List RawNode → List (List ℕ) → Envelope
 batch_envelope rows nodes buffers = envelope RECORD_BATCH (batch_tree (batch_of rows nodes buffers)) (body buffers)
 
--- what a message has room for: so many nodes, and these buffers
+-- a message has room for this number of nodes, and for these buffers
 pub record HasRoom (nodes : ℕ) (buffers : List (List ℕ)) : Type 0 where
   pub few_nodes : nodes ≤ MAX_BATCH_NODES
   pub few_buffers : length buffers ≤ MAX_BATCH_BUFFERS
   pub short_body : length (body buffers) < 2 ^ 62
 
--- a batch that a message has room for, and whose numbers fit 64 bits
+-- a batch that a message has room for, and whose numbers fit in 64 bits
 pub record IsWritableBatch (rows : ℕ) (nodes : List RawNode) (buffers : List (List ℕ)) : Type 0 where
   pub rows_fit : rows < 2 ^ 64
   pub nodes_fit : FitsStructs (map node_pair nodes)

@@ -1,4 +1,4 @@
-// The Field tables of a schema. Ids of dictionaries count from 0 over the fields that have one, each field before its children.
+// The Field tables of a schema. Dictionary ids count from 0 over the fields with a dictionary, each field before its children.
 ghost use Rattle.std.specs.Prelude.{◌≡◌, ◌+◌, ◌^◌, ◌<◌, map, IfOk, OnOk};
 ghost use Rattle.arrow_schema.specs.View.{kind_of, column_of};
 ghost use Rattle.arrow_schema.specs.Column.{columns_of};
@@ -11,7 +11,7 @@ use arrow_schema::{DataType, Field};
 use flatbuf::Node;
 use std::alloc::{AllocError, Global};
 
-/// A Field with all below it.
+/// Builds a Field with all its children.
 #[cycle(fields)]
 fn field_node(alloc: Global, field: &Field, next_id: &mut u64) -> Result<Node, AllocError>
     requires { next_id.old + ids_of (column_of field.now) < 2 ^ 64 }
@@ -23,7 +23,7 @@ fn field_node(alloc: Global, field: &Field, next_id: &mut u64) -> Result<Node, A
     field_table(alloc, field, dictionary, children)
 }
 
-/// The children of a field of this type.
+/// Builds the children of a field of this type.
 #[tactic(auto, unfolding(crate::specs::Trees::child_nodes))]
 #[cycle(fields)]
 fn child_nodes(
@@ -44,7 +44,7 @@ fn child_nodes(
     }
 }
 
-/// The one child of a list.
+/// Builds the only child of a list.
 #[cycle(fields)]
 fn item_node(alloc: Global, item: &Field, next_id: &mut u64) -> Result<Vec<Node>, AllocError>
     requires { next_id.old + ids_of (column_of item.now) < 2 ^ 64 }
@@ -55,7 +55,7 @@ fn item_node(alloc: Global, item: &Field, next_id: &mut u64) -> Result<Vec<Node>
     Ok(vec![in alloc; node]?)
 }
 
-/// Fields one after another.
+/// Builds fields in order.
 #[cycle(fields)]
 pub(crate) fn field_nodes(
     alloc: Global,

@@ -1,4 +1,4 @@
-// The messages of a stream, as bytes.
+// The messages of a stream as bytes.
 ghost use Rattle.std.specs.Prelude.{◌≡◌, ◌≤◌, ◌<◌, ◌+◌, ◌-◌, ◌%◌, ◌^◌, ◌++◌, [], ◌∷◌, ℕ, List, map, length, take, OnOk, OnErr, IfOk, replicate};
 ghost use Rattle.byteorder.specs.Endian.{little_bytes};
 ghost use Rattle.arrow_schema.specs.View.{schema_of};
@@ -30,10 +30,10 @@ fn put_metadata(out: &mut Vec<u8>, metadata: &[u8]) -> Result<(), AllocError>
     out.extend_from_slice(metadata)
 }
 
-/// Appends the zeros that fill a buffer of `length` bytes to a multiple of 8.
+/// Appends the zeros that pad a buffer of `length` bytes to a multiple of 8.
 ///
 /// # Errors
-/// `AllocError` where memory was refused: then nothing is appended.
+/// `AllocError` if memory was refused; then nothing is appended.
 pub fn write_padding(out: &mut Vec<u8>, length: usize) -> Result<(), AllocError>
     ensures appended { OnOk result (out.new.items ≡ out.old.items ++ replicate ((8 - length % 8) % 8) 0) }
     ensures kept { OnErr result (out.new.items ≡ out.old.items) }
@@ -41,7 +41,7 @@ pub fn write_padding(out: &mut Vec<u8>, length: usize) -> Result<(), AllocError>
     out.resize(out.len() + (8 - length % 8) % 8, 0)
 }
 
-/// Appends bytes, and zeros up to a multiple of 8.
+/// Appends bytes, padded with zeros to a multiple of 8.
 fn put_padded(out: &mut Vec<u8>, bytes: &[u8]) -> Result<(), AllocError>
     ensures appended { OnOk result (out.new.items ≡ out.old.items ++ padded bytes.now) }
     ensures begins { take (length out.old.items) out.new.items ≡ out.old.items }
@@ -50,7 +50,7 @@ fn put_padded(out: &mut Vec<u8>, bytes: &[u8]) -> Result<(), AllocError>
     write_padding(out, bytes.len())
 }
 
-/// Appends the body of a message: each buffer, filled to a multiple of 8.
+/// Appends the body of a message: its buffers, each padded to a multiple of 8.
 fn put_body(out: &mut Vec<u8>, buffers: &[&[u8]]) -> Result<(), AllocError>
     ensures appended { OnOk result (out.new.items ≡ out.old.items ++ body (map (λ b. b.now) buffers.now)) }
     ensures begins { take (length out.old.items) out.new.items ≡ out.old.items }
@@ -61,7 +61,7 @@ fn put_body(out: &mut Vec<u8>, buffers: &[&[u8]]) -> Result<(), AllocError>
     Ok(())
 }
 
-/// Appends the body of a message. Where memory is refused, all that stands after the place `before` is removed.
+/// Appends the body of a message. If memory is refused, truncates `out` to `before` bytes.
 fn put_body_or_cut(out: &mut Vec<u8>, buffers: &[&[u8]], before: usize) -> Result<(), AllocError>
     requires { before ≤ length out.old.items }
     ensures appended { OnOk result (out.new.items ≡ out.old.items ++ body (map (λ b. b.now) buffers.now)) }
@@ -74,7 +74,7 @@ fn put_body_or_cut(out: &mut Vec<u8>, buffers: &[&[u8]], before: usize) -> Resul
     put
 }
 
-/// Appends all of a message but its body, or nothing where memory is refused.
+/// Appends a message without its body, or nothing if memory is refused.
 fn put_front(out: &mut Vec<u8>, metadata: &[u8]) -> Result<(), AllocError>
     requires { length metadata.now < 2 ^ 31 }
     ensures appended { OnOk result (out.new.items ≡ out.old.items ++ framed metadata.now []) }
@@ -89,7 +89,7 @@ fn put_front(out: &mut Vec<u8>, metadata: &[u8]) -> Result<(), AllocError>
     front
 }
 
-/// Appends all but the body of a message with a header of this type and a body of this length in bytes, or nothing where memory is refused.
+/// Appends a message without its body, whose length in bytes is `body_length`, or nothing if memory is refused.
 fn write_front(
     alloc: Global,
     out: &mut Vec<u8>,
@@ -111,7 +111,7 @@ fn write_front(
 /// Appends the message of a schema (docs/formats/writing.md).
 ///
 /// # Errors
-/// `AllocError` where memory was refused: then nothing is appended.
+/// `AllocError` if memory was refused; then nothing is appended.
 pub fn write_schema(alloc: Global, out: &mut Vec<u8>, schema: &Schema) -> Result<(), AllocError>
     requires { IsWithinLimits (schema_of schema.now) }
     ensures appended { OnOk result (out.new.items ≡ out.old.items ++ schema_message (schema_of schema.now)) }
@@ -122,7 +122,7 @@ pub fn write_schema(alloc: Global, out: &mut Vec<u8>, schema: &Schema) -> Result
     write_front(alloc, out, SCHEMA, header, 0)
 }
 
-/// Where each buffer stands in the body, and how long the body is.
+/// Returns the offset and length of each buffer in the body, and the length of the body.
 #[tactic(auto, using(crate::proofs::BatchNode::fits_more))]
 fn ranges_of(alloc: Global, buffers: &[&[u8]]) -> Result<(Vec<(u64, u64)>, u64), AllocError>
     requires { length (body (map (λ b. b.now) buffers.now)) < 2 ^ 62 }
@@ -140,7 +140,7 @@ fn ranges_of(alloc: Global, buffers: &[&[u8]]) -> Result<(Vec<(u64, u64)>, u64),
     Ok((ranges, end))
 }
 
-/// The type of the numbers makes them fit the 64 bits that they are written in.
+/// Gives a contract that the numbers of the nodes fit in 64 bits, as their type says.
 fn numbers_fit(nodes: &[(u64, u64)])
     ensures { FitsStructs nodes.now }
 {
@@ -149,7 +149,7 @@ fn numbers_fit(nodes: &[(u64, u64)])
     }
 }
 
-/// The RecordBatch of these contents, and how long its body is.
+/// Builds the RecordBatch of these contents, and returns it with the length of its body.
 fn batch_header(alloc: Global, contents: BatchContents<'_>) -> Result<(Node, u64), AllocError>
     requires { CanBeWritten contents }
     ensures node { IfOk result (λ r. node_of r.0 ≡ batch_tree (batch_of contents.entry.rows (nodes_in contents.entry) (buffers_in contents.entry))) }
@@ -167,11 +167,11 @@ fn batch_header(alloc: Global, contents: BatchContents<'_>) -> Result<(Node, u64
     Ok((header, body_length))
 }
 
-/// Appends all but the body of the message that [`write_dictionary`] appends. The body is each buffer, filled to a multiple of 8 as
+/// Appends the message that [`write_dictionary`] appends, without its body. The body is the buffers, each padded to a multiple of 8 as
 /// [`write_padding`] does.
 ///
 /// # Errors
-/// `AllocError` where memory was refused: then nothing is appended.
+/// `AllocError` if memory was refused; then nothing is appended.
 pub fn write_dictionary_front(
     alloc: Global,
     out: &mut Vec<u8>,
@@ -191,10 +191,10 @@ pub fn write_dictionary_front(
     write_front(alloc, out, DICTIONARY_BATCH, header, body_length)
 }
 
-/// Appends a dictionary batch of these contents: they replace the entries of this id, or a delta is appended to them.
+/// Appends a dictionary batch of these contents. They replace the entries of this id, or, in a delta, are appended to them.
 ///
 /// # Errors
-/// `AllocError` where memory was refused: then nothing is appended.
+/// `AllocError` if memory was refused; then nothing is appended.
 pub fn write_dictionary(
     alloc: Global,
     out: &mut Vec<u8>,
@@ -213,11 +213,11 @@ pub fn write_dictionary(
     put_body_or_cut(out, buffers, before)
 }
 
-/// Appends all but the body of the message that [`write_batch`] appends. The body is each buffer, filled to a multiple of 8 as
-/// [`write_padding`] does.
+/// Appends the message that [`write_batch`] appends, without its body. The body is the buffers, each padded to a multiple of 8 as [`write_padding`]
+/// does.
 ///
 /// # Errors
-/// `AllocError` where memory was refused: then nothing is appended.
+/// `AllocError` if memory was refused; then nothing is appended.
 pub fn write_batch_front(
     alloc: Global,
     out: &mut Vec<u8>,
@@ -237,7 +237,7 @@ pub fn write_batch_front(
 /// Appends a record batch of these contents.
 ///
 /// # Errors
-/// `AllocError` where memory was refused: then nothing is appended.
+/// `AllocError` if memory was refused; then nothing is appended.
 pub fn write_batch(
     alloc: Global,
     out: &mut Vec<u8>,
@@ -254,10 +254,10 @@ pub fn write_batch(
     put_body_or_cut(out, buffers, before)
 }
 
-/// Appends the end of stream, the continuation marker and a size of 0.
+/// Appends the end of stream: the continuation marker and a size of 0.
 ///
 /// # Errors
-/// `AllocError` where memory was refused: then nothing is appended.
+/// `AllocError` if memory was refused; then nothing is appended.
 pub fn write_end(out: &mut Vec<u8>) -> Result<(), AllocError>
     ensures appended { OnOk result (out.new.items ≡ out.old.items ++ end_of_stream) }
     ensures kept { OnErr result (out.new.items ≡ out.old.items) }

@@ -1,4 +1,4 @@
-// What is written is read again. The functions do nothing: their contracts are the laws.
+// Laws that what is written is read back. The functions do nothing: their contracts are the laws.
 ghost use Rattle.std.specs.Prelude.{◌≡◌, ℕ, Bool, false, List, ◌+◌, ◌*◌, ◌≤◌, ◌<◌, ◌^◌, ◌++◌, length, map, take, drop, sum_by, Ok};
 ghost use Rattle.std.specs.List.{AllByRecursion};
 ghost use Rattle.arrow_schema.specs.Column.{Column, columns_of, PlainSchema};
@@ -20,8 +20,7 @@ ghost use Rattle.ipc_write.specs.Written.{framed, schema_message, dictionary_mes
 ghost use Rattle.ipc_write.specs.Decoded.{raw_of, raw_schema};
 ghost use Rattle.ipc_write.specs.Walked.{HoldsTimes, tables_of, tables_of_all, IsHeaderType};
 
-/// A field that stands written is the field that is read there, and the walk over it enters its tables and finds
-/// nothing bad.
+/// A reader reads back a field that was written, and its walk enters the field's tables and finds nothing bad.
 pub fn field_is_read_again()
     ensures read { (supported : ℕ → Bool) (left : ℕ) (bytes : List ℕ) (at id : ℕ) (c : Column) → HoldsTimes supported → depth c + 2 ≤ left
         → Has bytes at (field_tree id c)
@@ -31,7 +30,7 @@ pub fn field_is_read_again()
         → run bytes (field_things supported left bytes at) n ≡ Ok (n + tables_of c) }
 {}
 
-/// A message that was framed stands at the start of whatever follows it.
+/// A framed message is found at the start of whatever bytes follow it.
 pub fn message_is_read_again()
     ensures { (metadata body rest : List ℕ) (type : ℕ) (header : Tree) → IsHeaderType type → 4 ≤ length metadata
         → length metadata ≤ MAX_BUFFER_BYTES
@@ -42,7 +41,7 @@ pub fn message_is_read_again()
     ipc_message::next_message_is_framed();
 }
 
-/// The header of a schema message that was written is the schema that was written.
+/// The header of a written schema message is read back as the schema.
 pub fn schema_is_read_again()
     ensures { (supported : ℕ → Bool) (metadata : List ℕ) (body_len : ℕ) (s : PlainSchema) → HoldsTimes supported
         → depth_all (columns_of s.columns) ≤ 36
@@ -51,7 +50,7 @@ pub fn schema_is_read_again()
         → header supported metadata ≡ Ok (schema_header (raw_schema s)) }
 {}
 
-/// The header of a dictionary batch that was written is the dictionary batch that was written.
+/// The header of a written dictionary batch is read back as the dictionary batch.
 pub fn dictionary_is_read_again()
     ensures { (supported : ℕ → Bool) (metadata : List ℕ) (body_len : ℕ) (d : RawDictionaryBatch) → d.batch.compressed ≡ false
         → FitsStructs (map node_pair d.batch.nodes) → FitsStructs (map buffer_pair d.batch.buffers)
@@ -59,7 +58,7 @@ pub fn dictionary_is_read_again()
         → header supported metadata ≡ Ok (dictionary_header d) }
 {}
 
-/// The header of a record batch that was written is the record batch that was written.
+/// The header of a written record batch is read back as the record batch.
 pub fn batch_is_read_again()
     ensures { (supported : ℕ → Bool) (metadata : List ℕ) (body_len : ℕ) (b : RawBatch) → b.compressed ≡ false
         → FitsStructs (map node_pair b.nodes)
@@ -67,7 +66,7 @@ pub fn batch_is_read_again()
         → Has metadata (target metadata 0) (message_tree RECORD_BATCH (batch_tree b) body_len) → header supported metadata ≡ Ok (batch_header b) }
 {}
 
-/// The metadata of a schema within the limits, and that of a batch, are no longer than a reader takes.
+/// The metadata of a schema within the limits, and of a writable batch, is no longer than a reader accepts.
 pub fn metadata_is_within_its_limit()
     ensures schema { (s : PlainSchema) → IsWithinLimits s → length (schema_envelope s).metadata ≤ MAX_BUFFER_BYTES }
     ensures dictionary { (id : ℕ) (is_delta : Bool) (rows : ℕ) (nodes : List RawNode) (buffers : List (List ℕ)) → IsWritableBatch rows nodes buffers
@@ -78,9 +77,9 @@ pub fn metadata_is_within_its_limit()
     flatbuf::written_is_read();
 }
 
-/// The message of a schema within the limits is read again. `next_message`: it stands at the start of whatever follows it;
-/// `kind`: its header is a schema; `header`: what that header holds; `decoded`: that is the schema that was written;
-/// `checked`: no check refuses it; `after`: past it stands what follows it.
+/// The message of a schema within the limits is read back. `next_message`: it is found at the start of whatever follows it; `kind`: its header is a
+/// schema; `header`: the contents of the header; `decoded`: they are the schema that was written; `checked`: no check refuses it; `after`: the bytes
+/// after it are those that follow it.
 pub fn schema_message_is_read_again()
     ensures next_message { (s : PlainSchema) (rest : List ℕ) → IsWithinLimits s
         → next_message (schema_message s ++ rest) ≡ Ok (message (schema_envelope s)) }
@@ -96,7 +95,7 @@ pub fn schema_message_is_read_again()
     metadata_is_within_its_limit();
 }
 
-/// The message of a dictionary batch is read again, by the clauses of [`schema_message_is_read_again`].
+/// The message of a dictionary batch is read back, by the clauses of [`schema_message_is_read_again`].
 pub fn dictionary_message_is_read_again()
     ensures next_message { (id : ℕ) (is_delta : Bool) (rows : ℕ) (nodes : List RawNode) (buffers : List (List ℕ)) (rest : List ℕ)
         → id < 2 ^ 64 → IsWritableBatch rows nodes buffers
@@ -116,7 +115,7 @@ pub fn dictionary_message_is_read_again()
     metadata_is_within_its_limit();
 }
 
-/// The message of a record batch is read again, by the clauses of [`schema_message_is_read_again`].
+/// The message of a record batch is read back, by the clauses of [`schema_message_is_read_again`].
 pub fn batch_message_is_read_again()
     ensures next_message { (rows : ℕ) (nodes : List RawNode) (buffers : List (List ℕ)) (rest : List ℕ) → IsWritableBatch rows nodes buffers
         → next_message (batch_message rows nodes buffers ++ rest) ≡ Ok (message (batch_envelope rows nodes buffers)) }
@@ -132,14 +131,14 @@ pub fn batch_message_is_read_again()
     metadata_is_within_its_limit();
 }
 
-/// Each buffer stands in the body where it was placed, and ends within it; and the body is no longer than its buffers with 8 bytes more for each.
+/// Each buffer lies where it was placed in the body and ends within it, and the body is at most 8 bytes per buffer longer than its buffers.
 pub fn buffers_stand_in_their_body()
     ensures found { (buffers : List (List ℕ)) → map (λ (b : RawBuffer). take b.length (drop b.offset (body buffers))) (placed 0 buffers) ≡ buffers }
     ensures inside { (buffers : List (List ℕ)) → AllByRecursion (λ (b : RawBuffer). b.offset + b.length ≤ length (body buffers)) (placed 0 buffers) }
     ensures size { (buffers : List (List ℕ)) → length (body buffers) ≤ sum_by length buffers + 8 * length buffers }
 {}
 
-/// All of a record batch's message but its body depends on its buffers by their lengths alone.
+/// A record batch's message without its body depends only on the lengths of its buffers.
 pub fn fronts_depend_on_lengths()
     ensures { (rows : ℕ) (nodes : List RawNode) (front : List ℕ) (buffers others : List (List ℕ)) → map length buffers ≡ map length others
         → front ++ body buffers ≡ batch_message rows nodes buffers → front ++ body others ≡ batch_message rows nodes others }

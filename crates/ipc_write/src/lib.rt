@@ -1,8 +1,7 @@
 //! Writing Arrow IPC messages: the one way in which each schema, dictionary batch and record batch is written.
 //!
-//! A message is appended whole, or nothing is where memory is refused. Every schema within the limits may be written. Its
-//! bytes are definitions (`specs/Trees.antt`, `specs/Written.antt`), and the laws below say that a reader finds in them
-//! what was written.
+//! A message is appended whole, or not at all if memory is refused. Every schema within the limits can be written. The bytes are definitions
+//! (`specs/Trees.antt`, `specs/Written.antt`), and the laws below say that a reader reads back what was written.
 //!
 //! ```
 //! // A stream of one column of 32-bit integers, with the rows 7 and -1.

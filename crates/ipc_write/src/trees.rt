@@ -1,4 +1,4 @@
-// The tables of a message, as trees that are yet to be written (docs/formats/writing.md).
+// The tables of a message as trees, before they are written (docs/formats/writing.md).
 ghost use Rattle.std.specs.Prelude.{◌≡◌, ◌+◌, ◌^◌, ◌<◌, map, option_map, string_bytes, IfOk, OnOk};
 ghost use Rattle.arrow_schema.specs.View.{schema_of, kind_of, column_of, pair_of, index_of, date_kind, time_kind, bits_of};
 ghost use Rattle.arrow_schema.specs.Column.{columns_of, date_unit_of, time_unit_of};
@@ -18,14 +18,12 @@ use ipc_message::type_codes::{
 };
 use std::alloc::{AllocError, Global};
 
-/// A flag as a byte.
 fn flag(b: bool) -> u8
     ensures { result ≡ bit b }
 {
     if b { 1 } else { 0 }
 }
 
-/// The code of a type.
 fn type_code(data_type: &DataType) -> u8
     ensures { result ≡ code_of (kind_of data_type.now) }
 {
@@ -47,7 +45,7 @@ fn type_code(data_type: &DataType) -> u8
     }
 }
 
-/// The number of a unit of dates (Schema.fbs, `DateUnit`).
+/// Returns the number of a date unit (Schema.fbs, `DateUnit`).
 fn date_unit(unit: DateUnit) -> u16
     ensures { result ≡ date_unit_of (date_kind unit) }
 {
@@ -57,7 +55,7 @@ fn date_unit(unit: DateUnit) -> u16
     }
 }
 
-/// The number of a unit of time (Schema.fbs, `TimeUnit`).
+/// Returns the number of a time unit (Schema.fbs, `TimeUnit`).
 fn time_unit(unit: TimeUnit) -> u16
     ensures { result ≡ time_unit_of (time_kind unit) }
 {
@@ -75,7 +73,7 @@ fn text_node(alloc: Global, content: &str) -> Result<Node, AllocError>
     Ok(Node::Text(Vec::from_slice(alloc, content.as_bytes())?))
 }
 
-/// An Int: its width in bits, and whether it is signed.
+/// Builds an Int of `bits` bits.
 fn int_node(alloc: Global, bits: u32, signed: bool) -> Result<Node, AllocError>
     ensures { IfOk result (λ n. node_of n ≡ int_tree bits signed) }
 {
@@ -83,7 +81,7 @@ fn int_node(alloc: Global, bits: u32, signed: bool) -> Result<Node, AllocError>
     Ok(Node::Table(slots))
 }
 
-/// A table of one slot: the unit of a date, or a width or a size.
+/// Builds a table of one slot: a unit, a width or a size.
 fn one_slot(alloc: Global, slot: Slot) -> Result<Node, AllocError>
     ensures { IfOk result (λ n. node_of n ≡ table (slot_before slot no_slot)) }
 {
@@ -91,7 +89,7 @@ fn one_slot(alloc: Global, slot: Slot) -> Result<Node, AllocError>
     Ok(Node::Table(slots))
 }
 
-/// A Timestamp: its unit, and its timezone where it has one.
+/// Builds a Timestamp: its unit, and its timezone if it has one.
 fn timestamp_node(alloc: Global, unit: TimeUnit, timezone: &str) -> Result<Node, AllocError>
     ensures { IfOk result (λ n. node_of n ≡ table (scalar 2 (time_unit_of (time_kind unit)) (timezone_slot timezone.now))) }
 {
@@ -104,7 +102,7 @@ fn timestamp_node(alloc: Global, unit: TimeUnit, timezone: &str) -> Result<Node,
     Ok(Node::Table(slots))
 }
 
-/// The table of a type: it has no slot where the type has no parameters.
+/// Builds the table of a type, which has no slots if the type has no parameters.
 fn type_node(alloc: Global, data_type: &DataType) -> Result<Node, AllocError>
     ensures { IfOk result (λ n. node_of n ≡ type_tree (kind_of data_type.now)) }
 {
@@ -118,7 +116,7 @@ fn type_node(alloc: Global, data_type: &DataType) -> Result<Node, AllocError>
     }
 }
 
-/// A KeyValue.
+/// Builds a KeyValue.
 fn pair_node(alloc: Global, key: &str, value: &str) -> Result<Node, AllocError>
     ensures { IfOk result (λ n. node_of n ≡ pair_tree (key.now, value.now)) }
 {
@@ -138,7 +136,7 @@ fn pair_nodes(alloc: Global, pairs: &[(String, String)]) -> Result<Vec<Node>, Al
     Ok(nodes)
 }
 
-/// A table with these slots, and then that of its key/value pairs, where it has some.
+/// Builds a table with these slots, and then one for its key/value pairs if there are any.
 fn table_with_pairs(
     alloc: Global,
     mut slots: Vec<Slot>,
@@ -154,7 +152,7 @@ fn table_with_pairs(
     Ok(Node::Table(slots))
 }
 
-/// A DictionaryEncoding: its id, its index type, and that it is dense and not ordered.
+/// Builds a DictionaryEncoding: its id and index type, not ordered, and of the kind DenseArray.
 fn encoding_node(alloc: Global, id: u64, index: IntegerType) -> Result<Node, AllocError>
     ensures { IfOk result (λ n. node_of n ≡ encoding_tree id (record { bits = bits_of index.width; signed = index.signed })) }
 {
@@ -168,7 +166,7 @@ fn encoding_node(alloc: Global, id: u64, index: IntegerType) -> Result<Node, All
     Ok(Node::Table(slots))
 }
 
-/// The slot of a field's dictionary, which takes the next id.
+/// Builds the slot of a field's dictionary, which takes the next id.
 pub(crate) fn dictionary_slot(
     alloc: Global,
     dictionary: Option<DictSpec>,
@@ -188,7 +186,7 @@ pub(crate) fn dictionary_slot(
     }
 }
 
-/// A Field with this slot of its dictionary and these children.
+/// Builds a Field with this dictionary slot and these children.
 pub(crate) fn field_table(
     alloc: Global,
     field: &Field,
@@ -213,10 +211,10 @@ pub(crate) fn field_table(
 /// The byte order of the values: little-endian (Schema.fbs, `Endianness`).
 const LITTLE: u16 = 0;
 
-/// The Schema.
+/// Builds a Schema.
 ///
 /// # Errors
-/// `AllocError` where memory was refused.
+/// `AllocError` if memory was refused.
 pub fn schema_node(alloc: Global, schema: &Schema) -> Result<Node, AllocError>
     requires { IsWithinLimits (schema_of schema.now) }
     ensures { IfOk result (λ n. node_of n ≡ schema_tree (schema_of schema.now)) }
@@ -227,10 +225,10 @@ pub fn schema_node(alloc: Global, schema: &Schema) -> Result<Node, AllocError>
     table_with_pairs(alloc, slots, &schema.pairs)
 }
 
-/// A Message with a header of this type.
+/// Builds a Message with a header of this type.
 ///
 /// # Errors
-/// `AllocError` where memory was refused.
+/// `AllocError` if memory was refused.
 pub fn message_node(
     alloc: Global,
     header_type: u8,
@@ -248,10 +246,10 @@ pub fn message_node(
     Ok(Node::Table(slots))
 }
 
-/// A DictionaryBatch: the id, the batch of the entries, and whether they are appended to those that there are.
+/// Builds a DictionaryBatch: its id, the batch of its entries, and whether they are appended to the earlier ones.
 ///
 /// # Errors
-/// `AllocError` where memory was refused.
+/// `AllocError` if memory was refused.
 pub fn dictionary_node(
     alloc: Global,
     id: u64,
@@ -268,10 +266,10 @@ pub fn dictionary_node(
     Ok(Node::Table(slots))
 }
 
-/// A RecordBatch of `rows` rows, with these field nodes and buffers.
+/// Builds a RecordBatch of `rows` rows with these field nodes and buffers.
 ///
 /// # Errors
-/// `AllocError` where memory was refused.
+/// `AllocError` if memory was refused.
 pub fn batch_node(
     alloc: Global,
     rows: u64,

@@ -1,4 +1,4 @@
-// Laws of the definitions, for the crates above: each call does nothing, and its contract is the law.
+// Laws of the definitions for the crates above: the functions do nothing, and their contracts are the laws.
 ghost use Rattle.std.specs.Prelude.{◌≡◌, ◌≤◌, ℕ, true, List, length, map, Ok};
 ghost use Rattle.std.specs.List.{AllByRecursion};
 ghost use Rattle.sector_dev.specs.Disk.{Image};
@@ -17,8 +17,7 @@ ghost use Rattle.pages.specs.laws.Made.{GoesTo};
 
 use catalogue::{one_page_each, one_root_each, one_text_each, texts_have_these_sizes};
 
-/// What is read of a store is a catalogue, of the form of its version, and each page that it names says what it says of its
-/// table.
+/// What is read of a store is a catalogue of the form of its version, and each page that it names holds the schema and segments of its table.
 pub fn pages_hold_what_was_read()
     ensures kept { (size : ℕ) (image : Image) (k : Commit) (text : List ℕ) (c : PlainCatalogue) → is_size size ≡ true
         → stored_reading.at size image k text ≡ Ok c → IsCatalogue c }
@@ -32,9 +31,8 @@ pub fn pages_hold_what_was_read()
     one_root_each();
 }
 
-/// What is written of a catalogue has its sizes, and is read as that catalogue beside the pages that stay: in each image that holds
-/// the pieces, among them its text and its new pages in these runs, and has elsewhere what lay there. A text is read in the form
-/// that the segments have.
+/// What is written of a catalogue has the given sizes, and is read back as that catalogue from each image that holds the pieces, among them its text
+/// and its new pages in these runs, and is otherwise unchanged, so that the other pages are still there. A text is read in the form of the segments.
 pub fn kept_catalogues_are_read()
     ensures pages { (c : PlainCatalogue) → map (λ (text : List ℕ). length text) (page_texts c) ≡ page_sizes c }
     ensures text { (c : PlainCatalogue) (runs : List Run) → ArePageRuns c runs → length (settled_text c runs) ≡ text_size c }

@@ -1,8 +1,8 @@
 //! The catalogue of a store as it lies on a device: whole in one text, or in pages.
 //!
-//! A short catalogue is one text, which the commit names. Of a long one the commit names a root: the name of each table, and
-//! where the page of the table lies, which says its schema and its segments. A change writes the pages of the tables that it
-//! changes and a new root; the other pages stay where they are. `StoredCatalogue` reads both kinds, of any size.
+//! The commit names the text of a short catalogue. For a long one it names a root: the name of each table, and where the page with the schema and
+//! segments of the table lies. A change writes the pages of the tables that it changes and a new root; the other pages stay where they are.
+//! `StoredCatalogue` reads both kinds at any size.
 #![tactic(auto)]
 
 mod laws;

@@ -1,4 +1,4 @@
-// How a catalogue is kept: whole in its list, or each table in a page.
+// How a catalogue is stored: whole in its list, or each table in a page.
 ghost use Rattle.std.specs.Prelude.{◌≡◌, ◌<◌, ◌+◌, ◌^◌, ◌++◌, ◌∷◌, [], None, true, map, flat_map, length, drop, vec_len, OnOk, IfOk};
 ghost use Rattle.segments.specs.Pieces.{bytes_of_parts};
 ghost use Rattle.commit.specs.Placing.{plain_contents};
@@ -15,21 +15,21 @@ use commit::CatalogueKind;
 use segments::{Extent, PiecePart, Run};
 use std::alloc::{AllocError, Global};
 
-/// How a catalogue is to be kept: of which kind, how many bytes each page has that is to be written, in order of the names, and
-/// how many the list or the root after them.
+/// How a catalogue is to be stored: its kind, the size in bytes of each page to be written, in the order of the names, and that of the list or root
+/// after them.
 #[derive(Drop)]
 pub struct Layout {
     pub kind: CatalogueKind,
     pub pages: Vec<u64>,
     pub text_bytes: usize,
-    /// The runs of the pages that go, where the catalogue is kept whole.
+    /// The runs of the pages that are given up if the catalogue is stored whole.
     pub dropped: Vec<Run>,
 }
 
-// The bytes of a list that is kept whole: those of a sector.
+// The maximum size in bytes of a list that is stored whole: that of a sector.
 const MOST_LIST_BYTES: u64 = 512;
 
-// Whether the list has few enough bytes to be kept whole. It stops at the first table that goes past them.
+// Returns whether the list is short enough to be stored whole. Stops at the first table that exceeds the limit.
 fn is_whole(alloc: Global, list: &Catalogue) -> Result<bool, AllocError>
     ensures { IfOk result (λ whole. whole ≡ is_whole (catalogue_of list.now)) }
 {
@@ -44,7 +44,7 @@ fn is_whole(alloc: Global, list: &Catalogue) -> Result<bool, AllocError>
     Ok(true)
 }
 
-// How many bytes the page of each table has that has none.
+// Returns the size in bytes of the page of each table that has none.
 fn page_sizes(alloc: Global, list: &Catalogue) -> Result<Vec<u64>, AllocError>
     ensures { IfOk result (λ sizes. sizes.items ≡ map table_size (pageless (catalogue_of list.now))) }
 {
@@ -58,7 +58,7 @@ fn page_sizes(alloc: Global, list: &Catalogue) -> Result<Vec<u64>, AllocError>
     Ok(sizes)
 }
 
-// How many bytes the root has, wherever the pages lie.
+// Returns the size of the root in bytes, which does not depend on where the pages lie.
 fn root_bytes(list: &Catalogue) -> usize
     ensures { result ≡ root_bytes (catalogue_of list.now) }
 {
@@ -70,7 +70,6 @@ fn root_bytes(list: &Catalogue) -> usize
     bytes
 }
 
-// The runs of all pages.
 fn runs_of_pages(alloc: Global, list: &Catalogue) -> Result<Vec<Run>, AllocError>
     ensures { IfOk result (λ runs. runs.items ≡ flat_map (λ (e : PlainEntry). page_runs e.page) (catalogue_of list.now)) }
 {
@@ -84,10 +83,10 @@ fn runs_of_pages(alloc: Global, list: &Catalogue) -> Result<Vec<Run>, AllocError
     Ok(runs)
 }
 
-/// How this catalogue is to be kept. Where its segments lie makes no difference.
+/// Returns how this catalogue is to be stored. This does not depend on where its segments lie.
 ///
 /// # Errors
-/// `AllocError` where memory was refused.
+/// `AllocError` if memory was refused.
 pub fn layout_of(alloc: Global, list: &Catalogue) -> Result<Layout, AllocError>
     ensures kind { IfOk result (λ layout. layout.kind ≡ kind_of (catalogue_of list.now)) }
     ensures pages { IfOk result (λ layout. layout.pages.items ≡ page_sizes (catalogue_of list.now)) }
@@ -112,7 +111,7 @@ pub fn layout_of(alloc: Global, list: &Catalogue) -> Result<Layout, AllocError>
     })
 }
 
-// Appends a text, as what is written of its own.
+// Appends a text as contents of their own.
 fn put_text(
     alloc: Global,
     texts: &mut Vec<Vec<PiecePart<'_>>>,
@@ -127,7 +126,7 @@ fn put_text(
     Ok(())
 }
 
-// The table with its page: its own, or one in the next of these runs, whose text is put after the others.
+// Returns the table with its page: its own, or one in the next of these runs, whose text is appended to the others.
 fn with_page(
     alloc: Global,
     entry: TableEntry,
@@ -155,7 +154,7 @@ fn with_page(
     Ok(paged)
 }
 
-// The tables with their pages, and the texts of those that are to be written.
+// Returns the tables with their pages, and the texts of the new pages.
 fn with_pages<'a>(
     alloc: Global,
     list: Catalogue,
@@ -173,7 +172,7 @@ fn with_pages<'a>(
     Ok((Catalogue::of_entries(entries), texts))
 }
 
-// The tables without their pages.
+// Returns the tables without their pages.
 fn without_pages(alloc: Global, list: Catalogue) -> Result<Catalogue, AllocError>
     ensures { IfOk result (λ kept. catalogue_of kept ≡ map bare (catalogue_of list)) }
 {
@@ -186,7 +185,7 @@ fn without_pages(alloc: Global, list: Catalogue) -> Result<Catalogue, AllocError
     Ok(Catalogue::of_entries(entries))
 }
 
-// The root of tables that have pages.
+// Returns the root of tables that have pages.
 fn root_of(alloc: Global, entries: &[TableEntry]) -> Result<Vec<RootEntry<'_>>, AllocError>
     ensures { IfOk result (λ root. map plain_root root.items ≡ root_of (map plain_entry entries.now)) }
 {
@@ -200,7 +199,7 @@ fn root_of(alloc: Global, entries: &[TableEntry]) -> Result<Vec<RootEntry<'_>>, 
     Ok(root)
 }
 
-// The text of the root of tables that have pages.
+// Returns the text of the root of tables that have pages.
 fn root_text(alloc: Global, list: &Catalogue) -> Result<Vec<u8>, AllocError>
     requires { IsRoot (root_of (catalogue_of list.now)) }
     ensures { IfOk result (λ text. text.items ≡ root_text (root_of (catalogue_of list.now))) }
@@ -209,11 +208,11 @@ fn root_text(alloc: Global, list: &Catalogue) -> Result<Vec<u8>, AllocError>
     encode_root(alloc, &root)
 }
 
-/// The catalogue as it is kept, its new pages in these runs, in order, and the texts that are to be written for it: those of
-/// the pages, and then its list or its root.
+/// Returns the catalogue as it is stored, with its new pages in these runs in order, and the texts to be written for it: those of the pages, and then
+/// its list or its root.
 ///
 /// # Errors
-/// `AllocError` where memory was refused.
+/// `AllocError` if memory was refused.
 pub fn settle<'a>(
     alloc: Global,
     list: Catalogue,

@@ -1,4 +1,4 @@
-// Pages are read from a device.
+// Reads pages from a device.
 ghost use Rattle.std.specs.Prelude.{◌≡◌, ◌≢◌, ◌≤◌, true, Some, Ok, length, map, OnOk, IfOk, IfErr};
 ghost use Rattle.std.specs.List.{list_all};
 ghost use Rattle.sector_dev.specs.Time.{OnlyReads};
@@ -21,7 +21,7 @@ use sector_dev::SectorDevice;
 use segments::Extent;
 use std::alloc::{AllocError, Global};
 
-// What a page of this form says that lies there, with at most so many segments.
+// Reads the page in this extent, which is of this form and has at most `most` segments.
 fn read_page<D: SectorDevice>(
     alloc: Global,
     device: &mut D,
@@ -37,7 +37,7 @@ fn read_page<D: SectorDevice>(
         → page_shown form (D.size device.old) (D.story device.old) most page ≡ Ok (schema_of x.0, x.1.items)) }
     ensures damaged { IfErr result (λ e. D.tells ≡ true → TellsCause e (page_shown form (D.size device.old) (D.story device.old) most page)) }
     ensures a_store { IfErr result (λ e. e ≢ OpenError.NotAStore) }
-    // Also of a device that doesn't tell its story.
+    // These also hold for a device that does not tell its story.
     ensures few { IfOk result (λ x. length x.1.items ≤ most) }
     ensures schema { IfOk result (λ x. is_within_limits (schema_of x.0) ≡ true) }
     ensures segments { IfOk result (λ x. list_all is_segment x.1.items ≡ true) }
@@ -54,7 +54,7 @@ fn read_page<D: SectorDevice>(
     }
 }
 
-// The table of a root, with what its page says.
+// Returns a table of a root with the contents of its page.
 fn table_of(
     alloc: Global,
     root: &RootEntry<'_>,
@@ -67,7 +67,7 @@ fn table_of(
     TableEntry::new(alloc, name, schema, segments, Some(root.page))
 }
 
-// Reads the table of a root.
+// Reads a table of a root.
 fn read_table<D: SectorDevice>(
     alloc: Global,
     device: &mut D,
@@ -100,7 +100,7 @@ fn read_table<D: SectorDevice>(
     }
 }
 
-// Page after page, in the order of the root, up to the first that can't be read.
+// Reads the pages in the order of the root, up to the first one that can't be read.
 pub(crate) fn read_pages<D: SectorDevice>(
     alloc: Global,
     device: &mut D,

@@ -1,4 +1,4 @@
-// The catalogue of a store, as commits know one.
+// The catalogue of a store as commits see it.
 ghost use Rattle.catalogue.specs.Entries.{PlainCatalogue};
 ghost use Rattle.catalogue.specs.View.{catalogue_of};
 ghost use Rattle.std.specs.Prelude.{◌≡◌};
@@ -12,7 +12,7 @@ use sector_dev::SectorDevice;
 use segments::Run;
 use std::alloc::{AllocError, Global};
 
-// The form of the texts in a version: from 2 on each segment has its digest.
+// Returns the form of the texts in a version: version 2 has a digest for each segment.
 fn form_of(version: FormatVersion) -> SegmentForm
     ensures { result ≡ form_of version }
 {
@@ -22,7 +22,7 @@ fn form_of(version: FormatVersion) -> SegmentForm
     }
 }
 
-/// A catalogue of either kind: its tables in order, each with its page, if it has one.
+/// A catalogue of either kind: its tables in order, each with its page if it has one.
 #[derive(Drop)]
 pub struct StoredCatalogue {
     pub list: Catalogue,

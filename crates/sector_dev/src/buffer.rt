@@ -1,4 +1,4 @@
-// Neighbouring sectors in memory.
+// A buffer of neighbouring sectors.
 ghost use Rattle.std.specs.Prelude.{◌≡◌, ◌⊎◌, ◌↔◌, ◌+◌, ℕ, None, IsTrue, length, []};
 ghost use Rattle.std.specs.Option.{option_copied, option_or};
 ghost use Rattle.std.specs.Bool.{OnTrue, OnFalse};
@@ -14,17 +14,16 @@ pub(crate) struct Buffer {
     pub(crate) contents: Vec<[u8; 512]>,
 }
 
-// 256 KiB: a longer run was not faster to write or to read
+// 256 KiB: longer runs were not faster to write or to read
 const MOST: usize = 512;
 
-// how many sectors a read that follows no other takes from the file
+// the number of sectors that a non-sequential read takes from the file
 const FIRST_READ: usize = 8;
 
-// to copy more sectors than these takes longer than a call of the system that writes them from where they stand
+// copying more sectors than this takes longer than a system call that writes them from where they are
 const LONGEST_ADDED: usize = 128;
 
 impl Buffer {
-    // No sector.
     pub(crate) fn empty(alloc: Global) -> Buffer
         ensures none { (n : ℕ) → content_in result n ≡ None }
         ensures start { result.start ≡ 0 }
@@ -35,7 +34,7 @@ impl Buffer {
         }
     }
 
-    // The content of a sector, if it is among them.
+    // Returns the content of a sector, if it is in the buffer.
     pub(crate) fn get(&self, n: u64) -> Option<&[u8; 512]>
         ensures { option_copied result ≡ content_in self.now n }
     {
@@ -45,14 +44,14 @@ impl Buffer {
         self.contents.get((n - self.start) as usize)
     }
 
-    // Whether the sector after them is this one.
+    // Returns whether the buffer ends right before this sector.
     pub(crate) fn ends_before(&self, n: u64) -> bool
         ensures { IsTrue result ↔ (n ≡ self.now.start + length self.now.contents.items) }
     {
         n >= self.start && (n - self.start) as usize == self.contents.len()
     }
 
-    // How many are to be read from this sector on: twice as many as they are where it is the one after them.
+    // Returns how many sectors to read from this one on: twice as many as the buffer has, if this is the sector after them.
     pub(crate) fn count_from(&self, n: u64) -> usize {
         if self.ends_before(n) {
             (2 * self.contents.len()).clamp(FIRST_READ, MOST)
@@ -61,7 +60,6 @@ impl Buffer {
         }
     }
 
-    // Forgets them.
     pub(crate) fn clear(&mut self)
         ensures none { (n : ℕ) → content_in self.new n ≡ None }
         ensures contents { self.new.contents.items ≡ [] }
@@ -70,7 +68,7 @@ impl Buffer {
         self.contents.clear();
     }
 
-    // Adds sectors after them, or begins with these. `false`: they stand elsewhere, would be too many, or there was no memory.
+    // Appends sectors, or starts with them if the buffer is empty. Returns `false` if they lie elsewhere, are too many, or memory was refused.
     pub(crate) fn append(&mut self, n: u64, contents: &[[u8; 512]]) -> bool
         ensures appended { OnTrue result ((k : ℕ) → content_in self.new k ≡ option_or (content_from n contents.now k) (content_in self.old k)) }
         ensures same { OnFalse result (self.new.contents.items ≡ self.old.contents.items) }
@@ -85,7 +83,7 @@ impl Buffer {
         self.contents.extend_from_slice(contents).is_ok()
     }
 
-    // An empty run begins here.
+    // Moves the start of an empty buffer to this sector.
     fn begin_at(&mut self, n: u64)
         ensures same { (k : ℕ) → content_in self.new k ≡ content_in self.old k }
         ensures contents { self.new.contents.items ≡ self.old.contents.items }

@@ -1,4 +1,4 @@
-// A device that is a file.
+// A device in a file.
 ghost use Rattle.std.specs.Prelude.{◌≡◌, ◌≤◌};
 ghost use Rattle.sector_dev.specs.declared.file.FileError.TheVariants.{Io};
 ghost use Rattle.sector_dev.specs.declared.file.TheConstants.{MOST_SECTORS};
@@ -14,36 +14,35 @@ mod transfer;
 
 pub use locking::LockFile;
 
-/// Why a file is not opened as a device.
+/// Why a file can't be opened as a device.
 #[derive(Clone, Copy, Debug, PartialEq, Eq)]
 pub enum FileError {
     /// G1: the system refused, or `create` found something at the path.
     Io,
-    /// G2: the file is no whole number of sectors, or a device has no such number of them.
+    /// G2: the size of the file is not a whole number of sectors, or is too small or too large for a device.
     BadSize,
 }
 
-/// The least number of sectors of a file's device.
+/// The minimum number of sectors of a device in a file.
 pub const LEAST_SECTORS: u64 = 16;
 
-/// The greatest number of sectors of a file's device.
+/// The maximum number of sectors of a device in a file.
 pub const MOST_SECTORS: u64 = 4_194_304;
 
-/// A device that is a file, sector after sector.
+/// A device in a file, which holds its sectors in order.
 ///
-/// A run of neighbouring sectors is written in pieces of 256 KiB, and read ahead in growing ones; more than 128 that come in one
-/// call are written at once, after what came before. What was written is in the file after the next sync that succeeds. Where a
-/// delayed write fails, the call that noticed it fails, and what was written stays in memory: it is read from there, and each
-/// later call that would write it tries again.
-/// docs/definitions/device.md says what a file is trusted for.
+/// A run of neighbouring sectors is written in pieces of 256 KiB, and read ahead in growing ones. More than 128 sectors in one call are written at
+/// once, after the buffered ones. Written sectors are in the file after the next successful sync. If a delayed write fails, the call that noticed it
+/// fails, and the sectors stay in memory: they are read from there, and each later call that would write them tries again. docs/definitions/device.md
+/// says what is assumed of a file.
 #[derive(Drop)]
 pub struct FileDevice<F: Read + Write + Seek + OpenFile + Drop> {
     file: F,
     sectors: u64,
     failed: u64,
-    // buffered writes: written, and not yet in the file
+    // buffered writes, which are not yet in the file
     writes: Buffer,
-    // read from the file before it was asked for; dropped as soon as the file is written
+    // sectors that were read ahead; dropped as soon as the file is written
     ahead: Buffer,
     ghost within: { sectors ≤ MOST_SECTORS },
     ghost writes_within: { writes.start ≤ MOST_SECTORS },

@@ -1,7 +1,7 @@
-//! Devices of sectors of 512 bytes: what a store may rely on, a device in memory for tests, and a device that is a file.
+//! Devices of sectors of 512 bytes: what a store may rely on, a device in memory for tests, and a device in a file.
 //!
-//! `SectorDevice` promises what a read gives, what a crash may leave, and that failed calls are counted.
-//! `ModelDevice` is proved to keep all of it. A `FileDevice` is trusted for what its file holds.
+//! `SectorDevice` says what reads return, what a crash may leave, and that failed calls are counted. `ModelDevice` is proved to implement all of it.
+//! For `FileDevice`, the contents of its file are trusted.
 //!
 //! ```
 //! let mut device = FileDevice::create(&rt, "tables.store", 1024)?;

@@ -1,21 +1,21 @@
-// The calls that a device in memory has had.
+// The log of a device in memory.
 ghost use Rattle.std.specs.Prelude.{◌≡◌, Some};
 ghost use Rattle.std.specs.Bool.{OnTrue, OnFalse};
 ghost use Rattle.sector_dev.specs.Disk.{Watches, Puts, Flushes, Each, IsWhole};
 ghost use Rattle.sector_dev.specs.inner.Recording.{InEachStory};
 
-// A call that began and returned. One that failed before it began is none.
+// A call that began and returned. A call that failed before it began is not logged.
 #[derive(Drop)]
 pub(crate) enum Event {
-    // it changed nothing
+    // nothing changed
     Passed,
-    // this sector was written with this content, which reads give from then on
+    // this sector was written with this content, which reads return from then on
     Wrote(u64, Box<[u8; 512]>),
-    // what reads gave was synced
+    // what reads returned was synced
     Synced,
 }
 
-// Records a call that changed nothing. `false`: there was no memory for it.
+// Records a call that changed nothing. Returns `false` if memory was refused.
 pub(crate) fn record_passed(log: &mut Vec<Event>) -> bool
     ensures recorded { OnTrue result (InEachStory Watches log.old.items log.new.items) }
     ensures contents { InEachStory (λ old new. Each IsWhole old → Each IsWhole new) log.old.items log.new.items }
@@ -24,7 +24,6 @@ pub(crate) fn record_passed(log: &mut Vec<Event>) -> bool
     log.push(Event::Passed).is_ok()
 }
 
-// Records a write.
 pub(crate) fn record_write(log: &mut Vec<Event>, n: u64, content: &[u8; 512]) -> bool
     ensures recorded { OnTrue result (InEachStory (λ old new. Puts old n content.now (Some content.now) new) log.old.items log.new.items) }
     ensures contents { InEachStory (λ old new. Each IsWhole old → Each IsWhole new) log.old.items log.new.items }
@@ -37,7 +36,6 @@ pub(crate) fn record_write(log: &mut Vec<Event>, n: u64, content: &[u8; 512]) ->
     log.push(Event::Wrote(n, content)).is_ok()
 }
 
-// Records a sync.
 pub(crate) fn record_sync(log: &mut Vec<Event>) -> bool
     ensures recorded { OnTrue result (InEachStory Flushes log.old.items log.new.items) }
     ensures contents { InEachStory (λ old new. Each IsWhole old → Each IsWhole new) log.old.items log.new.items }

@@ -1,4 +1,4 @@
--- What is written: a run and the bytes that go into it, wherever they stand.
+-- What is written: a run and the bytes that go into it, whether owned or borrowed.
 use Rattle.std.specs.Prelude.{ℕ, List, map}
 use Rattle.std.specs.List.{flat_map}
 use Rattle.segments.specs.declared.run.Run.{Run}
@@ -11,12 +11,12 @@ pub record PlainPiece : Type 0 where
   pub run : Run
   pub bytes : List ℕ
 
--- the bytes of a part, wherever they stand
+-- the bytes of a part, owned or borrowed
 abbrev pub part_bytes : PiecePart → List ℕ
 part_bytes (Made v) = v.items
 part_bytes (Borrowed b) = b.now
 
--- those of parts, one after another
+-- the bytes of parts in order
 abbrev pub bytes_of_parts : List PiecePart → List ℕ
 bytes_of_parts parts = flat_map part_bytes parts
 

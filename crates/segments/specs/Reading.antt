@@ -7,19 +7,19 @@ use Rattle.segments.specs.declared.reading.ReadError.{ReadError}
 use Rattle.segments.specs.declared.reading.ReadError.TheVariants.{Failed, Unreadable, OutOfMemory}
 use Rattle.segments.specs.Sectors.{sector_count}
 
--- what a device reports of a sector, as reported of the run
+-- the error of a device for a sector, as an error for the run
 abbrev pub read_error : DevError → ReadError
 read_error DeviceFailed = Failed
 read_error SectorUnreadable = Unreadable
 
--- a failed read is counted, up to the greatest number; no other answer is
+-- a failed read is counted, up to the greatest number; no other result is
 abbrev pub CountsRead : {T : Type 0} → ℕ → ℕ → Result T ReadError → Type 0
 CountsRead before after (Ok x) = after ≡ before
 CountsRead before after (Err Failed) = after ≡ min (before + 1) (2 ^ 64 - 1)
 CountsRead before after (Err Unreadable) = after ≡ before
 CountsRead before after (Err OutOfMemory) = after ≡ before
 
--- the reading of n sectors ended with this error at one of them: those before it can be read, and no call began after it
+-- reading `count` sectors ended with this error at one of them: those before it can be read, and no call began after it
 pub record EndsAtSector (error : ReadError) (image : Image) (start count : ℕ) (old new : Story) : Type 0 where
   pub at : ℕ
   pub within : at < count
@@ -27,6 +27,6 @@ pub record EndsAtSector (error : ReadError) (image : Image) (start count : ℕ) 
   pub unreadable : error ≡ Unreadable → image (start + at) ≡ None
   pub begun : moment new ≤ moment old + 2 * (at + 1)
 
--- the same of the sectors of n bytes, as they were before
+-- the same for the sectors of `bytes` bytes, as reads returned them before
 abbrev pub EndsInRun : ReadError → ℕ → ℕ → Story → Story → Type 0
 EndsInRun error start bytes old new = EndsAtSector error (shown_image (now old)) start (sector_count bytes) old new

@@ -1,4 +1,4 @@
--- Runs of sectors: which are free, and the lowest of them.
+-- Runs of sectors: which ones are free, and the lowest of them.
 use Rattle.std.specs.Prelude.{◌≡◌, ◌⊎◌, ◌≤◌, ◌<◌, ◌+◌, ℕ, List, [], ◌∷◌, Option, Some, None}
 use Rattle.segments.specs.declared.run.Run.{Run}
 
@@ -6,29 +6,29 @@ use Rattle.segments.specs.declared.run.Run.{Run}
 abbrev pub IsApart : Run → Run → Type 0
 IsApart a b = (a.start + a.count ≤ b.start) ⊎ (b.start + b.count ≤ a.start)
 
--- a run lies on the device, after the two commit sectors
+-- the run lies on the device, after the two commit sectors
 pub record IsOnDevice (size : ℕ) (run : Run) : Type 0 where
   pub above : 2 ≤ run.start
   pub some : 1 ≤ run.count
   pub within : run.start + run.count ≤ size
 
--- a run on the device, after the two commit sectors, that meets no used run
+-- the run lies on the device, after the two commit sectors, and meets no used run
 pub record IsFree (size : ℕ) (used : Run → Type 0) (run : Run) : Type 0 where
   pub above : 2 ≤ run.start
   pub within : run.start + run.count ≤ size
   pub apart : (other : Run) → used other → IsApart run other
 
--- the free run of n sectors that starts lowest, or that there is none
+-- the free run of `count` sectors that starts lowest, or that there is none
 abbrev pub IsLowest : ℕ → (Run → Type 0) → ℕ → Option Run → Type 0
 IsLowest size used count (Some run) = (run.count ≡ count) × IsFree size used run × ((other : Run) → other.count ≡ count → IsFree size used other → run.start ≤ other.start)
 IsLowest size used count None = (run : Run) → run.count ≡ count → IsFree size used run → ⊥
 
--- a sector lies in none of these runs
+-- the sector lies in none of these runs
 abbrev pub OutOf : List Run → ℕ → Type 0
 OutOf [] n = Unit {0}
 OutOf (r ∷ rs) n = ((n < r.start) ⊎ (r.start + r.count ≤ n)) × OutOf rs n
 
--- a run shares no sector with any of these
+-- the run shares no sector with any of these
 abbrev pub ApartFrom : Run → List Run → Type 0
 ApartFrom run [] = Unit {0}
 ApartFrom run (r ∷ rs) = IsApart run r × ApartFrom run rs
@@ -38,7 +38,7 @@ abbrev pub AreApart : List Run → Type 0
 AreApart [] = Unit {0}
 AreApart (r ∷ rs) = ApartFrom r rs × AreApart rs
 
--- each of these runs starts at this sector or after it
+-- each of these runs starts at this sector or later
 abbrev pub StartFrom : ℕ → List Run → Type 0
 StartFrom low [] = Unit {0}
 StartFrom low (r ∷ rs) = (low ≤ r.start) × StartFrom low rs

@@ -2,11 +2,11 @@
 use Rattle.std.specs.Prelude.{◌≡◌, ◌<◌, ◌+◌, ◌-◌, ◌*◌, ◌/◌, ℕ, suc, zero, List, [], ◌++◌, length, take, drop, replicate, Option, Some, None, option_map}
 use Rattle.sector_dev.specs.Disk.{Image}
 
--- how many sectors hold n bytes
+-- the number of sectors that this many bytes need
 abbrev pub sector_count : ℕ → ℕ
 sector_count bytes = (bytes + 511) / 512
 
--- a sector that begins with these bytes, and is zero after them
+-- a sector that starts with these bytes and is otherwise zero
 abbrev pub filled : List ℕ → List ℕ
 filled bytes = bytes ++ replicate (512 - length bytes) 0
 
@@ -14,7 +14,7 @@ filled bytes = bytes ++ replicate (512 - length bytes) 0
 unfoldable pub sector_of : List ℕ → ℕ → List ℕ
 sector_of bytes j = filled (take 512 (drop (512 * j) bytes))
 
--- a run that starts here holds these bytes, zero-filled to the last sector's end
+-- the run that starts here holds these bytes, zero-filled to the end of the last sector
 unfoldable pub Holds : Image → ℕ → List ℕ → Type 0
 Holds image start bytes = (j : ℕ) → j < sector_count (length bytes) → image (start + j) ≡ Some (sector_of bytes j)
 
@@ -23,11 +23,11 @@ appended (Some front) (Some back) = Some (front ++ back)
 appended (Some front) None = None
 appended None back = None
 
--- the contents of n sectors in a row, one after the other; none where one can't be read
+-- the contents of `count` sectors in a row, or none if one can't be read
 abbrev pub joined : Image → ℕ → ℕ → Option (List ℕ)
 joined image start zero = Some []
 joined image start (suc count) = appended (joined image start count) (image (start + count))
 
--- the first n bytes from a sector on
+-- the first bytes from a sector on
 unfoldable pub bytes_at : Image → ℕ → ℕ → Option (List ℕ)
 bytes_at image start bytes = option_map (take bytes) (joined image start (sector_count bytes))

@@ -1,4 +1,4 @@
-// The runs in use, as a list in order.
+// The runs in use as a sorted list.
 ghost use Rattle.std.specs.Prelude.{◌≡◌, ◌≤◌, ◌↔◌, ℕ, IsTrue, IfNone, IfSome, length};
 ghost use Rattle.segments.specs.Runs.{IsLowest};
 ghost use Rattle.segments.specs.Usages.{is_used, usage_of, with_usage, UNUSED, Ordered, EndBy, IsUsedIn, IsSearched};
@@ -7,7 +7,7 @@ ghost use Rattle.segments.specs.inner.Places.{place_of, end_before, without, wit
 use crate::gap_buffer::GapBuffer;
 use crate::{Run, SearchCursor};
 
-/// What a run is used for: the catalogue that rules (`taken`), and how many snapshots (`pins`).
+/// The usage of a run: whether the ruling catalogue names it (`taken`), and how many snapshots pin it (`pins`).
 #[derive(Clone, Copy, PartialEq, Eq)]
 pub struct Usage {
     pub taken: bool,
@@ -21,7 +21,7 @@ pub struct UsageEntry {
     pub usage: Usage,
 }
 
-// Who releases a run: the catalogue that rules, or one of its snapshots.
+// The holder that releases a run: the ruling catalogue or a snapshot.
 #[derive(Clone, Copy)]
 pub(crate) enum Holder {
     Catalogue,
@@ -35,7 +35,7 @@ impl Usage {
         self.taken || self.pins > 0
     }
 
-    // What is left of it where this holder releases it.
+    // Returns the usage after this holder releases the run.
     fn without(self, holder: Holder) -> Usage
         ensures { result ≡ without holder self }
     {
@@ -50,7 +50,7 @@ impl Usage {
     }
 }
 
-// How many entries stand before one that starts here.
+// Returns the number of entries before one that starts here.
 pub(crate) fn place_of_start(entries: &GapBuffer, start: u64) -> usize
     requires { Ascending 2 entries.now }
     ensures place { result ≡ place_of start entries.now }
@@ -69,7 +69,7 @@ pub(crate) fn place_of_start(entries: &GapBuffer, start: u64) -> usize
     low
 }
 
-// The place of the run's entry, if it has one.
+// Returns the place of the run's entry, if it has one.
 pub(crate) fn place_of_run(entries: &GapBuffer, run: Run) -> Option<usize>
     requires { Ascending 2 entries.now }
     ensures none { IfNone result (usage_of entries.now run ≡ UNUSED) }
@@ -84,7 +84,7 @@ pub(crate) fn place_of_run(entries: &GapBuffer, run: Run) -> Option<usize>
     }
 }
 
-// Whether the run meets none of the entries.
+// Returns whether the run meets none of the entries.
 pub(crate) fn is_apart(entries: &GapBuffer, run: Run) -> bool
     requires ordered { Ordered 2 entries.now }
     requires some { 1 ≤ run.count }
@@ -100,7 +100,7 @@ pub(crate) fn is_apart(entries: &GapBuffer, run: Run) -> bool
     true
 }
 
-// Where the entries before this place end.
+// Returns where the entries before this place end.
 fn end_before(size: u64, entries: &GapBuffer, place: usize) -> u64
     requires within { EndBy size entries.now }
     requires place { place ≤ length entries.now }
@@ -113,7 +113,7 @@ fn end_before(size: u64, entries: &GapBuffer, place: usize) -> u64
     }
 }
 
-// The lowest free run, going up from where the search has come, or from the first sector where what was passed may fit.
+// Returns the lowest free run. The search continues where the last one ended, or restarts if an earlier gap may be wide enough.
 pub(crate) fn lowest(
     size: u64,
     entries: &GapBuffer,
@@ -151,7 +151,7 @@ pub(crate) fn lowest(
     }
 }
 
-// Gives the run, whose entry stands at this place, another usage.
+// Changes the usage of the run, whose entry is at this place.
 pub(crate) fn change(entries: &mut GapBuffer, run: Run, place: usize, usage: Usage)
     requires place { place ≡ place_of run.start entries.old }
     requires found { HasEntryAt entries.old run place }
@@ -164,7 +164,7 @@ pub(crate) fn change(entries: &mut GapBuffer, run: Run, place: usize, usage: Usa
     }
 }
 
-// Each of these runs that has an entry is released. An entry that is not used any more stays where it is.
+// Releases each of these runs that has an entry. Entries that are no longer used are kept.
 fn let_go_among(entries: &mut GapBuffer, runs: &[Run], holder: Holder)
     requires { Ascending 2 entries.old }
     ensures { LetGoAmong holder entries.old entries.new runs.now }
@@ -179,7 +179,7 @@ fn let_go_among(entries: &mut GapBuffer, runs: &[Run], holder: Holder)
     }
 }
 
-// Releases these runs. What stays is moved twice at the most, however many they are.
+// Releases these runs. Each remaining entry is moved at most twice, whatever the number of runs.
 pub(crate) fn let_go_each(entries: &mut GapBuffer, runs: &[Run], holder: Holder)
     requires { Ordered 2 entries.old }
     ensures ordered { Ordered 2 entries.new }

@@ -1,27 +1,27 @@
-// Why no run is taken or entered.
+// Why a run can't be taken or entered.
 use std::alloc::AllocError;
 use thiserror::Error;
 
 /// Why no run was taken.
 #[derive(Clone, Copy, Debug, PartialEq, Eq, Error)]
 pub enum TakeError {
-    /// This number of sectors in a row is nowhere free.
+    /// No run of this many sectors is free.
     #[error("no room for {0} sectors")]
     NoRoom(u64),
     #[error("out of memory")]
     OutOfMemory,
 }
 
-/// Why a run didn't come into use.
+/// Why a run did not come into use.
 #[derive(Clone, Copy, Debug, PartialEq, Eq, Error)]
 pub enum EnterError {
-    /// It is empty, begins before sector 2 or ends past the device.
+    /// The run is empty, starts before sector 2 or ends past the device.
     #[error("a run outside the device")]
     Range,
-    /// It meets another run in use.
+    /// The run meets another run in use.
     #[error("a run over another one")]
     Overlap,
-    /// It is pinned as often as can be counted.
+    /// The run has as many pins as can be counted.
     #[error("a run pinned too often")]
     TooManyPins,
     #[error("out of memory")]

@@ -1,7 +1,7 @@
 // Bytes in a run of their own.
 use crate::Run;
 
-/// A number of bytes in a run of their own, from its first sector on, zero-filled to its end.
+/// A number of bytes at the start of a run of their own, which is zero-filled to its end.
 #[derive(Clone, Copy, Debug, PartialEq, Eq)]
 pub struct Extent {
     pub run: Run,

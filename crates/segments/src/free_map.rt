@@ -1,4 +1,4 @@
-// The runs of a device that are in use, and the lowest free one.
+// The runs in use on a device, and the lowest free run.
 ghost use Rattle.std.specs.Prelude.{◌≡◌, ◌≤◌, ◌+◌, ◌↔◌, ◌⊎◌, [], Err, None, Some, IfOk, IfErr, OnOk, OnErr, IsErrOf, IsTrue, true};
 ghost use Rattle.segments.specs.Runs.{IsOnDevice, IsFree, IsLowest};
 ghost use Rattle.segments.specs.Usages.{UNUSED, TAKEN, given, pinned, unpinned, is_used, usage_of, with_run, IsUsedIn, IsSearched};
@@ -11,8 +11,8 @@ use crate::{EnterError, Run, SearchCursor, TakeError, Usage, UsageEntry};
 use std::alloc::{AllocError, Global};
 use std::marker::Model;
 
-/// The runs in use on a device: those taken by the catalogue that rules, and those pinned by snapshots.
-/// All others after the two commit sectors are free.
+/// The runs in use on a device: those that the ruling catalogue has taken, and those that snapshots pin. All other sectors after the two commit
+/// sectors are free.
 #[derive(Drop)]
 pub struct FreeMap {
     size: u64,
@@ -30,7 +30,7 @@ impl Model for FreeMap {
 }
 
 impl FreeMap {
-    /// A device of `size` sectors on which no run is in use.
+    /// Creates the map of a device of `size` sectors without runs in use.
     pub fn new(alloc: Global, size: u64) -> Self
         ensures { result ≡ record { size = size; entries = [] } }
     {
@@ -40,7 +40,7 @@ impl FreeMap {
         }
     }
 
-    /// What a run is used for.
+    /// Returns the usage of a run.
     pub fn usage(&self, run: Run) -> Usage
         ensures usage { result ≡ usage_of self.now.entries run }
         ensures on_device { is_used result ≡ true → IsOnDevice self.now.size run }
@@ -54,7 +54,7 @@ impl FreeMap {
         }
     }
 
-    /// The lowest free run of `count` sectors. It takes no memory.
+    /// Returns the lowest free run of `count` sectors. Allocates no memory.
     pub fn find(&self, count: u64) -> Option<Run>
         requires { 1 ≤ count }
         ensures { IsLowest self.now.size (IsUsedIn self.now.entries) count result }
@@ -66,7 +66,7 @@ impl FreeMap {
     /// Takes the lowest free run of `count` sectors.
     ///
     /// # Errors
-    /// `NoRoom(count)` exactly where there is no such run; `OutOfMemory`. Then nothing has changed.
+    /// `NoRoom(count)` exactly if there is no such run; `OutOfMemory`. Nothing has then changed.
     pub fn take(&mut self, count: u64) -> Result<Run, TakeError>
         requires { 1 ≤ count }
         ensures lowest { IfOk result (λ run. IsLowest self.old.size (IsUsedIn self.old.entries) count (Some run)) }
@@ -79,9 +79,9 @@ impl FreeMap {
         self.take_onward(count, &mut SearchCursor::nothing())
     }
 
-    /// Takes the lowest free run of `count` sectors, as `take` does, and searches only where no earlier search has found too
-    /// little room. Where `searched` goes from one call to the next, the runs in use are gone through once in all, and moved
-    /// once, as long as no call asks for so few sectors that a gap which was passed may hold them; then the search begins anew.
+    /// Takes the lowest free run of `count` sectors, as `take` does, but skips what earlier searches found too narrow. If `searched` is passed from
+    /// call to call, the runs in use are searched only once in total, and moved only once, as long as no call requests so few sectors that a skipped
+    /// gap may hold them; then the search restarts.
     ///
     /// # Errors
     /// Those of [`FreeMap::take`].
@@ -111,7 +111,7 @@ impl FreeMap {
     /// Takes this run, as one that a catalogue names.
     ///
     /// # Errors
-    /// `Range` exactly where it is not on the device; `Overlap` where it is not free; `OutOfMemory`. Then nothing has changed.
+    /// `Range` exactly if the run is not on the device; `Overlap` if it is not free; `OutOfMemory`. Nothing has then changed.
     pub fn occupy(&mut self, run: Run) -> Result<(), EnterError>
         ensures fits { OnOk result (IsOnDevice self.old.size run × IsFree self.old.size (IsUsedIn self.old.entries) run) }
         ensures taken { OnOk result (self.new ≡ with_run self.old run TAKEN) }
@@ -129,7 +129,7 @@ impl FreeMap {
         self.enter(run, usage)
     }
 
-    /// Gives the run back. It stays in use while it is pinned. It takes no memory.
+    /// Gives the run back. It stays in use while it is pinned. Allocates no memory.
     pub fn give(&mut self, run: Run)
         ensures given { self.new ≡ with_run self.old run (given (usage_of self.old.entries run)) }
         ensures changes { Changes self.old self.new run (given (usage_of self.old.entries run)) }
@@ -139,20 +139,19 @@ impl FreeMap {
         self.set_usage(run, Usage { taken: false, pins });
     }
 
-    /// Gives these runs back. A run that is pinned stays in use. It takes no memory, and however many runs there are, each
-    /// entry of the map is moved twice at the most.
+    /// Gives these runs back. A pinned run stays in use. Allocates no memory, and moves each entry of the map at most twice, whatever the number of
+    /// runs.
     pub fn give_each(&mut self, runs: &[Run])
         ensures { GivesAll self.old self.new runs.now }
     {
         let_go_each(&mut self.entries, runs, Holder::Catalogue);
     }
 
-    /// Pins the run once more. It stays in use until it is unpinned as often.
-    /// It takes memory only where the run wasn't in use.
+    /// Adds a pin to the run, which stays in use until all its pins are removed. Allocates memory only if the run was not in use.
     ///
     /// # Errors
-    /// `Range` exactly where it is not on the device; `Overlap` where it meets another run in use; `TooManyPins` where it has `u32::MAX` pins;
-    /// `OutOfMemory`. Then nothing has changed.
+    /// `Range` exactly if the run is not on the device; `Overlap` if it meets another run in use; `TooManyPins` if it has `u32::MAX` pins;
+    /// `OutOfMemory`. Nothing has then changed.
     pub fn pin(&mut self, run: Run) -> Result<(), EnterError>
         ensures fits { OnOk result (IsUsedIn self.old.entries run ⊎ IsFree self.old.size (IsUsedIn self.old.entries) run) }
         ensures pinned { OnOk result (self.new ≡ with_run self.old run (pinned (usage_of self.old.entries run))) }
@@ -175,7 +174,7 @@ impl FreeMap {
         Ok(())
     }
 
-    /// Takes one pin from the run, if it has one. It takes no memory.
+    /// Removes a pin from the run, if it has one. Allocates no memory.
     pub fn unpin(&mut self, run: Run)
         ensures unpinned { self.new ≡ with_run self.old run (unpinned (usage_of self.old.entries run)) }
         ensures changes { Changes self.old self.new run (unpinned (usage_of self.old.entries run)) }
@@ -186,8 +185,8 @@ impl FreeMap {
         self.set_usage(run, Usage { taken, pins });
     }
 
-    /// Pins each of these runs once more, all of which are in use. It takes no memory, and however many runs there are,
-    /// each entry of the map is moved once at the most.
+    /// Adds a pin to each of these runs, all of which are in use. Allocates no memory, and moves each entry of the map at most once, whatever the
+    /// number of runs.
     pub fn pin_each(&mut self, runs: &[Run])
         requires used { (run : Run) → is_among runs.now run ≡ true → IsUsedIn self.old.entries run }
         requires few { (run : Run) → (usage_of self.old.entries run).pins + times_among runs.now run ≤ u32.MAX }
@@ -202,15 +201,14 @@ impl FreeMap {
         }
     }
 
-    /// Takes one pin from each of these runs. It takes no memory, and however many runs there are, each entry of the map is
-    /// moved twice at the most.
+    /// Removes a pin from each of these runs. Allocates no memory, and moves each entry of the map at most twice, whatever the number of runs.
     pub fn unpin_each(&mut self, runs: &[Run])
         ensures { UnpinsAll self.old self.new runs.now }
     {
         let_go_each(&mut self.entries, runs, Holder::Snapshot);
     }
 
-    // Gives a run in use another usage; one that isn't stays so.
+    // Sets the usage of a run in use. A run that is not in use stays so.
     fn set_usage(&mut self, run: Run, usage: Usage)
         requires { usage_of self.old.entries run ≡ UNUSED → usage ≡ UNUSED }
         ensures entries { self.new ≡ with_run self.old run usage }
@@ -221,7 +219,7 @@ impl FreeMap {
         }
     }
 
-    // A run comes into use, where it is free.
+    // Enters a run into the map, if it is free.
     fn enter(&mut self, run: Run, usage: Usage) -> Result<(), EnterError>
         requires { is_used usage ≡ true }
         ensures fits { OnOk result (IsOnDevice self.old.size run × IsFree self.old.size (IsUsedIn self.old.entries) run) }
@@ -243,7 +241,7 @@ impl FreeMap {
         Ok(())
     }
 
-    // A free run comes into use.
+    // Inserts the entry of a free run.
     fn insert(&mut self, run: Run, usage: Usage) -> Result<(), AllocError>
         requires used { is_used usage ≡ true }
         requires some { 1 ≤ run.count }
@@ -258,7 +256,7 @@ impl FreeMap {
     }
 }
 
-// Whether the run lies on a device of this size, after the commit sectors.
+// Returns whether the run lies on a device of this size, after the commit sectors.
 fn is_on_device(run: Run, size: u64) -> bool
     ensures { IsTrue result ↔ IsOnDevice size run }
 {

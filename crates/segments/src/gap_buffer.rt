@@ -1,4 +1,4 @@
-// A list of entries into which many are put one after another without moving the others each time.
+// A list of entries with fast insertion at neighbouring places.
 ghost use Rattle.std.specs.Prelude.{◌≡◌, ◌≤◌, ◌<◌, ◌+◌, ◌++◌, ◌∷◌, [], OnOk, OnErr, filter, insert, length, remove, reverse, slice_index_or, slice_set, vec_capacity, vec_len};
 ghost use Rattle.segments.specs.Usages.{is_used};
 
@@ -6,8 +6,7 @@ use crate::UsageEntry;
 use std::alloc::{AllocError, Global};
 use std::marker::Model;
 
-/// Entries with a gap among them, where the next one goes in: those before it, and those after it, of which the first
-/// stands last.
+/// Entries with a gap, where the next one is inserted: the entries before the gap, and those after it in reverse order.
 #[derive(Drop)]
 pub(crate) struct GapBuffer {
     before: Vec<UsageEntry>,
@@ -22,7 +21,7 @@ impl Model for GapBuffer {
 
     ghost view = { λ buffer. buffer.before.items ++ reverse buffer.behind.items };
 
-    // So the gap goes to the end without memory.
+    // So the gap can be moved to the end without allocating.
     ghost invariant = { λ buffer. vec_len buffer.before + vec_len buffer.behind ≤ vec_capacity buffer.before };
 }
 
@@ -53,7 +52,7 @@ impl GapBuffer {
         }
     }
 
-    /// Puts an entry in at a place. The gap goes there, over the entries on its way, and stays after the new one.
+    /// Inserts an entry at a place. Moves the gap there first; it ends up after the new entry.
     pub(crate) fn insert(&mut self, place: usize, entry: UsageEntry) -> Result<(), AllocError>
         requires { place ≤ length self.old }
         ensures ok { OnOk result (self.new ≡ insert self.old place entry) }
@@ -68,7 +67,7 @@ impl GapBuffer {
         Ok(())
     }
 
-    /// Puts another entry in a place. It takes no memory.
+    /// Replaces the entry at a place. Allocates no memory.
     pub(crate) fn set(&mut self, place: usize, entry: UsageEntry)
         requires { place < length self.old }
         ensures { self.new ≡ slice_set self.old place entry }
@@ -77,7 +76,7 @@ impl GapBuffer {
         self.before[place] = entry;
     }
 
-    /// Takes an entry out. It takes no memory.
+    /// Removes the entry at a place. Allocates no memory.
     pub(crate) fn remove(&mut self, place: usize)
         requires { place < length self.old }
         ensures { self.new ≡ remove self.old place }
@@ -86,7 +85,7 @@ impl GapBuffer {
         self.before.remove(place);
     }
 
-    /// Only the entries that are used stay. It takes no memory.
+    /// Keeps only the entries that are used. Allocates no memory.
     pub(crate) fn keep_used(&mut self)
         ensures { self.new ≡ filter (λ e. is_used e.usage) self.old }
     {
@@ -95,7 +94,7 @@ impl GapBuffer {
     }
 }
 
-// The gap goes to a place.
+// Moves the gap to a place.
 fn move_gap(before: &mut Vec<UsageEntry>, behind: &mut Vec<UsageEntry>, place: usize)
     requires within { place ≤ vec_len before.old + vec_len behind.old }
     requires onward { vec_len before.old + vec_len behind.old ≤ vec_capacity before.old }
@@ -113,7 +112,7 @@ fn move_gap(before: &mut Vec<UsageEntry>, behind: &mut Vec<UsageEntry>, place: u
     }
 }
 
-// The gap goes to the end.
+// Moves the gap to the end.
 fn settle(before: &mut Vec<UsageEntry>, behind: &mut Vec<UsageEntry>)
     requires { vec_len before.old + vec_len behind.old ≤ vec_capacity before.old }
     ensures before { before.new.items ≡ before.old.items ++ reverse behind.old.items }
@@ -123,7 +122,6 @@ fn settle(before: &mut Vec<UsageEntry>, behind: &mut Vec<UsageEntry>)
     move_gap(before, behind, len);
 }
 
-// Only the entries that are used stay.
 fn retain_used(entries: &mut Vec<UsageEntry>)
     ensures { entries.new.items ≡ filter (λ e. is_used e.usage) entries.old.items }
 {

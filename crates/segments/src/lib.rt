@@ -1,8 +1,7 @@
 //! Runs of sectors on a device: which of them are free, and the bytes that they hold.
 //!
-//! `FreeMap` knows the runs in use, and gives the lowest free run that fits. `write_runs` touches no sector outside its
-//! runs, and after it each run reads as its bytes. `read_run` gives the bytes of a run, and distinguishes an unreadable sector
-//! from a failing device.
+//! `FreeMap` keeps the runs in use, and finds the lowest free run that fits. `write_runs` changes no sector outside its runs, and each run then reads
+//! as its bytes. `read_run` returns the bytes of a run, and distinguishes an unreadable sector from a device failure.
 //!
 //! ```
 //! let run = free_map.take(3)?;

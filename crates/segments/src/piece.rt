@@ -1,10 +1,10 @@
-// Bytes and the run that they go to.
+// Bytes, and the run that they are written into.
 ghost use Rattle.std.specs.Prelude.{◌≡◌, ◌<◌, ◌^◌, length, true, is_some, IfSome};
 ghost use Rattle.segments.specs.Pieces.{part_bytes, bytes_of_parts};
 
 use crate::Run;
 
-/// Some of a piece's bytes, made for it or borrowed.
+/// Some bytes of a piece, owned or borrowed.
 #[derive(Drop)]
 pub enum PiecePart<'a> {
     Made(Vec<u8>),
@@ -22,14 +22,14 @@ impl PiecePart<'_> {
     }
 }
 
-/// Bytes to be written into a run: those of its parts one after another.
+/// Bytes to be written into a run: those of its parts in order.
 #[derive(Drop)]
 pub struct Piece<'a> {
     pub run: Run,
     pub parts: Vec<PiecePart<'a>>,
 }
 
-/// How many bytes these parts have together; none where a `u64` can't count them.
+/// Returns the number of bytes in these parts, or `None` if it does not fit in a `u64`.
 pub fn byte_count(parts: &[PiecePart<'_>]) -> Option<u64>
     ensures some { IfSome result (λ count. count ≡ length (bytes_of_parts parts.now)) }
     ensures none { length (bytes_of_parts parts.now) < 2 ^ 64 → is_some result ≡ true }

@@ -1,4 +1,4 @@
-// Runs of sectors are read.
+// Reads runs of sectors.
 ghost use Rattle.std.specs.Prelude.{◌≡◌, ◌≢◌, ◌+◌, ◌*◌, ◌≤◌, ◌<◌, ◌^◌, true, Some, None, IfOk, IfErr, IsErrOf, vec_len};
 ghost use Rattle.sector_dev.specs.Disk.{now, shown_image};
 ghost use Rattle.sector_dev.specs.Time.{OnlyReads};
@@ -9,23 +9,23 @@ use sector_dev::{DevError, SECTOR_BYTES, SectorDevice};
 use std::alloc::{AllocError, Global};
 use thiserror::Error;
 
-/// Why a run wasn't read.
+/// Why a run was not read.
 #[derive(Clone, Copy, Debug, Error)]
 pub enum ReadError {
-    /// E1: the device failed. It is counted.
+    /// E1: the device failed. Such failures are counted.
     #[error("the device failed")]
     Failed,
-    /// E2: a stop left a sector of the run unreadable.
+    /// E2: a crash left a sector of the run unreadable.
     #[error("an unreadable sector")]
     Unreadable,
     #[error("out of memory")]
     OutOfMemory,
 }
 
-/// Reads `byte_count` bytes from this sector on. Nothing changes.
+/// Reads `byte_count` bytes from this sector on. Changes nothing.
 ///
 /// # Errors
-/// `OutOfMemory` before the first read; else that of the first sector that fails, after which none is read.
+/// `OutOfMemory`, before the first read; otherwise the error of the first sector that fails, after which no sector is read.
 pub fn read_run<D: SectorDevice>(
     alloc: Global,
     device: &mut D,

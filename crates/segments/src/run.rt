@@ -1,7 +1,7 @@
 // Runs of sectors.
 ghost use Rattle.std.specs.Prelude.{◌≡◌, ◌+◌, ◌≤◌, ◌<◌, ◌^◌, ◌↔◌, IsTrue};
 
-/// Sectors in a row: the first, and how many.
+/// Sectors in a row: the first one and their number.
 #[derive(Clone, Copy, Debug, PartialEq, Eq)]
 pub struct Run {
     pub start: u64,
@@ -9,7 +9,7 @@ pub struct Run {
 }
 
 impl Run {
-    /// The sector after its last one.
+    /// Returns the number of the sector after the last one.
     pub fn end(self) -> u64
         requires { self.start + self.count < 2 ^ 64 }
         ensures { result ≡ self.start + self.count }
@@ -17,7 +17,7 @@ impl Run {
         self.start + self.count
     }
 
-    /// Whether this is one of its sectors.
+    /// Returns whether this is a sector of the run.
     pub fn contains(self, sector: u64) -> bool
         ensures { IsTrue result ↔ ((self.start ≤ sector) × (sector < self.start + self.count)) }
     {

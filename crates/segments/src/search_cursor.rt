@@ -1,8 +1,8 @@
-// How far the free runs have been searched.
+// How far the free runs were searched.
 ghost use Rattle.std.specs.Prelude.{◌≡◌};
 ghost use Rattle.segments.specs.Usages.{Space, IsSearched};
 
-/// How far a device was searched for free runs: each that starts before the sector `start` has at most `widest` sectors.
+/// How far a device was searched for free runs: each one that starts before the sector `start` has at most `widest` sectors.
 #[derive(Clone, Copy)]
 pub struct SearchCursor {
     pub start: u64,
@@ -10,7 +10,7 @@ pub struct SearchCursor {
 }
 
 impl SearchCursor {
-    /// Nothing was searched yet.
+    /// Creates a cursor of which nothing was searched.
     pub fn nothing() -> Self
         ensures value { result ≡ record { start = 2; widest = 0 } }
         ensures searched { (space : Space) → IsSearched space result }

@@ -1,4 +1,4 @@
-// The bytes of a run that don't fill a sector yet.
+// The bytes of a run that do not fill a sector yet.
 ghost use Rattle.std.specs.Prelude.{◌≤◌};
 
 // The bytes after the last whole sector, and the sector that they go into.
@@ -14,7 +14,7 @@ impl Tail {
     ghost use Rattle.std.specs.Prelude.{◌≡◌, ◌<◌, ◌+◌, ◌-◌, ◌^◌, ◌++◌, [], length, take, min, None, IfSome};
     ghost use Rattle.segments.specs.inner.Tails.{tail_bytes};
 
-    // No bytes yet.
+    // Creates a tail without bytes.
     pub(crate) fn new(start: u64) -> Tail
         ensures start { result.start ≡ start }
         ensures bytes { tail_bytes result ≡ [] }
@@ -32,7 +32,7 @@ impl Tail {
         &self.sector[..self.count]
     }
 
-    // Adds bytes until the sector is full: how many.
+    // Adds bytes until the sector is full, and returns how many were added.
     pub(crate) fn fill(&mut self, bytes: &[u8]) -> usize
         ensures start { self.new.start ≡ self.old.start }
         ensures taken { result ≡ min (512 - length (tail_bytes self.old)) (length bytes.now) }
@@ -44,7 +44,7 @@ impl Tail {
         taken
     }
 
-    // The sector, if it is full.
+    // Returns the sector if it is full.
     pub(crate) fn full(&self) -> Option<&[u8; 512]>
         ensures some { IfSome result (λ sector. sector.now ≡ tail_bytes self.now) }
         ensures whole { IfSome result (λ sector. length sector.now ≡ 512) }
@@ -57,7 +57,7 @@ impl Tail {
         }
     }
 
-    // Begins anew `count` sectors further on, with these bytes.
+    // Restarts `count` sectors later with these bytes.
     pub(crate) fn restart(&mut self, count: u64, bytes: &[u8])
         requires count { self.old.start + count < 2 ^ 64 }
         requires bytes { length bytes.now ≤ 512 }

@@ -1,4 +1,4 @@
-// Runs of sectors are written.
+// Writes runs of sectors.
 ghost use Rattle.std.specs.Prelude.{◌≡◌, ◌+◌, ◌++◌, ◌*◌, ◌/◌, ◌≤◌, ◌<◌, ◌^◌, ◌∷◌, [], length, true, OnOk, OnErr, IfErr, Some};
 ghost use Rattle.sector_dev.specs.Disk.{now, shown_image, Counts};
 ghost use Rattle.sector_dev.specs.Rows.{GrowsBy, FailsAmong};
@@ -12,7 +12,7 @@ use crate::tail::Tail;
 use crate::{Piece, PiecePart};
 use sector_dev::{DevError, SECTOR_BYTES, SectorDevice};
 
-// The sector that begins with these bytes, and is zero after them.
+// Returns the sector that starts with these bytes and is otherwise zero.
 fn filled_sector(bytes: &[u8]) -> [u8; 512]
     requires { length bytes.now ≤ 512 }
     ensures { result ≡ filled bytes.now }
@@ -22,8 +22,8 @@ fn filled_sector(bytes: &[u8]) -> [u8; 512]
     sector
 }
 
-// Writes the whole sectors of a tail and the bytes after it. What is left stays in the tail: the bytes of a part are copied only where
-// they share a sector with those of another one.
+// Writes the whole sectors of a tail and the bytes after it, and leaves the rest in the tail. The bytes of a part are copied only if they share a
+// sector with those of another part.
 fn write_part<D: SectorDevice>(
     device: &mut D,
     tail: &mut Tail,
@@ -54,7 +54,7 @@ fn write_part<D: SectorDevice>(
     Ok(())
 }
 
-// Writes what is left, zero-filled.
+// Writes the rest, zero-filled.
 fn write_tail<D: SectorDevice>(device: &mut D, tail: &Tail) -> Result<(), DevError>
     requires partial { length (tail_bytes tail.now) < 512 }
     requires within { tail.now.start + sector_count (length (tail_bytes tail.now)) ≤ D.size device.old }
@@ -71,7 +71,7 @@ fn write_tail<D: SectorDevice>(device: &mut D, tail: &Tail) -> Result<(), DevErr
     device.write(tail.start, &filled_sector(tail.bytes()))
 }
 
-// Writes the bytes of parts one after another, from this sector on.
+// Writes the bytes of parts in order, from this sector on.
 fn write_parts<D: SectorDevice>(
     device: &mut D,
     start: u64,
@@ -92,10 +92,10 @@ fn write_parts<D: SectorDevice>(
     write_tail(device, &tail)
 }
 
-/// Writes the bytes from this sector on, sectors ascending, zero-filled to the last sector's end.
+/// Writes the bytes from this sector on, in ascending sectors, zero-filled to the end of the last one.
 ///
 /// # Errors
-/// `Failed` alone: the device failed.
+/// `Failed` only: the device failed.
 pub fn write_run<D: SectorDevice>(device: &mut D, start: u64, bytes: &[u8]) -> Result<(), DevError>
     requires within { start + sector_count (length bytes.now) ≤ D.size device.old }
     requires countable { 512 * D.size device.old < 2 ^ 64 }
@@ -112,10 +112,10 @@ pub fn write_run<D: SectorDevice>(device: &mut D, start: u64, bytes: &[u8]) -> R
     write_parts(device, start, &[PiecePart::Borrowed(bytes)])
 }
 
-/// Writes each piece into its run, one after another.
+/// Writes each piece into its run, in order.
 ///
 /// # Errors
-/// `Failed` alone: the device failed.
+/// `Failed` only: the device failed.
 pub fn write_runs<D: SectorDevice>(device: &mut D, pieces: &[Piece<'_>]) -> Result<(), DevError>
     requires fit { AllFit (D.size device.old) (plain_pieces pieces.now) }
     requires apart { AreApart (runs_of (plain_pieces pieces.now)) }

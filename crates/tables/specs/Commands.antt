@@ -16,7 +16,7 @@ pub data PlainCommand : Type 0 where
   rename : (from to : List ℕ) → PlainCommand
   drop_table : (name : List ℕ) → PlainCommand
 
--- the names at which a command may change the tables
+-- the names whose tables a command may change
 abbrev pub changed_names : PlainCommand → List (List ℕ)
 changed_names (create name schema) = name ∷ []
 changed_names (import_stream name bytes) = name ∷ []
@@ -26,7 +26,7 @@ changed_names (save_as from to query) = to ∷ []
 changed_names (rename from to) = from ∷ to ∷ []
 changed_names (drop_table name) = name ∷ []
 
--- what a command brings makes tables: a schema within the limits, bytes
+-- a command brings a schema within the limits, or a stream of bytes
 abbrev pub BringsTables : PlainCommand → Type 0
 BringsTables (create name schema) = IsWithinLimits schema
 BringsTables (import_stream name bytes) = AreBytes bytes

@@ -1,4 +1,4 @@
--- Why a call of an open store is refused: by whom, and how it is reported.
+-- Why a call of an open store is refused: what decides it, and how it is reported.
 use Rattle.std.specs.Prelude.{ℕ, List, ◌++◌, codes}
 use Rattle.std.specs.Fmt.{decimal}
 use Rattle.ipc_message.specs.FaultText.{fault_text}
@@ -14,7 +14,7 @@ use Rattle.tables.specs.declared.refusal.QueryRefusal.TheVariants as queries
 use Rattle.tables.specs.declared.refusal.Refusal.{Refusal}
 use Rattle.tables.specs.declared.refusal.Refusal.TheVariants as refusals
 
--- `by_tables`: the tables alone decide it. `by_room`: what the store has room for. `elsewhere`: no command is refused so.
+-- `by_tables`: the tables alone decide it. `by_room`: the room of the store. `elsewhere`: no command is refused with it.
 pub data Origin : Type 0 where
   by_tables : Origin
   by_room : Origin
@@ -50,18 +50,18 @@ origin_of (refusals.SegmentDamaged segment) = elsewhere
 origin_of refusals.Write = elsewhere
 origin_of refusals.OutOfMemory = by_memory
 
--- how a stream that was not read is refused
+-- the refusal of a stream that was not read
 abbrev pub import_refusal : ImportError → Refusal
 import_refusal (imports.Fault fault) = refusals.Import fault
 import_refusal imports.OutOfMemory = refusals.OutOfMemory
 
--- why a query makes nothing of a table, as it is reported for a command
+-- why a query can't be executed on a table, as it is reported for a command
 abbrev pub query_refusal : bounds.Refusal → Refusal
 query_refusal bounds.unknown_column = refusals.Query queries.UnknownColumn
 query_refusal bounds.bad_condition = refusals.Query queries.BadCondition
 query_refusal bounds.not_comparable = refusals.Query queries.NotComparable
 
--- how a selection that was not made is refused
+-- the refusal of a selection that was not made
 abbrev pub select_refusal : QueryError → Refusal
 select_refusal selects.UnknownColumn = refusals.Query queries.UnknownColumn
 select_refusal selects.BadCondition = refusals.Query queries.BadCondition
@@ -81,7 +81,7 @@ query_text queries.UnknownColumn = codes "Q1 UnknownColumn"
 query_text queries.BadCondition = codes "Q2 BadCondition"
 query_text queries.NotComparable = codes "Q3 NotComparable"
 
--- code, name and what it carries, split by spaces; a reader or a writer that fails is reported as input and output of the program are
+-- code, name and value, separated by spaces; a failed reader or writer is reported as failed input or output of the program
 abbrev pub refusal_text : Refusal → List ℕ
 refusal_text refusals.NoTable = codes "S1 NoTable"
 refusal_text refusals.NameTaken = codes "S2 NameTaken"

@@ -1,4 +1,4 @@
--- What a command makes of the tables, or the first of its tests that fails.
+-- The tables after a command, or the first of its tests that fails.
 use Rattle.std.specs.Prelude.{ℕ, not, ◌&&◌, nat_le, nat_lt, List, [], ◌∷◌, ◌++◌, length, Option, Some, None, Result, Ok, Err}
 use Rattle.facts.specs.Checks.{when, first_some, unless}
 use Rattle.arrow_schema.specs.Column.{PlainSchema}
@@ -31,28 +31,28 @@ bad_name name = when (not (is_name name)) BadName
 abbrev pub name_taken : Tables → List ℕ → Option Refusal
 name_taken t name = when (has_table t name) NameTaken
 
--- one table more is one too many, unless it takes the place of another
+-- a further table is too many, unless it replaces another one
 abbrev pub too_many_tables : Tables → List ℕ → Option Refusal
 too_many_tables t name = when (not (has_table t name) && nat_le MAX_TABLES (table_count t)) (TooMany limits.Tables)
 
 abbrev pub too_many_bytes : List ℕ → Option Refusal
 too_many_bytes bytes = when (nat_lt MAX_IMPORT_BYTES (length bytes)) (TooMany limits.Bytes)
 
--- those of an import, before its bytes are read
+-- the tests of an import before its bytes are read
 abbrev pub import_tests : (name bytes : List ℕ) → Option Refusal
 import_tests name bytes = first_some (bad_name name ∷ too_many_bytes bytes ∷ [])
 
 abbrev pub other_shape : PlainSchema → PlainSchema → Option Refusal
 other_shape own new = when (not (have_one_shape own new)) SchemaMismatch
 
--- the first row that the schema's tables don't take, counted from 0 among the new rows
+-- the first row that does not fit the schema, counted from 0 among the new rows
 abbrev pub unfit_row : PlainSchema → List (List Cell) → Option Refusal
 unfit_row schema rows = elim (first_unfit schema rows) [ None ↦ None | Some i ↦ Some (RowUnfit i) ]
 
 abbrev pub too_heavy : PlainSchema → List (List Cell) → Option Refusal
 too_heavy schema rows = when (not (nat_le (table_weight schema rows) MAX_TABLE_WEIGHT)) (TooMany limits.Weight)
 
--- ---- what is found before the effect
+-- ---- values that are needed before the effect
 
 -- the table of this name
 abbrev pub of_table : {A : Type 0} → Option PlainTable → (PlainTable → Result A Refusal) → Result A Refusal
@@ -64,7 +64,7 @@ abbrev pub of_meaning : {A : Type 0} → Result PlainTable Fault → (PlainTable
 of_meaning (Err fault) f = Err (Import fault)
 of_meaning (Ok table) f = f table
 
--- the table that a query makes of another
+-- the table that a query selects from another
 abbrev pub of_query : {A : Type 0} → Result PlainTable queries.Refusal → (PlainTable → Result A Refusal) → Result A Refusal
 of_query (Err refusal) f = Err (query_refusal refusal)
 of_query (Ok table) f = f table
@@ -74,15 +74,15 @@ of_query (Ok table) f = f table
 abbrev pub empty_table : PlainSchema → PlainTable
 empty_table schema = record { schema = schema; rows = [] }
 
--- the rows after those of a table, under its own schema
+-- the rows after those of a table, with the table's schema
 abbrev pub joined : PlainTable → List (List Cell) → PlainTable
 joined table rows = record { schema = table.schema; rows = table.rows ++ rows }
 
--- a table at a name that is free
+-- a new table at a free name
 abbrev pub made : Tables → List ℕ → PlainTable → Result Tables Refusal
 made t name table = unless (first_some (bad_name name ∷ name_taken t name ∷ too_many_tables t name ∷ [])) (Ok (with_table t name table))
 
--- a table at a name, in place of one that stands there
+-- a table at a name, replacing any table there
 abbrev pub put : Tables → List ℕ → PlainTable → Result Tables Refusal
 put t name table = unless (too_many_tables t name) (Ok (with_table t name table))
 
@@ -117,7 +117,7 @@ verdict t (save_as from to query) = of_table (table_at t from) (saved t to query
 verdict t (rename from to) = of_table (table_at t from) (renamed t from to)
 verdict t (drop_table name) = of_table (table_at t name) (dropped t name)
 
--- the tables after a command: a refused one leaves them as they are
+-- the tables after a command; a refused one leaves them as they are
 abbrev pub after_verdict : Tables → Result Tables Refusal → Tables
 after_verdict t (Ok new) = new
 after_verdict t (Err refusal) = t
@@ -125,7 +125,7 @@ after_verdict t (Err refusal) = t
 abbrev pub step : Tables → PlainCommand → Tables
 step t c = after_verdict t (verdict t c)
 
--- and after a list of commands
+-- the tables after a list of commands
 unfoldable pub after : Tables → List PlainCommand → Tables
 after t [] = t
 after t (c ∷ cs) = after (step t c) cs

@@ -1,4 +1,4 @@
--- The plain command that a command of the code is.
+-- The plain command of a command of the code.
 use Rattle.std.specs.Prelude.{map, string_bytes}
 use Rattle.arrow_schema.specs.View.{schema_of}
 use Rattle.cells.specs.Row.{row_of}

@@ -1,4 +1,4 @@
-// What the definitions say. The functions do nothing: their contracts are the laws.
+// Laws about the definitions. The functions do nothing: their contracts are the laws.
 ghost use Rattle.std.specs.Prelude.{◌≡◌, ◌≢◌, ℕ, ◌+◌, List, [], ◌∷◌, ◌++◌, Option, Some, None, Result, Ok, Err, IfOk, codes};
 ghost use Rattle.std.specs.List.{Contains};
 ghost use Rattle.arrow_schema.specs.Column.{PlainSchema};
@@ -23,32 +23,32 @@ use ipc_stream::meaning_is_a_table;
 use query::selection_is_a_table;
 use values::{accepted_rows_are_a_table, tables_are_joined_and_cut};
 
-/// A command that is refused leaves the tables as they are.
+/// A refused command leaves the tables as they are.
 pub fn a_refused_command_changes_nothing()
     ensures { (t : Tables) (c : PlainCommand) (r : Refusal) → verdict t c ≡ Err r → step t c ≡ t }
 {}
 
-/// No other name's table changes.
+/// A command changes only the tables at its own names.
 pub fn a_command_changes_its_names_alone()
     ensures { (t : Tables) (c : PlainCommand) (name : List ℕ) → ¬ Contains (changed_names c) name → table_at (step t c) name ≡ table_at t name }
 {}
 
-/// Commands one after another: the first ones, and then the others.
+/// Executing a list of commands is executing its first part and then the rest.
 pub fn commands_in_turn()
     ensures { (t : Tables) (cs ds : List PlainCommand) → after t (cs ++ ds) ≡ after (after t cs) ds }
 {}
 
-/// A command whose refusal the tables decide is never answered one that they don't.
+/// If the tables alone refuse a command, its refusal is of the origin `by_tables`.
 pub fn refusals_of_the_tables()
     ensures { (t : Tables) (c : PlainCommand) (r : Refusal) → verdict t c ≡ Err r → origin_of r ≡ by_tables }
 {}
 
-/// Rows that are joined weigh together what they weigh by themselves.
+/// The weight of joined rows is the sum of their weights.
 pub fn joined_rows_weigh_together()
     ensures { (s : PlainSchema) (a b : List (List Cell)) → table_weight s (a ++ b) ≡ table_weight s a + table_weight s b }
 {}
 
-/// Where each table keeps what a table keeps, so does each one after commands that bring such tables.
+/// If all tables satisfy `IsTable`, they still do after commands that bring only such tables.
 pub fn tables_stay_tables()
     ensures one { (t : Tables) (c : PlainCommand) → AreTables t → BringsTables c → AreTables (step t c) }
     ensures all { (t : Tables) (cs : List PlainCommand) → AreTables t → BringTables cs → AreTables (after t cs) }
@@ -59,12 +59,12 @@ pub fn tables_stay_tables()
     tables_are_joined_and_cut();
 }
 
-// A byte is below 256: a contract knows it of a slice that it is given.
+// Gives a contract that every element of a slice of bytes is below 256.
 fn are_bytes(bytes: &[u8])
     ensures { AreBytes bytes.now }
 {}
 
-/// A command of the code brings tables: its schema is within the limits, and its stream is of bytes.
+/// A `Command` satisfies `BringsTables`: its schema is within the limits, and its stream consists of bytes.
 pub fn commands_bring_tables(command: &Command)
     ensures { BringsTables (command_of command.now) }
 {
@@ -74,8 +74,8 @@ pub fn commands_bring_tables(command: &Command)
     }
 }
 
-/// Rows that are appended, given or as a stream, stand after those of the table, all of them; a query that is saved is the table at its name; and a
-/// table is found at the name that it was given.
+/// The effect of single commands: appended rows, given directly or as a stream, follow all rows of the table; a saved query becomes the table at its
+/// name; a created table is empty; a table is found at the name where it was put, and not after its removal; and three refusals.
 pub fn worked_commands()
     ensures appended { (t u : Tables) (name : List ℕ) (table : PlainTable) (rows : List (List Cell)) → table_at t name ≡ Some table
         → verdict t (append_rows name rows) ≡ Ok u → u ≡ with_table t name (joined table rows) }

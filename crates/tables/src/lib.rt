@@ -1,9 +1,8 @@
-//! Named tables as a finite map, and what commands make of them. No device is known here.
+//! Named tables as a finite map, and the effect of commands on them. This crate knows no device.
 //!
-//! A command is judged by the tables alone: `verdict` (`specs/Verdict.antt`) is the tables after it, or the first of its
-//! tests that fails, and `after` goes over a list of commands. Promised are laws of these words for the crates above
-//! ([`a_refused_command_changes_nothing`], [`a_command_changes_its_names_alone`], [`commands_in_turn`],
-//! [`tables_stay_tables`]), and how a [`Refusal`] is reported.
+//! A command is judged by the tables alone: `verdict` (`specs/Verdict.antt`) is the tables after it, or the first of its tests that fails, and
+//! `after` executes a list of commands. The crate provides laws of these definitions for the crates above ([`a_refused_command_changes_nothing`],
+//! [`a_command_changes_its_names_alone`], [`commands_in_turn`], [`tables_stay_tables`]), and the text of a [`Refusal`].
 //!
 //! ```
 //! assert_eq!(format!(in alloc; "refused {}", Refusal::NoRoom(1))?, "refused S8 NoRoom 1");

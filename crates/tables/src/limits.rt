@@ -1,4 +1,4 @@
 // Limits of the tables of a store.
 
-/// The most bytes of a stream that is imported or appended.
+/// The maximum size in bytes of a stream that is imported or appended.
 pub const MAX_IMPORT_BYTES: usize = 2_147_483_647;

@@ -3,29 +3,29 @@ use ipc_message::{Fault, ImportError};
 use query::QueryError;
 use std::alloc::{AllocError, AllocFailed};
 
-/// A limit that would be passed.
+/// A limit that would be exceeded.
 #[derive(Clone, Copy, Debug, PartialEq, Eq)]
 pub enum Limit {
     /// 1,024 tables.
     Tables,
     /// 65,536 segments of all tables.
     Segments,
-    /// The greatest epoch rules.
+    /// The ruling commit has the greatest epoch there is.
     Epochs,
     /// The weight of a table.
     Weight,
-    /// The bytes of a stream that is imported or appended.
+    /// The size in bytes of a stream that is imported or appended.
     Bytes,
-    /// 64 exports that are open.
+    /// 64 open exports.
     Exports,
 }
 
-/// Why a query makes nothing of a table.
+/// Why a query can't be executed on a table.
 #[derive(Clone, Copy, Debug, PartialEq, Eq)]
 pub enum QueryRefusal {
-    /// Q1: no column of this name, or two, or one that is listed twice.
+    /// Q1: a named column does not exist, exists twice, or is listed twice.
     UnknownColumn,
-    /// Q2: a condition's shape or literal.
+    /// Q2: the shape or the literal of a condition is wrong.
     BadCondition,
     /// Q3: a comparison on a type that has none.
     NotComparable,
@@ -38,25 +38,25 @@ pub enum Refusal {
     NoTable,
     /// S2: a table has the name.
     NameTaken,
-    /// S3: no table may have the name.
+    /// S3: the name is not valid for a table.
     BadName,
     /// S4: names, nullability or types differ from the table's.
     SchemaMismatch,
-    /// S5: the stream has no meaning.
+    /// S5: the stream has a fault.
     Import(Fault),
-    /// S6: this row, counted from 0, is the first of the new ones that the table does not take.
+    /// S6: this row, counted from 0, is the first new one that does not fit the table.
     RowUnfit(usize),
-    /// S7: a limit would be passed.
+    /// S7: a limit would be exceeded.
     TooMany(Limit),
-    /// S8: this number of sectors in a row is nowhere free.
+    /// S8: no run of this many sectors is free.
     NoRoom(u64),
-    /// S9: the device failed. Whether the command is done is known once the store was opened again.
+    /// S9: the device failed. Reopening the store shows whether the command is done.
     Device,
     /// S10: no store is open, or the device failed before.
     Halted,
     /// S11: no such export is open.
     NoExport,
-    /// S12: the query makes nothing of the table.
+    /// S12: the query can't be executed on the table.
     Query(QueryRefusal),
     /// S13: this segment of the table, counted from 0, does not hold its rows.
     SegmentUnread(usize),
@@ -66,7 +66,7 @@ pub enum Refusal {
     SegmentDamaged(usize),
     /// The writer of an export failed.
     Write,
-    /// A growth was refused.
+    /// Memory was refused.
     OutOfMemory,
 }
 
@@ -92,7 +92,7 @@ impl<T: Drop> From<AllocFailed<T>> for Refusal {
     }
 }
 
-/// A stream that has no meaning is refused by its fault.
+/// Converts the error of a stream into its refusal.
 impl From<ImportError> for Refusal {
     ghost use Rattle.std.specs.Prelude.{◌≡◌};
     ghost use Rattle.tables.specs.Refusals.{import_refusal};
@@ -107,7 +107,7 @@ impl From<ImportError> for Refusal {
     }
 }
 
-/// A query that makes nothing of a table is refused by its reason.
+/// Converts the error of a query into its refusal.
 impl From<QueryError> for Refusal {
     ghost use Rattle.std.specs.Prelude.{◌≡◌};
     ghost use Rattle.tables.specs.Refusals.{select_refusal};

@@ -1,4 +1,4 @@
-// How a refusal is reported: its code, its name and what it carries, split by spaces.
+// The text of a refusal: its code, its name and its value, separated by spaces.
 use crate::refusal::{Limit, QueryRefusal, Refusal};
 use std::fmt;
 
@@ -35,7 +35,7 @@ impl fmt::Display for QueryRefusal {
     }
 }
 
-/// As `S8 NoRoom 1`. A reader or a writer that failed is reported as failed input or output: `G1 Io`.
+/// For example `S8 NoRoom 1`. A failed reader or writer is reported as failed input or output: `G1 Io`.
 impl fmt::Display for Refusal {
     ghost use Rattle.std.specs.Prelude.{Some};
     ghost use Rattle.tables.specs.Refusals.{refusal_text};

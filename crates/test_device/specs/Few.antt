@@ -14,11 +14,11 @@ runs_of Nothing = []
 runs_of (One a) = a ∷ []
 runs_of (Two a b) = a ∷ b ∷ []
 
--- the run whose two bytes stand here
+-- the run of the two bytes at this place
 abbrev pub run_at : ℕ → List ℕ → Run
 run_at at text = record { start = slice_index text at; count = slice_index text (at + 1) }
 
--- the runs that a text names: none, one or two
+-- the runs of a text: none, one or two
 abbrev pub runs_in : List ℕ → Result (List Run) Cause
 runs_in text =
     if length text == 4 then Ok []

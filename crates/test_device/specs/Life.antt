@@ -1,4 +1,4 @@
--- The story of a device that can be written once and read once.
+-- The story of a device that allows one write and one read.
 use Rattle.std.specs.Prelude.{◌≢◌, ℕ, List, [], ◌∷◌, Some, None, length}
 use Rattle.std.specs.Coded.{Coded-set, coded_ℕ, ×_prop, Π_prop, Unit-prop, le_prop}
 use Rattle.sector_dev.specs.Disk.{Story, ShowsImage, now, put, blank, IsContent, IsWhole, Each}

@@ -1,7 +1,7 @@
-// Calls of a device, with sectors that one byte fills.
+// Calls of a device, with sectors that are filled with one byte.
 use sector_dev::{DevError, SectorDevice};
 
-// Whether bytes are these. By a loop: the first comparison of slices costs the proof as much as ten functions.
+// Returns whether the bytes are equal. Uses a loop, because the first comparison of slices costs as much proof time as ten functions.
 pub(crate) fn are_same(found: &[u8], want: &[u8]) -> bool {
     let mut same = found.len() == want.len();
     for (place, byte) in want.iter().enumerate() {
@@ -59,7 +59,7 @@ pub(crate) fn fill_sector<D: SectorDevice>(
     write_sector(device, n, &[byte; 512])
 }
 
-// Reads a sector: the byte that fills it. `None`: its bytes are not all the same.
+// Returns the byte that fills a sector, or `None` if its bytes are not all equal.
 pub(crate) fn filling<D: SectorDevice>(device: &mut D, n: u64) -> Option<Result<u8, DevError>> {
     let mut sector = [255; 512];
     match read_sector(device, n, &mut sector) {

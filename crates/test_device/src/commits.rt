@@ -1,4 +1,4 @@
-// A store on a device in memory that names one segment: each call fails or stops, and what a stop leaves is opened again.
+// A store on a device in memory that names one segment: each call fails or stops, and what a crash leaves is opened again.
 ghost use Rattle.std.specs.Prelude.{◌≡◌, ℕ, List, ◌∷◌, [], IfOk, IfSome, length};
 ghost use Rattle.sector_dev.specs.View.{size_of};
 ghost use Rattle.segments.specs.Pieces.{plain_pieces};
@@ -13,7 +13,7 @@ use sector_dev::{CrashChoice, ModelDevice, SectorDevice};
 use segments::{PiecePart, Run, read_run};
 use std::alloc::{AllocError, Global};
 
-// The store of a device that is formatted now.
+// Formats the device and returns its store.
 pub(crate) fn formatted(alloc: Global, device: &mut ModelDevice) -> Option<Opened<Few>>
     ensures size { size_of device.new ≡ size_of device.old }
     ensures on { IfSome result (λ store. IsOn (size_of device.new) store) }
@@ -28,7 +28,7 @@ pub(crate) fn formatted(alloc: Global, device: &mut ModelDevice) -> Option<Opene
     }
 }
 
-// Bytes as the only content.
+// Returns these bytes as the only contents.
 fn content_of<'a>(alloc: Global, bytes: Vec<u8>) -> Result<Vec<Vec<PiecePart<'a>>>, AllocError>
     ensures { IfOk result (λ contents. plain_contents contents.items ≡ bytes.items ∷ []) }
 {
@@ -39,7 +39,7 @@ fn content_of<'a>(alloc: Global, bytes: Vec<u8>) -> Result<Vec<Vec<PiecePart<'a>
     Ok(contents)
 }
 
-// A segment that this byte fills.
+// Returns the contents of a segment that is filled with this byte.
 fn segment_of<'a>(alloc: Global, byte: u8) -> Result<Vec<Vec<PiecePart<'a>>>, AllocError>
     ensures { IfOk result (λ contents. AreSome (plain_contents contents.items)) }
 {
@@ -47,7 +47,7 @@ fn segment_of<'a>(alloc: Global, byte: u8) -> Result<Vec<Vec<PiecePart<'a>>>, Al
     content_of(alloc, bytes)
 }
 
-// The text of a catalogue that names this run.
+// Returns the text of a catalogue that names this run.
 fn text_of<'a>(alloc: Global, run: Run) -> Result<Vec<Vec<PiecePart<'a>>>, AllocError>
     ensures { IfOk result (λ texts. (text : List ℕ) × (plain_contents texts.items ≡ text ∷ []) × (length text ≡ 6)) }
 {
@@ -57,7 +57,7 @@ fn text_of<'a>(alloc: Global, run: Run) -> Result<Vec<Vec<PiecePart<'a>>>, Alloc
     content_of(alloc, text)
 }
 
-// The plan of a store in which a segment that this byte fills stands alone.
+// Plans a store whose only segment is filled with this byte.
 fn plan_one<'a>(alloc: Global, store: &mut Opened<Few>, byte: u8) -> Option<Plan<'a, Few>>
     requires { IsOn store.old.map.size store.old }
     ensures plan { IfSome result (λ plan. IsPlan store.old.map.size store.old.commit plan.commit (plain_pieces plan.pieces.items)) }
@@ -82,7 +82,7 @@ fn plan_one<'a>(alloc: Global, store: &mut Opened<Few>, byte: u8) -> Option<Plan
     Some(plan_next(old, old.version, old.kind, Few::One(run), places, texts, 6))
 }
 
-// Publishes a plan: whether that was acknowledged. Then what it leaves out is free.
+// Publishes a plan, and returns whether this was acknowledged. If so, the runs that it no longer names are free.
 fn is_published(device: &mut ModelDevice, store: &mut Opened<Few>, plan: &Plan<'_, Few>) -> bool
     requires on { IsOn (size_of device.old) store.old }
     requires plan { IsPlan store.old.map.size store.old.commit plan.now.commit (plain_pieces plan.now.pieces.items) }
@@ -102,7 +102,7 @@ fn is_published(device: &mut ModelDevice, store: &mut Opened<Few>, plan: &Plan<'
     true
 }
 
-// Publishes a segment that this byte fills in place of the one before: whether that was acknowledged.
+// Publishes a segment filled with this byte, replacing the one before, and returns whether this was acknowledged.
 fn replace(alloc: Global, device: &mut ModelDevice, store: &mut Opened<Few>, byte: u8) -> bool
     requires { IsOn (size_of device.old) store.old }
     ensures size { size_of device.new ≡ size_of device.old }
@@ -114,7 +114,7 @@ fn replace(alloc: Global, device: &mut ModelDevice, store: &mut Opened<Few>, byt
     }
 }
 
-// Publishes three segments: which of these calls is the first that is not acknowledged, or 4.
+// Publishes three segments, and returns which of these calls is the first that is not acknowledged, or 4.
 fn publish_three(alloc: Global, device: &mut ModelDevice, store: &mut Opened<Few>) -> u64
     requires { IsOn (size_of device.old) store.old }
     ensures { size_of device.new ≡ size_of device.old }
@@ -132,7 +132,7 @@ fn publish_three(alloc: Global, device: &mut ModelDevice, store: &mut Opened<Few
     }
 }
 
-// Formats the device and publishes three segments: how many of these calls were acknowledged.
+// Formats the device and publishes three segments. Returns how many of these calls were acknowledged.
 pub(crate) fn run_script(alloc: Global, device: &mut ModelDevice) -> u64
     ensures { size_of device.new ≡ size_of device.old }
 {
@@ -142,10 +142,10 @@ pub(crate) fn run_script(alloc: Global, device: &mut ModelDevice) -> u64
     }
 }
 
-// The first sectors of text and segment, by the epoch.
+// The first sectors of the text and the segment, by epoch.
 const LAYOUT: [(u64, u64); 6] = [(0, 0), (2, 0), (5, 3), (2, 6), (5, 3), (2, 6)];
 
-// Whether 600 bytes from this sector on are this one.
+// Returns whether the 600 bytes from this sector on are equal to `byte`.
 fn is_filled(alloc: Global, device: &mut ModelDevice, start: u64, byte: u8) -> bool
     ensures { size_of device.new ≡ size_of device.old }
 {
@@ -158,7 +158,7 @@ fn is_filled(alloc: Global, device: &mut ModelDevice, start: u64, byte: u8) -> b
     }
 }
 
-// Whether a store has the runs of its epoch, and its segment the bytes.
+// Returns whether a store has the runs of its epoch, and its segment the right bytes.
 fn is_whole(alloc: Global, device: &mut ModelDevice, store: &Opened<Few>) -> bool
     ensures { size_of device.new ≡ size_of device.old }
 {
@@ -187,7 +187,7 @@ fn is_whole(alloc: Global, device: &mut ModelDevice, store: &Opened<Few>) -> boo
     }
 }
 
-// Opens a store: its epoch, 0 where there is none; `None`: it is not whole, or not opened for another reason.
+// Opens a store and returns its epoch, or 0 if there is none. Returns `None` if it is not whole, or fails to open for another reason.
 fn epoch_of(alloc: Global, device: &mut ModelDevice) -> Option<u64>
     ensures { size_of device.new ≡ size_of device.old }
 {
@@ -198,7 +198,7 @@ fn epoch_of(alloc: Global, device: &mut ModelDevice) -> Option<u64>
     }
 }
 
-// Opens the store that n acknowledged calls left, or one call more: its epoch.
+// Opens the store after n acknowledged calls, and returns its epoch if it is n or n + 1.
 fn epoch_left(alloc: Global, device: &mut ModelDevice, acknowledged: u64) -> Option<u64>
     ensures { size_of device.new ≡ size_of device.old }
 {
@@ -207,7 +207,7 @@ fn epoch_left(alloc: Global, device: &mut ModelDevice, acknowledged: u64) -> Opt
     if well { Some(epoch) } else { None }
 }
 
-// Publishes one more segment to a store of this epoch, and opens that.
+// Publishes another segment to a store of this epoch, and opens the store again.
 fn publishes_next(
     alloc: Global,
     device: &mut ModelDevice,
@@ -221,7 +221,7 @@ fn publishes_next(
     replace(alloc, device, store, byte) && epoch_left(alloc, device, next) == Some(next)
 }
 
-// Publishes one more segment to the store of this epoch, where there is one. Where there is none, one can be made.
+// Publishes another segment to the store of this epoch. If there is no store, formats one.
 fn publishes_more(alloc: Global, device: &mut ModelDevice, epoch: u64) -> bool {
     match recover::<Few, ModelDevice>(alloc, device) {
         Ok(mut store) => publishes_next(alloc, device, &mut store, epoch),
@@ -229,7 +229,7 @@ fn publishes_more(alloc: Global, device: &mut ModelDevice, epoch: u64) -> bool {
     }
 }
 
-// Opens what is left, and goes on.
+// Opens what is left and continues with it.
 fn goes_on_from(alloc: Global, left: &mut ModelDevice, acknowledged: u64) -> bool {
     match epoch_left(alloc, left, acknowledged) {
         Some(epoch) => publishes_more(alloc, left, epoch),
@@ -237,7 +237,7 @@ fn goes_on_from(alloc: Global, left: &mut ModelDevice, acknowledged: u64) -> boo
     }
 }
 
-// Goes on from what a choice leaves. It does not where memory is refused.
+// Continues with what a crash leaves. Returns `false` if memory is refused.
 fn goes_on(alloc: Global, device: &ModelDevice, choice: CrashChoice, acknowledged: u64) -> bool {
     match device.crash(choice) {
         Ok(mut left) => goes_on_from(alloc, &mut left, acknowledged),
@@ -245,7 +245,7 @@ fn goes_on(alloc: Global, device: &ModelDevice, choice: CrashChoice, acknowledge
     }
 }
 
-// Each choice, and each pattern of the three sectors that are not yet synced at the most.
+// Tries each choice, and each pattern of the at most three sectors that are not synced.
 fn all_go_on(alloc: Global, device: &ModelDevice, acknowledged: u64) -> bool {
     let mut well = goes_on(alloc, device, CrashChoice::Old, acknowledged)
         && goes_on(alloc, device, CrashChoice::New, acknowledged);
@@ -257,7 +257,7 @@ fn all_go_on(alloc: Global, device: &ModelDevice, acknowledged: u64) -> bool {
     well
 }
 
-// Which call of the script fails.
+// The call of the script that fails.
 #[derive(Clone, Copy)]
 enum Fault {
     Fail(u64),
@@ -275,7 +275,7 @@ fn set_fault(device: &mut ModelDevice, fault: Fault)
     }
 }
 
-// How many calls of the script are acknowledged. Each makes six writes and syncs, and formatting reads twice.
+// Returns how many calls of the script are acknowledged. Each one makes six writes and syncs, and formatting reads twice.
 fn acknowledged_with(fault: Fault) -> u64 {
     match fault {
         Fault::FailRead(k) => if k <= 2 { 0 } else { 4 },
@@ -283,7 +283,7 @@ fn acknowledged_with(fault: Fault) -> u64 {
     }
 }
 
-// Whether a crash that leaves the old content leaves a store of this epoch.
+// Returns whether a crash that keeps the synced content leaves a store of this epoch.
 fn is_safe(alloc: Global, device: &ModelDevice, epoch: u64) -> bool {
     match device.crash(CrashChoice::Old) {
         Ok(mut left) => epoch_left(alloc, &mut left, epoch) == Some(epoch),
@@ -291,7 +291,7 @@ fn is_safe(alloc: Global, device: &ModelDevice, epoch: u64) -> bool {
     }
 }
 
-// What an opening shows after a failed call stays.
+// Returns whether the store that opening shows after a failed call survives a crash.
 fn stays(alloc: Global, device: &mut ModelDevice, acknowledged: u64) -> bool {
     match epoch_left(alloc, device, acknowledged) {
         Some(shown) => is_safe(alloc, device, shown),
@@ -299,8 +299,7 @@ fn stays(alloc: Global, device: &mut ModelDevice, acknowledged: u64) -> bool {
     }
 }
 
-// Runs the script with this fault. After a stop, and after a failed call, what a crash leaves goes on. After a write or a sync that failed the device itself is
-// opened too.
+// Runs the script with this fault, and then continues with what a crash leaves. After a failed write or sync, the device itself is opened, too.
 fn survives_on(alloc: Global, device: &mut ModelDevice, fault: Fault) -> bool {
     set_fault(device, fault);
     let acknowledged = run_script(alloc, device);
@@ -316,7 +315,7 @@ fn survives(alloc: Global, fault: Fault) -> bool {
     }
 }
 
-// The first call after whose failure something is wrong. The last one syncs the third segment. Reads past the second do not fail.
+// Returns the first call whose failure has a wrong result. The last one syncs the third segment. Reads after the second do not fail.
 fn wrong_call(alloc: Global) -> Option<u64> {
     for k in 1..=24 {
         let well = survives(alloc, Fault::Fail(k))
@@ -334,7 +333,7 @@ fn each_call_fails_or_stops(rt: HostRuntime) {
     assert!(&rt; wrong_call(rt.alloc()).is_none());
 }
 
-// Opens a device, at the second try where memory is refused once: its epoch, 0 where no store is opened.
+// Opens a store, again if memory is refused once, and returns its epoch, or 0 if none is opened.
 fn epoch_at_second_try(alloc: Global, device: &mut ModelDevice) -> u64 {
     for _ in 0..2 {
         if let Ok(store) = recover::<Few, ModelDevice>(alloc, device) {
@@ -351,7 +350,7 @@ fn is_opened(alloc: Global, device: &mut ModelDevice) -> bool {
     well && device.failures() <= 1
 }
 
-// Nothing can be said where there is no memory for the device itself.
+// Passes if there is no memory for the device itself.
 fn is_made_and_opened(alloc: Global) -> bool {
     match ModelDevice::new(alloc, 16) {
         Ok(mut device) => is_opened(alloc, &mut device),
@@ -359,7 +358,7 @@ fn is_made_and_opened(alloc: Global) -> bool {
     }
 }
 
-// One allocation at the most is refused, by tests/refused_memory_in_crates: that of the device itself, or another.
+// tests/refused_memory_in_crates refuses at most one allocation: that of the device itself, or another.
 #[test]
 fn a_store_is_made_and_opened_also_without_memory(rt: HostRuntime) {
     assert!(&rt; is_made_and_opened(rt.alloc()));

@@ -1,4 +1,4 @@
-// A store of which a sector can't be read after a stop. What is reported of changed bytes is tested on files (tests/stores).
+// Stores with a sector that can't be read after a crash. Reports of changed bytes are tested on files (tests/stores).
 use crate::calls::{read_sector, write_sector};
 use crate::commits::run_script;
 use crate::few::Few;
@@ -14,7 +14,8 @@ fn change(device: &mut ModelDevice, n: u64) -> Result<(), DevError> {
     write_sector(device, n, &sector)
 }
 
-// Whether the store that a stop left is opened, or has this error. A store whose text was being written then is damaged only where its commit names that text.
+// Returns whether the store that a crash left is opened, or has this error. If its text was being written, the store is damaged only if its commit
+// names this text.
 fn is_told_after_stop(alloc: Global, device: &ModelDevice, want: Option<OpenError>) -> bool {
     match device.crash(CrashChoice::Lost(1)) {
         Ok(mut left) => recover::<Few, ModelDevice>(alloc, &mut left).err() == want,
@@ -28,7 +29,7 @@ fn is_told_on(alloc: Global, device: &mut ModelDevice, n: u64, want: Option<Open
         && is_told_after_stop(alloc, device, want)
 }
 
-// Whether a store of which this sector can't be read is opened, or has this error.
+// Returns whether a store in which this sector can't be read is opened, or has this error.
 fn is_told(alloc: Global, n: u64, want: Option<OpenError>) -> bool {
     match ModelDevice::new(alloc, 16) {
         Ok(mut device) => is_told_on(alloc, &mut device, n, want),
@@ -36,7 +37,7 @@ fn is_told(alloc: Global, n: u64, want: Option<OpenError>) -> bool {
     }
 }
 
-// The commit of epoch 4 stands in sector 0, that of epoch 3 in sector 1, and its text in sector 5.
+// The commit of epoch 4 is in sector 0, that of epoch 3 in sector 1, and the text of epoch 4 in sector 5.
 const UNREAD: &[(u64, Option<OpenError>)] = &[
     (0, None),
     (1, None),

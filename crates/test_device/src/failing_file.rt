@@ -1,17 +1,17 @@
-// A device over a file of which one call fails.
+// A device in a file of which one call fails.
 use crate::calls::{fill_sector, filling};
 use crate::faulty_file::{Fault, FaultyFile};
 use sector_dev::{DevError, FileDevice, FileError, SectorDevice};
 use std::alloc::Global;
 
-// How many sectors the file has.
+// The number of sectors in the file.
 const SMALL: usize = 16;
 
 const BYTES: usize = SMALL * 512;
 
 type Device = FileDevice<FaultyFile<BYTES>>;
 
-// Writes this sector, and each fourth time syncs: how many calls failed, and what the sector is to hold.
+// Writes this sector, and syncs every fourth time. Returns how many calls failed, and what the sector must hold.
 fn write_and_sync(device: &mut Device, i: usize, n: u64, had: u8) -> (u64, u8) {
     let byte = (i % 100) as u8 + 1;
     let written = fill_sector(device, n, byte).is_ok();
@@ -20,7 +20,7 @@ fn write_and_sync(device: &mut Device, i: usize, n: u64, had: u8) -> (u64, u8) {
     (failures, if written { byte } else { had })
 }
 
-// Whether a sector is read as this byte, or its read fails.
+// Returns whether a sector is read as this byte, or its read fails.
 fn is_read_or_fails(device: &mut Device, n: u64, byte: u8) -> bool {
     match filling(device, n) {
         Some(Ok(found)) => found == byte,
@@ -29,7 +29,7 @@ fn is_read_or_fails(device: &mut Device, n: u64, byte: u8) -> bool {
     }
 }
 
-// Writes this sector: what it is to hold; `None`: a failed call is not counted, or it holds something else.
+// Writes this sector and returns what it must hold, or `None` if a failed call is not counted or the sector holds something else.
 fn written(device: &mut Device, i: usize, n: u64, had: u8) -> Option<u8> {
     let before = device.failures();
     let (failures, byte) = write_and_sync(device, i, n, had);
@@ -41,10 +41,10 @@ fn written(device: &mut Device, i: usize, n: u64, had: u8) -> Option<u8> {
     }
 }
 
-// The sectors that are written, one after another.
+// The sectors that are written, in order.
 const WRITES: [usize; 13] = [3, 4, 5, 4, 9, 10, 3, 11, 12, 0, 15, 14, 13];
 
-// Makes the writes, with some syncs, of which one call of the file fails: what each sector is to hold.
+// Makes the writes and some syncs, of which one call of the file fails. Returns what each sector must hold.
 fn run_flaky(device: &mut Device) -> Option<[u8; SMALL]> {
     let mut want = [0u8; SMALL];
     for (i, n) in WRITES.iter().enumerate() {
@@ -53,7 +53,7 @@ fn run_flaky(device: &mut Device) -> Option<[u8; SMALL]> {
     Some(want)
 }
 
-// Whether each sector holds what it is to.
+// Returns whether each sector has the wanted content.
 fn holds(device: &mut Device, want: &[u8; SMALL]) -> bool {
     let mut well = true;
     for (n, byte) in want.iter().enumerate() {
@@ -62,7 +62,7 @@ fn holds(device: &mut Device, want: &[u8; SMALL]) -> bool {
     well
 }
 
-// Whether what was written is read, though one call of the file fails at the most.
+// Returns whether what was written is read, although up to one call of the file fails.
 fn loses_nothing(device: &mut Device) -> bool {
     let Some(want) = run_flaky(device) else {
         return false;
@@ -71,7 +71,7 @@ fn loses_nothing(device: &mut Device) -> bool {
     synced && device.failures() <= 1 && holds(device, &want)
 }
 
-// The call of this number fails, counted from the opening, which makes one.
+// Tests a failure of the call with this number, counted from the opening, which makes one.
 fn survives(alloc: Global, fails_at: u64) -> bool {
     match FileDevice::from_file(alloc, FaultyFile::<BYTES>::new(Fault::Call(fails_at))) {
         Ok(mut device) => loses_nothing(&mut device),
@@ -79,7 +79,7 @@ fn survives(alloc: Global, fails_at: u64) -> bool {
     }
 }
 
-// The first call after whose failure something is lost.
+// Returns the first call whose failure loses something.
 fn wrong_call(alloc: Global) -> Option<u64> {
     for fails_at in 0..41 {
         if !survives(alloc, fails_at) {
@@ -89,13 +89,13 @@ fn wrong_call(alloc: Global) -> Option<u64> {
     None
 }
 
-// Each call of the file fails in turn: no write that answered Ok is lost, and each failed call is counted.
+// Each call of the file fails in turn: no acknowledged write is lost, and each failed call is counted.
 #[test]
 fn a_delayed_write_that_fails_is_not_lost(rt: HostRuntime) {
     assert!(&rt; wrong_call(rt.alloc()).is_none());
 }
 
-// Whether the sync fails and is counted, and what was written is still read.
+// Returns whether the sync fails and is counted, and what was written can still be read.
 fn is_refused(device: &mut Device) -> bool {
     fill_sector(device, 3, 7).is_ok()
         && device.sync() == Err(DevError::Failed)
@@ -110,7 +110,7 @@ fn is_sync_refused(alloc: Global) -> bool {
     }
 }
 
-// So a sync is never left to the system's leisure.
+// A sync must reach the system: if the system refuses it, it fails.
 #[test]
 fn a_sync_that_the_system_refuses_fails(rt: HostRuntime) {
     assert!(&rt; is_sync_refused(rt.alloc()));

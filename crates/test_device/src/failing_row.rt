@@ -1,4 +1,4 @@
-// A device over a file that writes a front of a long row, and then fails once.
+// A device in a file that writes the start of a long row, and then fails once.
 use crate::calls::{filling, write_row};
 use crate::faulty_file::{Fault, FaultyFile};
 use sector_dev::{DevError, FileDevice, SectorDevice};
@@ -17,7 +17,7 @@ fn write_long_row(device: &mut Device) -> Result<(), DevError> {
     write_row(device, 150, &[[9; 512]; 200])
 }
 
-// Whether a sector gives its old content or the new one, and the same again after others were read.
+// Returns whether a sector has its old or its new content, and the same one after other reads.
 fn is_either(device: &mut Device, n: u64) -> bool {
     let first = filling(device, n);
     (first == Some(Ok(0)) || first == Some(Ok(9)))
@@ -34,7 +34,7 @@ fn are_either(device: &mut Device) -> bool {
     well
 }
 
-// Some sectors are written, and some that the row is to go over were read ahead. Then the row fails: what was written is not lost, and what is read does not
+// Some sectors are written, and some that the row overwrites were read ahead. Then the row fails: what was written is not lost, and reads do not
 // change.
 fn is_cut_short(device: &mut Device, is_synced: bool) -> bool {
     write_row(device, 5, &[[3; 512]; 20]).is_ok()
@@ -47,7 +47,7 @@ fn is_cut_short(device: &mut Device, is_synced: bool) -> bool {
         && are_either(device)
 }
 
-// The same row again is written, over what was read ahead meanwhile.
+// The same row is written again, over sectors that were read ahead.
 fn is_written_again(device: &mut Device) -> bool {
     is_filled(device, 148, 0)
         && write_long_row(device).is_ok()
@@ -71,7 +71,7 @@ fn both_survive(alloc: Global) -> bool {
     survives(alloc, false) && survives(alloc, true)
 }
 
-// A long row goes to the file from where it stands: a write that fails there loses nothing that was acknowledged, and leaves nothing that was read ahead.
+// A long row is written to the file without a copy: if this fails, no acknowledged write is lost, and no outdated sector that was read ahead is left.
 #[test]
 fn a_long_row_that_fails_is_read_the_same_each_time(rt: HostRuntime) {
     assert!(&rt; both_survive(rt.alloc()));

@@ -1,25 +1,25 @@
-// A file in memory that fails as it is asked to. One for all tests: each kind of file costs the proof as much as ten functions.
+// A file in memory with scheduled failures. All tests use it, because each type of file costs as much proof time as ten functions.
 use std::cell::Cell;
 use std::fs::{Metadata, OpenFile};
 use std::io::{self, Cursor, ErrorKind, Read, Seek, SeekFrom, Write};
 
-// More bytes than are buffered, but for those of a long row.
+// A write of more bytes than this is that of a long row, which is not buffered.
 const LONG: usize = 64 * 1024;
 
 #[derive(Clone, Copy)]
 pub(crate) enum Fault {
     Nothing,
-    // the call of this number, from 1 on
+    // the call with this number, counted from 1
     Call(u64),
     // each sync of the data
     Syncs,
-    // of the next long write a front is written, and the write after it fails
+    // the next long write writes only a part, and the write after it fails
     LongWrite,
     // the next write
     Write,
 }
 
-// A file of n bytes.
+// A file of `BYTES` bytes.
 #[derive(Drop)]
 pub(crate) struct FaultyFile<const BYTES: usize> {
     bytes: Cursor<[u8; BYTES]>,

@@ -1,4 +1,4 @@
-// A catalogue of the tests: it names two runs at the most. The type stands outside of them, since a definition speaks of it.
+// A catalogue for the tests that names at most two runs. The type is not in a test module, because a definition uses it.
 ghost use Rattle.std.specs.Prelude.{◌≡◌, ◌+◌, ◌<◌, List, length};
 ghost use Rattle.segments.specs.declared.run.Run.{Run};
 ghost use Rattle.test_device.specs.Few.{run_at, runs_of, reading_of};
@@ -8,7 +8,7 @@ use sector_dev::SectorDevice;
 use segments::Run;
 use std::alloc::{AllocError, Global};
 
-/// The runs that it names. In its text each is two bytes, its start and its count, after four others.
+/// The runs that it names. Its text has two bytes for each, the start and the count, after four other bytes.
 #[derive(Clone, Copy, Drop)]
 pub enum Few {
     Nothing,
@@ -16,7 +16,7 @@ pub enum Few {
     Two(Run, Run),
 }
 
-// The run whose two bytes stand here.
+// Returns the run of the two bytes at this place.
 fn run_at(text: &[u8], at: usize) -> Run
     requires { at + 1 < length text.now }
     ensures { result ≡ run_at at text.now }

@@ -1,10 +1,10 @@
-// A device that is a file of the system. Its sizes are tested by the commands of a store (tests/stores).
+// A device in a file of the system. Its size limits are tested by the commands of a store (tests/stores).
 use crate::calls::{are_same, filling, read_sector, write_row, write_sector};
 use sector_dev::{FileDevice, FileError, SectorDevice};
 use std::env;
 use std::fs::{self, File};
 
-// A path of this test's own, at which there is nothing. `None`: there was no memory for it.
+// Returns an unused path for this test, or `None` if memory was refused.
 fn path_of(rt: &HostRuntime, name: &str) -> Option<String> {
     let dir = env::temp_dir(rt).ok()?;
     let id = std::process::id(rt.process());
@@ -14,7 +14,7 @@ fn path_of(rt: &HostRuntime, name: &str) -> Option<String> {
     Some(path)
 }
 
-// The content of a sector: its number and how often it was written.
+// Returns the content of a sector: its number, and how often it was written.
 fn content(n: u64, times: u8) -> [u8; 512] {
     let mut content = [times; 512];
     content[0] = (n % 251) as u8;
@@ -31,7 +31,7 @@ fn is_read<D: SectorDevice>(device: &mut D, n: u64, times: u8) -> bool {
     read_sector(device, n, &mut sector).is_ok() && are_same(&sector, &content(n, times))
 }
 
-// Writes 20 sectors from one on.
+// Writes 20 sectors from `start` on.
 fn is_row_written<D: SectorDevice>(device: &mut D, start: u64, times: u8) -> bool {
     let mut row = [[0; 512]; 20];
     for (i, sector) in row.iter_mut().enumerate() {
@@ -40,7 +40,7 @@ fn is_row_written<D: SectorDevice>(device: &mut D, start: u64, times: u8) -> boo
     write_row(device, start, &row).is_ok()
 }
 
-// Writes the 200 sectors from 2000 on, which are more than are buffered.
+// Writes the 200 sectors from 2000 on, which are too many to be buffered.
 fn is_long_row_written<D: SectorDevice>(device: &mut D) -> bool {
     let mut row = [[0; 512]; 200];
     for (i, sector) in row.iter_mut().enumerate() {
@@ -49,7 +49,7 @@ fn is_long_row_written<D: SectorDevice>(device: &mut D) -> bool {
     write_row(device, 2000, &row).is_ok()
 }
 
-// The number of the last write of a sector by `is_used`.
+// Returns the number of the last write of a sector by `is_used`.
 fn times_of(n: u64) -> u8 {
     match n {
         1000 | 1001 | 4990 | 4999 => 2,
@@ -61,7 +61,7 @@ fn times_of(n: u64) -> u8 {
     }
 }
 
-// Writes 5,000 sectors, which are more than are kept in memory.
+// Writes 5,000 sectors, more than are kept in memory.
 fn are_written<D: SectorDevice>(device: &mut D) -> bool {
     let mut well = true;
     for n in 0..5000 {
@@ -70,7 +70,7 @@ fn are_written<D: SectorDevice>(device: &mut D) -> bool {
     well
 }
 
-// Writes them again and reads them: not yet in the file, and in the file.
+// Writes sectors again and reads them, before and after they are in the file.
 fn are_written_again<D: SectorDevice>(device: &mut D) -> bool {
     let mut well = true;
     for n in [4990, 4999, 1000, 1001] {
@@ -79,7 +79,7 @@ fn are_written_again<D: SectorDevice>(device: &mut D) -> bool {
     well
 }
 
-// What was read ahead is not what is written since.
+// Sectors that were read ahead are outdated after a write.
 fn are_read_ahead<D: SectorDevice>(device: &mut D) -> bool {
     let mut well = true;
     for n in 100..110 {
@@ -88,7 +88,7 @@ fn are_read_ahead<D: SectorDevice>(device: &mut D) -> bool {
     well && is_written(device, 112, 3) && is_written(device, 200, 3)
 }
 
-// Each sector is read, from this one on in steps of n.
+// Reads each sector, in steps of `step`.
 fn are_read<D: SectorDevice>(device: &mut D, step: u64) -> bool {
     let mut well = true;
     for i in 0..5000u64 {
@@ -98,7 +98,7 @@ fn are_read<D: SectorDevice>(device: &mut D, step: u64) -> bool {
     well
 }
 
-// A long row with nothing buffered, over what was read ahead.
+// A long row with nothing buffered, over sectors that were read ahead.
 fn is_read_anew<D: SectorDevice>(device: &mut D) -> bool {
     device.sync().is_ok()
         && is_read(device, 2000, 1)
@@ -106,7 +106,7 @@ fn is_read_anew<D: SectorDevice>(device: &mut D) -> bool {
         && is_read(device, 2002, 5)
 }
 
-// A row that is not yet in the file, a long one over some of it, and one over some of that.
+// A row that is not yet in the file, a long one over part of it, and one over part of that.
 fn are_rows_written<D: SectorDevice>(device: &mut D) -> bool {
     is_row_written(device, 2180, 4)
         && is_row_written(device, 2200, 4)
@@ -115,7 +115,7 @@ fn are_rows_written<D: SectorDevice>(device: &mut D) -> bool {
         && is_row_written(device, 2100, 6)
 }
 
-// Longer runs than are kept in memory, and reads among writes.
+// Longer runs than are kept in memory, and reads between writes.
 fn is_used<D: SectorDevice>(device: &mut D) -> bool {
     are_written(device)
         && are_written_again(device)
@@ -128,7 +128,7 @@ fn is_used<D: SectorDevice>(device: &mut D) -> bool {
         && is_read(device, 112, 3)
 }
 
-// Makes a device. Where memory is refused once, nothing is left, and it is made at the second try.
+// Creates a device, at the second try if memory is refused once; nothing must be left of the first try.
 fn create_twice(rt: &HostRuntime, path: &str) -> Option<FileDevice<File>> {
     match FileDevice::create(rt, path, 6000) {
         Ok(device) => Some(device),
@@ -139,7 +139,7 @@ fn create_twice(rt: &HostRuntime, path: &str) -> Option<FileDevice<File>> {
     }
 }
 
-// Opens a device, at the second try where memory is refused once.
+// Opens a device, at the second try if memory is refused once.
 fn open_twice(rt: &HostRuntime, path: &str) -> Option<FileDevice<File>> {
     match FileDevice::open(rt, path) {
         Ok(device) => Some(device),
@@ -148,7 +148,7 @@ fn open_twice(rt: &HostRuntime, path: &str) -> Option<FileDevice<File>> {
     }
 }
 
-// Makes a device and uses it, opens it again, and reads its sectors in an order of its own.
+// Creates a device, uses it, opens it again, and reads its sectors in another order.
 fn is_made_and_used(rt: &HostRuntime, path: &str) -> bool {
     let used = match create_twice(rt, path) {
         Some(mut device) => is_used(&mut device),
@@ -167,8 +167,8 @@ fn is_removed(rt: &HostRuntime, path: &str) -> bool {
     fs::remove_file(rt, path).is_ok() || fs::remove_file(rt, path).is_ok()
 }
 
-// One allocation at the most is refused, by tests/refused_memory_in_crates: `create` and `open` may refuse for want of it,
-// and then no file is left by `create`; no call of a device does.
+// tests/refused_memory_in_crates refuses at most one allocation: `create` and `open` may fail because of it, and then `create` leaves no file; no
+// call of a device fails.
 #[test]
 fn a_file_is_made_and_used_also_without_memory(rt: HostRuntime) {
     let well = match path_of(&rt, "memory") {

@@ -2,10 +2,10 @@
 use segments::{EnterError, FreeMap, Run, SearchCursor, TakeError, Usage};
 use std::alloc::Global;
 
-// A call of a free map, and its answer. A run is its start and its count.
+// A call of a free map and its result. A run is given by its start and its count.
 #[derive(Clone, Copy)]
 enum Step {
-    // a device of 16 sectors as it is formatted: the catalogue stands in sector 2
+    // a device of 16 sectors after formatting: the catalogue is in sector 2
     Format,
     Find(u64, Option<(u64, u64)>),
     // `None`: there is no room
@@ -32,7 +32,7 @@ fn run_of(run: Option<(u64, u64)>) -> Option<Run> {
     Some(Run { start, count })
 }
 
-// Makes the call: whether it answers as it is to.
+// Makes the call, and returns whether its result is right.
 fn answers(alloc: Global, map: &mut FreeMap, step: Step) -> bool {
     match step {
         Format => is_formatted(alloc, map),
@@ -124,7 +124,7 @@ const SNAPSHOT_KEEPS_ITS_SEGMENT: [Step; 11] = [
     Take(1, Some((12, 1))),
 ];
 
-// Runs that are entered are tested.
+// Runs are tested when they are entered.
 const ENTERED_RUNS_ARE_TESTED: [Step; 25] = [
     Occupy(1, 1, Some(Range)),
     Occupy(3, 0, Some(Range)),
@@ -153,7 +153,7 @@ const ENTERED_RUNS_ARE_TESTED: [Step; 25] = [
     Find(1, None),
 ];
 
-// Runs are taken before others, and each call is made where some entries stand before the last that came in and some after it.
+// Runs are taken before others, and each call is made with entries on both sides of the last one that was entered.
 const RUNS_ARE_TAKEN_IN_FRONT_OF_OTHERS: [Step; 39] = [
     Occupy(10, 1, None),
     Occupy(12, 1, None),
@@ -197,7 +197,7 @@ const RUNS_ARE_TAKEN_IN_FRONT_OF_OTHERS: [Step; 39] = [
     Find(1, None),
 ];
 
-// Plays some steps on a formatted device.
+// Executes steps on a formatted device.
 fn are_steps_answered(alloc: Global, steps: &[Step]) -> bool {
     let mut map = FreeMap::new(alloc, 16);
     let mut well = answers(alloc, &mut map, Format);
@@ -224,7 +224,7 @@ fn are_answered(alloc: Global) -> bool {
     well
 }
 
-// tests/refused_memory_in_crates refuses one allocation at the most: then one of two runs ends for want of memory.
+// tests/refused_memory_in_crates refuses at most one allocation, so at least one of two runs does not lack memory.
 fn are_once_answered(alloc: Global) -> bool {
     are_answered(alloc) || are_answered(alloc)
 }
@@ -234,7 +234,7 @@ fn worked_rows_are_answered_also_without_memory(rt: HostRuntime) {
     assert!(rt; are_once_answered(rt.alloc()));
 }
 
-// A free run is looked for after the last one, unless it may fit into a gap that was passed. Free are the sectors 3 to 4, 6 to 8 and 11 to 15.
+// A free run is searched for after the last one, unless it may fit into an earlier gap. The sectors 3 to 4, 6 to 8 and 11 to 15 are free.
 fn takes_onward(map: &mut FreeMap) -> bool {
     let mut searched = SearchCursor::nothing();
     let behind_two = map.take_onward(3, &mut searched) == Ok(Run { start: 6, count: 3 });
@@ -269,8 +269,8 @@ fn runs_are_taken_onward(rt: HostRuntime) {
     assert!(&rt; are_taken_onward(rt.alloc()));
 }
 
-// Each find goes over the runs once: if it went over them for each of them, this would take hours.
-// Whether each second sector can be occupied, and runs are found then.
+// Returns whether every second sector can be occupied, and runs are then found. Each find must pass the runs only once: in quadratic time, this would
+// take hours.
 fn finds_among_65536(map: &mut FreeMap) -> bool {
     let mut well = true;
     for i in 0..65_536 {
@@ -284,7 +284,7 @@ fn finds_among_65536(map: &mut FreeMap) -> bool {
     well
 }
 
-// Nor is each other run moved whenever one is taken. Whether a run is taken before each of those but the first.
+// Returns whether a run can be taken before each of those but the first. The other runs must not be moved each time.
 fn takes_among_65536(map: &mut FreeMap) -> bool {
     let mut searched = SearchCursor::nothing();
     let mut well = true;

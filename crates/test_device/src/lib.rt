@@ -1,6 +1,6 @@
-//! Tests of the public calls of `sector_dev`, `segments` and `commit`: what no clause says, and no file shows.
+//! Tests of the public calls of `sector_dev`, `segments` and `commit`: what no clause says and no file shows.
 //!
-//! A test is a table of rows and one function that plays them.
+//! A test is a table of rows and one function that executes them.
 #![tactic(auto)]
 
 #[cfg(test)]

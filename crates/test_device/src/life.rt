@@ -1,6 +1,6 @@
-// What became of a device of the tests. The type stands outside of them, since a definition speaks of it.
+// The life of a device for the tests. The type is not in a test module, because a definition uses it.
 
-/// The one write and the one read that a device has room for.
+/// The single write and the single read that the device allows.
 #[derive(Clone, Copy)]
 pub enum Life {
     Fresh,

@@ -1,11 +1,11 @@
-// A device in memory: what is done to it, and what its sectors read as then. Which images a crash may leave, and which calls fail, is proved.
+// A device in memory: calls, and what its sectors then read as. Which images a crash may leave, and which calls fail, is proved.
 use crate::calls::{fill_sector, filling, write_row};
 use CrashChoice::{Lost, New, Old};
 use Step::{Crash, Fail, FailRead, FailRow, Fill, Flush, Leaves, Shows, Stop};
 use sector_dev::{CrashChoice, DevError, ModelDevice, SectorDevice};
 use std::alloc::Global;
 
-// What each sector reads as; `None`: it is unreadable.
+// What each sector reads as; `None` if it is unreadable.
 type Sectors = [Option<u8>; 8];
 
 #[derive(Clone, Copy)]
@@ -19,7 +19,7 @@ enum Step {
     Fail(u64, u8),
     // the second write of a row of three, from this sector on, fails
     FailRow(u64),
-    // no call begins any more
+    // every call fails from now on
     Stop,
     Shows(&'static Sectors),
     // a crash would leave this
@@ -70,7 +70,7 @@ const CUT_SHORT: Sectors = [
     Some(0),
 ];
 
-// Whether each sector of a device reads as this, and no read is counted as a failure.
+// Returns whether each sector reads as this, and no read is counted as a failure.
 fn shows(device: &mut ModelDevice, want: &Sectors) -> bool {
     let failures = device.failures();
     let mut same = true;
@@ -80,7 +80,7 @@ fn shows(device: &mut ModelDevice, want: &Sectors) -> bool {
     same && device.failures() == failures
 }
 
-// Whether each kind of call fails.
+// Returns whether each kind of call fails.
 fn is_stopped(device: &mut ModelDevice) -> bool {
     device.stop_at(1);
     let failed = Err(DevError::Failed);
@@ -89,7 +89,7 @@ fn is_stopped(device: &mut ModelDevice) -> bool {
         && filling(device, 3) == Some(Err(DevError::Failed))
 }
 
-// Makes a device that which a crash leaves, where there is memory for it.
+// Replaces a device by what a crash leaves, if there is memory for it.
 fn is_crashed(device: &mut ModelDevice, choice: CrashChoice) -> bool {
     match device.crash(choice) {
         Ok(left) => {
@@ -100,7 +100,7 @@ fn is_crashed(device: &mut ModelDevice, choice: CrashChoice) -> bool {
     }
 }
 
-// Whether a crash would leave this.
+// Returns whether a crash would leave this.
 fn leaves(device: &ModelDevice, choice: CrashChoice, want: &Sectors) -> bool {
     match device.crash(choice) {
         Ok(mut left) => shows(&mut left, want),
@@ -108,7 +108,7 @@ fn leaves(device: &ModelDevice, choice: CrashChoice, want: &Sectors) -> bool {
     }
 }
 
-// Takes a step: whether it goes as it is to.
+// Takes a step, and returns whether its result is right.
 fn goes_well(device: &mut ModelDevice, step: Step) -> bool {
     let well = match step {
         Fill(n, byte) => fill_sector(device, n, byte).is_ok(),
@@ -136,10 +136,10 @@ fn goes_well(device: &mut ModelDevice, step: Step) -> bool {
 const STEPS: &[Step] = &[
     Fill(3, 1),
     Fill(6, 2),
-    // sector 6 is the second one that is not yet synced
+    // sector 6 is the second one that is not synced
     Crash(Lost(2)),
     Shows(&LOST),
-    // a sync without a write changes nothing, and a read that is asked to fail fails
+    // a sync without a write changes nothing, and a read that is scheduled to fail fails
     Flush,
     FailRead(6),
     Leaves(New, &LOST),
@@ -150,12 +150,12 @@ const STEPS: &[Step] = &[
     Leaves(New, &WRITTEN),
     Flush,
     Leaves(Lost(u64::MAX), &WRITTEN),
-    // a failed write is shown, and may be left
+    // a failed write is read, and a crash may leave it
     Fail(1, 4),
     Shows(&FAILED),
     Leaves(Old, &WRITTEN),
     Leaves(New, &FAILED),
-    // the write that fails is the last of its row
+    // the write that fails is the last one of its row
     FailRow(2),
     Shows(&CUT_SHORT),
     Leaves(Old, &WRITTEN),
@@ -169,7 +169,7 @@ fn are_taken_on(device: &mut ModelDevice) -> bool {
     for step in STEPS {
         well = well && goes_well(device, *step);
     }
-    // the read, the write and the row that were asked to fail, and three calls after the stop
+    // the read, the write and the row that were scheduled to fail, and three calls after the stop
     well && device.failures() == 6
 }
 
@@ -180,7 +180,7 @@ fn are_taken(alloc: Global) -> bool {
     }
 }
 
-// tests/refused_memory_in_crates refuses one allocation at the most: then one of two runs ends for want of memory.
+// tests/refused_memory_in_crates refuses at most one allocation, so at least one of two runs does not lack memory.
 fn are_once_taken(alloc: Global) -> bool {
     are_taken(alloc) || are_taken(alloc)
 }

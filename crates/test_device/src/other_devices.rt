@@ -1,4 +1,4 @@
-// Other devices that keep the laws: one that tells nothing, two that tell all, and one that tells what another one does.
+// Other devices that satisfy the laws: one without a story, two with all of it, and one with the story of another device.
 ghost use Rattle.std.specs.Prelude.{◌≡◌, ◌+◌, ◌-◌, ◌^◌, min, Err, false, true, [], ◌∷◌};
 ghost use Rattle.std.proofs.Common.{sym};
 ghost use Rattle.std.proofs.lemmas.Bool.{true≢false};
@@ -11,7 +11,7 @@ use crate::life::Life;
 use sector_dev::{DevError, ModelDevice, SectorDevice};
 use std::alloc::Global;
 
-// It tells nothing, and forgets what is written.
+// A device without a story, which loses what is written.
 #[derive(Drop)]
 struct Silent;
 
@@ -51,7 +51,7 @@ impl SectorDevice for Silent {
     }
 }
 
-// No call of it begins, so that its disk stays as it is. It counts them up to the greatest number.
+// A device whose calls all fail before they begin, so that its disk never changes. It counts them up to the greatest number.
 #[derive(Drop)]
 struct Broken {
     failed: u64,
@@ -102,7 +102,7 @@ impl SectorDevice for Broken {
     }
 }
 
-// No other call of it begins. A sector that was not written can't be read.
+// A device that allows only one write and one read. A sector that was not written can't be read.
 #[derive(Drop)]
 struct Brief {
     life: Life,
@@ -170,7 +170,7 @@ impl SectorDevice for Brief {
     }
 }
 
-// It counts the calls of another device.
+// A device that counts the calls of another one.
 #[derive(Drop)]
 struct Counting<D: SectorDevice + Drop> {
     device: D,
@@ -216,7 +216,7 @@ impl<D: SectorDevice + Drop> SectorDevice for Counting<D> {
     }
 }
 
-// Whether a sector is written and synced with this answer, and read with that one.
+// Returns whether a sector is written and synced with the first result, and read with the second.
 fn answers<D: SectorDevice>(
     device: &mut D,
     written: Result<(), DevError>,
@@ -229,7 +229,7 @@ fn answers<D: SectorDevice>(
 
 const FAILED: Result<(), DevError> = Err(DevError::Failed);
 
-// Whether a fresh device that can be written once and read once answers as it is to.
+// Returns whether a fresh device that allows one write and one read gives the right results.
 fn is_brief() -> bool {
     let mut brief = Brief {
         life: Life::Fresh,
@@ -241,7 +241,7 @@ fn is_brief() -> bool {
         && brief.failures() == 3
 }
 
-// Whether a device near the greatest count stays there.
+// Returns whether the count of a device near the greatest number stays at it.
 fn is_broken() -> bool {
     let mut broken = Broken {
         failed: u64::MAX - 1,
@@ -253,7 +253,7 @@ fn is_silent() -> bool {
     answers(&mut Silent, Ok(()), Err(DevError::Unreadable))
 }
 
-// Whether each call is counted and made, also those of a row.
+// Returns whether each call is counted and made, even those of a row.
 fn is_counted(counting: &mut Counting<ModelDevice>) -> bool {
     answers(counting, Ok(()), Ok(()))
         && counting.calls == 3

@@ -1,4 +1,4 @@
-// Runs of a device in memory.
+// Runs on a device in memory.
 use crate::calls::are_same;
 use sector_dev::{ModelDevice, SectorDevice};
 use segments::{Piece, PiecePart, Run, byte_count, read_run, write_run, write_runs};
@@ -6,7 +6,7 @@ use std::alloc::{AllocError, Global};
 
 const BYTES: [u8; 1100] = [7; 1100];
 
-// Whether the bytes stand from this sector on.
+// Returns whether the bytes are read from this sector on.
 fn are_read(alloc: Global, device: &mut ModelDevice, start: u64) -> bool {
     if device.sectors() != 16 || start > 13 {
         return false;
@@ -17,7 +17,7 @@ fn are_read(alloc: Global, device: &mut ModelDevice, start: u64) -> bool {
     }
 }
 
-// The bytes in parts, of which none ends where a sector does.
+// Returns the bytes in parts, none of which ends at the end of a sector.
 fn parts_of<'a>(alloc: Global, bytes: &'a [u8]) -> Result<Vec<PiecePart<'a>>, AllocError> {
     let (front, back) = bytes.split_at_checked(700).unwrap_or((bytes, &[]));
     let mut parts = Vec::new(alloc);
@@ -56,7 +56,7 @@ fn is_run_read_back(alloc: Global) -> bool {
     }
 }
 
-// tests/refused_memory_in_crates refuses one allocation at the most: then one of two runs ends for want of memory.
+// tests/refused_memory_in_crates refuses at most one allocation, so at least one of two runs does not lack memory.
 fn is_one_read_back(alloc: Global) -> bool {
     is_run_read_back(alloc) || is_run_read_back(alloc)
 }

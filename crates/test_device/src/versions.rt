@@ -1,4 +1,4 @@
-// The commit sectors of the two versions (commit). The bytes were written by hand after docs/formats/store.md.
+// The commit sectors of the two versions (commit). The bytes were written by hand according to docs/formats/store.md.
 ghost use Rattle.std.specs.Prelude.{◌≡◌};
 ghost use Rattle.sector_dev.specs.View.{size_of};
 
@@ -7,7 +7,7 @@ use commit::{FormatVersion, format, read_ruling};
 use sector_dev::{ModelDevice, SectorDevice};
 use std::alloc::Global;
 
-/// The commit sector of an empty store on 16 sectors up to the zeros behind its fields, in version 1.
+/// The commit sector of an empty store on 16 sectors in version 1, without the zeros after its fields.
 const FIRST: [u8; 56] = [
     0x41, 0x52, 0x57, 0x53, 0x54, 0x4f, 0x52, 0x31, 0x01, 0x00, 0x00, 0x00, 0x00, 0x00, 0x00, 0x00,
     0x02, 0x00, 0x00, 0x00, 0x00, 0x00, 0x00, 0x00, 0x01, 0x00, 0x00, 0x00, 0x00, 0x00, 0x00, 0x00,
@@ -17,10 +17,10 @@ const FIRST: [u8; 56] = [
 
 const VERSIONS: &[(u8, FormatVersion)] = &[(1, FormatVersion::One), (2, FormatVersion::Two)];
 
-/// Bytes of the version that are none: which one is written, and where.
+/// Bytes that make an invalid version: the offset, and the byte that is written there.
 const NO_VERSIONS: &[(usize, u8)] = &[(48, 0), (48, 3), (49, 1), (51, 1)];
 
-// The commit sector that says this number as its version.
+// Returns the commit sector with this number as its version.
 fn sector_of(number: u8) -> [u8; 512] {
     let mut sector = [0; 512];
     sector[..56].copy_from_slice(&FIRST);
@@ -28,7 +28,7 @@ fn sector_of(number: u8) -> [u8; 512] {
     sector
 }
 
-// Which version rules, if one does.
+// Returns the version that rules, if a commit does.
 fn version_on(device: &mut ModelDevice) -> Option<FormatVersion>
     ensures { size_of device.new ≡ size_of device.old }
 {
@@ -41,12 +41,12 @@ fn version_on(device: &mut ModelDevice) -> Option<FormatVersion>
     }
 }
 
-// Whether such a version is read where it stands.
+// Returns whether this version is read from a sector with its number.
 fn is_read(device: &mut ModelDevice, number: u8, version: FormatVersion) -> bool {
     write_sector(device, 1, &sector_of(number)).is_ok() && version_on(device) == Some(version)
 }
 
-// Whether a formatting writes these bytes, and they are read again.
+// Returns whether formatting writes these bytes, and they are read back.
 fn is_written(alloc: Global, number: u8, version: FormatVersion) -> bool {
     let Ok(mut device) = ModelDevice::new(alloc, 16) else {
         return false;
@@ -58,7 +58,7 @@ fn is_written(alloc: Global, number: u8, version: FormatVersion) -> bool {
         && is_read(&mut device, number, version)
 }
 
-// Whether no commit is found where the version has this byte.
+// Returns whether no commit is found if the version has this byte.
 fn is_none(alloc: Global, at: usize, byte: u8) -> bool {
     let Ok(mut device) = ModelDevice::new(alloc, 16) else {
         return false;

@@ -1,4 +1,5 @@
-// The texts of a list, of a root and of a page, with digests and without (catalogue). The bytes were written by hand after docs/formats/store.md.
+// The texts of a list, of a root and of a page, with and without digests (catalogue). The bytes were written by hand according to
+// docs/formats/store.md.
 use arrow_schema::{BitWidth, DataType, Schema};
 use catalogue::{
     Catalogue, DecodeError, RootEntry, Segment, SegmentForm, TableEntry, decode, decode_page,
@@ -6,7 +7,7 @@ use catalogue::{
 };
 use std::alloc::{AllocError, Global};
 
-/// Four tables in pages of 160 bytes each, in the sectors 2, 4, 5 and 6.
+/// Four tables with pages of 160 bytes each, in the sectors 2, 4, 5 and 6.
 const ROOT: [u8; 120] = [
     0x04, 0x00, 0x00, 0x00, 0x01, 0x00, 0x00, 0x00, 0x74, 0x02, 0x00, 0x00, 0x00, 0x00, 0x00, 0x00,
     0x00, 0x01, 0x00, 0x00, 0x00, 0x00, 0x00, 0x00, 0x00, 0xa0, 0x00, 0x00, 0x00, 0x00, 0x00, 0x00,
@@ -22,7 +23,7 @@ const NAMES: &[&str] = &["t", "u", "v", "w"];
 
 const STARTS: &[u64] = &[2, 4, 5, 6];
 
-/// A table of one column, a nullable Int32 of the name `a`, and of one segment: 2 rows in 328 bytes, in sector 3.
+/// A table with one column, a nullable Int32 named `a`, and one segment: 2 rows in 328 bytes, in sector 3.
 const PAGE: [u8; 192] = [
     0x98, 0x00, 0x00, 0x00, 0xff, 0xff, 0xff, 0xff, 0x90, 0x00, 0x00, 0x00, 0x10, 0x00, 0x00, 0x00,
     0x0c, 0x00, 0x18, 0x00, 0x04, 0x00, 0x06, 0x00, 0x08, 0x00, 0x10, 0x00, 0x0c, 0x00, 0x00, 0x00,
@@ -38,17 +39,17 @@ const PAGE: [u8; 192] = [
     0x48, 0x01, 0x00, 0x00, 0x00, 0x00, 0x00, 0x00, 0x02, 0x00, 0x00, 0x00, 0x00, 0x00, 0x00, 0x00,
 ];
 
-/// What a list of the table `t` has before the text of its page: one table, and the name.
+/// The bytes of a list of the table `t` before the text of its page: one table, and the name.
 const ONE_NAMED_T: [u8; 9] = [0x01, 0x00, 0x00, 0x00, 0x01, 0x00, 0x00, 0x00, 0x74];
 
-/// What stands as the digest of the segment behind its rows.
+/// The digest of the segment, after its rows.
 const DIGEST: [u8; 32] = [
     0x01, 0x02, 0x03, 0x04, 0x05, 0x06, 0x07, 0x08, 0x09, 0x0a, 0x0b, 0x0c, 0x0d, 0x0e, 0x0f, 0x10,
     0x11, 0x12, 0x13, 0x14, 0x15, 0x16, 0x17, 0x18, 0x19, 0x1a, 0x1b, 0x1c, 0x1d, 0x1e, 0x1f, 0x20,
 ];
 
-/// Where a byte of the page may be another one: whether the column is nullable, its letter, whether its integers are signed,
-/// the first sector of the segment, and in its bytes and in its rows the lower two of eight bytes.
+/// The bytes of the page that may have another value: whether the column is nullable, its name, whether its integers are signed, the first sector of
+/// the segment, and the lower two of the eight bytes of its size and of its rows.
 const FREE: &[usize] = &[
     108, 124, 148, 160, 161, 162, 163, 164, 165, 166, 167, 176, 177, 184, 185,
 ];
@@ -57,7 +58,7 @@ const FREE: &[usize] = &[
 #[derive(Clone, Copy)]
 struct NotMade;
 
-/// What was read of a text.
+/// The result of reading a text.
 #[derive(Clone, Copy, PartialEq, Eq)]
 enum Seen {
     Same,
@@ -92,7 +93,7 @@ fn seen_root(alloc: Global, bytes: &[u8]) -> Result<Seen, NotMade> {
     }
 }
 
-// Whether the segment has the digest that a text of this form says.
+// Returns whether the segment has the digest of a text in this form.
 fn has_digest(segment: &Segment, form: SegmentForm) -> bool {
     match (form, segment.digest) {
         (SegmentForm::Bare, None) => true,
@@ -145,7 +146,7 @@ fn seen_page(alloc: Global, most: u64, bytes: &[u8]) -> Result<Seen, NotMade> {
     seen_formed(alloc, SegmentForm::Bare, most, bytes)
 }
 
-// The bytes with another one at this place.
+// Returns the bytes with a different one at this place.
 fn other(alloc: Global, bytes: &[u8], place: usize) -> Result<Vec<u8>, NotMade> {
     let mut other = Vec::from_slice(alloc, bytes)?;
     if let Some(byte) = other.get_mut(place) {
@@ -154,7 +155,7 @@ fn other(alloc: Global, bytes: &[u8], place: usize) -> Result<Vec<u8>, NotMade> 
     Ok(other)
 }
 
-// Of a root the numbers of a page may be other ones: the count, the lengths and the names in their order stay.
+// Only the numbers of a page in a root may change: the count, the lengths and the names, which ascend, may not.
 fn wanted_of_root(place: usize) -> Seen {
     if place >= 4 && (place - 4) % 29 >= 5 {
         Seen::Other
@@ -171,7 +172,7 @@ fn wanted_of_page(place: usize) -> Seen {
     }
 }
 
-// The first byte of the root whose change is not seen as it should be.
+// Returns the first byte of the root whose change has the wrong result.
 fn wrong_in_root(alloc: Global) -> Result<Option<usize>, NotMade> {
     for place in 0..ROOT.len() {
         if seen_root(alloc, &other(alloc, &ROOT, place)?)? != wanted_of_root(place) {
@@ -190,7 +191,7 @@ fn wrong_in_page(alloc: Global) -> Result<Option<usize>, NotMade> {
     Ok(None)
 }
 
-// A text that is cut, or that has a byte more, is none.
+// A text that is cut or has an extra byte must be refused.
 fn wrong_cut(alloc: Global) -> Result<Option<usize>, NotMade> {
     for end in 0..ROOT.len() {
         if seen_root(alloc, &ROOT[..end])? != Seen::Refused {
@@ -221,7 +222,7 @@ fn a_root_and_a_page_are_read(rt: HostRuntime) {
     assert!(rt; matches!(are_read(rt.alloc()), Ok(true)));
 }
 
-/// A text of the table, with this behind its rows, is read in this form, or refused.
+/// A text of the table with this digest after its rows, and the result of reading it in this form.
 struct FormCase {
     digest: &'static [u8],
     form: SegmentForm,
@@ -263,7 +264,7 @@ fn is_table_t(entries: &[TableEntry], form: SegmentForm) -> bool {
     }
 }
 
-// The list, which is written as it was read.
+// Returns `Same` if the list has the table and is encoded as the bytes it was read from.
 fn seen_again(
     alloc: Global,
     list: &Catalogue,
@@ -298,7 +299,7 @@ fn is_as_wanted(alloc: Global, case: &FormCase) -> Result<bool, NotMade> {
     Ok(seen == (case.wanted, case.wanted) && list.len() == case.bytes)
 }
 
-// The first text that is not read as it should be.
+// Returns the first case with the wrong result.
 fn wrong_form(alloc: Global) -> Result<Option<usize>, NotMade> {
     for (place, case) in FORMS.iter().enumerate() {
         if !is_as_wanted(alloc, case)? {

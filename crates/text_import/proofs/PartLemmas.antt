@@ -1,4 +1,4 @@
--- Which field of a record is refused, field by field; and the record at a place of a text.
+-- The refused part of a header, a record or a line, found item by item; and the line at a place of a text.
 use Rattle.std.proofs.Common.{◌≡◌, ℕ, ◌+◌, ◌-◌, ◌≤◌, ◌<◌, zero, suc, Bool, true, false, List, [], ◌∷◌, length, drop, refl, ap, ◌∙◌, arith, length-drop}
 use Rattle.std.specs.List.{list_any}
 use Rattle.std.specs.Prelude.{◌==◌, ◌||◌, not, bytes_eq, filter, get_or, is_some, map, Option, Some, None, option_map, slice_get, if◌then◌else◌}

@@ -1,4 +1,4 @@
--- Why the part of a text is refused.
+-- Why a part of a text is refused.
 use Rattle.std.specs.Prelude.{◌≡◌, ◌≢◌, ℕ, false, List, length, Option, Some, None, IfSome, Ok, Err, slice_get}
 use Rattle.serde_json.specs.Data.{Data}
 use Rattle.serde_json.specs.Data as json
@@ -22,12 +22,12 @@ pub record IsOtherName (header : List (List ℕ)) (cs : List Column) (found want
   pub named : name_of_column column ≡ wanted
   pub differs : found ≢ wanted
 
--- there are so many columns, and another number of what is counted
+-- there are this many columns, and the counted number differs
 pub record IsOtherCount (cs : List Column) (counted columns : ℕ) : Type 0 where
   pub all : columns ≡ length cs
   pub differs : counted ≢ columns
 
--- a text is refused so for a column of this name
+-- the text is refused with this refusal for a column of this name
 pub record IsRefusedField (null_text : List ℕ) (cs : List Column) (name text : List ℕ) (e : Refusal) : Type 0 where
   pub place : ℕ
   pub column : Column
@@ -35,25 +35,25 @@ pub record IsRefusedField (null_text : List ℕ) (cs : List Column) (name text :
   pub named : name_of_column column ≡ name
   pub refused : field_cell null_text column text ≡ Err e
 
--- of a record
+-- for a record
 abbrev pub IsRecordCause : List ℕ → List Column → PlainPart → Refusal → Type 0
 IsRecordCause null_text cs (record_count fields columns) e = (e ≡ Width) × IsOtherCount cs fields columns
 IsRecordCause null_text cs (field name text) e = IsRefusedField null_text cs name text e
 IsRecordCause null_text cs part e = ⊥
 
--- of a text of CSV
+-- for a CSV text
 abbrev pub IsCsvCause : List ℕ → List Column → List ℕ → PlainPart → Refusal → Type 0
 IsCsvCause null_text cs t (header_name found wanted) e = (e ≡ Header) × IsOtherName (header_of t) cs found wanted
 IsCsvCause null_text cs t (header_count names columns) e = (e ≡ Header) × (names ≡ length (header_of t)) × IsOtherCount cs names columns
 IsCsvCause null_text cs t part e = IsRecordCause null_text cs part e
 
--- what the value of a line has for a column: an array at its place, an object under its name
+-- the value of a line for a column: the item at its place in an array, or the member with its name in an object
 abbrev pub value_at : (place : ℕ) (name : List ℕ) → Data → Option Data
 value_at place name (json.array ds) = get_item place ds
 value_at place name (json.object ms) = get_member name ms
 value_at place name _ = None
 
--- what a line has for a column of this name, or that it has nothing, is refused so
+-- the value of a line for a column of this name, or its absence, is refused with this refusal
 pub record IsRefusedCell (cs : List Column) (value : Data) (name : List ℕ) (e : Refusal) : Type 0 where
   pub place : ℕ
   pub column : Column
@@ -61,20 +61,20 @@ pub record IsRefusedCell (cs : List Column) (value : Data) (name : List ℕ) (e 
   pub named : name_of_column column ≡ name
   pub refused : member_in (is_nullable_column column) (cell_in column) (value_at place name value) ≡ Err e
 
--- of a part of a line, by the value of the line
+-- for a part of a line, by the value of the line
 abbrev pub IsLinePartCause : List Column → Data → PlainLinePart → Refusal → Type 0
 IsLinePartCause cs value (column_cell name) e = IsRefusedCell cs value name e
 IsLinePartCause cs value (other_count items columns) e = (e ≡ Width) × IsOtherCount cs items columns
 IsLinePartCause cs value (unknown_name name) e = (e ≡ UnknownName) × (has_name (names_of (columns_of cs)) name ≡ false)
 
--- of a line, which is refused for this very reason
+-- for a line, which is refused with this refusal
 abbrev pub IsLineCause : PlainSchema → PlainPart → Refusal → Type 0
 IsLineCause s (line part text) e =
     (line_row s text ≡ Err e) × IfSome part (λ p. (value : Data) × (line_value text ≡ Ok value) × IsLinePartCause s.columns value p e)
 IsLineCause s part e = ⊥
 
--- a part is refused for this very reason: in CSV a name or the number of names of the header, the number of fields of the record, or the text of the field; in
--- JSON Lines the line, and where a part of it is named, that part
+-- a part is refused with this refusal: in CSV a name or the number of names of the header, the number of fields of the record, or the text of the
+-- field; in JSON Lines the line, and its part if there is one
 abbrev pub IsCause : TextForm → PlainSchema → List ℕ → PlainPart → Refusal → Type 0
 IsCause (Csv null_text) s t part e = IsCsvCause null_text.now s.columns t part e
 IsCause JsonLines s t part e = IsLineCause s part e

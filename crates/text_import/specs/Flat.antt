@@ -1,4 +1,4 @@
--- The cell that a text is: integers, booleans, texts, binaries.
+-- The cell of a text: integers, booleans, texts, binaries.
 use Rattle.std.specs.Prelude.{ℕ, ◌&&◌, ℤ, Bool, bytes_eq, List, Option, Some, None, Result, Ok, Err, if◌then◌else◌}
 use Rattle.hex.specs.Hex.{decode_of}
 use Rattle.hex.specs.declared.error.FromHexError.{FromHexError}
@@ -9,7 +9,7 @@ use Rattle.cells.specs.Typed.{typed_integer, typed_boolean}
 use Rattle.text_import.specs.declared.refusal.Refusal.{Refusal}
 use Rattle.text_import.specs.declared.refusal.Refusal.TheVariants.{NotUtf8, NotANumber, OutOfRange, NotABool, NotHex, NullMismatch, Nested, FixedWidth}
 
--- a cell, where it is one of the type
+-- the cell, if it is one of the type
 abbrev pub fitting : Kind → Refusal → Cell → Result Cell Refusal
 fitting kind refusal c = if fits_kind kind c then Ok c else Err refusal
 
@@ -21,7 +21,7 @@ abbrev pub boolean_cell : Option Bool → Result Cell Refusal
 boolean_cell None = Err NotABool
 boolean_cell (Some b) = Ok (boolean b)
 
--- bytes, where hexadecimal digits spell them
+-- the bytes, if the text is their hexadecimal digits
 abbrev pub bytes_cell : Kind → Result (List ℕ) FromHexError → Result Cell Refusal
 bytes_cell kind (Err e) = Err NotHex
 bytes_cell kind (Ok t) = fitting kind FixedWidth (bytes t)
@@ -30,7 +30,7 @@ bytes_cell kind (Ok t) = fitting kind FixedWidth (bytes t)
 abbrev pub hex_cell : Kind → List ℕ → Result Cell Refusal
 hex_cell kind t = bytes_cell kind (decode_of t)
 
--- the cell of a text that is no null
+-- the cell of a text that is not a null
 unfoldable pub cell_of_text : Kind → List ℕ → Result Cell Refusal
 cell_of_text nulls t = Err NullMismatch
 cell_of_text booleans t = boolean_cell (typed_boolean t)
@@ -47,6 +47,6 @@ cell_of_text (large_lists item) t = Err Nested
 cell_of_text (fixed_lists size item) t = Err Nested
 cell_of_text (structs columns) t = Err Nested
 
--- the null text is a null where nulls are allowed, and a text like any other where they are not
+-- the null text is a null if nulls are allowed, and an ordinary text if not
 unfoldable pub field_cell : List ℕ → Column → List ℕ → Result Cell Refusal
 field_cell null_text (column name nullable kind dictionary pairs) t = if nullable && bytes_eq t null_text then Ok null else cell_of_text kind t

@@ -1,5 +1,5 @@
--- The rows of a text of JSON Lines, over the values that the crate `serde_json` reads in its lines (RFC 8259): numbers are
--- integers of 64 bits or floats, an object has each key once with the value that stands last, and values nest 127 deep.
+-- The rows of a text of JSON Lines, over the values that the crate `serde_json` reads from its lines (RFC 8259): numbers are integers of 64 bits or
+-- floats, an object has each key once with its last value, and values nest 127 deep.
 use Rattle.std.specs.Prelude.{ℕ, ◌+◌, ◌==◌, ◌||◌, Bool, false, not, bytes_eq, List, [], ◌∷◌, Option, Some, None, Result, Ok, Err, if◌then◌else◌}
 use Rattle.std.specs.List.{list_any, list_all, filter, slice_split}
 use Rattle.std.specs.Str.{is_utf8}
@@ -34,7 +34,7 @@ abbrev pub number_in : Kind → Data → Result Cell Refusal
 number_in kind (json.number n) = number_cell kind (as_integer n)
 number_in kind _ = Err NotANumber
 
--- a text of a line that is UTF-8 is UTF-8 too
+-- a text of a UTF-8 line is UTF-8, too
 abbrev pub text_in : Data → Result Cell Refusal
 text_in (json.string t) = fitting texts NotUtf8 (text t)
 text_in _ = Err WrongKind
@@ -43,7 +43,7 @@ abbrev pub bytes_in : Kind → Data → Result Cell Refusal
 bytes_in kind (json.string t) = hex_cell kind t
 bytes_in kind _ = Err WrongKind
 
--- the items of an array, each read by f
+-- the items of an array, each one read by f
 abbrev pub each_item : (Data → Result Cell Refusal) → Items → Result Cells Refusal
 each_item f no_items = Ok no_cell
 each_item f (item d ds) = and_then (f d) (λ x. given (and_cell x) (each_item f ds))
@@ -52,7 +52,7 @@ abbrev pub list_in : (Data → Result Cell Refusal) → Data → Result Cell Ref
 list_in f (json.array ds) = given items (each_item f ds)
 list_in f _ = Err WrongKind
 
--- as many items as the size says, before any is looked at
+-- the number of items is tested before any item
 abbrev pub sized : {A : Type 0} → ℕ → (Items → Result A Refusal) → Items → Result A Refusal
 sized size f ds = if item_count ds == size then f ds else Err Width
 
@@ -60,12 +60,12 @@ abbrev pub fixed_list_in : ℕ → (Data → Result Cell Refusal) → Data → R
 fixed_list_in size f (json.array ds) = given items (sized size (each_item f) ds)
 fixed_list_in size f _ = Err WrongKind
 
--- a null is one where nulls are allowed, whatever the type
+-- a null is a null of any type if nulls are allowed
 abbrev pub null_or_in : Bool → (Data → Result Cell Refusal) → Data → Result Cell Refusal
 null_or_in nullable f json.null = if nullable then Ok null else Err NullMismatch
 null_or_in nullable f d = f d
 
--- an absent member is a null where nulls are allowed
+-- an absent member is a null if nulls are allowed
 abbrev pub absent : Bool → Result Cell Refusal
 absent nullable = if nullable then Ok null else Err MissingName
 
@@ -85,23 +85,23 @@ keys_of (member k d ms) = k ∷ keys_of ms
 abbrev pub has_name : List (List ℕ) → List ℕ → Bool
 has_name names k = list_any (bytes_eq k) names
 
--- whether two of them are one name
+-- whether two of these names are equal
 abbrev pub repeats : List (List ℕ) → Bool
 repeats [] = false
 repeats (name ∷ names) = has_name names name || repeats names
 
--- whether a key is no name
+-- whether a key is not among the names
 abbrev pub has_unknown : List (List ℕ) → List (List ℕ) → Bool
 has_unknown names keys = list_any (λ k. not (has_name names k)) keys
 
--- names are asked before any field is looked at
+-- names are tested before any field
 abbrev pub named_parts : List (List ℕ) → (Members → Result Cells Refusal) → Members → Result Cells Refusal
 named_parts names f ms =
     if repeats names then Err AmbiguousNames
     else if has_unknown names (keys_of ms) then Err UnknownName
     else f ms
 
--- a struct, and a row, is an array by position or an object by name
+-- a struct or a row is an array by position or an object by name
 abbrev pub parts_in : ℕ → (Items → Result Cells Refusal) → (Members → Result Cells Refusal) → Data → Result Cells Refusal
 parts_in count f g (json.array ds) = sized count f ds
 parts_in count f g (json.object ms) = g ms
@@ -116,11 +116,11 @@ other_items no_items = no_items
 other_items (item d ds) = ds
 
 unfoldable mutual
-  -- the cell of a value under a column
+  -- the cell of a value in a column
   pub cell_in : Column → Data → Result Cell Refusal
   cell_in (column name nullable kind dictionary pairs) = null_or_in nullable (kind_in kind)
 
-  -- of a value that is not null
+  -- the cell of a value that is not null
   pub kind_in : Kind → Data → Result Cell Refusal
   kind_in nulls = λ d. Err NullMismatch
   kind_in booleans = boolean_in
@@ -137,17 +137,17 @@ unfoldable mutual
   kind_in (fixed_lists size below) = fixed_list_in size (cell_in below)
   kind_in (structs columns) = λ d. given parts (parts_in (column_count columns) (cells_by_place columns) (named_parts (names_of columns) (cells_by_name columns)) d)
 
-  -- of as many items as columns, in order
+  -- the cells of as many items as columns, in order
   pub cells_by_place : Columns → Items → Result Cells Refusal
   cells_by_place no_column = λ ds. Ok no_cell
   cells_by_place (and_column c cs) = λ ds. and_then (cell_in c (first_item ds)) (λ x. given (and_cell x) (cells_by_place cs (other_items ds)))
 
-  -- of the members that have the names of the columns, in the order of the columns
+  -- the cells of the members with the names of the columns, in the order of the columns
   pub cells_by_name : Columns → Members → Result Cells Refusal
   cells_by_name no_column = λ ms. Ok no_cell
   cells_by_name (and_column c cs) = λ ms. and_then (member_in (is_nullable_column c) (cell_in c) (get_member (name_of_column c) ms)) (λ x. given (and_cell x) (cells_by_name cs ms))
 
--- the cells of columns, for a row as for a struct
+-- the cells of columns, for a row or a struct
 abbrev pub cells_in : Columns → Data → Result Cells Refusal
 cells_in columns = parts_in (column_count columns) (cells_by_place columns) (named_parts (names_of columns) (cells_by_name columns))
 
@@ -165,11 +165,11 @@ line_value line = if is_utf8 line then value_of (read line) else Err NotUtf8
 abbrev pub line_row : PlainSchema → List ℕ → Result (List Cell) Refusal
 line_row s line = and_then (line_value line) (value_row s)
 
--- a line of spaces, tabs and carriage returns alone is skipped, and not counted
+-- a line of only spaces, tabs and carriage returns is skipped and not counted
 abbrev pub is_blank : List ℕ → Bool
 is_blank line = list_all (λ b. b == 32 || b == 9 || b == 13) line
 
--- the lines of a text, which end with line feeds
+-- the lines of a text, separated by line feeds, without the blank ones
 abbrev pub lines_of : List ℕ → List (List ℕ)
 lines_of t = filter (λ line. not (is_blank line)) (slice_split (λ b. b == 10) t)
 

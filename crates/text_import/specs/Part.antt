@@ -1,4 +1,4 @@
--- Which part of a text is refused: of a header or a record the first that is refused by itself, or a line, with what is refused in it.
+-- The part of a text that is refused: the first one in a header or a record that is refused by itself, or a line with its refused part.
 use Rattle.std.specs.Prelude.{ℕ, ◌-◌, ◌==◌, Bool, true, false, not, bytes_eq, List, [], ◌∷◌, length, find, Option, Some, None, option_map, unwrap_or, Result, Ok, Err, string_bytes, slice_get, if◌then◌else◌}
 use Rattle.std.specs.List.{list_any}
 use Rattle.std.specs.Option.{option_and_then, option_or}
@@ -19,15 +19,15 @@ use Rattle.text_import.specs.Flat.{field_cell}
 use Rattle.text_import.specs.Records.{is_nested_column, records_of}
 use Rattle.text_import.specs.Objects.{item_count, column_count, first_item, other_items, cell_in, member_in, has_name, names_of, keys_of, repeats, line_value, lines_of}
 
--- what is refused in a line of JSON Lines: the cell of the column of this name; an array that has another number of items than the table has columns; or a
--- name that is no column
+-- the refused part of a line of JSON Lines: the cell of the column with this name, an array whose number of items differs from the number of columns,
+-- or a name that is not that of a column
 pub data PlainLinePart : Type 0 where
   column_cell : (name : List ℕ) → PlainLinePart
   other_count : (items columns : ℕ) → PlainLinePart
   unknown_name : (name : List ℕ) → PlainLinePart
 
--- of a CSV header, a name beside the one that is wanted at its place, or how many names it has; of a CSV record, how many fields it has, or a field with its
--- text; or a line, with what is refused in it
+-- in a CSV header, a name and the one that is wanted at its place, or the number of names; in a CSV record, the number of fields, or a field with its
+-- text; or a line with its refused part
 pub data PlainPart : Type 0 where
   header_name : (found wanted : List ℕ) → PlainPart
   header_count : (names columns : ℕ) → PlainPart
@@ -47,21 +47,21 @@ part_of (parts.RecordCount fields columns) = record_count fields columns
 part_of (parts.Field name text) = field (string_bytes name) text.items
 part_of (parts.Line part text) = line (option_map line_part_of part) text.items
 
--- the first name of a header that is another than that of the column at its place
+-- the first name of a header that differs from that of the column at its place
 unfoldable pub other_name : List (List ℕ) → List Column → Option PlainPart
 other_name [] cs = None
 other_name (t ∷ ts) [] = None
 other_name (t ∷ ts) (c ∷ cs) = if bytes_eq t (name_of_column c) then other_name ts cs else Some (header_name t (name_of_column c))
 
--- where the names that both have agree, the numbers of names and of columns
+-- if the names that both have are equal, the numbers of names and columns
 abbrev pub refused_names : List Column → List (List ℕ) → Option PlainPart
 refused_names cs ts = option_or (other_name ts cs) (if length ts == length cs then None else Some (header_count (length ts) (length cs)))
 
--- the first record of a text is its header; a text without records has no names
+-- the header of a text is its first record; a text without records has no names
 abbrev pub header_of : List ℕ → List (List ℕ)
 header_of t = unwrap_or (slice_get (records_of t) 0) []
 
--- lists and structs are refused before the header is looked at
+-- lists and structs are refused before the header is tested
 abbrev pub refused_header : List Column → List ℕ → Option PlainPart
 refused_header cs t = if list_any is_nested_column cs then None else refused_names cs (header_of t)
 
@@ -75,11 +75,11 @@ refused_field null_text [] ts = None
 refused_field null_text (c ∷ cs) [] = None
 refused_field null_text (c ∷ cs) (t ∷ ts) = if is_refused (field_cell null_text c t) then Some (field (name_of_column c) t) else refused_field null_text cs ts
 
--- the number of fields is looked at before any field
+-- the number of fields is tested before any field
 abbrev pub refused_in_record : List ℕ → List Column → List (List ℕ) → Option PlainPart
 refused_in_record null_text cs ts = if length ts == length cs then refused_field null_text cs ts else Some (record_count (length ts) (length cs))
 
--- the name of the first column whose cell is refused: of the items of an array, and of the members of an object
+-- the name of the first column whose cell is refused, among the items of an array and among the members of an object
 unfoldable pub refused_by_place : Columns → Items → Option (List ℕ)
 refused_by_place no_column ds = None
 refused_by_place (and_column c cs) ds = if is_refused (cell_in c (first_item ds)) then Some (name_of_column c) else refused_by_place cs (other_items ds)
@@ -89,15 +89,15 @@ refused_by_name no_column ms = None
 refused_by_name (and_column c cs) ms =
     if is_refused (member_in (is_nullable_column c) (cell_in c) (get_member (name_of_column c) ms)) then Some (name_of_column c) else refused_by_name cs ms
 
--- the number of items is looked at before any item
+-- the number of items is tested before any item
 abbrev pub refused_in_items : Columns → Items → Option PlainLinePart
 refused_in_items cs ds = if item_count ds == column_count cs then option_map column_cell (refused_by_place cs ds) else Some (other_count (item_count ds) (column_count cs))
 
--- the first key that is no name
+-- the first key that is not among the names
 abbrev pub first_unknown : List (List ℕ) → List (List ℕ) → Option (List ℕ)
 first_unknown names keys = find (λ k. not (has_name names k)) keys
 
--- names are looked at before any member; where two columns have one name, no part of the line is refused by itself
+-- names are tested before any member; if two columns have the same name, no part of the line is refused by itself
 abbrev pub refused_in_members : Columns → Members → Option PlainLinePart
 refused_in_members cs ms =
     if repeats (names_of cs) then None
@@ -108,7 +108,7 @@ refused_in_value cs (json.array ds) = refused_in_items cs ds
 refused_in_value cs (json.object ms) = refused_in_members cs ms
 refused_in_value cs _ = None
 
--- of what a line was read as
+-- the refused part of a value that was read from a line
 abbrev pub refused_in_read : Columns → Result Data Refusal → Option PlainLinePart
 refused_in_read cs (Ok d) = refused_in_value cs d
 refused_in_read cs (Err e) = None
@@ -116,12 +116,12 @@ refused_in_read cs (Err e) = None
 abbrev pub refused_in_line : PlainSchema → List ℕ → PlainPart
 refused_in_line s t = line (refused_in_read (columns_of s.columns) (line_value t)) t
 
--- a refusal of no record is of the header, in CSV
+-- a refusal without a record is that of the header in CSV
 abbrev pub whole_part : TextForm → PlainSchema → List ℕ → Option PlainPart
 whole_part (Csv null_text) s t = refused_header s.columns t
 whole_part JsonLines s t = None
 
--- of the record of this number: records are counted after the header, which has the place 0, and lines from 1
+-- the refused part of the record with this number: CSV records are counted with the header at 0, and lines from 1
 abbrev pub numbered_part : TextForm → PlainSchema → List ℕ → ℕ → Option PlainPart
 numbered_part (Csv null_text) s t number = option_and_then (refused_in_record null_text.now s.columns) (slice_get (records_of t) number)
 numbered_part JsonLines s t number = option_map (refused_in_line s) (slice_get (lines_of t) (number - 1))

@@ -1,4 +1,4 @@
--- The rows of a CSV text, over the records that the crate `csv` reads in it (RFC 4180; comma, fields in double quotes).
+-- The rows of a CSV text, over the records that the crate `csv` reads from it (RFC 4180; comma, fields in double quotes).
 use Rattle.std.specs.Prelude.{ℕ, ◌==◌, Bool, true, false, bytes_eq, List, [], ◌∷◌, length, Result, Ok, Err, if◌then◌else◌}
 use Rattle.std.specs.List.{list_any}
 use Rattle.csv.specs.Reading.{default_config, records, strip_bom}
@@ -16,7 +16,7 @@ use Rattle.text_import.specs.Rows.{accepted, rows_from}
 abbrev pub is_nested_column : Column → Bool
 is_nested_column c = is_nested (kind_of_column c)
 
--- the fields of a record are the names of the columns, in order
+-- the fields of a record are the names of the columns in order
 unfoldable pub are_names : List (List ℕ) → List Column → Bool
 are_names [] [] = true
 are_names (t ∷ ts) (c ∷ cs) = if bytes_eq t (name_of_column c) then are_names ts cs else false
@@ -29,14 +29,14 @@ field_cells null_text [] ts = Ok []
 field_cells null_text (c ∷ cs) [] = Err Width
 field_cells null_text (c ∷ cs) (t ∷ ts) = and_then (field_cell null_text c t) (λ x. given (λ xs. x ∷ xs) (field_cells null_text cs ts))
 
--- as many fields as columns, before any cell is looked at
+-- the number of fields is tested before any cell
 abbrev pub record_cells : List ℕ → List Column → List (List ℕ) → Result (List Cell) Refusal
 record_cells null_text cs ts = if length ts == length cs then field_cells null_text cs ts else Err Width
 
 abbrev pub record_row : PlainSchema → List ℕ → List (List ℕ) → Result (List Cell) Refusal
 record_row s null_text ts = and_then (record_cells null_text s.columns ts) (accepted s)
 
--- of no record
+-- a refusal without a record
 abbrev pub whole : Refusal → Refused
 whole e = record { refusal = e; number = 0 }
 
@@ -48,7 +48,7 @@ rows_behind_header s null_text (h ∷ rs) = if are_names h s.columns then rows_f
 abbrev pub rows_of_records : PlainSchema → List ℕ → List (List (List ℕ)) → Result (List (List Cell)) Refused
 rows_of_records s null_text rs = if list_any is_nested_column s.columns then Err (whole Nested) else rows_behind_header s null_text rs
 
--- the records of a text, after a byte order mark where it has one
+-- the records of a text, after a byte order mark if it has one
 abbrev pub records_of : List ℕ → List (List (List ℕ))
 records_of t = records default_config (strip_bom t)
 

@@ -1,4 +1,4 @@
--- What is reported of a refusal: its code, its name, and the number of its record.
+-- The text of a refusal: its code, its name, and the number of its record.
 use Rattle.std.specs.Prelude.{ℕ, List, ◌++◌, codes, decimal}
 use Rattle.text_import.specs.declared.refusal.Refusal.{Refusal}
 use Rattle.text_import.specs.declared.refusal.Refusal.TheVariants as refusals

@@ -1,4 +1,4 @@
-// Numbers, and cells of the types without parts.
+// Numbers, and cells of flat types.
 ghost use Rattle.std.specs.Prelude.{◌≡◌, ◌≤◌, ℕ, Bool, pos, neg_ℤ, true, false, length, option_map, IfOk};
 ghost use Rattle.arrow_schema.specs.Column as kinds;
 ghost use Rattle.arrow_schema.specs.Column.{integers};
@@ -21,13 +21,13 @@ use cells::{Value, fits};
 use hex::FromHexError;
 use std::alloc::{AllocError, Global};
 
-// No integer type holds a number of this size.
+// Out of range for every integer type.
 const TOO_LARGE: u128 = 1 << 64;
 
-// The most digits of which 64 bits hold any number.
+// The maximum number of digits whose value always fits in 64 bits.
 const SHORT: usize = 19;
 
-// The number that at most 19 digits spell.
+// Parses at most 19 digits.
 fn short_digits(text: &[u8]) -> Option<u128>
     requires { length text.now ≤ 19 }
     ensures { result ≡ option_map capped (number_behind 0 text.now) }
@@ -42,7 +42,7 @@ fn short_digits(text: &[u8]) -> Option<u128>
     Some(u128::from(number))
 }
 
-// The number that digits spell, and `TOO_LARGE` where it is larger.
+// Parses digits, and returns `TOO_LARGE` for any larger number.
 fn digits(text: &[u8]) -> Option<u128>
     ensures { result ≡ option_map capped (typed_number text.now) }
 {
@@ -80,7 +80,7 @@ fn positive(text: &[u8]) -> Option<i128>
     }
 }
 
-// The integer that a string spells, where one does.
+// Parses an integer, or returns `None` if the text is none.
 fn integer(text: &[u8]) -> Option<i128>
     ensures { result ≡ capped_integer text.now }
 {
@@ -91,7 +91,7 @@ fn integer(text: &[u8]) -> Option<i128>
     }
 }
 
-/// The integer that a string spells, where one does. One that no type holds is answered as some integer that no type holds.
+/// Parses an integer, or returns `None` if the text is none. If no type holds the integer, the result is some integer that no type holds.
 #[tactic(auto, using(crate::proofs::NumberLemmas::integers_capped))]
 pub fn spelled_integer(text: &[u8]) -> Option<i128>
     ensures { (bits : ℕ) (signed : Bool) → bits ≤ 64 → number_cell (integers bits signed) result
@@ -100,7 +100,7 @@ pub fn spelled_integer(text: &[u8]) -> Option<i128>
     integer(text)
 }
 
-// A value, where it is one of the field's.
+// Returns the value if it is one of the field's type, and the refusal if not.
 fn fitting(field: &Field, value: Value, refusal: Refusal) -> Result<Value, CellError>
     requires { is_there (cell value) ≡ true }
     ensures { Gives refusal_of cell result (fitting (kind_of_column (column_of field.now)) refusal (cell value)) }
@@ -128,7 +128,7 @@ fn integer_cell(field: &Field, text: &[u8]) -> Result<Value, CellError>
     number_cell(field, integer(text))
 }
 
-/// The boolean that a string spells, where one does.
+/// Parses a boolean, or returns `None` if the text is none.
 pub fn spelled_boolean(text: &[u8]) -> Option<bool>
     ensures { result ≡ typed_boolean text.now }
 {
@@ -206,7 +206,7 @@ fn typed_cell(alloc: Global, field: &Field, text: &[u8]) -> Result<Value, CellEr
     }
 }
 
-// The cell of a field of a CSV record.
+// Parses a field of a CSV record.
 #[tactic(auto, unfolding(crate::specs::Flat::field_cell))]
 pub(crate) fn field_cell(
     alloc: Global,

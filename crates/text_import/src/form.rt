@@ -1,4 +1,4 @@
-// A text of rows in either form.
+// Texts of rows in either form.
 ghost use Rattle.std.specs.Prelude.{map};
 ghost use Rattle.facts.specs.Outcomes.{Gives};
 ghost use Rattle.arrow_schema.specs.View.{schema_of};
@@ -11,19 +11,19 @@ use arrow_schema::Schema;
 use cells::Row;
 use std::alloc::Global;
 
-/// What a text of rows is.
+/// The form of a text of rows.
 #[derive(Clone, Copy)]
 pub enum TextForm<'a> {
     /// CSV, in which this text stands for a null where nulls are allowed.
     Csv { null_text: &'a str },
-    /// JSON Lines: a line for each row.
+    /// JSON Lines, with a line for each row.
     JsonLines,
 }
 
-/// The rows that a text of this form has for a schema, or its first refusal, with the number of its record.
+/// Returns the rows of a text in this form for a schema.
 ///
 /// # Errors
-/// `Refused`: the first refusal, with the number of its record; `OutOfMemory`.
+/// `Refused` with the first refusal and the number of its record; `OutOfMemory`.
 pub fn rows_of_text(
     alloc: Global,
     form: &TextForm<'_>,

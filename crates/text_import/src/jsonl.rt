@@ -1,4 +1,4 @@
-// Rows of texts of JSON Lines.
+// Reads rows of JSON Lines.
 ghost use Rattle.std.specs.Prelude.{◌≡◌, ◌==◌, not, map, option_map, slice_get, IfOk};
 ghost use Rattle.std.specs.List.{filter, slice_split};
 ghost use Rattle.serde_json.specs.View.{view};
@@ -21,17 +21,17 @@ use cells::{Row, has_limits};
 use serde_json::Value;
 use std::alloc::{AllocError, Global};
 
-/// The lines of a text: its parts before, between and after its line feeds. The last one is empty where the text ends with a line feed.
+/// Splits a text at its line feeds. The last part is empty if the text ends with a line feed.
 ///
 /// # Errors
-/// `AllocError` where memory was refused.
+/// `AllocError` if memory was refused.
 pub fn split_lines(alloc: Global, text: &[u8]) -> Result<Vec<&[u8]>, AllocError>
     ensures { IfOk result (λ v. text_list v.items ≡ slice_split (λ b. b == 10) text.now) }
 {
     text.split(|byte| *byte == b'\n').collect(alloc)
 }
 
-/// Whether a line has spaces, tabs and carriage returns alone.
+/// Returns whether a line has only spaces, tabs and carriage returns.
 pub fn is_blank(line: &[u8]) -> bool
     ensures { result ≡ is_blank line.now }
 {
@@ -68,7 +68,7 @@ fn line_row(alloc: Global, schema: &Schema, limited: bool, line: &[u8]) -> Resul
     value_row(alloc, schema, limited, &value)
 }
 
-// The line at a place, where the first stands at 0.
+// Returns the line at this place among those that are not blank, counted from 0.
 pub(crate) fn line_at(alloc: Global, text: &[u8], place: u64) -> Result<Option<&[u8]>, AllocError>
     ensures { IfOk result (λ line. option_map (λ t. t.now) line ≡ slice_get (lines_of text.now) place) }
 {
@@ -86,7 +86,7 @@ pub(crate) fn line_at(alloc: Global, text: &[u8], place: u64) -> Result<Option<&
     Ok(None)
 }
 
-// The rows of lines, of which those that are blank are skipped and not counted.
+// Reads the rows of lines. Blank lines are skipped and not counted.
 fn line_rows(alloc: Global, schema: &Schema, lines: &[&[u8]]) -> Result<Vec<Row>, TextError>
     ensures { Gives refused_by (λ v. map row_of v.items) result
         (rows_from (line_row (schema_of schema.now)) 1 (filter (λ line. not (is_blank line)) (text_list lines.now))) }
@@ -107,11 +107,10 @@ fn line_rows(alloc: Global, schema: &Schema, lines: &[&[u8]]) -> Result<Vec<Row>
     Ok(rows)
 }
 
-/// The rows of a text of JSON Lines: each line is a row, an array by position or an object by name. Blank lines are
-/// skipped and not counted.
+/// Reads the rows of JSON Lines: each line is a row, an array by position or an object by name. Blank lines are skipped and not counted.
 ///
 /// # Errors
-/// `Refused`: the first line that is refused, with its number; `OutOfMemory`.
+/// `Refused` with the first refused line and its number; `OutOfMemory`.
 pub fn jsonl_rows(alloc: Global, schema: &Schema, text: &[u8]) -> Result<Vec<Row>, TextError>
     ensures exact { Gives refused_by (λ v. map row_of v.items) result (jsonl_rows_of (schema_of schema.now) text.now) }
 {

@@ -1,4 +1,4 @@
-// What the definitions say. The functions do nothing: their contracts are the laws.
+// Laws about the definitions. The functions do nothing: their contracts are the laws.
 ghost use Rattle.std.specs.Prelude.{◌≡◌, ℕ, List, Some, Ok, Err};
 ghost use Rattle.std.specs.List.{AllPass};
 ghost use Rattle.arrow_schema.specs.Column.{PlainSchema};
@@ -12,16 +12,16 @@ ghost use Rattle.text_import.specs.Form.{rows_of_text};
 ghost use Rattle.text_import.specs.Part.{PlainPart, refused_part};
 ghost use Rattle.text_import.specs.Cause.{IsCause};
 
-/// The rows of a text are rows that a table of the schema takes, each by itself: all fit, none is too heavy, none fills a dictionary.
+/// The rows of a text are rows that a table of the schema accepts, each by itself: every cell fits, no row is too heavy, and none fills a dictionary.
 pub fn rows_of_texts_are_rows()
     ensures csv { (s : PlainSchema) (null_text text : List ℕ) (rows : List (List Cell)) → csv_rows_of s null_text text ≡ Ok rows
         → AllPass (is_row s) rows }
     ensures jsonl { (s : PlainSchema) (text : List ℕ) (rows : List (List Cell)) → jsonl_rows_of s text ≡ Ok rows → AllPass (is_row s) rows }
 {}
 
-/// The part of a refused text is why it is refused: the header has another name than the table at one place, or another number of names; the record has
-/// another number of fields, or the text of a field is refused for a column of its name; or the line is refused, and where another number of items or a name
-/// that is no column is said of it, that is why.
+/// The part of a refused text is the cause of the refusal: a name in the header differs from that of the table's column, or their numbers differ; the
+/// record has another number of fields, or the text of a field is refused for a column of its name; or the line is refused, and if the part is
+/// another number of items or an unknown name, that is the cause.
 pub fn refused_parts_are_causes()
     ensures { (form : TextForm) (s : PlainSchema) (text : List ℕ) (r : Refused) (part : PlainPart) → rows_of_text form s text ≡ Err r
         → refused_part form s text r.number ≡ Some part → IsCause form s text part r.refusal }

@@ -1,8 +1,8 @@
-//! Rows of texts: CSV and JSON Lines, under a schema.
+//! Rows of texts: CSV and JSON Lines under a schema.
 //!
-//! [`csv_rows`] and [`jsonl_rows`] (or [`rows_of_text`], of either form) answer the rows of a text, or the first refusal with the number of its
-//! record. The crate `csv` decides which records a text has, and `serde_json` which values its lines have; what becomes of them, cell by cell, is
-//! stated in `specs/` and promised exactly, for every text. [`refused_part`] answers which part of a text is refused.
+//! [`csv_rows`] and [`jsonl_rows`], or [`rows_of_text`] for either form, return the rows of a text, or the first refusal with the number of its
+//! record. The crate `csv` splits a text into records, and `serde_json` reads the values of its lines; how these become cells is defined in `specs/`
+//! and proved exactly, for every text. [`refused_part`] returns the part of a text that is refused.
 //!
 //! ```
 //! let fields = field_texts::parse_fields(alloc, &["a:int32?", "s:utf8"])?;
@@ -10,7 +10,7 @@
 //! let rows = text_import::csv_rows(alloc, &schema, b"a,s\n1,x\n,\n", "")?;
 //! ```
 //!
-//! The rows are 1 and "x", and a null and "": a null text stands for null only where nulls are allowed.
+//! The rows are 1 and "x", and a null and "": the null text stands for a null only where nulls are allowed.
 #![tactic(auto)]
 
 mod flat;

@@ -1,4 +1,4 @@
-// Cells and rows of JSON values.
+// Reads cells and rows from JSON values.
 ghost use Rattle.std.specs.Prelude.{◌≡◌, [], ◌∷◌, ◌++◌, true, false, not, map, length, option_map, IfOk, IfSome, None, Result};
 ghost use Rattle.serde_json.specs.Find.{get_member};
 ghost use Rattle.serde_json.specs.View.{view, items_view, members_view};
@@ -64,7 +64,7 @@ fn bytes_in(alloc: Global, field: &Field, value: &Json) -> Result<Value, CellErr
     }
 }
 
-// Adds a name, and answers whether it was not among them.
+// Adds a name, and returns whether it is new.
 fn add_name<'a>(names: &mut IndexSet<&'a str>, name: &'a str) -> Result<bool, AllocError>
     ensures added { IfOk result (λ added. added ≡ not (has_name (text_list names.old.keys) name.now)) }
     ensures names { IfOk result (λ added. added ≡ true → text_list names.new.keys ≡ text_list names.old.keys ++ name.now ∷ []) }
@@ -73,7 +73,7 @@ fn add_name<'a>(names: &mut IndexSet<&'a str>, name: &'a str) -> Result<bool, Al
     Ok(added)
 }
 
-// Adds the names of fields up to the first that is among them, and answers whether there was none.
+// Adds the names of fields up to the first repeated one, and returns whether there was none.
 fn add_names<'a>(names: &mut IndexSet<&'a str>, fields: &'a [Field]) -> Result<bool, AllocError>
     ensures repeated { IfOk result (λ distinct. distinct ≡ false
         → repeats (text_list names.old.keys ++ names_of (columns_of (map column_of fields.now))) ≡ true) }
@@ -89,10 +89,10 @@ fn add_names<'a>(names: &mut IndexSet<&'a str>, fields: &'a [Field]) -> Result<b
     Ok(true)
 }
 
-/// The names of columns; none exactly where two have the same.
+/// Returns the names of columns, or `None` exactly if two columns have the same name.
 ///
 /// # Errors
-/// `AllocError` where memory was refused.
+/// `AllocError` if memory was refused.
 pub fn distinct_names(alloc: Global, fields: &[Field]) -> Result<Option<IndexSet<&str>>, AllocError>
     ensures found { IfOk result (λ found. IfSome found (λ names. (text_list names.keys ≡ names_of (columns_of (map column_of fields.now)))
         × (repeats (text_list names.keys) ≡ false))) }
@@ -117,10 +117,10 @@ fn has_unknown(names: &IndexSet<&str>, members: &Map<String, Json>) -> bool
     false
 }
 
-// So few names are compared one by one; of more a set is made.
+// Up to this number, names are compared one by one; beyond it a set is built.
 const FEW_NAMES: usize = 8;
 
-// Whether a field has a name.
+// Returns whether a field has this name.
 fn has_name(fields: &[Field], name: &str) -> bool
     ensures { result ≡ has_name (names_of (columns_of (map column_of fields.now))) name.now }
 {
@@ -132,7 +132,7 @@ fn has_name(fields: &[Field], name: &str) -> bool
     false
 }
 
-// Whether two fields share a name.
+// Returns whether two fields have the same name.
 pub(crate) fn repeat_names(fields: &[Field]) -> bool
     ensures { result ≡ repeats (names_of (columns_of (map column_of fields.now))) }
 {
@@ -144,7 +144,7 @@ pub(crate) fn repeat_names(fields: &[Field]) -> bool
     false
 }
 
-// The first key that is the name of no field.
+// Returns the first key that is not the name of a field.
 pub(crate) fn first_unknown<'a>(fields: &[Field], members: &'a Map<String, Json>) -> Option<&'a str>
     ensures { IsText (first_unknown (names_of (columns_of (map column_of fields.now))) (keys_of (members_view members.now.entries))) result }
 {
@@ -157,7 +157,7 @@ pub(crate) fn first_unknown<'a>(fields: &[Field], members: &'a Map<String, Json>
     None
 }
 
-// Whether a key is the name of no field.
+// Returns whether a key is not the name of a field.
 #[tactic(auto, using(crate::proofs::PartLemmas::unknown_found))]
 fn has_other_name(fields: &[Field], members: &Map<String, Json>) -> bool
     ensures { result ≡ has_unknown (names_of (columns_of (map column_of fields.now))) (keys_of (members_view members.now.entries)) }
@@ -178,7 +178,7 @@ fn test_few_names(fields: &[Field], members: &Map<String, Json>) -> Result<(), C
     }
 }
 
-// The same with the set of the names, which is borrowed empty.
+// `test_few_names` with a set of names, which is empty when it is passed in.
 fn test_many_names<'a>(
     names: &mut IndexSet<&'a str>,
     fields: &'a [Field],
@@ -198,7 +198,7 @@ fn test_many_names<'a>(
     }
 }
 
-// Why the members of an object are not those of the fields.
+// Tests the names of an object's members against those of the fields.
 fn test_names(alloc: Global, fields: &[Field], members: &Map<String, Json>) -> Result<(), CellError>
     ensures { Gives refusal_of (λ _. members_view members.now.entries) result
         (tested (names_of (columns_of (map column_of fields.now))) (members_view members.now.entries)) }
@@ -216,7 +216,7 @@ fn member<'a>(members: &'a Map<String, Json>, name: &str) -> Option<&'a Json>
     members.get(name)
 }
 
-// The cell of a field that an object does not have.
+// Returns the cell of a field without a member.
 fn absent(field: &Field) -> Result<Value, CellError>
     ensures { Gives refusal_of cell result (absent (is_nullable_column (column_of field.now))) }
 {
@@ -227,7 +227,7 @@ fn absent(field: &Field) -> Result<Value, CellError>
     }
 }
 
-// The list of cells that were read.
+// Returns the list of the cells that were read.
 fn list_cell(cells: Result<Vec<Value>, CellError>) -> Result<Value, CellError>
     ensures { (R : Result Cells Refusal) → Gives refusal_of (λ v. cells_of (map cell v.items)) cells R → Gives refusal_of cell result (given plain.items R) }
 {
@@ -237,7 +237,7 @@ fn list_cell(cells: Result<Vec<Value>, CellError>) -> Result<Value, CellError>
     }
 }
 
-// The same of a struct.
+// Returns the struct of the cells that were read.
 fn struct_cell(cells: Result<Vec<Value>, CellError>) -> Result<Value, CellError>
     ensures { (R : Result Cells Refusal) → Gives refusal_of (λ v. cells_of (map cell v.items)) cells R → Gives refusal_of cell result (given plain.parts R) }
 {
@@ -334,7 +334,7 @@ fn each_item(alloc: Global, item: &Field, values: &[Json]) -> Result<Vec<Value>,
     Ok(cells)
 }
 
-// The cells of fields: of an array by position, of an object by name.
+// Reads the cells of fields, by position from an array or by name from an object.
 #[cycle(cells)]
 fn cells_in(alloc: Global, fields: &[Field], value: &Json) -> Result<Vec<Value>, CellError>
     ensures { Gives refusal_of (λ v. cells_of (map cell v.items)) result (cells_in (columns_of (map column_of fields.now)) (view value.now)) }

@@ -1,4 +1,4 @@
-// Which part of a text is refused.
+// Finds the part of a text that is refused.
 ghost use Rattle.std.specs.Prelude.{◌≡◌, ◌<◌, ◌==◌, length, map, option_map, None, Some, Result, IfOk, slice_get, if◌then◌else◌};
 ghost use Rattle.std.specs.Option.{option_and_then};
 ghost use Rattle.csv.specs.Records.{fields_of};
@@ -30,31 +30,31 @@ use csv::ByteRecord;
 use serde_json::{Map, Value as Json};
 use std::alloc::{AllocError, Global};
 
-/// What is refused in a line of JSON Lines.
+/// The part of a line of JSON Lines that is refused.
 #[derive(Drop)]
 pub enum LinePart {
-    /// The cell of the field of this name.
+    /// The cell of the field with this name.
     Cell { name: String },
-    /// An array that has another number of items than the table has columns.
+    /// An array whose number of items differs from the number of columns.
     Count { items: usize, columns: usize },
-    /// A name that is no column.
+    /// A name that is not that of a column.
     Name { name: String },
 }
 
 /// The part of a text that is refused.
 #[derive(Drop)]
 pub enum RefusedPart {
-    /// A name of a CSV header, and the name of the column at its place, which is another.
+    /// A name in a CSV header, and the different name of the column at its place.
     HeaderName {
         found: Vec<u8>,
         wanted: String,
     },
-    /// A CSV header that has another number of names than the table has columns.
+    /// A CSV header whose number of names differs from the number of columns.
     HeaderCount {
         names: usize,
         columns: usize,
     },
-    /// A CSV record that has another number of fields than the table has columns.
+    /// A CSV record whose number of fields differs from the number of columns.
     RecordCount {
         fields: usize,
         columns: usize,
@@ -64,7 +64,7 @@ pub enum RefusedPart {
         name: String,
         text: Vec<u8>,
     },
-    /// A line of JSON Lines, and what is refused in it, where that is a part of it.
+    /// A line of JSON Lines, and the part of it that is refused, if it is a part.
     Line {
         part: Option<LinePart>,
         text: Vec<u8>,
@@ -79,7 +79,7 @@ fn name_part(alloc: Global, found: &[u8], field: &Field) -> Result<RefusedPart, 
     Ok(RefusedPart::HeaderName { found, wanted })
 }
 
-// The first name of a header that is another than that of its field.
+// Returns the first name of a header that differs from that of its field.
 fn other_name(
     alloc: Global,
     fields: &[Field],
@@ -123,7 +123,7 @@ fn refused_names(
     }
 }
 
-// Of a CSV text, the part of its header.
+// Returns the refused part of the header of a CSV text.
 fn refused_header(
     alloc: Global,
     fields: &[Field],
@@ -142,7 +142,7 @@ fn refused_header(
     }
 }
 
-// Whether a cell that was read is refused.
+// Returns whether reading a cell was refused.
 fn is_refused(read: Result<Value, CellError>) -> Result<bool, AllocError>
     ensures { (R : Result Cell Refusal) → Gives refusal_of cell read R → IfOk result (λ refused. refused ≡ is_refused R) }
 {
@@ -161,7 +161,7 @@ fn field_part(alloc: Global, field: &Field, text: &[u8]) -> Result<RefusedPart, 
     Ok(RefusedPart::Field { name, text })
 }
 
-// The first field whose text is refused.
+// Returns the first field whose text is refused.
 fn refused_field(
     alloc: Global,
     fields: &[Field],
@@ -197,7 +197,7 @@ fn refused_in_record(
     refused_field(alloc, fields, null_text, row)
 }
 
-// Of a CSV text, the part of the record at a place, where the header stands at 0.
+// Returns the refused part of the record at this place of a CSV text, whose header has the place 0.
 fn part_of_record(
     alloc: Global,
     schema: &Schema,
@@ -216,7 +216,7 @@ fn part_of_record(
     }
 }
 
-// The name of the first field whose item is refused.
+// Returns the name of the first field whose item is refused.
 fn refused_by_place<'a>(
     alloc: Global,
     fields: &'a [Field],
@@ -233,7 +233,7 @@ fn refused_by_place<'a>(
     Ok(None)
 }
 
-// The name of the first field whose member is refused.
+// Returns the name of the first field whose member is refused.
 fn refused_by_name<'a>(
     alloc: Global,
     fields: &'a [Field],
@@ -333,7 +333,7 @@ fn refused_in_line(alloc: Global, schema: &Schema, line: &[u8]) -> Result<Refuse
     Ok(RefusedPart::Line { part, text })
 }
 
-// Of a text of JSON Lines, the part of the line at a place, where the first stands at 0.
+// Returns the refused part of the line at this place of a text of JSON Lines, counted from 0.
 fn part_of_line(
     alloc: Global,
     schema: &Schema,
@@ -348,7 +348,7 @@ fn part_of_line(
     }
 }
 
-// The part of the record of a number, which is not 0.
+// Returns the refused part of the record with this number, which is not 0.
 fn numbered_part(
     alloc: Global,
     form: &TextForm<'_>,
@@ -365,15 +365,15 @@ fn numbered_part(
     }
 }
 
-/// The part of a text that is refused, of the number that a refusal of these rows reports.
+/// Returns the part of a text that is refused, for the number in the refusal of its rows.
 ///
-/// Of CSV, where the number is 0, it is the first name of the header that is another than that of the column at its place, or how many names the header
-/// has, where the names that both have agree; none where the table has lists or structs. Else it is how many fields the record has, where there is another
-/// number of columns, or the first field whose text is refused for its column; none where all of them are cells. Of JSON Lines it is the line, with what is
-/// refused in it: the number of its items, its first name that is no column, or the first field whose cell is refused.
+/// For CSV and the number 0, this is the first name of the header that differs from that of the column at its place, or the number of names if those
+/// that both have are equal; `None` if the table has lists or structs. For another number it is the number of fields in the record if it differs from
+/// the number of columns, or the first field whose text is refused for its column; `None` if every text is a cell. For JSON Lines it is the line with
+/// its refused part: the number of its items, its first unknown name, or the first field whose cell is refused.
 ///
 /// # Errors
-/// `AllocError` where memory was refused.
+/// `AllocError` if memory was refused.
 pub fn refused_part(
     alloc: Global,
     form: &TextForm<'_>,

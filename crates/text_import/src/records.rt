@@ -1,4 +1,4 @@
-// Rows of CSV texts.
+// Reads rows of CSV texts.
 ghost use Rattle.std.specs.Prelude.{◌≡◌, ℕ, ◌<◌, ◌≤◌, true, false, List, [], ◌∷◌, Some, None, Err, IfOk, IfErr, map, length, slice_get, slice_index_or};
 ghost use Rattle.std.specs.List.{list_any};
 ghost use Rattle.csv.specs.Machine.{next_record};
@@ -26,14 +26,14 @@ use cells::{Row, Value, has_limits};
 use csv::{ByteRecord, Reader, ReaderBuilder};
 use std::alloc::{AllocError, Global};
 
-// A refusal of no record.
+// Returns a refusal without a record.
 fn whole(refusal: Refusal) -> TextError
     ensures { refused_by result ≡ Some (whole refusal) }
 {
     TextError::Refused(Refused { refusal, number: 0 })
 }
 
-// A reader of records of any width, at the start of a text.
+// Creates a reader of records of any width at the start of a text.
 #[tactic(auto, using(crate::specs::laws::Left::left_first))]
 fn reader_of(alloc: Global, text: &[u8]) -> Reader<&[u8]>
     ensures { HasLeft result (records_of text.now) }
@@ -44,7 +44,7 @@ fn reader_of(alloc: Global, text: &[u8]) -> Reader<&[u8]>
         .from_reader(alloc, text)
 }
 
-// Reads the next record, where there is one. A read of a slice fails for want of memory alone.
+// Reads the next record, if there is one. Reading a slice fails only if memory is refused.
 fn read_record(reader: &mut Reader<&[u8]>, row: &mut ByteRecord) -> Result<bool, AllocError>
     ensures next { IfOk result (λ found. (s : State) (xs : List ℕ) → Stands reader.old s xs
         → Reads (next_record default_config s [] [] xs) found (fields_of row.new) reader.new) }
@@ -55,10 +55,10 @@ fn read_record(reader: &mut Reader<&[u8]>, row: &mut ByteRecord) -> Result<bool,
     }
 }
 
-/// Reads the next record, where there is one.
+/// Reads the next record, if there is one.
 ///
 /// # Errors
-/// `AllocError` where memory was refused; then nothing is promised of the reader and the record.
+/// `AllocError` if memory was refused; the reader and the record are then unspecified.
 #[tactic(auto, using(crate::proofs::RecordLemmas::taken))]
 pub fn read_next(reader: &mut Reader<&[u8]>, row: &mut ByteRecord) -> Result<bool, AllocError>
     ensures { IfOk result (λ found. (records : List (List (List ℕ))) → HasLeft reader.old records
@@ -94,7 +94,7 @@ fn is_field(row: &ByteRecord, i: usize, field: &Field) -> bool
     }
 }
 
-// Whether a record is the names of the fields, in order.
+// Returns whether a record has the names of the fields in order.
 fn are_names(row: &ByteRecord, fields: &[Field]) -> bool
     ensures { result ≡ are_names (fields_of row.now) (map column_of fields.now) }
 {
@@ -109,7 +109,7 @@ fn are_names(row: &ByteRecord, fields: &[Field]) -> bool
     true
 }
 
-/// The text of a field.
+/// Returns the text of a field.
 pub fn field_text(row: &ByteRecord, i: usize) -> &[u8]
     requires { i < length (fields_of row.now) }
     ensures { result.now ≡ slice_index_or (fields_of row.now) i [] }
@@ -162,10 +162,10 @@ fn record_row(
     accepted(alloc, schema, limited, cells)
 }
 
-/// Why a record is refused, or the row that it is. `limited` is what `cells::has_limits` answers of the schema, and `number` the record's.
+/// Reads the row of a record. `limited` is the result of `cells::has_limits` for the schema, and `number` is that of the record.
 ///
 /// # Errors
-/// `Refused`: why the record is refused, with this number; `OutOfMemory`.
+/// `Refused` with the refusal and this number; `OutOfMemory`.
 pub fn numbered_row(
     alloc: Global,
     schema: &Schema,
@@ -180,7 +180,7 @@ pub fn numbered_row(
     numbered(number, record_row(alloc, schema, limited, null_text, row))
 }
 
-// The rows of the records that a reader has left, of which there are at most `most`. They are read into a record that is borrowed.
+// Reads the rows of the remaining records, of which there are at most `most`, through one reused record.
 fn record_rows(
     alloc: Global,
     schema: &Schema,
@@ -208,7 +208,7 @@ fn record_rows(
     Ok(rows)
 }
 
-// Reads the header into a record, and refuses one that is not the names of the columns.
+// Reads the header into a record, and refuses one that does not have the names of the columns.
 fn pass_header(
     schema: &Schema,
     reader: &mut Reader<&[u8]>,
@@ -231,11 +231,11 @@ fn pass_header(
     }
 }
 
-/// A reader of the records of a text that stands after the header, the names of the columns. After it a text has no more records than bytes.
+/// Returns a reader that has read the header, which has the names of the columns. The text has no more records after it than bytes.
 ///
 /// # Errors
-/// `Refused`: the refusal of a schema with lists or structs, or of the header; whatever the null text, the rows of the text are refused so.
-/// `OutOfMemory`.
+/// `Refused` with the refusal of a schema with lists or structs, or of the header; the rows of the text are refused in the same way for every null
+/// text. `OutOfMemory`.
 pub fn csv_records<'a>(
     alloc: Global,
     schema: &Schema,
@@ -258,7 +258,7 @@ pub fn csv_records<'a>(
     }
 }
 
-// Reads the record at a place, counted from the one that the reader stands at, where there is one.
+// Reads the record at this place, counted from the next one, if there is one.
 fn read_at(reader: &mut Reader<&[u8]>, row: &mut ByteRecord, place: u64) -> Result<bool, AllocError>
     ensures { IfOk result (λ found. (records : List (List (List ℕ))) → HasLeft reader.old records
         → (found ≡ true → slice_get records place ≡ Some (fields_of row.new)) × (found ≡ false → slice_get records place ≡ None)) }
@@ -272,7 +272,7 @@ fn read_at(reader: &mut Reader<&[u8]>, row: &mut ByteRecord, place: u64) -> Resu
     Ok(found)
 }
 
-// Reads the record at a place, where the header stands at 0 and there is one.
+// Reads the record at this place, if there is one; the header has the place 0.
 pub(crate) fn record_at(
     alloc: Global,
     text: &[u8],
@@ -286,15 +286,15 @@ pub(crate) fn record_at(
     read_at(&mut reader, row, place)
 }
 
-/// The rows of a CSV text: the records after the header, which is the names of the columns. A field that is the null
-/// text is a null where the column is nullable.
+/// Reads the rows of a CSV text: the records after the header, which has the names of the columns. A field with the null text is a null if the column
+/// is nullable.
 ///
 /// ```
 /// let rows = csv_rows(alloc, &schema, b"a,s\n1,x\n,\n", "")?;
 /// ```
 ///
 /// # Errors
-/// `Refused`: the first refusal, of a schema with lists or structs, of the header, or of a record, with its number. `OutOfMemory`.
+/// `Refused` with the first refusal of a schema with lists or structs, of the header, or of a record, and the number of the record. `OutOfMemory`.
 pub fn csv_rows(
     alloc: Global,
     schema: &Schema,

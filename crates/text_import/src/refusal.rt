@@ -10,57 +10,57 @@ use std::fmt;
 /// What is wrong with a text.
 #[derive(Clone, Copy, Debug, PartialEq, Eq)]
 pub enum Refusal {
-    /// X1: the first record of a CSV text is not the names of the columns, or there is none.
+    /// X1: the first record of a CSV text does not have the names of the columns, or there is no record.
     Header,
-    /// X2: another number of fields or items than of columns, or than a fixed list has.
+    /// X2: the number of fields or items is not that of the columns, or that of a fixed-size list.
     Width,
     /// X3: a string is not UTF-8.
     NotUtf8,
     /// X4: not an integer.
     NotANumber,
-    /// X5: an integer that its type does not hold.
+    /// X5: an integer out of the range of its type.
     OutOfRange,
     /// X6: neither true nor false.
     NotABool,
     /// X7: not pairs of hexadecimal digits.
     NotHex,
-    /// X8: a null where none is allowed, or something else in a column of nulls.
+    /// X8: a null where none is allowed, or a value in a column of nulls.
     NullMismatch,
     /// X9: a CSV text for a schema with lists or structs.
     Nested,
     /// X10: a line is not a JSON value.
     Json,
-    /// X11: a member that is no field.
+    /// X11: a member that is not the name of a field.
     UnknownName,
     /// X12: a field that is not nullable has no member.
     MissingName,
-    /// X13: an object for fields of which two share a name.
+    /// X13: an object for fields of which two have the same name.
     AmbiguousNames,
-    /// X14: bytes of another number than the type has.
+    /// X14: a number of bytes other than that of the type.
     FixedWidth,
     /// X15: a row that is too heavy.
     TooHeavy,
     /// X16: a row with more distinct values than a dictionary can name.
     DictionaryFull,
-    /// X17: another kind of JSON value than the type takes.
+    /// X17: a kind of JSON value that the type does not accept.
     WrongKind,
 }
 
-/// A refusal, and the number of its record: counted from 1 after the header, and 0 where it is of no record.
+/// A refusal, and the number of its record: counted from 1 after the header, and 0 if it has no record.
 #[derive(Clone, Copy, Debug, PartialEq, Eq)]
 pub struct Refused {
     pub refusal: Refusal,
     pub number: u64,
 }
 
-/// Why a text was not read: it is refused, or memory was.
+/// Why a text was not read: it was refused, or memory was refused.
 #[derive(Clone, Copy)]
 pub enum TextError {
     Refused(Refused),
     OutOfMemory,
 }
 
-// The same of a part of a record, which does not know its number.
+// Why a part of a record was not read; the number of the record is not known here.
 #[derive(Clone, Copy)]
 pub(crate) enum CellError {
     Refused(Refusal),
@@ -99,7 +99,7 @@ impl<T: Drop> From<AllocFailed<T>> for CellError {
     }
 }
 
-// Code and name.
+// Returns the code and the name.
 fn refusal_text(refusal: Refusal) -> &'static str
     ensures { result.now ≡ refusal_text refusal }
 {
@@ -124,7 +124,7 @@ fn refusal_text(refusal: Refusal) -> &'static str
     }
 }
 
-/// Code and name, as `X4 NotANumber`.
+/// The code and the name, for example `X4 NotANumber`.
 impl fmt::Display for Refusal {
     ghost use Rattle.std.specs.Prelude.{Some};
 
@@ -135,7 +135,7 @@ impl fmt::Display for Refusal {
     }
 }
 
-/// Code, name and number, as `X4 NotANumber 3`.
+/// The code, the name and the number, for example `X4 NotANumber 3`.
 impl fmt::Display for Refused {
     ghost use Rattle.std.specs.Prelude.{Some};
     ghost use Rattle.text_import.specs.RefusalText.{refused_text};

@@ -16,7 +16,7 @@ use arrow_schema::Schema;
 use cells::{MAX_ROW_WEIGHT, Row, Value, dictionaries_fit, row_weight};
 use std::alloc::Global;
 
-// The row of cells that were read. `limited` is what `cells::has_limits` answers of the schema.
+// Returns the row of these cells. `limited` is the result of `cells::has_limits` for the schema.
 pub(crate) fn accepted(
     alloc: Global,
     schema: &Schema,
@@ -35,7 +35,7 @@ pub(crate) fn accepted(
     Ok(Row { cells })
 }
 
-// A row of a record, or why there is none, with the record's number.
+// Adds the record's number to a refusal.
 pub(crate) fn numbered(number: u64, row: Result<Row, CellError>) -> Result<Row, TextError>
     ensures { (R : Result (List Cell) Refusal) → Gives refusal_of row_of row R → Gives refused_by row_of result (numbered number R) }
 {

@@ -1,4 +1,4 @@
-// Texts, and the names of fields.
+// Conversions of texts, and the names of fields.
 ghost use Rattle.std.specs.Prelude.{◌≡◌, ◌<◌, ◌↔◌, bytes_eq, option_map, slice_index, EachIndex, IsTrue};
 ghost use Rattle.arrow_schema.specs.View.{column_of};
 ghost use Rattle.arrow_schema.specs.Parts.{name_of_column};
@@ -6,14 +6,14 @@ ghost use Rattle.text_import.specs.inner.Names.{text_where_utf8};
 
 use arrow_schema::Field;
 
-// Whether all bytes are ASCII, one by one: most texts are short.
+// Returns whether all bytes are ASCII, testing them one by one because most texts are short.
 fn are_ascii(bytes: &[u8]) -> bool
     ensures { IsTrue result ↔ EachIndex bytes.now (λ k. slice_index bytes.now k < 128) }
 {
     bytes.iter().all(|byte| *byte < 128)
 }
 
-/// The text that bytes are, where they are UTF-8.
+/// Returns the text of these bytes, if they are UTF-8.
 pub fn text_of(bytes: &[u8]) -> Option<&str>
     ensures { option_map (λ t. t.now) result ≡ text_where_utf8 bytes.now }
 {

@@ -1,4 +1,4 @@
--- A catalogue that is changed is a catalogue.
+-- A changed catalogue is a catalogue.
 use Rattle.std.proofs.Common.{◌≡◌, ◌≤◌, ◌+◌, ◌++◌, ℕ, Bool, true, List, [], ◌∷◌, length, take, drop, take-append-drop, Option, Some, None, refl, sym, ap, subst, ◌∙◌, arith}
 use Rattle.std.specs.List.{list_all}
 use Rattle.std.specs.Str.{bytes_eq}
@@ -34,14 +34,14 @@ removed_stands c name kept =
       segments = omega (arith, segments, without_least segments_in c name);
     })
 
--- where there is no such entry, none is taken out
+-- removing a name that is not there changes nothing
 pub without_none : (c : PlainCatalogue) (name : List ℕ) → entry_of c name ≡ None → without c name ≡ c
 without_none [] name h = refl
 without_none (x ∷ xs) name h =
     let parts = none_found x xs name h in
     cond-false (bytes_eq x.name name) xs (x ∷ without xs name) parts.0 ∙ ap (λ ys. x ∷ ys) (without_none xs name parts.1)
 
--- without another one, there is none either
+-- a name that is not there is not there after a removal either
 pub none_without : (c : PlainCatalogue) (other name : List ℕ) → entry_of c name ≡ None → entry_of (without c other) name ≡ None
 none_without [] other name h = refl
 none_without (x ∷ xs) other name h =
@@ -57,7 +57,7 @@ found_passes p (x ∷ xs) name e all h =
     let parts = and_parts (p x) (list_all p xs) all in
     by_found x xs name e h (λ t stands. subst (λ y. p y ≡ true) stands parts.0) (λ f there. found_passes p xs name e parts.1 there)
 
--- what a renaming makes of the entry that was found
+-- the result of renaming an entry that is there
 pub renamed_is : (c : PlainCatalogue) (from to : List ℕ) (e : PlainEntry) → entry_of c from ≡ Some e → renamed c from to ≡ with_entry (without c from) (named to e)
 renamed_is c from to e h = ap (λ (o : Option PlainEntry). elim o [ None ↦ c | Some x ↦ with_entry (without c from) (named to x) ]) h
 
@@ -80,13 +80,13 @@ renamed_stands c from to e kept name found =
 
 -- ---- append
 
--- other segments for one entry change no name
+-- other segments for an entry change no name
 pub same_names : (c : PlainCatalogue) (name : List ℕ) (segments : List Segment) → names_of (with_segments c name segments) ≡ names_of c
 same_names [] name segments = refl
 same_names (x ∷ xs) name segments =
     cond_both (bytes_eq x.name name) (refilled x segments ∷ xs) (x ∷ with_segments xs name segments) (λ d. names_of d ≡ names_of (x ∷ xs)) (λ _. refl) (λ _. ap (λ ns. x.name ∷ ns) (same_names xs name segments))
 
--- what passes also with these segments does so
+-- a property of all entries still holds, if an entry keeps it with these segments
 pub refilled_all : (p : PlainEntry → Bool) (c : PlainCatalogue) (name : List ℕ) (segments : List Segment) → ((e : PlainEntry) → p e ≡ true → p (refilled e segments) ≡ true) → list_all p c ≡ true → list_all p (with_segments c name segments) ≡ true
 refilled_all p [] name segments alike all = refl
 refilled_all p (x ∷ xs) name segments alike all =
@@ -94,7 +94,7 @@ refilled_all p (x ∷ xs) name segments alike all =
     cond_both (bytes_eq x.name name) (refilled x segments ∷ xs) (x ∷ with_segments xs name segments) (λ d. list_all p d ≡ true) (λ _. and_from (p (refilled x segments)) (list_all p xs) (alike x parts.0) parts.1)
     (λ _. and_from (p x) (list_all p (with_segments xs name segments)) parts.0 (refilled_all p xs name segments alike parts.1))
 
--- what an appending of a segment at least makes of the entry that was found
+-- the result of appending at least one segment to an entry that is there
 pub more_is : (c : PlainCatalogue) (name : List ℕ) (e : PlainEntry) (s : Segment) (more : List Segment) → entry_of c name ≡ Some e → with_more c name (s ∷ more) ≡ with_segments c name (e.segments ++ s ∷ more)
 more_is c name e s more h = ap (λ (o : Option PlainEntry). elim o [ None ↦ c | Some x ↦ with_segments c name (x.segments ++ s ∷ more) ]) h
 
@@ -102,7 +102,7 @@ pub more_none : (c : PlainCatalogue) (name : List ℕ) (more : List Segment) →
 more_none c name [] h = refl
 more_none c name (s ∷ more) h = ap (λ (o : Option PlainEntry). elim o [ None ↦ c | Some x ↦ with_segments c name (x.segments ++ s ∷ more) ]) h
 
--- any new segments of a table
+-- a catalogue whose table gets other segments is a catalogue
 pub refilled_stands : (c : PlainCatalogue) (name : List ℕ) (e : PlainEntry) (segments : List Segment) → is_catalogue c ≡ true → entry_of c name ≡ Some e → list_all is_segment segments ≡ true
     → segment_count (with_segments c name segments) ≤ MAX_SEGMENTS → is_catalogue (with_segments c name segments) ≡ true
 refilled_stands c name e segments kept found all most =
@@ -135,7 +135,7 @@ more_stands c name e (s ∷ ss) kept found each most =
 pub parted : (segments : List Segment) (place count : ℕ) → segments ≡ take place segments ++ (from_place segments place count ++ drop count (drop place segments))
 parted segments place count = sym (ap (λ (ss : List Segment). take place segments ++ ss) (take-append-drop count (drop place segments)) ∙ take-append-drop place segments)
 
--- each passes, also with others that do
+-- if all segments and all replacements pass, so do those after the exchange
 others_pass : (segments : List Segment) (place count : ℕ) (others : List Segment) → list_all is_segment segments ≡ true → list_all is_segment others ≡ true → list_all is_segment (with_others segments place count others) ≡ true
 others_pass segments place count others all each =
     let front = take place segments in
@@ -152,7 +152,7 @@ pub exchanged_none : (c : PlainCatalogue) (name : List ℕ) (place count : ℕ) 
 exchanged_none c name place count others h = ap (λ (o : Option PlainEntry). elim o [ None ↦ c | Some x ↦ with_segments c name (with_others x.segments place count others) ]) h
 
 module _ (c : PlainCatalogue) (name : List ℕ) (e : PlainEntry) (found : entry_of c name ≡ Some e) (place count : ℕ) where
-  -- what an exchange makes of the entry that was found
+  -- the result of an exchange in an entry that is there
   pub exchanged_is : (others : List Segment) → with_exchanged c name place count others ≡ with_segments c name (with_others e.segments place count others)
   exchanged_is others = ap (λ (o : Option PlainEntry). elim o [ None ↦ c | Some x ↦ with_segments c name (with_others x.segments place count others) ]) found
 

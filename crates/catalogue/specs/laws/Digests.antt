@@ -1,4 +1,4 @@
--- A catalogue that gets digests.
+-- A catalogue with digests set.
 use Rattle.std.proofs.Common.{◌≡◌, ◌≤◌, ℕ, Bool, true, List, [], ◌∷◌, length, take, drop, take-append-drop, Option, Some, refl, sym, ap, ◌∙◌, arith}
 use Rattle.std.specs.List.{list_all}
 use Rattle.std.proofs.lemmas.Bool.{and_parts, and_from}
@@ -20,7 +20,7 @@ digests_count [] ds = refl
 digests_count (s ∷ ss) [] = omega (arith, digests_count ss [])
 digests_count (s ∷ ss) (d ∷ ds) = omega (arith, digests_count ss ds)
 
--- they stay where they are
+-- their runs are unchanged
 pub digests_runs : (ss : List Segment) (ds : List (List ℕ)) → runs_in_segments (with_digests ss ds) ≡ runs_in_segments ss
 digests_runs [] ds = refl
 digests_runs (s ∷ ss) [] = ap (λ (rs : List Run). s.place.run ∷ rs) (digests_runs ss [])
@@ -104,7 +104,7 @@ digested_stands c ds kept sized =
       segments = omega (arith, segments, digested_count c ds);
     })
 
--- where each segment gets one, it has the form of digests
+-- if there is a digest for each segment, the catalogue has the form with digests
 pub digested_form : (c : PlainCatalogue) (ds : List (List ℕ)) → segment_count c ≤ length ds → has_form Digested (digested c ds) ≡ true
 unfolding digested
 digested_form [] ds enough = refl

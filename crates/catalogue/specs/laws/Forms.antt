@@ -5,16 +5,16 @@ use Rattle.catalogue.specs.declared.entry.Segment.{Segment}
 use Rattle.catalogue.specs.declared.entry.SegmentForm.{SegmentForm}
 use Rattle.catalogue.specs.Reading.{◌>>=◌, front_number, sized_at, many_at, counted_at, segment_at, schema_in, body_at}
 
--- the value of a step that was made
+-- the value of a step that succeeded
 pub bound : {A B : Type 0} (o : Option A) (f : A → Option B) (y : B) → (o >>= f) ≡ Some y → (x : A) × (o ≡ Some x) × (f x ≡ Some y)
 bound (Some x) f y e = (x, refl, e)
 bound None f y e = absurd cc
 
--- a step that gives a value, and what follows it
+-- a step with a value, and the rest
 pub bound_is : {A B : Type 0} (o : Option A) (x : A) (f : A → Option B) (y : Option B) → o ≡ Some x → f x ≡ y → (o >>= f) ≡ y
 bound_is o x f y h k = ap (λ p. p >>= f) h ∙ k
 
--- where no part was read, none was to be read
+-- if one form reads no parts, the other reads none either
 same_parts : {A : Type 0} (p q : List A × List ℕ) → Some p ≡ Some q → p ≡ q
 same_parts p q same = cc
 

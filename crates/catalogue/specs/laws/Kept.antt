@@ -1,4 +1,4 @@
--- The tests of a catalogue say what they test.
+-- The tests of a catalogue mean what they test.
 use Rattle.std.proofs.Common.{◌≡◌, ◌≤◌, ◌<◌, ◌^◌, ◌==◌, ◌&&◌, ℕ, true, false, length}
 use Rattle.std.specs.Prelude.{nat_le, nat_lt}
 use Rattle.std.specs.List.{list_all}
@@ -53,7 +53,7 @@ is_within s h =
 pub fails_limits : (s : PlainSchema) → (IsWithinLimits s → ⊥) → is_within_limits s ≡ false
 fails_limits s past = false_from_ne_true (is_within_limits s) (λ h. past (is_within s h))
 
--- a run of just the sectors that its bytes need
+-- an extent with exactly the sectors that its bytes need
 pub record IsFilled (least : ℕ) (e : Extent) : Type 0 where
   pub start : e.run.start < 2 ^ 64
   pub bytes : e.bytes < 2 ^ 64
@@ -73,7 +73,7 @@ filled_stands least e is =
     (and_from (nat_lt e.run.start (2 ^ 64)) (nat_lt e.bytes (2 ^ 64)) (lt-ltb _ _ is.start) (lt-ltb _ _ is.bytes))
     (and_from (nat_le least e.bytes) (e.run.count == sector_count e.bytes) (le-leb _ _ is.some) (eq-eqb _ _ is.sectors))
 
--- a segment of these parts may stand, and what is known of one that stands
+-- the properties of a valid segment
 pub record IsSegment (s : Segment) : Type 0 where
   pub place : IsFilled 1 s.place
   pub rows : is_between 1 MAX_SEGMENT_ROWS s.rows ≡ true
@@ -90,14 +90,14 @@ segment_stands s is =
     and_from (is_filled 1 s.place) (is_between 1 MAX_SEGMENT_ROWS s.rows && is_digest s.digest) (filled_stands 1 s.place is.place)
     (and_from (is_between 1 MAX_SEGMENT_ROWS s.rows) (is_digest s.digest) is.rows is.digest)
 
--- an entry of these parts may stand
+-- an entry of valid parts is valid
 pub entry_stands : (e : PlainEntry) → is_name e.name ≡ true → IsWithinLimits e.schema → list_all is_segment e.segments ≡ true → is_page e.page ≡ true → is_entry e ≡ true
 entry_stands e name schema segments page =
     let rest = list_all is_segment e.segments && is_page e.page in
     and_from (is_name e.name) (is_within_limits e.schema && rest) name
     (and_from (is_within_limits e.schema) rest (passes_limits e.schema schema) (and_from (list_all is_segment e.segments) (is_page e.page) segments page))
 
--- what is known of one that stands
+-- the properties of a valid entry
 pub record IsEntry (e : PlainEntry) : Type 0 where
   pub name : is_name e.name ≡ true
   pub schema : IsWithinLimits e.schema

@@ -1,4 +1,4 @@
--- Names in order, and what keeps it.
+-- Sorted names, and the changes that keep them sorted.
 use Rattle.std.proofs.Common.{◌≡◌, ℕ, Bool, true, false, List, [], ◌∷◌, Some, None, Ordering, Less, Equal, Greater, inl, inr, refl, sym, ap, subst, ◌∙◌}
 use Rattle.std.specs.List.{list_all}
 use Rattle.std.specs.Str.{bytes_eq}
@@ -15,7 +15,7 @@ order = slice_cmp nat_cmp
 
 -- ---- three cases
 
--- an ordering, and that it is so
+-- case analysis of an ordering, with its equation
 pub by_order : {G : Type 0} (o : Ordering) → (o ≡ Less → G) → (o ≡ Equal → G) → (o ≡ Greater → G) → G
 by_order Less l e g = l refl
 by_order Equal l e g = e refl
@@ -38,9 +38,9 @@ other_name a b o h f = sym (is_eq-slice_cmp a b) ∙ ap is_eq h ∙ f
 pub same_name : (a b : List ℕ) → order a b ≡ Equal → bytes_eq a b ≡ true
 same_name a b h = sym (is_eq-slice_cmp a b) ∙ ap is_eq h
 
--- ---- what stands where
+-- ---- the places of entries
 
--- a list with an entry, by where the entry's name comes
+-- a list with an entry inserted, by the place of the entry's name
 pub by_seat : (x : PlainEntry) (xs : PlainCatalogue) (e : PlainEntry) (P : PlainCatalogue → Type 0)
     → (order x.name e.name ≡ Less → P (x ∷ with_entry xs e)) → (order x.name e.name ≡ Equal → P (e ∷ xs)) → (order x.name e.name ≡ Greater → P (e ∷ (x ∷ xs))) → P (with_entry (x ∷ xs) e)
 by_seat x xs e P less equal greater =
@@ -52,7 +52,7 @@ by_seat x xs e P less equal greater =
 some_entry : (x e : PlainEntry) → Some x ≡ Some e → x ≡ e
 some_entry x e h = cc
 
--- the entry of a name is the first one, or that of the others
+-- the entry with this name is the first one, or is found among the others
 pub by_found : {G : Type 0} (x : PlainEntry) (xs : PlainCatalogue) (name : List ℕ) (e : PlainEntry) → entry_of (x ∷ xs) name ≡ Some e
     → (bytes_eq x.name name ≡ true → x ≡ e → G) → (bytes_eq x.name name ≡ false → entry_of xs name ≡ Some e → G) → G
 by_found x xs name e h first later =
@@ -61,7 +61,7 @@ by_found x xs name e h first later =
       | inr f ↦ later f (sym (cond-false (bytes_eq x.name name) (Some x) (entry_of xs name) f) ∙ h)
     ]
 
--- where there is none of a name, the first has another one, and there is none among the others
+-- if there is none of this name, the first one has another name, and there is none among the others
 pub none_found : (x : PlainEntry) (xs : PlainCatalogue) (name : List ℕ) → entry_of (x ∷ xs) name ≡ None → (bytes_eq x.name name ≡ false) × (entry_of xs name ≡ None)
 none_found x xs name h =
     elim (cases_Bool (bytes_eq x.name name)) [
@@ -69,7 +69,7 @@ none_found x xs name h =
       | inr f ↦ (f, sym (cond-false (bytes_eq x.name name) (Some x) (entry_of xs name) f) ∙ h)
     ]
 
--- after a name that comes later stands none of this name
+-- after a later name, this name does not occur
 pub none_behind : (c : PlainCatalogue) (low name : List ℕ) → comes_before low (names_of c) ≡ true → ascends (names_of c) ≡ true → order name low ≡ Less → entry_of c name ≡ None
 none_behind [] low name first rises lt = refl
 none_behind (x ∷ xs) low name first rises lt =
@@ -88,7 +88,7 @@ before_with (x ∷ xs) e low first lt =
     (λ is. ap (λ o. comes_before low (names_of (match_ordering o (x ∷ with_entry xs e) (e ∷ xs) (e ∷ (x ∷ xs))))) is ∙ ap is_lt lt)
     (λ is. ap (λ o. comes_before low (names_of (match_ordering o (x ∷ with_entry xs e) (e ∷ xs) (e ∷ (x ∷ xs))))) is ∙ ap is_lt lt)
 
--- a name that another one ties with comes before the same names
+-- names that compare equal sort before the same names
 before_same : (c : PlainCatalogue) (a b : List ℕ) → order a b ≡ Equal → comes_before a (names_of c) ≡ true → comes_before b (names_of c) ≡ true
 before_same [] a b is first = refl
 before_same (x ∷ xs) a b is first = ap is_lt (sym (nat_list_cmp_total.congr a b x.name is)) ∙ first
@@ -117,7 +117,7 @@ with_all p (x ∷ xs) e all here =
     (λ is. ap (λ o. list_all p (match_ordering o (x ∷ with_entry xs e) (e ∷ xs) (e ∷ (x ∷ xs)))) is ∙ and_from (p e) (list_all p xs) here parts.1)
     (λ is. ap (λ o. list_all p (match_ordering o (x ∷ with_entry xs e) (e ∷ xs) (e ∷ (x ∷ xs)))) is ∙ and_from (p e) (list_all p (x ∷ xs)) here all)
 
--- ---- an entry is taken out
+-- ---- an entry is removed
 
 before_next : (low : List ℕ) (x : PlainEntry) (c : PlainCatalogue) → comes_before low (names_of (x ∷ c)) ≡ true → comes_before x.name (names_of c) ≡ true → comes_before low (names_of c) ≡ true
 before_next low x [] first next = refl

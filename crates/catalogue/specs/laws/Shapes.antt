@@ -1,4 +1,4 @@
--- What doesn't depend on the places of segments.
+-- Values that do not depend on where segments lie.
 use Rattle.std.proofs.Common.{◌≡◌, ℕ, Bool, true, false, cond, List, [], ◌∷◌, map, Option, None, refl, sym, ap, ◌∙◌, arith}
 use Rattle.std.specs.List.{sum_by}
 use Rattle.std.specs.Str.{bytes_eq}
@@ -13,7 +13,7 @@ use Rattle.catalogue.specs.Edits.{with_entry, with_segments}
 use Rattle.catalogue.specs.laws.Order.{order, by_order}
 use Rattle.catalogue.specs.laws.Sums.{refilled}
 
--- what the sizes of an entry's texts depend on: its name and schema, how many bytes each of its segments has there, and its page
+-- what the sizes of an entry's texts depend on: its name and schema, the size of each segment's text, and its page
 abbrev pub Shape : Type 0
 Shape = (List ℕ × PlainSchema) × (List ℕ × Option Extent)
 
@@ -23,7 +23,7 @@ shape e = ((e.name, e.schema), (map segment_size e.segments, e.page))
 abbrev pub shapes : PlainCatalogue → List Shape
 shapes c = map shape c
 
--- a value that depends on it alone
+-- a function that depends only on the shape
 abbrev pub IsByShape : (PlainEntry → ℕ) → Type 0
 IsByShape f = (a b : PlainEntry) → shape a ≡ shape b → f a ≡ f b
 
@@ -36,7 +36,7 @@ sum_alike f by_shape (x ∷ xs) (y ∷ ys) same =
     let others : shapes xs ≡ shapes ys = cc same in
     omega (arith, by_shape x y first, sum_alike f by_shape xs ys others, sum_by-cons f x xs, sum_by-cons f y ys)
 
--- an entry in place of another one
+-- inserting entries of the same shape
 pub put_shapes : (c : PlainCatalogue) (e f : PlainEntry) → shape e ≡ shape f → shapes (with_entry c e) ≡ shapes (with_entry c f)
 put_shapes [] e f same = ap (λ (s : Shape). s ∷ []) same
 put_shapes (x ∷ xs) e f same =
@@ -53,7 +53,7 @@ put_shapes (x ∷ xs) e f same =
     ap (λ o. shapes (match_ordering o (x ∷ with_entry xs e) (e ∷ xs) (e ∷ (x ∷ xs)))) is ∙ ap (λ (s : Shape). s ∷ shape x ∷ shapes xs) same
     ∙ sym (ap (λ o. shapes (match_ordering o (x ∷ with_entry xs f) (f ∷ xs) (f ∷ (x ∷ xs)))) (other ∙ is)))
 
--- segments of these sizes in place of others
+-- replacing segments by ones with the same sizes
 pub refilled_shapes : (c : PlainCatalogue) (name : List ℕ) (a b : List Segment) → map segment_size a ≡ map segment_size b → shapes (with_segments c name a) ≡ shapes (with_segments c name b)
 refilled_shapes [] name a b same = refl
 refilled_shapes (x ∷ xs) name a b same = by_test (refilled_shapes xs name a b same) (bytes_eq x.name name)

@@ -1,4 +1,4 @@
--- What a change makes of a sum over the entries, as of their number, their segments or their sizes.
+-- The effect of a change on a sum over the entries, such as their number, their segments or their sizes.
 use Rattle.std.proofs.Common.{◌≡◌, ◌≤◌, ◌+◌, ℕ, true, List, [], ◌∷◌, length, Some, None, Less, Greater, refl, sym, ap, ◌∙◌, subst, arith}
 use Rattle.std.specs.List.{sum_by}
 use Rattle.std.specs.Str.{bytes_eq}
@@ -10,12 +10,12 @@ use Rattle.catalogue.specs.Entries.{PlainEntry, PlainCatalogue, names_of, comes_
 use Rattle.catalogue.specs.Edits.{entry_of, with_entry, without, with_segments}
 use Rattle.catalogue.specs.laws.Order.{order, by_order, by_seat, by_found, none_found, turned, other_name, same_name, none_behind}
 
--- an entry with other segments, and without its page
+-- an entry with other segments and without its page
 abbrev pub refilled : PlainEntry → List Segment → PlainEntry
 refilled e segments = record { name = e.name; schema = e.schema; segments = segments; page = None }
 
 module _ (f : PlainEntry → ℕ) where
-  -- ---- an entry is put
+  -- ---- an entry is inserted
 
   pub put_most : (c : PlainCatalogue) (e : PlainEntry) → sum_by f (with_entry c e) ≤ sum_by f c + f e
   put_most [] e = omega (arith, sum_by-cons f e [])
@@ -53,7 +53,7 @@ module _ (f : PlainEntry → ℕ) where
       let other = other_name x.name e.name Greater is refl in
       absurd (by_found x xs e.name old h (λ t stands. cc) (λ t later. cc)))
 
-  -- what makes no difference to it but the name
+  -- inserting entries with the same name and summand
   pub put_alike : (c : PlainCatalogue) (e g : PlainEntry) → e.name ≡ g.name → f e ≡ f g → sum_by f (with_entry c e) ≡ sum_by f (with_entry c g)
   put_alike [] e g named same = omega (arith, same, sum_by-cons f e [], sum_by-cons f g [])
   put_alike (x ∷ xs) e g named same =
@@ -70,7 +70,7 @@ module _ (f : PlainEntry → ℕ) where
       ap (λ o. sum_by f (match_ordering o (x ∷ with_entry xs e) (e ∷ xs) (e ∷ (x ∷ xs)))) is ∙ omega (arith, same, sum_by-cons f e (x ∷ xs), sum_by-cons f g (x ∷ xs))
       ∙ sym (ap (λ o. sum_by f (match_ordering o (x ∷ with_entry xs g) (g ∷ xs) (g ∷ (x ∷ xs)))) (other ∙ is)))
 
-  -- ---- one is taken out
+  -- ---- one is removed
 
   pub taken_out : (c : PlainCatalogue) (name : List ℕ) (e : PlainEntry) → entry_of c name ≡ Some e → sum_by f (without c name) + f e ≡ sum_by f c
   taken_out [] name e h = absurd cc
@@ -116,6 +116,6 @@ pub number : (c : PlainCatalogue) → sum_by one c ≡ length c
 number [] = refl
 number (x ∷ xs) = omega (arith, number xs, sum_by-cons one x xs)
 
--- that of their segments too
+-- and so is the number of segments
 abbrev pub segments_in : PlainEntry → ℕ
 segments_in e = length e.segments

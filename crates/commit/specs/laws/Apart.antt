@@ -1,4 +1,4 @@
--- Runs that are entered into a free map one after another share no sector.
+-- Runs that are entered one by one into a free map share no sector.
 use Rattle.std.specs.Prelude.{◌≡◌, ◌<◌, ◌+◌, ◌&&◌, ◌||◌, ℕ, Bool, true, false, nat_le, if◌then◌else◌, List, [], ◌∷◌, ◌++◌, zero, suc, length, get_or, Some, None, refl}
 use Rattle.std.proofs.Common.{inl, inr, sym, ap, ◌∙◌, subst, arith}
 use Rattle.std.proofs.lemmas.Bool.{and_from, and_parts, or_right, false_from_ne_true, leb-true, le-leb}
@@ -24,12 +24,12 @@ pub apart_pair : (a b : Run) → IsApart b a → (nat_le (a.start + a.count) b.s
 apart_pair a b (inr before) = ap (λ (t : Bool). t || nat_le (b.start + b.count) a.start) (le-leb _ _ before)
 apart_pair a b (inl after) = ap (λ (t : Bool). nat_le (a.start + a.count) b.start || t) (le-leb _ _ after) ∙ or_right (nat_le (a.start + a.count) b.start) true refl
 
--- a run is apart from the one after some others
+-- the first run is apart from each later one
 apart_from_later : (a r : Run) (ys zs : List Run) → is_apart a (ys ++ r ∷ zs) ≡ true → IsApart r a
 apart_from_later a r [] zs is = pair_apart a r (and_parts (nat_le (a.start + a.count) r.start || nat_le (r.start + r.count) a.start) (is_apart a zs) is).0
 apart_from_later a r (y ∷ ys) zs is = apart_from_later a r ys zs (and_parts (nat_le (a.start + a.count) y.start || nat_le (y.start + y.count) a.start) (is_apart a (ys ++ r ∷ zs)) is).1
 
--- of runs that share no sector each is apart from those before it
+-- if no two runs share a sector, each is apart from those before it
 pub apart_from_earlier : (ys : List Run) (r : Run) (zs : List Run) → are_apart (ys ++ r ∷ zs) ≡ true → (other : Run) → is_among ys other ≡ true → IsApart r other
 apart_from_earlier [] r zs is other among = absurd (cc among)
 apart_from_earlier (y ∷ ys) r zs is other among =
@@ -52,14 +52,14 @@ among_first y ys other is = or_right (same_run y other) (is_among ys other) is
 pub same_first : (y : Run) (ys : List Run) → is_among (y ∷ ys) y ≡ true
 same_first y ys = ap (λ (t : Bool). t || is_among ys y) (same_itself y)
 
--- one more that is apart from each of them
+-- another run that is apart from each of them
 pub are_apart_more : (ys : List Run) (r : Run) → are_apart ys ≡ true → ((other : Run) → is_among ys other ≡ true → IsApart r other) → are_apart (ys ++ r ∷ []) ≡ true
 are_apart_more [] r is apart = refl
 are_apart_more (y ∷ ys) r is apart =
     let parts = and_parts (is_apart y ys) (are_apart ys) is in
     and_from _ _ (is_apart_more y r ys parts.0 (apart y (same_first y ys))) (are_apart_more ys r parts.1 (λ other among. apart other (among_first y ys other among)))
 
--- the runs in use are just these, and share no sector
+-- exactly these runs are in use, and no two share a sector
 pub record HasEntered (size : ℕ) (map : Space) (runs : List Run) : Type 0 where
   pub size_is : map.size ≡ size
   pub uses : Uses map.entries runs []
@@ -75,7 +75,7 @@ used_among size map runs run has used = by_among (is_among runs run) refl (ap is
 among_used : (size : ℕ) (map : Space) (runs : List Run) (run : Run) → HasEntered size map runs → is_among runs run ≡ true → IsUsedIn map.entries run
 among_used size map runs run has among = ap is_used (has.uses run) ∙ ap (λ (t : Bool). is_used (record { taken = t; pins = 0 })) among
 
--- one more is entered
+-- entering another run
 pub entered_more : (size : ℕ) (map next : Space) (runs : List Run) (run : Run) → HasEntered size map runs → IsFree map.size (IsUsedIn map.entries) run → Changes map next run TAKEN → HasEntered size next (runs ++ run ∷ [])
 entered_more size map next runs run has free changes = record {
   size_is = changes.size ∙ has.size_is;
@@ -91,13 +91,13 @@ entered_more size map next runs run has free changes = record {
         changes.others other (λ is. same_run_not run other same (sym is)) ∙ has.uses other
         ∙ ap (λ (t : Bool). record { taken = t; pins = 0 }) (sym (among_more runs run other ∙ ap (λ (t : Bool). is_among runs other || t) same ∙ or_false (is_among runs other)))
 
--- where one meets those before it, the runs share a sector
+-- if a run meets one of those before it, two runs share a sector
 pub overlap_told : (size : ℕ) (map : Space) (runs : List Run) (run : Run) (rest : List Run) → HasEntered size map runs → IsOnDevice map.size run → (IsFree map.size (IsUsedIn map.entries) run → ⊥) → are_apart (runs ++ run ∷ rest) ≡ false
 overlap_told size map runs run rest has on not =
     false_from_ne_true (are_apart (runs ++ run ∷ rest))
     (λ is. not (record { above = on.above; within = on.within; apart = λ other used. apart_from_earlier runs run rest is other (used_among size map runs other has used) }))
 
--- ---- the runs of a catalogue, on the device and apart
+-- ---- the runs of a catalogue lie on the device and apart
 
 pub on_device_is : (size : ℕ) (r : Run) → is_on_device size r ≡ true → IsOnDevice size r
 on_device_is size r is =

@@ -1,4 +1,4 @@
--- The runs of a new catalogue can be in use, where each was in use or was taken, and none is listed more often than there.
+-- The runs of a new catalogue can be in use, if each one was in use or was taken, and none is listed more often than there.
 use Rattle.std.specs.Prelude.{◌≡◌, ◌≢◌, ◌⊎◌, ◌≤◌, ◌+◌, ◌&&◌, ◌||◌, ℕ, Bool, true, false, nat_le, if◌then◌else◌, List, [], ◌∷◌, ◌++◌, None, refl}
 use Rattle.std.specs.List.{AllByRecursion}
 use Rattle.std.proofs.Common.{inl, inr, ⊎_elim, sym, ap, ◌∙◌, subst, arith}
@@ -16,7 +16,7 @@ use Rattle.commit.specs.laws.Frame.{fault_none}
 use Rattle.commit.specs.laws.Taking.{Took, TookAll}
 use Rattle.commit.specs.laws.Placed.{used_apart, took_apart, uses_used}
 
--- a run is the first of a list, or among the others
+-- a run in a list is the first one, or among the others
 pub among_cases : (x : Run) (xs : List Run) (run : Run) → is_among (x ∷ xs) run ≡ true → (x ≡ run) ⊎ (is_among xs run ≡ true)
 among_cases x xs run is = by_first (same_run x run) refl is
   where
@@ -24,7 +24,7 @@ among_cases x xs run is = by_first (same_run x run) refl is
     by_first true same is = inl (same_run_is x run same)
     by_first false same is = inr is
 
--- ---- how often a run is listed
+-- ---- the number of times a run is listed
 
 pub times_some : (xs : List Run) (run : Run) → is_among xs run ≡ true → 1 ≤ times_among xs run
 times_some [] run is = absurd (cc is)
@@ -54,7 +54,7 @@ is_apart_all : (r : Run) (rs : List Run) → ((s : Run) → is_among rs s ≡ tr
 is_apart_all r [] all = refl
 is_apart_all r (x ∷ xs) all = and_from _ _ (apart_pair r x (all x (same_first x xs))) (is_apart_all r xs (λ s among. all s (among_first x xs s among)))
 
--- two of them that differ
+-- two different ones are apart
 apart_at : (rs : List Run) (r s : Run) → are_apart rs ≡ true → is_among rs r ≡ true → is_among rs s ≡ true → r ≢ s → IsApart r s
 apart_at [] r s is one two other = absurd (cc one)
 apart_at (x ∷ xs) r s is one two other =
@@ -85,7 +85,7 @@ once (x ∷ xs) r is some = by_first (same_run x r) refl (once xs r parts.1 some
         (cases_eq (times_among xs r) 0)
     by_first false same most = omega arith
 
--- ---- those of a list that is listed no more often than another one
+-- ---- the runs of a list, each listed no more often than in another list
 
 module _ (size : ℕ) (big : List Run) where
   left_on : (left : List Run) → ((run : Run) → is_among big run ≡ true → is_on_device size run ≡ true) → ((run : Run) → times_among left run ≤ times_among big run) → all_on_device size left ≡ true
@@ -115,7 +115,7 @@ module _ (size : ℕ) (big : List Run) where
           ⊎_elim (λ (same : s ≡ r). absurd (twice (subst (λ (y : Run). is_among rs y ≡ true) same among))) (λ (other : s ≢ r). apart_at big s r is (in_big s (among_first r rs s among)) (in_big r (same_first r rs)) other)
           (same_or_not s r)
 
--- ---- runs in use, and those that were taken
+-- ---- runs in use, and runs that were taken
 
 from_at : (run : Run) (rs : List Run) (s : Run) → ApartFrom run rs → is_among rs s ≡ true → IsApart run s
 from_at run [] s apart among = absurd (cc among)
@@ -155,7 +155,7 @@ some_on size run is =
     let low = and_parts (nat_le 2 run.start) (nat_le 1 run.count && nat_le (run.start + run.count) size) is in
     leb-true _ _ (and_parts (nat_le 1 run.count) (nat_le (run.start + run.count) size) low.1).0
 
--- a catalogue that names runs that were in use and runs that were taken, none more often, can be in use
+-- a catalogue can be in use if its runs were in use or were taken, and none is listed more often
 pub fit_again : (old new : Space) (counts : List ℕ) (taken : List Run) (was : Run) (runs : List Run) (text : Run) (left pinned : List Run) → is_on_device old.size was ≡ true → runs_fault old.size was runs ≡ None
     → Uses old.entries (was ∷ runs) pinned → TookAll old new counts taken → AllByRecursion (λ (n : ℕ). 1 ≤ n) counts → ((run : Run) → times_among (text ∷ left) run ≤ times_among ((was ∷ runs) ++ taken) run)
     → runs_fault old.size text left ≡ None

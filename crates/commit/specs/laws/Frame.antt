@@ -1,4 +1,4 @@
--- What one who opens finds depends on the commit sectors and on the runs in use alone.
+-- What opening finds depends only on the commit sectors and the runs in use.
 use Rattle.std.specs.Prelude.{if◌then◌else◌, ◌≡◌, ◌≤◌, ◌<◌, ◌+◌, ◌%◌, ◌==◌, ◌&&◌, ℕ, Bool, true, false, nat_le, List, [], ◌∷◌, Option, Some, None, Result, Ok, Err, refl}
 use Rattle.std.proofs.Common.{inl, inr, ⊎_elim, sym, ap, ◌∙◌, subst, arith}
 use Rattle.std.proofs.lemmas.Bool.{and_parts, eq-eqb}
@@ -20,7 +20,7 @@ use Rattle.commit.specs.Publishing.{IsOldOrNew, IsPublishing, IsPublished, IsRul
 use Rattle.commit.specs.Replacing.{Change, IsPieceOf, IsMade, CanReplace, StandsAs, StandsAsEither}
 use Rattle.commit.specs.Standing.{Reading, no_store, damaged, rules, is_size, is_on_device, is_extent, all_on_device, are_apart, used_runs, readable, extent_at, text_at, runs_fault, by_runs, by_catalogue, spelled_by, named_by, by_commit, standing, Stands, InSome, IsLocal}
 
--- a text that is found: the tests before it passed
+-- a text is found: the tests before it passed
 pub record HasText (size : ℕ) (image : Image) (k : Commit) (text : List ℕ) : Type 0 where
   pub device : (k.device_sectors == size) ≡ true
   pub extent : is_extent size 4 k.catalogue ≡ true
@@ -41,11 +41,11 @@ pub has_text : (size : ℕ) (image : Image) (k : Commit) (text : List ℕ) → H
 unfolding text_at
 has_text size image k text h = λ i. if h.device i then (if h.extent i then readable (h.read i) else Err CatalogueRange) else Err DeviceSize
 
--- each answer of the tests of a text
+-- the result of each test of a text
 pub text_found : (size : ℕ) (image : Image) (k : Commit) (text : List ℕ) → k.device_sectors ≡ size → is_extent size 4 k.catalogue ≡ true → bytes_at image k.catalogue.run.start k.catalogue.bytes ≡ Some text → text_at size image k ≡ Ok text
 text_found size image k text device extent read = has_text size image k text (record { device = eq-eqb k.device_sectors size device; extent = extent; read = read })
 
--- where the device has the commit's size it is what lies in the extent
+-- if the device has the commit's size, the text is the content of the extent
 pub text_there : (size : ℕ) (image : Image) (k : Commit) → k.device_sectors ≡ size → text_at size image k ≡ extent_at size image 4 k.catalogue
 unfolding text_at
 text_there size image k device = λ i. if eq-eqb k.device_sectors size device i then extent_at size image 4 k.catalogue else Err DeviceSize
@@ -56,7 +56,7 @@ text_elsewhere size image k other =
     let no : (k.device_sectors == size) ≡ false = grind (arith, nat_tests) in
     λ i. if no i then (if is_extent size 4 k.catalogue then readable (bytes_at image k.catalogue.run.start k.catalogue.bytes) else Err CatalogueRange) else Err DeviceSize
 
--- runs that can be in use: each lies on the device, and no two of them share a sector
+-- runs that can be in use: each lies on the device, and no two share a sector
 pub fault_none : (size : ℕ) (text : Run) (runs : List Run) → runs_fault size text runs ≡ None → (all_on_device size runs ≡ true) × (are_apart (text ∷ runs) ≡ true)
 unfolding runs_fault
 fault_none size text runs is = by_tests (all_on_device size runs) (are_apart (text ∷ runs)) refl refl is
@@ -91,12 +91,12 @@ module _ {C : Type 0} (reading : Reading C) (size : ℕ) where
       ∙ ap (by_catalogue reading size k) (ap (spelled_by reading size image k) f.found ∙ f.spelled)
       ∙ ap (by_runs k c) f.fit
 
-  -- what is found where one commit rules, by the catalogue that it names
+  -- what is found if a commit rules, by the catalogue that it names
   found_by : (image : Image) (k : Commit) → is_size size ≡ true → ruling image ≡ Some k → standing reading size image ≡ by_catalogue reading size k (named_by reading size image k)
   unfolding standing
   found_by image k size_is ruled = λ i. if size_is i then by_commit reading size image (ruled i) else damaged DeviceSize
 
-  -- each answer of the tests
+  -- the result of each test
   pub stands_nowhere : (image : Image) → is_size size ≡ true → ruling image ≡ None → standing reading size image ≡ no_store
   unfolding standing
   stands_nowhere image size_is none = λ i. if size_is i then by_commit reading size image (none i) else damaged DeviceSize
@@ -114,7 +114,7 @@ module _ {C : Type 0} (reading : Reading C) (size : ℕ) where
   pub stands_unfit : (image : Image) (k : Commit) (c : C) (cause : Cause) → is_size size ≡ true → ruling image ≡ Some k → named_by reading size image k ≡ Ok c → runs_fault size k.catalogue.run (reading.runs c) ≡ Some cause → standing reading size image ≡ damaged cause
   stands_unfit image k c cause size_is ruled named fault = found_by image k size_is ruled ∙ ap (by_catalogue reading size k) named ∙ ap (by_runs k c) fault
 
-  -- and where one rules all tests passed
+  -- if a commit rules, all tests passed
   pub rules_found : (image : Image) (k : Commit) (c : C) → standing reading size image ≡ rules k c → IsFound image k c
   unfolding standing
   rules_found image k c is = by_size (is_size size) refl is
@@ -151,7 +151,7 @@ module _ {C : Type 0} (reading : Reading C) (size : ℕ) where
       let same : k.catalogue.run.count ≡ sector_count k.catalogue.bytes = grind (arith, nat_tests) in
       (omega arith, omega arith)
 
-  -- the frame: an image with the same ruling commit and the same runs in use is the same to one who opens it
+  -- the frame: an image with the same ruling commit and the same runs in use opens as the same store
   pub same_standing : IsLocal reading → (a b : Image) (k : Commit) (c : C) → standing reading size a ≡ rules k c → ruling b ≡ ruling a
       → ((n : ℕ) → InSome (used_runs reading k c) n → b n ≡ a n) → standing reading size b ≡ rules k c
   same_standing local a b k c is ruled same =
@@ -189,7 +189,7 @@ module _ {C : Type 0} (reading : Reading C) (size : ℕ) where
       above_run k.catalogue.run n (and_parts (k.catalogue.run.count == sector_count k.catalogue.bytes) (is_on_device size k.catalogue.run) parts.1).1 here
   above_used image k c n is (inr later) = let f = rules_found image k c is in above_each (reading.runs c) n (fault_none size k.catalogue.run (reading.runs c) f.fit).0 later
 
-  -- where the new commit rules an image that holds the pieces, the new catalogue is found
+  -- if the new commit rules an image that holds the pieces, the new catalogue is found
   pub made_stands : (before : Image) (change : Change C) → is_size size ≡ true → IsMade reading size before change → (image : Image) → ruling image ≡ Some change.new → HoldsEach image change.pieces
       → ((n : ℕ) → 2 ≤ n → OutOf (runs_of change.pieces) n → image n ≡ before n) → standing reading size image ≡ rules change.new change.will
   made_stands before change limits made image ruled holds same =
@@ -211,7 +211,7 @@ module _ {C : Type 0} (reading : Reading C) (size : ℕ) where
   low : (n : ℕ) → n % 2 < 2
   low n = omega arith
 
-  -- an image that is old or new by its commit stands as the old store, or as the new one
+  -- an image that is old or new by its commit opens as the old store or as the new one
   pub stands_as_either : IsLocal reading → (before : Disk) (change : Change C) → CanReplace reading size before change → (image : Image)
       → IsOldOrNew before change.new change.pieces (IsRuledBy change.old) (IsRuledBy change.new) image → StandsAsEither reading size change before image
   stands_as_either local before change can image is =
@@ -228,11 +228,11 @@ module _ {C : Type 0} (reading : Reading C) (size : ℕ) where
             is.which;
       }
 
-  -- the commit that stands rests
+  -- a commit that is found at rest rests
   pub stands_rests : (d : Disk) (k : Commit) (c : C) → Stands reading size d k c → Rests d k
   stands_rests d k c s = record { quiet = s.quiet; rules = (rules_found (synced_image d) k c s.found).ruled }
 
-  -- at each moment of a publishing, and at its end
+  -- at each moment of publishing, and at its end
   pub replaces : IsLocal reading → (before : Disk) (change : Change C) → CanReplace reading size before change → (d : Disk) → IsPublishing before change.new change.pieces (IsRuledBy change.old) (IsRuledBy change.new) d
       → IsPublishing before change.new change.pieces (StandsAs reading size change.old change.was) (StandsAs reading size change.new change.will) d
   replaces local before change can d p = record { touches = p.touches; begun = p.begun; leaves = λ image may. stands_as_either local before change can image (p.leaves image may) }
@@ -253,7 +253,7 @@ module _ {C : Type 0} (reading : Reading C) (size : ℕ) where
   unfolding ruling newer
   none_stands image limits none = stands_nowhere image limits (λ i. newer (none.0 i) (none.1 i))
 
-  -- and the empty store stands, where its text spells a catalogue without runs
+  -- the empty store is found, if its text is that of a catalogue without runs
   pub empty_stands : (version : FormatVersion) (image : Image) (c : C) → is_size size ≡ true → IsEmptyStore size version image → reading.at size image (first_commit size version) empty_text ≡ Ok c → reading.runs c ≡ [] → standing reading size image ≡ rules (first_commit size version) c
   unfolding runs_fault
   empty_stands version image c limits store spelled none =

@@ -31,13 +31,13 @@ took_length size used [] (r ∷ rs) took = absurd took
 took_length size used (n ∷ ns) [] took = absurd took
 took_length size used (n ∷ ns) (r ∷ rs) took = let more = took_length size (λ other. used other ⊎ (other ≡ r)) ns rs took.1 in omega (arith, more)
 
--- a run that was in use shares no sector with those that were taken then
+-- a run in use shares no sector with those that were taken
 pub used_apart : (size : ℕ) (used : Run → Type 0) (ns : List ℕ) (rs : List Run) → Took size used ns rs → (run : Run) → used run → ApartFrom run rs
 used_apart size used ns [] took run is = tt
 used_apart size used [] (r ∷ rs) took run is = absurd took
 used_apart size used (n ∷ ns) (r ∷ rs) took run is = (swapped r run (took.0.1.apart run is), used_apart size (λ other. used other ⊎ (other ≡ r)) ns rs took.1 run (inl is))
 
--- nor do two of these
+-- nor do any two of these
 pub took_apart : (size : ℕ) (used : Run → Type 0) (ns : List ℕ) (rs : List Run) → Took size used ns rs → AreApart rs
 took_apart size used ns [] took = tt
 took_apart size used [] (r ∷ rs) took = absurd took
@@ -58,7 +58,7 @@ fit_last : (size : ℕ) (pieces : List PlainPiece) (p : PlainPiece) → AllFit s
 fit_last size [] p fit = (fit.0, fit.1)
 fit_last size (x ∷ xs) p fit = fit_last size xs p fit.2
 
--- pieces that lie in runs that were taken for them, the last one a text, can be published as the next commit
+-- pieces in runs that were taken for them, the last one a text, can be published as the next commit
 pub plan_of : (old new : Space) (counts : List ℕ) (front : List PlainPiece) (run : Run) (text : List ℕ) (pieces : List PlainPiece) (k : Commit) (version : FormatVersion) (kind : CatalogueKind)
     → is_size old.size ≡ true → k.device_sectors ≡ old.size → k.epoch + 1 < 2 ^ 64 → TookAll old new counts (runs_of pieces) → counts ≡ map sectors_of (contents_of pieces)
     → pieces ≡ front ++ record { run = run; bytes = text } ∷ [] → IsPlan old.size k (next_commit k version kind run (length text)) pieces
@@ -83,13 +83,13 @@ plan_of old new counts front run text pieces k version kind limits device epoch 
       };
     }
 
--- what is asked for is what contents, the texts of pages and a text take
+-- what is requested is what contents, the texts of pages and a text take
 pub counts_are : (contents : List (List ℕ)) (pages : List ℕ) (texts : List (List ℕ)) (bytes : ℕ) (text : List ℕ) → map sector_count pages ≡ map sectors_of texts → sector_count bytes ≡ sectors_of text
     → counts_of contents pages bytes ≡ map sectors_of ((contents ++ texts) ++ text ∷ [])
 counts_are contents pages texts bytes text each last =
     (λ i. (map sectors_of contents ++ each i) ++ last i ∷ []) ∙ ap (λ (ns : List ℕ). ns ++ sectors_of text ∷ []) (sym (map-append sectors_of contents texts)) ∙ sym (map-append sectors_of (contents ++ texts) (text ∷ []))
 
--- ---- where no page is written
+-- ---- without pages
 
 -- the runs are those of the pieces, and then that of the text
 pub placed_alone : (places : Places) → HasRoom 0 places → places.runs.items ≡ runs_of (plain_pieces places.pieces.items) ++ places.text ∷ []
@@ -104,7 +104,7 @@ one_text texts text is =
     let own = length-map texts.items (λ (parts : Vec PiecePart). bytes_of_parts parts.items) in
     omega (arith, own, ap (λ (vs : List (List ℕ)). length vs) is, whole)
 
--- pieces are known by their runs and their bytes
+-- pieces with the same runs and bytes are equal
 same_pieces : (xs ys : List PlainPiece) → runs_of xs ≡ runs_of ys → contents_of xs ≡ contents_of ys → xs ≡ ys
 same_pieces [] [] runs contents = refl
 same_pieces [] (y ∷ ys) runs contents = absurd (cc runs)
@@ -116,7 +116,7 @@ same_pieces (x ∷ xs) (y ∷ ys) runs contents =
     let others : contents_of xs ≡ contents_of ys = cc contents in
     λ i. record { run = run i; bytes = bytes i } ∷ same_pieces xs ys places others i
 
--- a text that was put after pieces is the last one
+-- a text that was added after pieces is the last one
 pub text_last : (pieces plan : List PlainPiece) (runs : List Run) (run : Run) (text : List ℕ) → runs_of plan ≡ runs → runs ≡ runs_of pieces ++ run ∷ []
     → contents_of plan ≡ contents_of pieces ++ text ∷ [] → plan ≡ pieces ++ record { run = run; bytes = text } ∷ []
 text_last pieces plan runs run text placed last written =
@@ -125,7 +125,7 @@ text_last pieces plan runs run text placed last written =
     (placed ∙ last ∙ sym (map-append (λ (p : PlainPiece). p.run) pieces (piece ∷ [])))
     (written ∙ sym (map-append (λ (p : PlainPiece). p.bytes) pieces (piece ∷ [])))
 
--- what was placed, with the text after it, can be published as the next commit
+-- what was placed, and the text after it, can be published as the next commit
 pub plan_follows : (old new : Space) (contents : List (List ℕ)) (bytes : ℕ) (pieces plan : List PlainPiece) (runs : List Run) (run : Run) (text : List ℕ) (k next : Commit) (version : FormatVersion) (kind : CatalogueKind)
     → is_size old.size ≡ true → k.device_sectors ≡ old.size → k.epoch + 1 < 2 ^ 64
     → TookAll old new (counts_of contents [] bytes) runs → runs ≡ runs_of pieces ++ run ∷ [] → contents_of pieces ≡ contents → bytes ≡ length text
@@ -146,7 +146,7 @@ took_last size used (m ∷ []) [] n r took = absurd took.1
 took_last size used (m ∷ l ∷ ls) [] n r took = absurd took.1
 took_last size used (m ∷ ms) (x ∷ xs) n r took = took_last size (λ other. used other ⊎ (other ≡ x)) ms xs n r took.1
 
--- the text's run is that of a catalogue
+-- the text's run can be that of a catalogue
 pub placed_extent : (old new : Space) (counts : List ℕ) (taken : List Run) (run : Run) (bytes : ℕ) → 4 ≤ bytes → TookAll old new (counts ++ sector_count bytes ∷ []) (taken ++ run ∷ []) → is_extent old.size 4 (record { run = run; bytes = bytes }) ≡ true
 placed_extent old new counts taken run bytes least all =
     let last = took_last old.size (IsUsedIn old.entries) counts taken (sector_count bytes) run all.took in
@@ -164,7 +164,7 @@ taken_free old new counts taken (r ∷ rs) all used n (inr later) = taken_free o
 pub uses_used : (entries : List UsageEntry) (runs pinned : List Run) → Uses entries runs pinned → (run : Run) → is_among runs run ≡ true → IsUsedIn entries run
 uses_used entries runs pinned uses run is = ap is_used (uses run) ∙ ap (λ (t : Bool). is_used (record { taken = t; pins = times_among pinned run })) is
 
--- after runs were taken, they are in use beside those that were
+-- after runs were taken, they and the earlier ones are in use
 pub taken_uses : (old new : Space) (counts : List ℕ) (taken runs pinned : List Run) → TookAll old new counts taken → Uses old.entries runs pinned → Uses new.entries (runs ++ taken) pinned
 taken_uses old new counts taken runs pinned all uses run = all.usages run ∙ by_run (is_among taken run) refl ∙ (λ i. record { taken = sym (among_both runs taken run) i; pins = times_among pinned run })
   where
@@ -177,7 +177,7 @@ taken_uses old new counts taken runs pinned all uses run = all.usages run ∙ by
         ap (by_among TAKEN (usage_of old.entries run)) among ∙ uses run
         ∙ (λ i. record { taken = (sym (or_false (is_among runs run)) ∙ ap (λ (t : Bool). is_among runs run || t) (sym among)) i; pins = times_among pinned run })
 
--- after runs were given back, those in use are the others
+-- after runs were given back, the others are in use
 pub given_uses : (old new : Space) (back runs left pinned : List Run) → GivesAll old new back → Uses old.entries runs pinned → ((run : Run) → is_among left run ≡ (is_among runs run && not (is_among back run))) → Uses new.entries left pinned
 given_uses old new back runs left pinned gives uses others run = gives.usages run ∙ by_run (is_among back run) refl ∙ (λ i. record { taken = sym (others run) i; pins = times_among pinned run })
   where

@@ -1,4 +1,4 @@
--- One text for each commit, and one commit for each text.
+-- Each commit has one text, and each text has one commit.
 use Rattle.std.specs.Prelude.{◌≡◌, ◌≤◌, ◌<◌, ◌^◌, ◌%◌, ◌==◌, ◌&&◌, ℕ, Bool, true, false, nat_eq, nat_lt, if◌then◌else◌, List, ◌∷◌, ◌++◌, drop, replicate, Option, Some, None, refl}
 use Rattle.std.proofs.Common.{ap, ◌∙◌, subst, arith}
 use Rattle.std.proofs.lemmas.Bool.Decides.{nat_tests}
@@ -28,7 +28,7 @@ version_small : (v : FormatVersion) → version_number v < 2 ^ 32
 version_small One = omega arith
 version_small Two = omega arith
 
--- the fields of a text are those that it was written from
+-- the fields of a text are those it was written from
 fields_again : (c : Commit) → IsCommit c → fields_of (commit_text c) ≡ c
 unfolding commit_text
 fields_again c is =
@@ -56,7 +56,7 @@ fields_again c is =
       kind = kind i;
     }
 
--- a commit that is written in its sector is found there
+-- a commit that is written into its sector is found there
 pub found_again : (c : Commit) → IsCommit c → commit_at (c.epoch % 2) (Some (commit_text c)) ≡ Some c
 unfolding commit_at
 found_again c is =
@@ -67,13 +67,13 @@ found_again c is =
     (λ i. if is_placed (c.epoch % 2) (again i) && pointwise nat_eq (commit_text c) (commit_text (again i)) then Some (again i) else None)
     ∙ (λ i. if low i && same i && equal i then Some c else None)
 
--- what is known of a commit that is found in a sector
+-- the properties of a commit that is found in a sector
 pub record IsFoundAt (n : ℕ) (x : Option (List ℕ)) (c : Commit) : Type 0 where
   pub text : x ≡ Some (commit_text c)
   pub epoch : 1 ≤ c.epoch
   pub placed : c.epoch % 2 ≡ n
 
--- a commit is found in its own text alone, and in the sector of its epoch
+-- a commit is found only in its own text, and in the sector of its epoch
 pub found_is : (n : ℕ) (x : Option (List ℕ)) (c : Commit) → commit_at n x ≡ Some c → IsFoundAt n x c
 unfolding commit_at
 found_is n None c is = absurd (cc is)
@@ -95,7 +95,7 @@ pub none_unreadable : (n : ℕ) (x : Option (List ℕ)) → x ≡ None → commi
 unfolding commit_at
 none_unreadable n x is = ap (commit_at n) is
 
--- nor in one whose first byte is not that of the text
+-- nor in one whose first byte is not that of a commit's text
 pub none_begins : (n : ℕ) (b : ℕ) (rest : List ℕ) → (b == 65) ≡ false → commit_at n (Some (b ∷ rest)) ≡ None
 unfolding commit_at commit_text
 none_begins n b rest other = by_placed (is_placed n (fields_of (b ∷ rest)))

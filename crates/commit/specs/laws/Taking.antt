@@ -1,4 +1,4 @@
--- Runs that are taken one after another, and given back.
+-- Taking runs one by one, and giving them back.
 use Rattle.std.specs.Prelude.{◌≡◌, ◌≢◌, ◌⊎◌, ◌≤◌, ◌||◌, ℕ, Bool, true, false, if◌then◌else◌, List, [], ◌∷◌, ◌++◌, Option, Some, None, Ok, Err, refl}
 use Rattle.std.proofs.Common.{inl, inr, ⊎_elim, sym, ap, ◌∙◌, subst, arith}
 use Rattle.std.proofs.lemmas.Bool.{or_right}
@@ -12,11 +12,11 @@ use Rattle.commit.specs.Placing.{is_among, Takes}
 pub same_run_not : (a b : Run) → same_run a b ≡ false → a ≢ b
 same_run_not a b other is = let same : same_run a b ≡ true = subst (λ (r : Run). same_run a r ≡ true) is (same_itself a) in absurd (cc (same, other))
 
--- a usage by whether the run is one of these
+-- the first usage if the run is one of these, and the other one if not
 abbrev pub by_among : Usage → Usage → Bool → Usage
 by_among this other among = if among then this else other
 
--- ---- runs that were taken one after another
+-- ---- runs that were taken one by one
 
 abbrev pub Took : ℕ → (Run → Type 0) → List ℕ → List Run → Type 0
 Took size used [] [] = Unit {0}
@@ -24,7 +24,7 @@ Took size used [] (r ∷ rs) = ⊥
 Took size used (n ∷ ns) [] = ⊥
 Took size used (n ∷ ns) (r ∷ rs) = IsLowest size used n (Some r) × Took size (λ other. used other ⊎ (other ≡ r)) ns rs
 
--- the runs in use after it
+-- the runs in use afterwards
 abbrev pub After : (Run → Type 0) → List Run → Run → Type 0
 After used [] run = used run
 After used (r ∷ rs) run = After (λ other. used other ⊎ (other ≡ r)) rs run
@@ -47,7 +47,7 @@ took_fails size used [] (x ∷ xs) n ms took none = absurd took
 took_fails size used (m ∷ ns) [] n ms took none = absurd took
 took_fails size used (m ∷ ns) (x ∷ xs) n ms took none = inr (x, took.0, (Err n, took_fails size (λ other. used other ⊎ (other ≡ x)) ns xs n ms took.1 none, refl))
 
--- a run is in use after it where it was before, or is one of those
+-- a run in use afterwards was in use before, or is one of those
 pub after_is : (used : Run → Type 0) (rs : List Run) (run : Run) → After used rs run → used run ⊎ (is_among rs run ≡ true)
 after_is used [] run is = inl is
 after_is used (r ∷ rs) run is =
@@ -67,7 +67,7 @@ is_after used (r ∷ rs) run (inr among) =
     by_first true same is here later = here same
     by_first false same is here later = later is
 
--- what is known after some runs were taken: each is used for that alone, and was unused
+-- the properties after runs were taken: each was unused, and is now taken
 pub record TookAll (old new : Space) (counts : List ℕ) (runs : List Run) : Type 0 where
   pub size : new.size ≡ old.size
   pub took : Took old.size (IsUsedIn old.entries) counts runs
@@ -97,7 +97,7 @@ pub lowest_of : (old new : Space) (counts : List ℕ) (runs : List Run) → Took
 lowest_of old new counts runs all count run lowest =
     same_lowest old.size (IsUsedIn new.entries) (After (IsUsedIn old.entries) runs) (λ other. (used_to old new counts runs all other, to_used old new counts runs all other)) count run (subst (λ (n : ℕ). IsLowest n (IsUsedIn new.entries) count run) all.size lowest)
 
--- one more is taken
+-- taking another run
 pub took_one_more : (old new next : Space) (counts : List ℕ) (runs : List Run) (count : ℕ) (run : Run) → 1 ≤ count → TookAll old new counts runs → IsLowest new.size (IsUsedIn new.entries) count (Some run) → Changes new next run TAKEN
     → TookAll old next (counts ++ count ∷ []) (runs ++ run ∷ [])
 took_one_more old new next counts runs count run some all lowest changes = record {
@@ -125,7 +125,7 @@ took_one_more old new next counts runs count run some all lowest changes = recor
         ∙ subst (λ (r : Run). usage_of new.entries r ≡ UNUSED) one here
     was other false false among same is = absurd (cc (among, same, is))
 
--- taken, and given back: all is as it was
+-- taking runs and giving them back changes nothing
 pub all_given_back : (old new next : Space) (counts : List ℕ) (runs : List Run) → TookAll old new counts runs → GivesAll new next runs → SameUsages old.entries next.entries
 all_given_back old new next counts runs took gives run = gives.usages run ∙ by_run (is_among runs run) refl
   where

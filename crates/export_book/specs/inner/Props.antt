@@ -1,4 +1,4 @@
--- That a book is sound has one proof at most.
+-- The proof that a book is sound is unique.
 use Rattle.std.specs.Prelude.{◌<◌, ◌≤◌, List, [], ◌∷◌, length}
 use Rattle.std.specs.Coded.{×_prop, Π_prop, Unit-prop, le_prop}
 use Rattle.std.specs.List.{AllByRecursion, AllByRecursion-prop}

@@ -1,4 +1,4 @@
--- What exports keep once one more is open, a piece of one was given, or one is closed.
+-- The runs that exports name after one was opened, a piece of one was given, or one was closed.
 use Rattle.std.proofs.Common.{◌≡◌, ◌<◌, ◌+◌, ◌++◌, ℕ, not, map, List, [], ◌∷◌, Some, refl, sym, ap, subst, ◌∙◌, inl, inr, arith}
 use Rattle.std.specs.List.{find, AllByRecursion}
 use Rattle.std.proofs.lemmas.Bool.{cond_both, cond-true, cond-false, cases_Bool, eqb-true}
@@ -25,12 +25,12 @@ module _ (run : Run) where
         times_both (runs_in_segments x.segments) (runs_kept xs) run,
       )
 
-  -- one more is open
+  -- one is opened
   pub open_kept : (b : PlainBook) (schema : PlainSchema) (segments : List Segment)
       → times_among (runs_kept (with_open schema segments b).exports) run ≡ times_among (runs_kept b.exports) run + times_among (runs_in_segments segments) run
   open_kept b schema segments = more_kept b.exports (record { id = b.next; schema = schema; segments = segments; given = 0 })
 
-  -- none is let go
+  -- none is removed
   others_kept : (id : ℕ) (es : List PlainExport) → AllByRecursion (λ (o : PlainExport). id < o.id) es → others_of id es ≡ es
   others_kept id [] behind = refl
   others_kept id (x ∷ xs) behind =

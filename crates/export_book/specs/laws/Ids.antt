@@ -1,11 +1,11 @@
--- Ids of exports are given once.
+-- The id of an export is used only once.
 use Rattle.std.proofs.Common.{◌≡◌, ◌≢◌, ◌≤◌, ◌<◌, ◌+◌, ◌++◌, ◌==◌, inl, inr, ℕ, Bool, true, false, cond, not, map, List, [], ◌∷◌, Option, Some, None, refl, ap, ◌∙◌, arith}
 use Rattle.std.specs.List.{filter, find, AllByRecursion}
 use Rattle.std.proofs.lemmas.Bool.{cond_both, cond-false, eqb-true, false_from_ne_true}
 use Rattle.export_book.specs.Book.{PlainExport, PlainBook, IsBook, is_of, open_at, gave}
 use Rattle.export_book.specs.Steps.{IsStep, AreSteps}
 
--- an export of another id
+-- an export with another id
 abbrev pub other_id : (id : ℕ) (e : PlainExport) → e.id ≢ id → is_of id e ≡ false
 other_id id e differs = false_from_ne_true (e.id == id) (λ is. differs (eqb-true e.id id is))
 

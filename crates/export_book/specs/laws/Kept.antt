@@ -1,4 +1,4 @@
--- How often exports keep a run.
+-- How often exports name a run.
 use Rattle.std.proofs.Common.{◌≤◌, List, [], ◌∷◌, length, arith}
 use Rattle.std.specs.List.{AllByRecursion}
 use Rattle.segments.specs.declared.run.Run.{Run}

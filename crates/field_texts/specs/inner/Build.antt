@@ -1,4 +1,4 @@
--- Columns as they are built from the beginning of a text, n levels deep.
+-- Columns built from the start of a text, up to n levels deep.
 use Rattle.std.specs.Prelude.{◌≡◌, ℕ, suc, true, Result, Ok, Err, zero, List, [], ◌∷◌, ◌++◌, length, codes, Option, None, Some, option_map}
 use Rattle.field_texts.specs.declared.build.BuildError.{BuildError}
 use Rattle.field_texts.specs.declared.build.BuildError.TheVariants.{Unread, Memory}
@@ -8,13 +8,13 @@ use Rattle.std.specs.Option.{option_and_then, option_or}
 use Rattle.arrow_schema.specs.Column.{Index, Kind, Column, lists, large_lists, fixed_lists, structs, column, columns_of}
 use Rattle.field_texts.specs.inner.Scan.{stripped, Opening, flat, list, large_list, fixed_list, struct, opening_at, name_at, has_nullable_suffix, after_nullable_suffix}
 
--- what the code built is what reading the bytes gives, unless memory ran out
+-- the result of the code is the result of reading the bytes, unless memory was refused
 abbrev pub Builds : {X Y : Type 0} → (X → Y) → Result X BuildError → Option Y → Type 0
 Builds view (Ok x) read = read ≡ Some (view x)
 Builds view (Err Unread) read = read ≡ None
 Builds view (Err Memory) read = Unit {0}
 
--- of a name and the text after it, the column and what follows it
+-- from a name and the text after it, the column and the rest of the text
 abbrev pub Reader : Type 0
 Reader = List ℕ → List ℕ → Option (Column × List ℕ)
 
@@ -24,11 +24,11 @@ item_from read close text = option_and_then (λ p. option_map (λ rest. (p.0, re
 unfoldable pub field_from : Reader → List ℕ → Option (Column × List ℕ)
 field_from read text = option_and_then (λ p. read p.0 p.1) (name_at text)
 
--- no field more, after the bracket that closes a struct
+-- no more fields, after the bracket that closes a struct
 abbrev pub closed : List ℕ → Option (List Column × List ℕ)
 closed text = option_map (λ rest. ([], rest)) (stripped (codes ">") text)
 
--- n fields more, and the bracket
+-- further fields and the bracket after them, in at most this many steps
 unfoldable pub more_from : Reader → ℕ → List ℕ → Option (List Column × List ℕ)
 more_from read zero text = None
 more_from read (suc turns) text = option_or (closed text) (option_and_then (λ next. option_and_then (λ p. option_map (λ q. (p.0 ∷ q.0, q.1)) (more_from read turns p.1)) (field_from read next)) (stripped (codes ",") text))
@@ -65,7 +65,7 @@ parts_from read struct text = option_map (λ p. ((structs (columns_of p.0), None
 unfoldable pub column_from : Reader → Reader
 column_from read name text = option_and_then (λ p. option_map (λ q. (column name (has_nullable_suffix q.1) q.0.0 q.0.1 [], after_nullable_suffix q.1)) (parts_from read p.0 p.1)) (opening_at true text)
 
--- a column of n levels
+-- a column of at most n levels
 unfoldable pub column_at : ℕ → Reader
 column_at zero name text = None
 column_at (suc levels) name text = column_from (column_at levels) name text

@@ -1,4 +1,4 @@
--- How the code's openings of types are seen.
+-- The plain values of the code's openings of types.
 use Rattle.std.specs.Prelude.{option_map}
 use Rattle.field_texts.specs.declared.scan.Flat.{Flat}
 use Rattle.field_texts.specs.declared.scan.Flat.TheVariants as flats

@@ -1,4 +1,4 @@
--- The printed text of a type in two: the keyword that begins it, and what stands after it.
+-- The printed text of a type in two parts: its keyword, and the rest.
 use Rattle.std.specs.Prelude.{ℕ, List, [], ◌++◌, codes}
 use Rattle.arrow_schema.specs.Column.{Kind, nulls, booleans, integers, dates, timestamps, texts, large_texts, binaries, large_binaries, fixed_binaries, lists, large_lists, fixed_lists, structs}
 use Rattle.field_texts.specs.Keywords.{number_text, integer_text, date_text, time_text, keyword_text}

@@ -1,4 +1,4 @@
--- What a field text begins with, and what follows it.
+-- The parts at the start of a field text.
 use Rattle.std.specs.Prelude.{ℕ, ◌-◌, ◌^◌, ◌==◌, min, Bool, true, false, not, ◌&&◌, ◌||◌, nat_le, nat_lt, List, [], ◌∷◌, map, length, get_or, codes, Option, None, Some, is_some, option_map, if◌then◌else◌}
 use Rattle.std.specs.List.{list_all}
 use Rattle.std.specs.Option.{option_and_then, option_or, unwrap_or}
@@ -14,18 +14,18 @@ use Rattle.arrow_schema.specs.View.{bits_of, date_kind, time_kind}
 use Rattle.field_texts.specs.Keywords.{keyword_text}
 use Rattle.field_texts.specs.Typed.{is_timezone_byte, is_name}
 
--- what follows a beginning
+-- the text after a prefix
 unfoldable pub stripped : List ℕ → List ℕ → Option (List ℕ)
 stripped [] text = Some text
 stripped (x ∷ xs) [] = None
 stripped (x ∷ xs) (y ∷ ys) = if x == y then stripped xs ys else None
 
--- what stands before the first such byte, and what after it
+-- the text before the first delimiter, and the text after it
 unfoldable pub cut_at : ℕ → List ℕ → Option (List ℕ × List ℕ)
 cut_at delimiter [] = None
 cut_at delimiter (x ∷ xs) = if x == delimiter then Some ([], xs) else option_map (λ p. (x ∷ p.0, p.1)) (cut_at delimiter xs)
 
--- the keywords that begin a type; none of them begins another
+-- the keywords at the start of a type; none is a prefix of another
 unfoldable pub every_keyword : List Keyword
 every_keyword =
     keywords.Null ∷ keywords.Bool
@@ -45,7 +45,7 @@ keyword_in (keyword ∷ others) text = option_or (option_map (λ rest. (keyword,
 unfoldable pub keyword_at : List ℕ → Option (Keyword × List ℕ)
 keyword_at text = keyword_in every_keyword text
 
--- decimal digits without leading zeros, and the number that they write
+-- decimal digits without leading zeros, and their value
 abbrev pub is_digit : ℕ → Bool
 is_digit b = nat_le 48 b && nat_le b 57
 
@@ -58,18 +58,18 @@ is_numeral ds = list_all is_digit ds && has_one_form ds
 unfoldable pub value : List ℕ → ℕ
 value ds = number_from_digits 10 (map (λ d. d - 48) ds)
 
--- a number of 32 bits, the greatest for those past it
+-- a number of 32 bits, capped at the greatest one
 abbrev pub capped_number : ℕ → ℕ
 capped_number n = min n (2 ^ 32 - 1)
 
--- a number; where limited, one below `NUMBER_END`
+-- the digits of a number, which is below `NUMBER_END` if limited
 abbrev pub is_size : Bool → List ℕ → Bool
 is_size limited ds = is_numeral ds && (not limited || nat_lt (value ds) NUMBER_END)
 
 unfoldable pub size_at : Bool → ℕ → List ℕ → Option (ℕ × List ℕ)
 size_at limited delimiter text = option_and_then (λ p. if is_size limited p.0 then Some (capped_number (value p.0), p.1) else None) (cut_at delimiter text)
 
--- a timezone in parentheses, where one opens
+-- a timezone in parentheses, if there is a parenthesis
 abbrev pub is_timezone : List ℕ → Bool
 is_timezone timezone = list_all is_timezone_byte timezone && not (length timezone == 0)
 
@@ -83,7 +83,7 @@ timezone_or text (Some inside) = timezone_within inside
 unfoldable pub timezone_at : List ℕ → Option (List ℕ × List ℕ)
 timezone_at text = timezone_or text (stripped (codes "(") text)
 
--- what follows a keyword that begins a type without parts
+-- the rest of a flat type, after its keyword
 unfoldable pub flat_at : Bool → Keyword → List ℕ → Option (Kind × List ℕ)
 flat_at limited keywords.Null text = Some (nulls, text)
 flat_at limited keywords.Bool text = Some (booleans, text)
@@ -101,7 +101,7 @@ flat_at limited keywords.FixedList text = None
 flat_at limited keywords.Struct text = None
 flat_at limited keywords.Dictionary text = None
 
--- how a type begins: all of a flat type, or what stands before the parts of a nested one
+-- how a type begins: a whole flat type, or the text before the parts of a nested one
 pub data Opening : Type 0 where
   flat : Kind → Option Index → Opening
   list : Opening
@@ -136,7 +136,7 @@ opening_at limited text = option_and_then (λ p. opening_after limited p.0 p.1) 
 unfoldable pub name_at : List ℕ → Option (List ℕ × List ℕ)
 name_at text = option_and_then (λ p. if is_name p.0 then Some p else None) (cut_at 58 text)
 
--- the nullable suffix, and what follows it
+-- the nullable suffix, and the text after it
 abbrev pub has_nullable_suffix : List ℕ → Bool
 has_nullable_suffix text = is_some (stripped (codes "?") text)
 

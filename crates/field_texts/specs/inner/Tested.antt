@@ -1,11 +1,11 @@
--- What the test of field texts answers, before any column is built.
+-- The result of the test of field texts, before any column is built.
 use Rattle.std.specs.Prelude.{◌≡◌, ℕ, ◌<◌, true, false, List, [], length, get_or, Result, Ok, Err}
 use Rattle.field_texts.specs.declared.parse.ParseError.{ParseError}
 use Rattle.field_texts.specs.declared.parse.ParseError.TheVariants.{BadText, Limit, OutOfMemory}
 use Rattle.field_texts.specs.Typed.{IsFieldText}
 use Rattle.field_texts.specs.Reported.{IsBadText, IsPastNumber}
 
--- what the test of one text answers, and that of all in turn
+-- the result of the test of one text, and that of all texts in order
 abbrev pub TestsOne : ℕ → List ℕ → Result (Unit {0}) ParseError → Type 0
 TestsOne number text (Ok _) = IsFieldText true text
 TestsOne number text (Err (BadText n)) = (n ≡ number) × (IsFieldText true text → ⊥) × (IsFieldText false text → ⊥)

@@ -1,4 +1,4 @@
--- A dictionary's values have no more columns than there are at all levels, so that its batch may be framed.
+-- A dictionary's values have no more columns than the schema at all levels, so their batch can be framed.
 use Rattle.std.specs.List.{AllByRecursion, flat_map}
 use Rattle.std.proofs.Common.{◌≤◌, ℕ, List, [], ◌∷◌, map, length, Some, None, arith, subst, sym, length-append}
 use Rattle.std.proofs.ByRecursion.{All-append}
@@ -10,7 +10,7 @@ use Rattle.columns.specs.Array.{Array, Arrays, array_list, dictionary_in, items_
 use Rattle.columns.specs.Buffers.{value_column, typed_dictionaries, dictionaries_of}
 use Rattle.columns.specs.Tests.{Typed, arrays_at, arrays_below, every_array}
 
--- it has n columns at most, itself and all below it
+-- it has at most `most` columns, counting all levels
 abbrev pub HasFew : ℕ → Typed → Type 0
 HasFew most t = length (preorder t.column) ≤ most
 
@@ -44,7 +44,7 @@ mutual
       All-append (HasFew most) (arrays_at c (first_array xs)) (every_array cs (other_arrays xs)) (few_at most c (first_array xs) (omega (arith, few, both)))
       (few_of most cs (other_arrays xs) (omega (arith, few, both)))
 
--- a dictionary's column is that of the values
+-- the same for the column of a dictionary's values
 abbrev HasFewOwn : ℕ → Typed → Type 0
 HasFewOwn most t = length (preorder_all (own_column t)) ≤ most
 

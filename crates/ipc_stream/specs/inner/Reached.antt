@@ -16,15 +16,15 @@ use Rattle.ipc_stream.specs.Meaning.{Known, known_at_end, read_from}
 use Rattle.ipc_stream.specs.Place.{accepted, bytes_taken, place_of}
 use Rattle.ipc_stream.specs.Progress.{IsBefore}
 
--- ---- what stands at the front
+-- ---- the next message
 
--- a message or the end of stream, and how many bytes it takes
+-- a message or the end of stream, and its size in bytes
 pub record IsNext (bytes : List ℕ) (found : code.NextMessage × ℕ) : Type 0 where
   pub next : next_message bytes ≡ Ok (next_message_of found.0)
   pub size : found.1 ≡ taken (next_message_of found.0)
   pub within : found.1 ≤ length bytes
 
--- none is found where the bytes are cut off
+-- none is found if the bytes are cut off
 abbrev pub FindsNext : List ℕ → Result (Option (code.NextMessage × ℕ)) Fault → Type 0
 FindsNext bytes (Ok (Some found)) = IsNext bytes found
 FindsNext bytes (Ok None) = next_message bytes ≡ Err Truncated
@@ -32,14 +32,14 @@ FindsNext bytes (Err fault) = (next_message bytes ≡ Err fault) × (fault ≡ T
 
 -- ---- all messages
 
--- what is known at the end of bytes that follow what is known
+-- the state at the end of bytes that follow the state `before`
 abbrev pub known_from : Option Known → List ℕ → Result Known Fault
 known_from before bytes = read_from supported_codes (suc (length bytes)) before bytes
 
 abbrev pub after_all : List ℕ → List ℕ
 after_all bytes = after_whole (length bytes) bytes
 
--- nothing is known only where nothing was read
+-- the state is empty only if nothing was read
 abbrev pub BeginsAt : Option Known → (start : ℕ) → Type 0
 BeginsAt None start = start ≡ 0
 BeginsAt (Some k) start = Unit {0}
@@ -47,7 +47,7 @@ BeginsAt (Some k) start = Unit {0}
 abbrev pub accepted_from : Option Known → List ℕ → List Envelope
 accepted_from before bytes = accepted supported_codes (length bytes) before bytes
 
--- the bytes were read so far, n messages: with any bytes after them they mean what their rest means after what is known
+-- the bytes were read up to `start`, `number` messages: with any bytes appended they mean what the rest means after the state
 pub record IsReadTo (bytes : List ℕ) (number start : ℕ) (front : Option Front) : Type 0 where
   pub before : Option Known
   pub known : IsBefore bytes front before
@@ -69,17 +69,17 @@ pub record Rests (bytes : List ℕ) (r : Reading) : Type 0 where
   pub whole : r.held ≤ 0 → known_from None bytes ≡ known_at_end read.before
   pub stops : accepted_from read.before (drop r.start bytes) ≡ []
 
--- the first fault, and where it stands
+-- the first fault, and where it lies
 abbrev pub StoppedBy : List ℕ → ImportError → (number start : ℕ) → Type 0
 StoppedBy bytes errors.OutOfMemory number start = Unit {0}
 StoppedBy bytes (errors.Fault fault) number start = (settled_fault supported_codes bytes ≡ Some fault) × (place_of supported_codes bytes ≡ Some (number, start))
 
--- what reading on gives
+-- the result of reading on
 abbrev pub GivesReading : List ℕ → Result Reading Stopped → Type 0
 GivesReading bytes (Ok r) = Rests bytes r
 GivesReading bytes (Err s) = StoppedBy bytes s.error s.number s.start
 
--- the end of stream stands there, with n bytes after it
+-- the end of stream is at `start`, with `behind` bytes after it
 pub record EndsReading (bytes : List ℕ) (start behind : ℕ) : Type 0 where
   pub next : next_message (drop start bytes) ≡ Ok end_of_stream
   pub size : length bytes ≡ start + 8 + behind

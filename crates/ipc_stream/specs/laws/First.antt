@@ -16,7 +16,7 @@ use Rattle.ipc_message.specs.Raw.{RawSchema, RawHeader, schema_header, dictionar
 use Rattle.ipc_stream.specs.Meaning.{Known, known_first, known_table, with_dictionary, with_rows, order_fault, read_after, read_header, read_next, known_at_end, known_at_end_of_stream, by_next_message, read_from, meaning, ◌>>=◌, is_empty}
 use Rattle.ipc_stream.specs.Progress.{known_batch}
 
--- it is framed, its header is that of a schema, and this schema passes the checks
+-- the first message is framed, its header is a schema, and the schema passes the checks
 pub record BeginsWith (supported : ℕ → Bool) (bytes : List ℕ) (s : PlainSchema) : Type 0 where
   pub first : Envelope
   pub schema : RawSchema

@@ -1,4 +1,4 @@
--- How many buffers are placed.
+-- The number of placed buffers.
 use Rattle.std.proofs.Common.{◌≡◌, ℕ, suc, ◌+◌, List, [], ◌∷◌, length, refl, ap}
 use Rattle.ipc_write.specs.Written.{padded, placed}
 

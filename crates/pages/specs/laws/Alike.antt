@@ -1,4 +1,4 @@
--- Where the segments of tables lie makes no difference to how a catalogue is kept.
+-- How a catalogue is stored does not depend on where the segments of its tables lie.
 use Rattle.std.specs.Prelude.{◌≡◌, ◌+◌, ℕ, Bool, nat_le, List, [], ◌∷◌, ◌++◌, length, map, flat_map, sum_by, Option, Some, None, if◌then◌else◌, refl}
 use Rattle.std.proofs.Common.{sym, ap, ◌∙◌, arith}
 use Rattle.std.proofs.lemmas.List.{map-append, length-map}

@@ -1,4 +1,4 @@
--- The pages that stay when a catalogue gets digests: those of tables without segments, which say the same in each form.
+-- The pages that are kept when a catalogue gets digests: those of tables without segments, which mean the same in each form.
 use Rattle.std.specs.Prelude.{◌≡◌, ℕ, List, [], ◌∷◌, length, take, drop, Some, Ok}
 use Rattle.std.proofs.Common.{ap}
 use Rattle.sector_dev.specs.Disk.{Image}

@@ -1,4 +1,4 @@
--- What is read of a stored catalogue depends on the runs that it names alone.
+-- Reading a stored catalogue depends only on the runs that it names.
 use Rattle.std.specs.Prelude.{◌≡◌, ◌-◌, ◌++◌, ℕ, List, [], ◌∷◌, length, Some, Ok}
 use Rattle.std.proofs.Common.{inl, inr, ap, subst}
 use Rattle.sector_dev.specs.Disk.{Image}

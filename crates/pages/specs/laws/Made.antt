@@ -1,4 +1,4 @@
--- What is written is read: a settled catalogue, by its list or by its root and pages, kept and new ones.
+-- What is written is read back: a settled catalogue by its list, or by its root and its old and new pages.
 use Rattle.std.specs.Prelude.{◌≡◌, ◌≤◌, ℕ, Bool, true, false, List, length, map, Some, Ok, if◌then◌else◌, refl}
 use Rattle.std.specs.List.{AllByRecursion}
 use Rattle.std.proofs.Common.{sym, ap, ◌∙◌, arith}
@@ -19,7 +19,7 @@ use Rattle.pages.specs.laws.Read.{then_ok, pages_again}
 use Rattle.pages.specs.laws.Written.{ArePages, IsRead, IsFree, all_have}
 use Rattle.pages.specs.laws.Sizes.{pages_sum}
 
--- the laws of the texts that are used, for this catalogue
+-- the laws of texts that are used, for this catalogue
 pub record TextsAreRead (form : SegmentForm) (c : PlainCatalogue) (runs : List Run) : Type 0 where
   pub list : catalogue_at form (list_text c) ≡ Some (map bare c)
   pub root : is_whole c ≡ false → root_at (root_text (root_of (with_pages c runs))) ≡ Some (root_of (with_pages c runs))

@@ -1,4 +1,4 @@
--- Tables with pages and without, one after another.
+-- Lists of tables with and without pages.
 use Rattle.std.specs.Prelude.{◌≡◌, ℕ, zero, suc, List, [], ◌∷◌, ◌++◌, length, drop, Option, Some, None, refl}
 use Rattle.std.proofs.Common.{sym, ap, ◌∙◌, subst, arith}
 use Rattle.segments.specs.declared.run.Run.{Run}
@@ -6,7 +6,7 @@ use Rattle.segments.specs.declared.extent.Extent.{Extent}
 use Rattle.catalogue.specs.Entries.{PlainEntry, PlainCatalogue}
 use Rattle.pages.specs.Paging.{pageless, in_first, tail_of, with_pages, AreFilled}
 
--- a table has a page, or none
+-- a table has a page or none
 pub by_page : {G : Type 0} (o : Option Extent) → ((p : Extent) → o ≡ Some p → G) → (o ≡ None → G) → G
 by_page (Some p) paged none = paged p refl
 by_page None paged none = none refl
@@ -24,7 +24,7 @@ module _ (e : PlainEntry) (es : PlainCatalogue) where
   pub made_listed : e.page ≡ None → pageless (e ∷ es) ≡ e ∷ pageless es
   made_listed none = ap (λ (x : Option Extent). elim x [ None ↦ e ∷ [] | Some q ↦ [] ] ++ pageless es) none
 
--- what holds of the tables with their pages, where each that has none gets one of the runs
+-- induction over the tables with their pages, if each one without a page gets one of the runs
 pub by_pages : (P : PlainCatalogue → PlainCatalogue → Type 0) → P [] []
     → ((e : PlainEntry) (es : PlainCatalogue) (made : PlainCatalogue) → P es made → (p : Extent) → e.page ≡ Some p → P (e ∷ es) (e ∷ made))
     → ((e : PlainEntry) (es : PlainCatalogue) (made : PlainCatalogue) (run : Run) (rest : List Run) → P es made → e.page ≡ None → AreFilled (e ∷ []) (run ∷ []) → P (e ∷ es) (in_first e (run ∷ rest) ∷ made))
@@ -45,7 +45,7 @@ filled_length [] (run ∷ runs) filled = absurd filled
 filled_length (e ∷ es) [] filled = absurd filled
 filled_length (e ∷ es) (run ∷ runs) filled = let more = filled_length es runs filled.1 in omega (arith, more)
 
--- ---- one table more
+-- ---- one more table
 
 no_more : (n : ℕ) → drop n (tail_of []) ≡ []
 no_more zero = refl

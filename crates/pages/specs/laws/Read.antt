@@ -1,4 +1,4 @@
--- What was read of pages says what they hold, and is read again.
+-- Pages that were read hold what was read, and are read again.
 use Rattle.std.specs.Prelude.{if◌then◌else◌, ◌≡◌, ◌≤◌, ◌<◌, ◌+◌, ◌-◌, ◌&&◌, ◌==◌, ℕ, Bool, true, false, nat_le, List, [], ◌∷◌, ◌++◌, length, Option, Some, None, Result, Ok, Err, refl}
 use Rattle.std.specs.List.{list_all, AllByRecursion}
 use Rattle.std.proofs.Common.{sym, ap, ◌∙◌, subst, arith}
@@ -20,7 +20,7 @@ use Rattle.commit.specs.Standing.{is_extent, is_on_device, readable, extent_at}
 use Rattle.pages.specs.Paging.{root_of}
 use Rattle.pages.specs.Stored.{then_read, or_no_text, page_in, pages_at, HoldsPage, HoldsPages}
 
--- the value of a step that was made
+-- the value of a step that succeeded
 pub bound_ok : {A B : Type 0} (o : Result A Cause) (f : A → Result B Cause) (y : B) → then_read o f ≡ Ok y → (x : A) × (o ≡ Ok x) × (f x ≡ Ok y)
 bound_ok (Err cause) f y is = absurd (cc is)
 bound_ok (Ok x) f y is = (x, refl, is)
@@ -32,7 +32,7 @@ pub text_there : {A : Type 0} (o : Option A) (x : A) → or_no_text o ≡ Ok x �
 text_there None x is = absurd (cc is)
 text_there (Some y) x is = let same : y ≡ x = cc is in ap Some same
 
--- ---- a page's text
+-- ---- the text of a page
 
 abbrev pub Body : Type 0
 Body = PlainSchema × List Segment
@@ -73,7 +73,7 @@ is_body form most bytes b is =
     ∙ cond-true (passes most (b, is.rest)) (Some b) None
     (and_from _ _ is.none (and_from _ _ is.limits (and_from _ _ is.sound (le-leb _ _ is.few))))
 
--- with another limit that its segments keep
+-- with another limit that its segments do not exceed
 pub page_most : (form : SegmentForm) (m n : ℕ) (bytes : List ℕ) (b : Body) → page_at form m bytes ≡ Some b → length b.1 ≤ n → page_at form n bytes ≡ Some b
 page_most form m n bytes b is few =
     let x = body_is form m bytes b is in
@@ -101,7 +101,7 @@ read_holds form size image most (r ∷ rs) c is =
 
 -- ---- and are read again
 
--- the entry has a page, which says what it does
+-- the entry has a page that holds its schema and segments
 abbrev pub HasPage : SegmentForm → ℕ → Image → PlainEntry → Type 0
 HasPage form size image e = (p : Extent) × (e.page ≡ Some p) × (page_in form size image (length e.segments) p ≡ Ok (e.schema, e.segments))
 
@@ -120,7 +120,7 @@ pages_again form size image most (e ∷ es) all few =
     ∙ then_ok (page_in form size image most p) (λ body. then_read (pages_at form size image (most - length body.1) (root_of es)) (λ others. Ok (entry_from e.name (Some p) body ∷ others))) (e.schema, e.segments) (Ok (e ∷ es)) one
     (then_ok (pages_at form size image (most - length e.segments) (root_of es)) (λ others. Ok (entry_from e.name (Some p) (e.schema, e.segments) ∷ others)) es (Ok (e ∷ es)) rest (λ i. Ok (entry i ∷ es)))
 
--- ---- in another image that has the same in its sectors
+-- ---- in another image with the same sectors
 
 pub record HasBytes (size : ℕ) (image : Image) (least : ℕ) (e : Extent) (bytes : List ℕ) : Type 0 where
   pub extent : is_extent size least e ≡ true

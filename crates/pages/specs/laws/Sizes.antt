@@ -1,4 +1,4 @@
--- Pages make no difference to the sizes of texts, and so none to how a catalogue is kept.
+-- The sizes of texts, and so how a catalogue is stored, do not depend on pages.
 use Rattle.std.specs.Prelude.{if◌then◌else◌, ◌≡◌, ℕ, Bool, true, false, List, [], ◌∷◌, map, sum_by, Option, Some, None, refl}
 use Rattle.std.proofs.Common.{sym, ap, ◌∙◌, subst, arith}
 use Rattle.std.proofs.lemmas.List.Sums.{sum_by-cons}
@@ -7,7 +7,7 @@ use Rattle.segments.specs.declared.extent.Extent.{Extent}
 use Rattle.catalogue.specs.Entries.{PlainEntry, PlainCatalogue, bare}
 use Rattle.pages.specs.Paging.{is_whole, in_page, in_first, tail_of, with_pages, settled}
 
--- a value that doesn't look at the page
+-- a function that ignores the page
 abbrev pub IsPagefree : (PlainEntry → ℕ) → Type 0
 IsPagefree f = (e : PlainEntry) (o : Option Extent) → f (record { name = e.name; schema = e.schema; segments = e.segments; page = o }) ≡ f e
 

@@ -1,4 +1,4 @@
--- A catalogue that is kept in pages is a catalogue, and its root one of its tables.
+-- A catalogue in pages is a catalogue, and its root has its tables.
 use Rattle.std.specs.Prelude.{◌≡◌, ◌+◌, ℕ, Bool, true, List, [], ◌∷◌, ◌++◌, length, sum_by, Option, Some, None, refl}
 use Rattle.std.specs.List.{list_all}
 use Rattle.std.proofs.Common.{ap, ◌∙◌, subst, arith}

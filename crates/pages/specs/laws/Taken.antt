@@ -1,4 +1,4 @@
--- Runs that were taken for streams, pages and a text are such runs.
+-- Runs that were taken for streams, pages and a text have the properties that pages need.
 use Rattle.std.specs.Prelude.{◌≡◌, ◌⊎◌, ◌≤◌, ◌+◌, ◌^◌, ◌&&◌, ◌==◌, ℕ, Bool, true, false, nat_le, nat_lt, List, [], ◌∷◌, ◌++◌, length, map, if◌then◌else◌, refl}
 use Rattle.std.proofs.Common.{inl, inr, arith}
 use Rattle.std.proofs.lemmas.Bool.{and_from, le-leb, lt-ltb, eq-eqb}
@@ -15,7 +15,7 @@ use Rattle.catalogue.specs.Text.{table_text, table_size, list_size}
 use Rattle.pages.specs.Paging.{is_whole, pageless, page_sizes, root_bytes, text_size, AreFilled, AreRunsOf, ArePageRuns}
 use Rattle.pages.specs.laws.Written.{ArePages}
 
--- a run of n sectors, after the commit sectors and on the device
+-- a run of `count` sectors on the device, after the commit sectors
 pub record IsTaken (size count : ℕ) (run : Run) : Type 0 where
   pub count_is : run.count ≡ count
   pub above : 2 ≤ run.start
@@ -40,7 +40,7 @@ taken_length size [] (r ∷ rs) taken = absurd taken
 taken_length size (n ∷ ns) [] taken = absurd taken
 taken_length size (n ∷ ns) (r ∷ rs) taken = let more = taken_length size ns rs taken.1 in omega (arith, more)
 
--- the first of them, and the others
+-- the first of them without the others
 pub taken_front : (size : ℕ) (ns ms : List ℕ) (rs qs : List Run) → length rs ≡ length ns → AreTaken size (ns ++ ms) (rs ++ qs) → AreTaken size ns rs
 taken_front size [] ms [] qs same taken = tt
 taken_front size [] ms (r ∷ rs) qs same taken = absurd (omega (arith, same))
@@ -103,7 +103,7 @@ module _ (size : ℕ) (most : size ≤ 4194304) where
       let others : contents_of ps ≡ map table_text es = cc texts in
       (page_extent e p.run taken.0, among p.run (table_text e) (inl (refl, first)), pages_are all es ps others taken.1 (λ run bytes is. among run bytes (inr is)))
 
--- ---- pieces of a part are pieces of all
+-- ---- pieces of a part are pieces of the whole
 
 pub piece_left : (xs ys : List PlainPiece) (run : Run) (bytes : List ℕ) → IsPieceOf xs run bytes → IsPieceOf (xs ++ ys) run bytes
 piece_left [] ys run bytes is = absurd is
@@ -114,7 +114,7 @@ pub piece_right : (xs ys : List PlainPiece) (run : Run) (bytes : List ℕ) → I
 piece_right [] ys run bytes is = is
 piece_right (x ∷ xs) ys run bytes is = inr (piece_right xs ys run bytes is)
 
--- ---- what is asked for has some bytes
+-- ---- what is requested has at least one byte
 
 pub text_least : (c : PlainCatalogue) → 4 ≤ text_size c
 text_least c = by_whole (is_whole c)

@@ -1,4 +1,4 @@
--- Which runs a settled catalogue names: those of before, and the new pages', but for the pages that are given up.
+-- The runs that a settled catalogue names: those from before, and those of the new pages, but not those of pages that are given up.
 use Rattle.std.specs.Prelude.{◌≡◌, ◌+◌, ◌++◌, ℕ, Bool, true, false, List, [], ◌∷◌, length, map, flat_map, Option, Some, None, if◌then◌else◌, refl}
 use Rattle.std.proofs.Common.{sym, ap, ◌∙◌, subst, arith}
 use Rattle.segments.specs.declared.run.Run.{Run}
@@ -17,7 +17,7 @@ module _ (run : Run) where
   segments_times : PlainEntry → ℕ
   segments_times e = times_among (map (λ (s : Segment). s.place.run) e.segments) run
 
-  -- an entry's runs are its page's and its segments'
+  -- the runs of an entry are those of its page and its segments
   split : (e : PlainEntry) → times_among (runs_in e) run ≡ times_among (page_runs e.page) run + times_among (map (λ (s : Segment). s.place.run) e.segments) run
   split e = times_both (page_runs e.page) (map (λ (s : Segment). s.place.run) e.segments) run
 

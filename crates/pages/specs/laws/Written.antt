@@ -22,14 +22,14 @@ use Rattle.pages.specs.Paging.{pageless, in_page, in_first, tail_of, with_pages}
 use Rattle.pages.specs.Stored.{or_no_text, HoldsPage, HoldsPages}
 use Rattle.pages.specs.laws.Read.{bound_ok, then_ok, bytes_are, has_bytes, extent_is, same_page, HasPage}
 
--- these runs are those of the pages that are written for these entries: each page's text is one of the pieces
+-- these are the runs of the pages that are written for these entries: the text of each page is one of the pieces
 abbrev pub ArePages : ℕ → List PlainPiece → List PlainEntry → List Run → Type 0
 ArePages size pieces [] [] = Unit {0}
 ArePages size pieces [] (run ∷ runs) = ⊥
 ArePages size pieces (e ∷ es) [] = ⊥
 ArePages size pieces (e ∷ es) (run ∷ runs) = (is_extent size 8 (record { run = run; bytes = table_size e }) ≡ true) × IsPieceOf pieces run (table_text e) × ArePages size pieces es runs
 
--- what is written is read again, and has its size
+-- a page text is read back, and has its size
 pub record IsRead (form : SegmentForm) (e : PlainEntry) : Type 0 where
   pub again : page_at form (length e.segments) (table_text e) ≡ Some (e.schema, e.segments)
   pub size : length (table_text e) ≡ table_size e

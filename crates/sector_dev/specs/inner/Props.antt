@@ -1,4 +1,4 @@
--- That a story speaks of contents alone has one proof at most.
+-- The proof that a story has only whole contents is unique.
 use Rattle.std.specs.Prelude.{ℕ, List, [], ◌∷◌, length, Option, Some, None, IfSome}
 use Rattle.std.specs.Coded.{Coded-set, coded_ℕ, ×_prop, Π_prop, Unit-prop, le_prop}
 use Rattle.sector_dev.specs.Disk.{Disk, Sector, Story, IsContent, AreContents, HoldsContents, IsWhole, Each}

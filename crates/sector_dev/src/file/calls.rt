@@ -1,4 +1,4 @@
-// The calls of a device that is a file.
+// The calls of a device in a file.
 ghost use Rattle.std.specs.Prelude.{◌≡◌, ◌<◌, ◌≤◌, ◌+◌, ◌⊎◌, [], ◌∷◌, false, length, IfErr, OnOk, OnErr, IfSome, is_ok, true};
 ghost use Rattle.std.proofs.Common.{sym};
 ghost use Rattle.std.proofs.lemmas.Bool.{true≢false};
@@ -36,7 +36,7 @@ impl<F: Read + Write + Seek + OpenFile + Drop> SectorDevice for FileDevice<F> {
         self.failed
     }
 
-    // It never answers `Unreadable`.
+    // Never returns `Unreadable`.
     fn read(&mut self, n: u64, to: &mut [u8; 512]) -> Result<(), DevError>
         requires { n < self.old.sectors }
         ensures size { self.new.sectors ≡ self.old.sectors }

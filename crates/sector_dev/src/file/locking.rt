@@ -1,19 +1,19 @@
-// A file that is locked, so that no other program changes what this one reads or writes.
+// Locks a file, so that no other program changes what this one reads or writes.
 use std::fs::File;
 use std::io;
 
-/// A file that can be locked until it is closed. A lock that another program holds against it is an error.
+/// A file that can be locked until it is closed. A conflicting lock of another program is an error.
 pub trait LockFile {
-    /// Locks it alone: nobody else has a lock on it.
+    /// Locks the file exclusively.
     ///
     /// # Errors
-    /// An error where another program holds a lock against it, or the system refuses.
+    /// An error if another program holds a conflicting lock, or the system refuses.
     fn lock_to_write(&self) -> io::Result<()>;
 
-    /// Locks it beside others that only read.
+    /// Locks the file together with other readers.
     ///
     /// # Errors
-    /// An error where another program holds a lock against it, or the system refuses.
+    /// An error if another program holds a conflicting lock, or the system refuses.
     fn lock_to_read(&self) -> io::Result<()>;
 }
 

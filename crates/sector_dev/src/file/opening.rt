@@ -1,4 +1,4 @@
-// A file is opened or made as a device.
+// Opens or creates a file as a device.
 ghost use Rattle.std.specs.Prelude.{◌≡◌, ◌≤◌, ◌↔◌, length, IfOk, IfSome, IsErrOf, IsTrue};
 ghost use Rattle.sector_dev.specs.View.{sectors_of, failures_of, IsDeviceLength, HasOtherLength, IsOver};
 ghost use Rattle.sector_dev.specs.Written.{IsEmpty};
@@ -11,21 +11,21 @@ use std::io::{self, ErrorKind, Read, Seek, SeekFrom, Write};
 use std::path::Path;
 use std::rt::Files;
 
-// Whether a device can have this number of sectors.
+// Returns whether a device can have this number of sectors.
 fn is_size(sectors: u64) -> bool
     ensures { IsTrue result ↔ ((LEAST_SECTORS ≤ sectors) × (sectors ≤ MOST_SECTORS)) }
 {
     (LEAST_SECTORS..=MOST_SECTORS).contains(&sectors)
 }
 
-// Whether a file of this length in bytes is a device.
+// Returns whether a file of this length in bytes is a device.
 fn is_length(bytes: u64) -> bool
     ensures { IsTrue result ↔ IsDeviceLength bytes }
 {
     bytes % 512 == 0 && is_size(bytes / 512)
 }
 
-// The directory that a path lies in.
+// Returns the directory that contains a path.
 fn parent_of(path: &str) -> Path<'_> {
     match Path::new(path).parent() {
         Some(parent) if !parent.as_str().is_empty() => parent,
@@ -33,7 +33,7 @@ fn parent_of(path: &str) -> Path<'_> {
     }
 }
 
-// Has the system bring a directory to the disk, where one can be synced.
+// Syncs a directory, if the system can sync directories.
 fn sync_directory<F: OpenFile>(directory: &F) -> io::Result<()> {
     match directory.sync_all() {
         Err(e) if e.kind() != ErrorKind::InvalidInput => Err(e),
@@ -50,7 +50,7 @@ fn sync_name<R: Files>(rt: &R, path: &str) -> io::Result<()> {
     }
 }
 
-// Locks a new file, gives it its length, and has the system bring it to the disk.
+// Locks a new file, sets its length, and syncs it.
 fn prepare<F: OpenFile + LockFile, R: Files<File = F>>(
     rt: &R,
     path: &str,
@@ -65,8 +65,7 @@ fn prepare<F: OpenFile + LockFile, R: Files<File = F>>(
     sync_name(rt, path)
 }
 
-// A new file of `sectors` sectors, which nobody else has open meanwhile. Where the system refuses, none is left, unless it
-// refuses to remove it too.
+// Creates a file of `sectors` sectors and locks it exclusively. If the system refuses, the file is removed, unless the system refuses that, too.
 fn new_file<F: OpenFile + LockFile + Drop, R: Files<File = F>>(
     rt: &R,
     path: &str,
@@ -84,15 +83,15 @@ fn new_file<F: OpenFile + LockFile + Drop, R: Files<File = F>>(
 }
 
 impl<F: Read + Write + Seek + OpenFile + LockFile + Drop> FileDevice<F> {
-    /// Opens a file as a device, which nobody else has open meanwhile.
+    /// Opens a file as a device, and locks it exclusively.
     ///
     /// ```
     /// let device = FileDevice::open(&rt, "sensors.store")?;
     /// ```
     ///
     /// # Errors
-    /// `Io` where the system refuses, or another has the file open; `BadSize` where its length is no multiple of 512, or is
-    /// outside 16 to 4,194,304 sectors.
+    /// `Io` if the system refuses or another program has the file open; `BadSize` if its length is not a multiple of 512, or is outside 16 to
+    /// 4,194,304 sectors.
     pub fn open<R: Files<File = F> + AllocGlobal>(
         rt: &R,
         path: &str,
@@ -111,11 +110,11 @@ impl<F: Read + Write + Seek + OpenFile + LockFile + Drop> FileDevice<F> {
         FileDevice::from_file(rt.alloc(), file)
     }
 
-    /// Opens a file as a device that is only read: each write fails. Others may read it meanwhile.
+    /// Opens a file as a read-only device: each write fails. Others may read it at the same time.
     ///
     /// # Errors
-    /// `Io` where the system refuses, or another has the file open to write; `BadSize` where its length is no multiple of 512,
-    /// or is outside 16 to 4,194,304 sectors.
+    /// `Io` if the system refuses or another program has the file open for writing; `BadSize` if its length is not a multiple of 512, or is outside
+    /// 16 to 4,194,304 sectors.
     pub fn open_to_read<R: Files<File = F> + AllocGlobal>(
         rt: &R,
         path: &str,
@@ -134,7 +133,7 @@ impl<F: Read + Write + Seek + OpenFile + LockFile + Drop> FileDevice<F> {
         FileDevice::from_file(rt.alloc(), file)
     }
 
-    /// Makes a file of `sectors` sectors of zeros, and opens it as a device, which nobody else has open meanwhile.
+    /// Creates a file of `sectors` sectors of zeros, opens it as a device, and locks it exclusively.
     ///
     /// ```
     /// let mut device = FileDevice::create(&rt, "sensors.store", 4096)?;
@@ -143,8 +142,8 @@ impl<F: Read + Write + Seek + OpenFile + LockFile + Drop> FileDevice<F> {
     /// ```
     ///
     /// # Errors
-    /// `BadSize` where that is outside 16 to 4,194,304, reported first; `Io` where something is at the path already, or the
-    /// system refuses: then no file is left, unless the system refuses to remove it too.
+    /// `BadSize`, which is tested first, if `sectors` is outside 16 to 4,194,304; `Io` if something exists at the path, or
+    /// the system refuses. No new file is then left, unless the system refuses to remove it, too.
     pub fn create<R: Files<File = F> + AllocGlobal>(
         rt: &R,
         path: &str,
@@ -166,11 +165,10 @@ impl<F: Read + Write + Seek + OpenFile + LockFile + Drop> FileDevice<F> {
 }
 
 impl<F: Read + Write + Seek + OpenFile + Drop> FileDevice<F> {
-    /// A device over a file that is open for reading and writing. Its sectors are all of the file.
+    /// Creates a device of all sectors of a file that is open for reading and writing.
     ///
     /// # Errors
-    /// `Io` where the system refuses; `BadSize` where its length is no multiple of 512, or is outside 16 to 4,194,304
-    /// sectors.
+    /// `Io` if the system refuses; `BadSize` if its length is not a multiple of 512, or is outside 16 to 4,194,304 sectors.
     pub fn from_file(alloc: Global, mut file: F) -> Result<FileDevice<F>, FileError>
         ensures size { IfOk result (λ d. (LEAST_SECTORS ≤ sectors_of d) × (sectors_of d ≤ MOST_SECTORS)) }
         ensures length { IfOk result (λ d. IsOver file d) }
@@ -187,7 +185,7 @@ impl<F: Read + Write + Seek + OpenFile + Drop> FileDevice<F> {
         Ok(FileDevice::over(alloc, file, bytes / 512))
     }
 
-    // A device over a file of this many sectors.
+    // Creates a device of a file with this number of sectors.
     pub(crate) fn over(alloc: Global, file: F, sectors: u64) -> FileDevice<F>
         requires { sectors ≤ MOST_SECTORS }
         ensures size { result.sectors ≡ sectors }

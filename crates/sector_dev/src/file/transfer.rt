@@ -1,4 +1,4 @@
-// What a device that is a file reads and writes.
+// Reads and writes of a device in a file.
 ghost use Rattle.std.specs.Prelude.{◌≡◌, ◌<◌, ◌≤◌, ◌+◌, ◌⊎◌, ◌*◌, [], length, IfErr, OnOk, OnErr, Some, None, IfSome, is_ok, true};
 ghost use Rattle.std.specs.Bool.{OnTrue, OnFalse};
 ghost use Rattle.std.specs.Option.{option_copied, option_or};
@@ -14,7 +14,6 @@ use std::fs::OpenFile;
 use std::io::{self, Read, Seek, SeekFrom, Write};
 use std::slice;
 
-// Reads sectors from the file.
 fn read_at<F: Read + Seek>(file: &mut F, start: u64, contents: &mut [[u8; 512]]) -> io::Result<()>
     requires { start < MOST_SECTORS }
 {
@@ -22,7 +21,6 @@ fn read_at<F: Read + Seek>(file: &mut F, start: u64, contents: &mut [[u8; 512]])
     file.read_exact(contents.as_flattened_mut())
 }
 
-// Writes sectors to the file.
 fn write_at<F: Write + Seek>(file: &mut F, start: u64, contents: &[[u8; 512]]) -> io::Result<()>
     requires { start ≤ MOST_SECTORS }
     ensures { OnOk result (Writes ⟦<F as Write>⟧ ⟦<F as Seek>⟧ (start * 512) contents.now file.old file.new) }
@@ -31,7 +29,7 @@ fn write_at<F: Write + Seek>(file: &mut F, start: u64, contents: &[[u8; 512]]) -
     file.write_all(contents.as_flattened())
 }
 
-// Writes a buffer to the file, and forgets it. On an error it stays.
+// Writes a buffer to the file and clears it. On an error the buffer is unchanged.
 fn write_buffer<F: Write + Seek>(file: &mut F, buffer: &mut Buffer) -> io::Result<()>
     requires { buffer.old.start ≤ MOST_SECTORS }
     ensures start { buffer.new.start ≡ buffer.old.start }
@@ -48,7 +46,7 @@ fn write_buffer<F: Write + Seek>(file: &mut F, buffer: &mut Buffer) -> io::Resul
     }
 }
 
-// Reads this sector and some after it, at most `most`, if there is memory for them and the file gives them.
+// Reads this sector and some after it, at most `most` in all, as far as memory and the file allow.
 fn read_ahead<F: Read + Seek>(file: &mut F, ahead: &mut Buffer, n: u64, most: u64)
     requires { n < MOST_SECTORS }
 {
@@ -61,14 +59,14 @@ fn read_ahead<F: Read + Seek>(file: &mut F, ahead: &mut Buffer, n: u64, most: u6
     }
 }
 
-// The content of a sector that was written or read ahead, if it is in memory.
+// Returns the content of a sector, if it is buffered or was read ahead.
 fn in_memory<'a>(writes: &'a Buffer, ahead: &'a Buffer, n: u64) -> Option<&'a [u8; 512]>
     ensures { option_copied result ≡ option_or (content_in writes.now n) (content_in ahead.now n) }
 {
     writes.get(n).or(ahead.get(n))
 }
 
-// Copies the content of such a sector. `false`: it is not in memory.
+// Copies the content of such a sector. Returns `false` if it is not in memory.
 fn copy_from_memory(writes: &Buffer, ahead: &Buffer, n: u64, to: &mut [u8; 512]) -> bool
     ensures there { OnTrue result (option_or (content_in writes.now n) (content_in ahead.now n) ≡ Some to.new) }
     ensures absent { OnFalse result (option_or (content_in writes.now n) (content_in ahead.now n) ≡ None) }
@@ -99,7 +97,7 @@ impl<F: Read + Write + Seek + OpenFile + Drop> FileDevice<F> {
         write_buffer(&mut self.file, &mut self.writes)
     }
 
-    // Buffers these sectors, or writes them after what is buffered.
+    // Buffers these sectors, or writes them after the buffered ones.
     pub(super) fn put(&mut self, start: u64, contents: &[[u8; 512]]) -> io::Result<()>
         requires { start + length contents.now ≤ self.old.sectors }
         ensures sectors { self.new.sectors ≡ self.old.sectors }
@@ -114,7 +112,7 @@ impl<F: Read + Write + Seek + OpenFile + Drop> FileDevice<F> {
         if self.writes.append(start, contents) {
             return Ok(());
         }
-        // they are many, or there is no memory for them
+        // there are too many to buffer, or no memory for them
         self.ahead.clear();
         write_at(&mut self.file, start, contents)
     }
@@ -136,7 +134,7 @@ impl<F: Read + Write + Seek + OpenFile + Drop> FileDevice<F> {
         read_at(&mut self.file, n, slice::from_mut(to))
     }
 
-    // Has the system bring all that was written to the disk.
+    // Writes everything to the file and syncs it.
     pub(super) fn sync_file(&mut self) -> io::Result<()>
         ensures sectors { self.new.sectors ≡ self.old.sectors }
         ensures failed { self.new.failed ≡ self.old.failed }

@@ -13,7 +13,7 @@ use crate::log::{Event, record_passed, record_sync, record_write};
 use crate::stored::{StoredSector, make_durable, reach, read_stored};
 use crate::{DevError, SectorDevice};
 
-// One more call has failed.
+// Counts a failed call.
 fn failed_once(failed: &mut u64) -> DevError
     ensures error { result ≡ DevError.Failed }
     ensures counted { failed.new ≡ min (failed.old + 1) (2 ^ 64 - 1) }
@@ -22,7 +22,7 @@ fn failed_once(failed: &mut u64) -> DevError
     DevError::Failed
 }
 
-// Makes room for a sector, and records a write of it. `false`: there was no memory for that.
+// Makes room for a sector and records a write of it. Returns `false` if memory was refused.
 fn make_room(
     stored: &mut Vec<StoredSector>,
     log: &mut Vec<Event>,
@@ -76,7 +76,7 @@ impl SectorDevice for ModelDevice {
         ensures scheduled { ReadFails (faults_of self.old) → result ≡ Err DevError.Failed }
         ensures recorded { OnTrue (recorded_of self.new) (Watches (history_of self.old) (history_of self.new)) }
         ensures not_recorded { OnFalse (recorded_of self.new) ((history_of self.new ≡ history_of self.old) × (result ≡ Err DevError.Failed)) }
-        // Any other failure is for want of memory.
+        // Any other failure is due to a lack of memory.
         ensures unscheduled { ¬ ReadFails (faults_of self.old) → IsErrOf result DevError.Failed → recorded_of self.new ≡ false }
     {
         let fails = self.faults.fails_read();
@@ -97,15 +97,15 @@ impl SectorDevice for ModelDevice {
         ensures count { Counts (failed_of self.old) (failed_of self.new) result }
         ensures error { IfErr result (λ e. e ≡ DevError.Failed) }
         ensures ok { OnOk result (Puts (history_of self.old) n from.now (Some from.now) (history_of self.new)) }
-        // After a failed write a read gives the new content.
+        // After a failed write, reads return the new content.
         ensures err { OnErr result ((history_of self.new ≡ history_of self.old)
             ⊎ Puts (history_of self.old) n from.now (Some from.now) (history_of self.new)) }
         ensures faults { faults_of self.new ≡ after_call (faults_of self.old) }
         ensures scheduled { CallFails (faults_of self.old) → result ≡ Err DevError.Failed }
-        // A scheduled fault is recorded too.
+        // A scheduled fault is recorded, too.
         ensures recorded { OnTrue (recorded_of self.new) (Puts (history_of self.old) n from.now (Some from.now) (history_of self.new)) }
         ensures not_recorded { OnFalse (recorded_of self.new) ((history_of self.new ≡ history_of self.old) × (result ≡ Err DevError.Failed)) }
-        // Any other failure is for want of memory.
+        // Any other failure is due to a lack of memory.
         ensures unscheduled { ¬ CallFails (faults_of self.old) → OnErr result (recorded_of self.new ≡ false) }
     {
         let fails = self.faults.fails_call();
@@ -131,7 +131,7 @@ impl SectorDevice for ModelDevice {
         ensures scheduled { CallFails (faults_of self.old) → result ≡ Err DevError.Failed }
         ensures recorded_scheduled { CallFails (faults_of self.old) → OnTrue (recorded_of self.new) (Watches (history_of self.old) (history_of self.new)) }
         ensures not_recorded { OnFalse (recorded_of self.new) ((history_of self.new ≡ history_of self.old) × (result ≡ Err DevError.Failed)) }
-        // Any other failure is for want of memory.
+        // Any other failure is due to a lack of memory.
         ensures unscheduled { ¬ CallFails (faults_of self.old) → OnErr result (recorded_of self.new ≡ false) }
     {
         if self.faults.fails_call() {

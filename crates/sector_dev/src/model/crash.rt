@@ -1,4 +1,4 @@
-// What a crash leaves of a device in memory.
+// Crashes of a device in memory.
 ghost use Rattle.std.specs.Prelude.{◌≡◌, ◌∷◌, [], ℕ, Some, None, List, length, true, IfOk};
 ghost use Rattle.sector_dev.specs.Disk.{now, MayLeave, shown_image};
 ghost use Rattle.sector_dev.specs.Chosen.{has_bit, IsChosen};
@@ -13,14 +13,14 @@ use crate::faults::Faults;
 use crate::stored::StoredSector;
 use std::alloc::{AllocError, Global};
 
-// Whether the choice's bit of the i-th sector is 1.
+// Returns whether the bit of the i-th sector is 1.
 fn has_bit(bits: u64, i: usize) -> bool
     ensures { result ≡ has_bit bits i }
 {
     bits >> (i % 64) & 1 == 1
 }
 
-// What the choice leaves in a sector, where `below` sectors before it are not yet synced.
+// Returns what a crash leaves in a sector, if `below` sectors before it are not synced.
 fn left(choice: CrashChoice, below: usize, sector: &StoredSector) -> Option<[u8; 512]>
     ensures { result ≡ left_in choice below sector.now }
 {
@@ -43,7 +43,7 @@ fn left(choice: CrashChoice, below: usize, sector: &StoredSector) -> Option<[u8;
     }
 }
 
-// What the choice leaves in each sector.
+// Returns what a crash leaves in each sector.
 fn left_in_all(
     alloc: Global,
     choice: CrashChoice,
@@ -60,7 +60,7 @@ fn left_in_all(
     Ok(contents)
 }
 
-// Cells that hold this, all synced.
+// Returns sectors with these contents, all synced.
 fn stored_as_synced(
     alloc: Global,
     contents: &[Option<[u8; 512]>],
@@ -78,11 +78,11 @@ fn stored_as_synced(
 }
 
 impl ModelDevice {
-    /// What a crash leaves now, as the choice says: a device that holds it, all synced, on which no call is to fail and
-    /// none has failed. Its unreadable sectors stay so until they are written.
+    /// Returns what a crash would leave now: a device with these contents, all synced, without scheduled failures, and with no failed calls.
+    /// Unreadable sectors stay so until they are written.
     ///
     /// # Errors
-    /// `AllocError` where memory was refused.
+    /// `AllocError` if memory was refused.
     pub fn crash(&self, choice: CrashChoice) -> Result<ModelDevice, AllocError>
         ensures size { IfOk result (λ d. size_of d ≡ size_of self.now) }
         ensures synced { IfOk result (λ d. history_of d ≡ all_synced (shown_image (now (history_of d))) ∷ []) }

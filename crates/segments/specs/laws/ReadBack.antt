@@ -17,7 +17,7 @@ pub same_bytes : (a b : Image) (start bytes : ℕ) → ((j : ℕ) → j < sector
 unfolding bytes_at
 same_bytes a b start bytes same = ap (option_map (take bytes)) (same_joined a b start (sector_count bytes) same)
 
--- and what one of them holds, the other one holds
+-- and what one of them holds, the other one does
 pub same_holds : (a b : Image) (start : ℕ) (bytes : List ℕ) → ((j : ℕ) → j < sector_count (length bytes) → b (start + j) ≡ a (start + j)) → Holds a start bytes → Holds b start bytes
 unfolding Holds
 same_holds a b start bytes same holds j lt = same j lt ∙ holds j lt
@@ -27,7 +27,7 @@ pub same_pieces : (low : ℕ) (a b : Image) (pieces : List PlainPiece) → Start
 same_pieces low a b [] above same holds = tt
 same_pieces low a b (p ∷ ps) above same holds = (same_holds a b p.run.start p.bytes (λ j lt. same (p.run.start + j) (omega (arith, above.0))) holds.0, same_pieces low a b ps above.1 same holds.1)
 
--- the first n sectors of some bytes: those bytes, and zeros after the last of them
+-- the first `count` sectors of bytes: the bytes, and zeros after the last of them
 front : List ℕ → ℕ → List ℕ
 front bytes count = take (512 * count) bytes ++ replicate (512 * count - length bytes) 0
 
@@ -51,7 +51,7 @@ joined_front image start bytes (suc count) le holds =
     (λ i. appended (joined_front image start bytes count (omega arith) holds i) (holds count (omega arith) i))
     ∙ ap Some (front_more bytes count (omega arith))
 
--- a run that holds some bytes reads as them
+-- a run that holds bytes is read as these bytes
 pub read_back : (image : Image) (start : ℕ) (bytes : List ℕ) → Holds image start bytes → bytes_at image start (length bytes) ≡ Some bytes
 unfolding bytes_at front
 read_back image start bytes holds =
@@ -61,7 +61,7 @@ read_back image start bytes holds =
     ∙ ap (λ front. Some (take (length bytes) (front ++ replicate (512 * count - length bytes) 0))) (take_all (512 * count) bytes whole)
     ∙ ap Some (take_at bytes (replicate (512 * count - length bytes) 0) (length bytes) refl)
 
--- where a sector can't be read, no bytes are
+-- if a sector can't be read, neither can the bytes
 pub none_joined : (image : Image) (start count j : ℕ) → j < count → image (start + j) ≡ None → joined image start count ≡ None
 none_joined image start zero j lt none = absurd (omega arith)
 none_joined image start (suc count) j lt none =

@@ -8,7 +8,7 @@ use Rattle.segments.specs.declared.run.Run.{Run}
 use Rattle.segments.specs.declared.entries.Usage.{Usage}
 use Rattle.segments.specs.declared.entries.UsageEntry.{UsageEntry}
 
--- runs are equal or not
+-- the test for equal runs
 pub same_run_is : (a b : Run) → same_run a b ≡ true → a ≡ b
 same_run_is a b is =
     let parts = and_parts (a.start == b.start) (a.count == b.count) is in
@@ -30,7 +30,7 @@ pub or_false : (t : Bool) → (t || false) ≡ t
 or_false true = refl
 or_false false = refl
 
--- a run is one of some runs or of others
+-- a run is in one of two lists
 pub among_both : (xs ys : List Run) (run : Run) → is_among (xs ++ ys) run ≡ (is_among xs run || is_among ys run)
 among_both [] ys run = refl
 among_both (x ∷ xs) ys run = ap (λ (t : Bool). same_run x run || t) (among_both xs ys run) ∙ by_first (same_run x run)
@@ -39,16 +39,16 @@ among_both (x ∷ xs) ys run = ap (λ (t : Bool). same_run x run || t) (among_bo
     by_first true = refl
     by_first false = refl
 
--- one of some runs, or one more
+-- a run is in a list, or is the one that was added
 pub among_more : (runs : List Run) (r run : Run) → is_among (runs ++ r ∷ []) run ≡ (is_among runs run || same_run r run)
 among_more runs r run = among_both runs (r ∷ []) run ∙ ap (λ (t : Bool). is_among runs run || t) (or_false (same_run r run))
 
--- how often a run is among some runs and others
+-- how many times a run is in two lists
 pub times_both : (xs ys : List Run) (run : Run) → times_among (xs ++ ys) run ≡ times_among xs run + times_among ys run
 times_both [] ys run = omega arith
 times_both (x ∷ xs) ys run = let more = times_both xs ys run in omega (arith, more)
 
--- what is not used is unused
+-- a usage that is not used is `UNUSED`
 pub unused : (usage : Usage) → (is_used usage ≡ true → ⊥) → usage ≡ UNUSED
 unused usage free = by_parts usage.taken usage.pins free
   where
@@ -57,7 +57,7 @@ unused usage free = by_parts usage.taken usage.pins free
     by_parts false zero free = refl
     by_parts false (suc pins) free = absurd (free (grind (arith, nat_tests)))
 
--- a free run of some sectors is unused
+-- a free run with at least one sector is unused
 pub free_unused : (size : ℕ) (es : List UsageEntry) (run : Run) → 1 ≤ run.count → IsFree size (IsUsedIn es) run → usage_of es run ≡ UNUSED
 free_unused size es run some free =
     unused (usage_of es run) (λ (is : is_used (usage_of es run) ≡ true).
@@ -68,7 +68,7 @@ pub still_used : (old new : Space) (taken run : Run) → Changes old new taken T
 still_used old new taken run takes used =
     ⊎_elim (λ (same : run ≡ taken). ap is_used (ap (usage_of new.entries) same ∙ takes.this)) (λ (apart : run ≢ taken). ap is_used (takes.others run apart) ∙ used) (same_or_not run taken)
 
--- a free run that was taken and given back: each run is used for the same as before
+-- after a free run was taken and given back, each run has the same usage as before
 pub given_back : (old mid new : Space) (run : Run) → 1 ≤ run.count → IsFree old.size (IsUsedIn old.entries) run → Changes old mid run TAKEN → Changes mid new run (given (usage_of mid.entries run)) → SameUsages old.entries new.entries
 given_back old mid new run some free takes gives other =
     ⊎_elim
@@ -78,17 +78,17 @@ given_back old mid new run some free takes gives other =
     (λ (apart : other ≢ run). gives.others other apart ∙ takes.others other apart)
     (same_or_not other run)
 
--- what is free while these runs are used is free while the same or fewer are
+-- what is free stays free if fewer runs are used
 pub same_free : (size : ℕ) (used fewer : Run → Type 0) → ((run : Run) → fewer run → used run) → (run : Run) → IsFree size used run → IsFree size fewer run
 same_free size used fewer less run free = record { above = free.above; within = free.within; apart = λ other is. free.apart other (less other is) }
 
--- the lowest free run depends on the used runs alone
+-- the lowest free run depends only on the used runs
 pub same_lowest : (size : ℕ) (used alike : Run → Type 0) → ((run : Run) → used run ↔ alike run) → (count : ℕ) (found : Option Run) → IsLowest size used count found → IsLowest size alike count found
 same_lowest size used alike same count None none = λ run is free. none run is (same_free size alike used (λ other u. (same other).0 u) run free)
 same_lowest size used alike same count (Some run) lowest =
     (lowest.0, same_free size used alike (λ other u. (same other).1 u) run lowest.1, (λ other is free. lowest.2 other is (same_free size alike used (λ third u. (same third).0 u) other free)))
 
--- and is one
+-- and there is only one
 pub one_lowest : (size : ℕ) (used : Run → Type 0) (count : ℕ) (found other : Option Run) → IsLowest size used count found → IsLowest size used count other → found ≡ other
 one_lowest size used count None None a b = refl
 one_lowest size used count None (Some run) none lowest = absurd (none run lowest.0 lowest.1)

@@ -1,4 +1,4 @@
--- What a map of tables has after a change.
+-- The tables of a map after a change.
 use Rattle.std.specs.Prelude.{◌≡◌, ◌≢◌, ℕ, Bool, true, false, cond, List, Some, None, refl}
 use Rattle.std.proofs.Common.{sym, ap, ◌∙◌}
 use Rattle.std.specs.declared.cmp.Ordering.{Ordering}
@@ -11,7 +11,7 @@ use Rattle.std.proofs.lemmas.Cmp.{nat_list_cmp_total}
 use Rattle.cells.specs.Cell.{PlainTable}
 use Rattle.tables.specs.Tables.{Tables, no_tables, table_at, with_table, without_table}
 
--- names tie just where they are equal
+-- a name compares equal to itself
 same_name : (name : List ℕ) → eq_by_cmp (slice_cmp nat_cmp) name name ≡ true
 same_name name = ap is_eq (tied_itself nat_list_cmp_total name)
 
@@ -37,7 +37,7 @@ pub gone_elsewhere : (t : Tables) (name other : List ℕ) → other ≢ name →
 gone_elsewhere t name other apart =
     maps.get-remove nat_list_cmp_total t name other ∙ ap (λ (b : Bool). cond b None (table_at t other)) (other_name other name apart)
 
--- maps with the same table at each name are one
+-- maps with the same table at each name are equal
 pub one_map : (a b : Tables) → ((name : List ℕ) → table_at a name ≡ table_at b name) → a ≡ b
 one_map a b same = maps.same_map nat_list_cmp_total (maps.slice_cmp-IsAntisymmetric maps.nat_cmp-IsAntisymmetric) a b same
 
@@ -72,20 +72,20 @@ shadowed false x y z = refl
 not_both : (a b : List ℕ) → a ≢ b → (q : List ℕ) → tied q a ≡ true → tied q b ≡ true → ⊥
 not_both a b apart q one two = apart (sym (tied_is q a one) ∙ tied_is q b two)
 
--- tables at two names, in either order
+-- puts at two different names commute
 pub put_apart : (t : Tables) (a b : List ℕ) (x y : PlainTable) → a ≢ b → with_table (with_table t a x) b y ≡ with_table (with_table t b y) a x
 put_apart t a b x y apart =
     one_map (with_table (with_table t a x) b y) (with_table (with_table t b y) a x)
     (λ q. at_with (with_table t a x) b y q ∙ ap (cond (tied q b) (Some y)) (at_with t a x q) ∙ swapped (tied q b) (tied q a) (Some y) (Some x) (table_at t q) (λ one two. not_both a b apart q two one)
     ∙ ap (cond (tied q a) (Some x)) (sym (at_with t b y q)) ∙ sym (at_with (with_table t b y) a x q))
 
--- a table instead of another one
+-- a second put at a name replaces the first
 pub put_over : (t : Tables) (name : List ℕ) (x y : PlainTable) → with_table (with_table t name x) name y ≡ with_table t name y
 put_over t name x y =
     one_map (with_table (with_table t name x) name y) (with_table t name y)
     (λ q. at_with (with_table t name x) name y q ∙ ap (cond (tied q name) (Some y)) (at_with t name x q) ∙ shadowed (tied q name) (Some y) (Some x) (table_at t q) ∙ sym (at_with t name y q))
 
--- a table that is taken out again
+-- removing a table that was just put at a free name restores the map
 pub put_and_taken : (t : Tables) (name : List ℕ) (table : PlainTable) → table_at t name ≡ None → without_table (with_table t name table) name ≡ t
 put_and_taken t name table none =
     one_map (without_table (with_table t name table) name) t (λ q. at_without (with_table t name table) name q ∙ ap (cond (tied q name) None) (at_with t name table q) ∙ by_test q (tied q name) refl)
@@ -94,14 +94,14 @@ put_and_taken t name table none =
     by_test q true e = sym (ap (table_at t) (tied_is q name e) ∙ none)
     by_test q false e = refl
 
--- a table at one name, and another one taken out
+-- a put and a removal at different names commute
 pub put_not_taken : (t : Tables) (a b : List ℕ) (table : PlainTable) → a ≢ b → without_table (with_table t a table) b ≡ with_table (without_table t b) a table
 put_not_taken t a b table apart =
     one_map (without_table (with_table t a table) b) (with_table (without_table t b) a table)
     (λ q. at_without (with_table t a table) b q ∙ ap (cond (tied q b) None) (at_with t a table q) ∙ swapped (tied q b) (tied q a) None (Some table) (table_at t q) (λ one two. not_both a b apart q two one)
     ∙ ap (cond (tied q a) (Some table)) (sym (at_without t b q)) ∙ sym (at_with (without_table t b) a table q))
 
--- of no tables none is taken out
+-- removing from the empty map leaves it empty
 pub none_taken : (name : List ℕ) → without_table no_tables name ≡ no_tables
 none_taken name = one_map (without_table no_tables name) no_tables (λ q. at_without no_tables name q ∙ by_test q (tied q name))
   where

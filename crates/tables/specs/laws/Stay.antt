@@ -1,4 +1,4 @@
--- Where each table keeps what a table keeps, so does each one after a command.
+-- If all tables satisfy `IsTable`, they still do after a command.
 use Rattle.std.specs.Prelude.{◌≡◌, ◌≤◌, ℕ, Bool, true, false, not, nat_le, List, [], ◌∷◌, ◌++◌, cond, Option, Some, None, IfOk, Result, Ok, Err, if◌then◌else◌, refl}
 use Rattle.std.proofs.Common.{ap, ◌∙◌, sym, subst, arith}
 use Rattle.std.proofs.lemmas.Bool.{le-leb, leb-true}
@@ -42,7 +42,7 @@ without_one t name are other own found = by_name (tied other name) (sym (at_with
     by_name true h = absurd (cc h)
     by_name false h = are other own h
 
--- ---- what is found before the effect
+-- ---- values that are needed before the effect
 
 abbrev Are : Result Tables Refusal → Type 0
 Are r = IfOk r AreTables
@@ -65,7 +65,7 @@ are_of_query (Ok table) f are = are table refl
 
 -- ---- rows that passed the tests
 
--- the tests of rows that are appended found nothing
+-- the tests of appended rows passed
 passed_rows : (s : PlainSchema) (rows all : List (List Cell)) → first_some (unfit_row s rows ∷ too_heavy s all ∷ []) ≡ None → (first_unfit s rows ≡ None) × (table_weight s all ≤ MAX_TABLE_WEIGHT)
 passed_rows s rows all none = by_unfit (first_unfit s rows) refl none
   where
@@ -85,7 +85,7 @@ rows_accepted s rows fit light =
 
 -- ---- the commands
 
--- what is known of streams, rows and queries: a stream means a table, rows that are accepted are one, and so are rows that are joined and what a query makes of a table
+-- facts about streams, rows and queries: a stream means a table, accepted rows are one, and so are joined rows and the selection of a query
 abbrev pub Means : Type 0
 Means = (bytes : List ℕ) (table : PlainTable) → AreBytes bytes → meaning supported_codes bytes ≡ Ok table → IsTable table
 

@@ -1,4 +1,4 @@
--- What follows from a verdict.
+-- Consequences of a verdict.
 use Rattle.std.specs.Prelude.{◌≡◌, ◌≢◌, ◌&&◌, ℕ, Bool, true, false, not, nat_le, nat_lt, List, [], ◌∷◌, ◌++◌, length, Option, Some, None, IfSome, IfErr, Result, Ok, Err, Contains, refl}
 use Rattle.std.proofs.Common.{ap, ◌∙◌, sym, subst, arith}
 use Rattle.facts.specs.Checks.{when, first_some, unless}
@@ -40,7 +40,7 @@ unfolding after
 after_one_more t [] c = refl
 after_one_more t (d ∷ cs) c = after_one_more (step t d) cs c
 
--- ---- an answer that leaves a name's table as it is
+-- ---- results that leave a name's table as it is
 
 abbrev Keeps : Tables → List ℕ → Result Tables Refusal → Type 0
 Keeps t name r = table_at (after_verdict t r) name ≡ table_at t name
@@ -86,7 +86,7 @@ module _ (t : Tables) (name : List ℕ) where
       keeps_unless t name (first_some (bad_name to ∷ name_taken t to ∷ [])) (Ok (with_table (without_table t from) to table))
       (found_elsewhere (without_table t from) to table name not_to ∙ gone_elsewhere t from name not_from)
 
-  -- the name is none of these
+  -- the name is not one of these
   apart_one : (own : List ℕ) → ¬ Contains (own ∷ []) name → name ≢ own
   apart_one own lacks e = lacks (0, omega arith, sym e)
 
@@ -105,7 +105,7 @@ module _ (t : Tables) (name : List ℕ) where
       keeps_of_table t name (table_at t from) (renamed t from to) (λ table. keeps_renamed from to table (λ e. lacks (0, omega arith, sym e)) (λ e. lacks (1, omega arith, sym e)))
   others_keep (drop_table own) lacks = keeps_of_table t name (table_at t own) (dropped t own) (λ table. gone_elsewhere t own name (apart_one own lacks))
 
--- ---- an answer that the tables decide
+-- ---- refusals that the tables decide
 
 abbrev TestsTables : Option Refusal → Type 0
 TestsTables o = IfSome o (λ r. origin_of r ≡ by_tables)
@@ -201,7 +201,7 @@ told_by_tables t c r is = subst (λ (x : Result Tables Refusal). TellsTables x) 
 
 -- ---- effects
 
--- rows that are appended stand after those of the table, all of them
+-- the value of a step whose tests passed
 pub passed : {A : Type 0} (o : Option Refusal) (x u : A) → unless o (Ok x) ≡ Ok u → u ≡ x
 passed None x u is = cc
 passed (Some e) x u is = absurd (cc is)

@@ -1,11 +1,11 @@
--- Numbers of any size, as the code keeps them: past a size that no integer type holds they are one.
+-- Numbers of any size as the code keeps them: all numbers that no integer type holds are kept as one.
 use Rattle.std.specs.Prelude.{ℕ, ◌^◌, ◌==◌, ℤ, pos, neg_ℤ, min, Bool, true, false, nat_le, List, [], ◌∷◌, Option, Some, None, option_map, if◌then◌else◌}
 use Rattle.std.specs.Str.{all_ascii_digits}
 use Rattle.std.specs.Str.Parse.{digits_value_after}
 use Rattle.arrow_schema.specs.Column.{Kind, integers, dates, timestamps}
 use Rattle.cells.specs.Typed.{typed_number}
 
--- the number that decimal digits spell after others that spell n: any number of them
+-- the number of decimal digits that follow others with the value n
 unfoldable pub number_behind : ℕ → List ℕ → Option ℕ
 number_behind n ds = if all_ascii_digits ds then Some (digits_value_after 10 n ds) else None
 

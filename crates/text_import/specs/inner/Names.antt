@@ -1,4 +1,4 @@
--- A text behind a reference, and the names of an object's members.
+-- A borrowed text, and the names of an object's members.
 use Rattle.std.specs.Prelude.{◌≡◌, ℕ, List, Option, Some, None, Result, Ok, Err, option_map, if◌then◌else◌}
 use Rattle.std.specs.Borrow.{Bor}
 use Rattle.std.specs.Str.{is_utf8}
@@ -11,17 +11,17 @@ use Rattle.arrow_schema.specs.Parts.{name_of_column, is_nullable_column}
 use Rattle.text_import.specs.declared.refusal.Refusal.TheVariants.{AmbiguousNames, UnknownName}
 use Rattle.text_import.specs.Objects.{member_in, cell_in, repeats, has_unknown, keys_of}
 
--- a text, where there is one
+-- the text, if there is one
 abbrev pub IsText : Option (List ℕ) → Option (Bor (List ℕ)) → Type 0
 IsText text found = option_map (λ t. t.now) found ≡ text
 
 abbrev pub text_where_utf8 : List ℕ → Option (List ℕ)
 text_where_utf8 t = if is_utf8 t then Some t else None
 
--- the cell of a column in an object's members
+-- the cell of a column from an object's members
 abbrev pub member_of : Column → Members → Result Cell Refusal
 member_of c ms = member_in (is_nullable_column c) (cell_in c) (get_member (name_of_column c) ms)
 
--- what the test of names refuses
+-- the refusal of the test of names
 abbrev pub tested : List (List ℕ) → Members → Result Members Refusal
 tested names ms = if repeats names then Err AmbiguousNames else if has_unknown names (keys_of ms) then Err UnknownName else Ok ms

@@ -1,4 +1,4 @@
--- Rows and cells one after another, and the records that they are read of.
+-- Reading rows and cells in order, and the records that they are read from.
 use Rattle.std.proofs.Common.{◌≡◌, ℕ, ◌+◌, true, false, List, [], ◌∷◌, ◌++◌, refl, sym, ap, ◌∙◌, append_assoc}
 use Rattle.std.specs.Prelude.{Bool, Option, Some, None, Result, Ok, Err}
 use Rattle.std.specs.Borrow.{Bor}
@@ -16,7 +16,7 @@ use Rattle.text_import.specs.Refusals.{given, numbered}
 use Rattle.text_import.specs.Rows.{rows_from}
 use Rattle.text_import.specs.Stands.{HasLeft, TakesNext}
 
--- what comes after these
+-- the result of reading, with these before it
 abbrev pub behind : {X E : Type 0} → List X → Result (List X) E → Result (List X) E
 behind so rest = given (λ xs. so ++ xs) rest
 
@@ -31,7 +31,7 @@ behind_more so x (Err e) = refl
 pub behind_end : {X E : Type 0} (so : List X) → behind {X = X} {E = E} so (Ok []) ≡ Ok so
 behind_end so = ap Ok (append-nil so)
 
--- one more row was read
+-- another row was read
 pub row_more : {A : Type 0} (read : A → Result (List Cell) Refusal) (n : ℕ) (so : List (List Cell)) (x : A) (xs : List A) (row : List Cell) → numbered n (read x) ≡ Ok row
     → behind so (rows_from read n (x ∷ xs)) ≡ behind (so ++ row ∷ []) (rows_from read (n + 1) xs)
 unfolding rows_from
@@ -47,7 +47,7 @@ pub rows_end : {A : Type 0} (read : A → Result (List Cell) Refusal) (n : ℕ) 
 unfolding rows_from
 rows_end read n so = behind_end so
 
--- one more cell of a record, and the end
+-- another cell of a record was read, and the end
 pub field_more : (null_text : List ℕ) (so : List Cell) (c : Column) (cs : List Column) (t : List ℕ) (ts : List (List ℕ)) (x : Cell) → field_cell null_text c t ≡ Ok x
     → behind so (field_cells null_text (c ∷ cs) (t ∷ ts)) ≡ behind (so ++ x ∷ []) (field_cells null_text cs ts)
 unfolding field_cells
@@ -57,7 +57,7 @@ pub fields_end : (null_text : List ℕ) (so : List Cell) (ts : List (List ℕ)) 
 unfolding field_cells
 fields_end null_text so ts = behind_end so
 
--- a read of the next record: there was one, or there was none
+-- reading the next record: there was one, or there was none
 pub taken_some : (records : List (List (List ℕ))) (found : Bool) (fields : List (List ℕ)) (r : Reader (Bor (List ℕ))) → TakesNext records found fields r → found ≡ true
     → (others : List (List (List ℕ))) × (records ≡ fields ∷ others) × HasLeft r others
 taken_some [] found fields r h e = absurd (false≢true (sym h ∙ e))
@@ -67,7 +67,7 @@ pub taken_none : (records : List (List (List ℕ))) (found : Bool) (fields : Lis
 taken_none [] found fields r h e = refl
 taken_none (fs ∷ others) found fields r h e = absurd (false≢true (sym e ∙ h.0))
 
--- a refusal that a part reports is that of the whole
+-- the refusal of a part is that of the whole
 pub told : {A B F : Type 0} (o : Option F) (r : Result A F) (w : Result B F) → Reports o r → ((f : F) → r ≡ Err f → w ≡ Err f) → Reports o w
 told None r w h more = tt
 told (Some f) r w h more = more f h

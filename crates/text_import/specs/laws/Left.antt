@@ -1,4 +1,4 @@
--- The records that are left of a CSV text.
+-- The remaining records of a CSV text.
 use Rattle.std.proofs.Common.{◌≡◌, ℕ, ◌+◌, ◌-◌, ◌≤◌, ◌<◌, zero, suc, Bool, true, false, List, [], ◌∷◌, ◌++◌, length, refl, sym, ap, ◌∙◌, arith}
 use Rattle.std.specs.Prelude.{Option, Some, None, if◌then◌else◌}
 use Rattle.csv.specs.Machine.{Read, next_record, step, is_end, fields_after, field_after, ends_at_end}
@@ -9,7 +9,7 @@ use Rattle.csv.specs.declared.parser.State.TheVariants as st
 use Rattle.text_import.specs.Records.{records_of}
 use Rattle.text_import.specs.Stands.{Left}
 
--- a record leaves less of a text, where there was some
+-- reading a record leaves less of a text, if there was some
 shorter : (cfg : Config) (s : State) (fields : List (List ℕ)) (field xs : List ℕ) (p : Read) → next_record cfg s fields field xs ≡ Some p → length p.2 ≤ length xs - 1
 unfolding next_record
 shorter cfg s fields field [] p e = by (ends_at_end s) e
@@ -49,7 +49,7 @@ pub record_some : (n : ℕ) (s : State) (xs : List ℕ) (p : Read) → next_reco
 unfolding records_from
 record_some n s xs p e = rw e refl
 
--- what ends a text leaves nothing of it
+-- the end of a text leaves nothing of it
 ended : (s : State) (p : Read) → next_record default_config s [] [] [] ≡ Some p → (p.1 ≡ st.StartRecord) × (p.2 ≡ [])
 unfolding next_record
 ended s p e = by (ends_at_end s) e
@@ -58,7 +58,7 @@ ended s p e = by (ends_at_end s) e
     by true is = (let same : (([] ++ ([] ∷ [])), st.StartRecord, []) ≡ p = cc in (ap (λ (q : Read). q.1) (sym same), ap (λ (q : Read). q.2) (sym same)))
     by false is = absurd cc
 
--- more turns than bytes give no more records
+-- more steps than bytes return no more records
 pub enough : (n m : ℕ) (s : State) (xs : List ℕ) → length xs < n → length xs < m → records_from default_config n s xs ≡ records_from default_config m s xs
 enough zero m s xs l k = absurd (omega arith)
 enough (suc n) zero s xs l k = absurd (omega arith)
@@ -79,7 +79,7 @@ enough (suc n) (suc m) s xs l k = by (next_record default_config s [] [] xs) ref
     by None e more = record_none (suc n) s xs e ∙ sym (record_none (suc m) s xs e)
     by (Some p) e more = record_some n s xs p e ∙ ap (λ rs. p.0 ∷ rs) (same xs refl p e more) ∙ sym (record_some m s xs p e)
 
--- the records that are left of a text
+-- the remaining records of a text
 pub left_none : (rest : List (List (List ℕ))) (s : State) (xs : List ℕ) → Left rest s xs → next_record default_config s [] [] xs ≡ None → rest ≡ []
 left_none rest s xs left e = left (length xs + 1) (omega arith) ∙ record_none (length xs + 1) s xs e
 
@@ -92,6 +92,6 @@ left_some rest s xs p left e =
       λ n lt. enough k n p.1 p.2 (omega arith) lt,
     )
 
--- the records that are left at the start of a text
+-- the remaining records at the start of a text
 pub left_first : (t : List ℕ) → Left (records_of t) st.StartRecord (strip_bom t)
 left_first t n lt = enough (length (strip_bom t) + 1) n st.StartRecord (strip_bom t) (omega arith) lt
