@@ -12,7 +12,7 @@ ghost use Rattle.arrays.specs.inner.Weights.{AreEntryWeights};
 use crate::masked::contents_width;
 use crate::sized_slots::SizedSlots;
 use arrow_schema::DataType;
-use cells::add_weights;
+use cells::TOO_HEAVY;
 use columns::ArrayView;
 
 /// The weights of the first entries of a dictionary; or the array that has all of its entries, of texts or binaries, whose offsets tell what each weighs.
@@ -44,7 +44,7 @@ impl<'a> EntryWeights<'a> {
     {
         match self {
             EntryWeights::First(weights) => weights[number],
-            EntryWeights::Sized(slots) => add_weights(1, slots.size(number)),
+            EntryWeights::Sized(slots) => 1 + slots.size(number).min(TOO_HEAVY - 1),
         }
     }
 }

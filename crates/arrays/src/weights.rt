@@ -30,6 +30,9 @@ use columns::{
 // Of how many entries of a dictionary the weights are kept while its slots are gone through.
 const FIRST_ENTRIES: usize = 256;
 
+// Of how many slots the weights, each as it is reported, are added in 64 bits without a test.
+const MOST_SLOTS: usize = 1 << 32;
+
 // n nulls of a field.
 #[tactic(auto, using(cells::specs::laws::Weights::capped_product), unfolding(cells::specs::Weight::weight))]
 fn nulls_weight(field: &Field, count: usize) -> u64
@@ -99,27 +102,9 @@ fn plain_weight(
     if are_alike(view, from, from + count) {
         return run_weight(field, view, from, count, none);
     }
-    match sized_type(&field.data_type) {
-        Some(sized) => masked_sizes_weight(sized, view, view, from, count),
-        None => mixed_weight(field, view, from, count, none),
+    if let Some(sized) = sized_type(&field.data_type) {
+        return masked_sizes_weight(sized, view, view, from, count);
     }
-}
-
-// Of a type that has cells below it.
-#[cycle(weights)]
-fn mixed_weight(
-    field: &Field,
-    view: ArrayView<'_>,
-    from: usize,
-    count: usize,
-    none: &PlacedArray,
-) -> u64
-    requires empty { IsNoArray none.now }
-    requires varied { may_vary (kind_of field.now.data_type) ≡ true }
-    requires sound { is_kind_sound (kind_of field.now.data_type) (view_array view) ≡ true }
-    requires within { from + count ≤ slots_in (view_array view) }
-    ensures { result ≡ capped_weight (plain_weight (kind_of field.now.data_type) (view_array view.entry) from count) }
-{
     match &field.data_type {
         DataType::Struct(fields) => masked_fields_weight(fields, view, from, count, none),
         _ => runs_weight(field, view, from, count, none),
@@ -191,7 +176,7 @@ fn masked_fields_weight(
     add_weights(count as u64, total)
 }
 
-// The cells of a field at slots, which are null where those of another array are.
+// The cells of a field at slots, which are null where those of another array are: by the runs of that one, unless offsets tell what they weigh.
 #[cycle(weights)]
 fn masked_weight(
     field: &Field,
@@ -211,29 +196,9 @@ fn masked_weight(
     if !may_vary(&field.data_type) {
         return nulls_weight(field, count);
     }
-    match (&field.dictionary, sized_type(&field.data_type)) {
-        (None, Some(sized)) => masked_sizes_weight(sized, view, mask, from, count),
-        _ => masked_runs_weight(field, view, mask, from, count, none),
+    if let (None, Some(sized)) = (&field.dictionary, sized_type(&field.data_type)) {
+        return masked_sizes_weight(sized, view, mask, from, count);
     }
-}
-
-// The same by the runs of the other array.
-#[cycle(weights)]
-fn masked_runs_weight(
-    field: &Field,
-    view: ArrayView<'_>,
-    mask: ArrayView<'_>,
-    from: usize,
-    count: usize,
-    none: &PlacedArray,
-) -> u64
-    requires empty { IsNoArray none.now }
-    requires sound { is_sound (column_of field.now) (view_array view) ≡ true }
-    requires within { from + count ≤ slots_in (view_array view) }
-    requires long { has_short_validity (view_array mask) ≡ false }
-    requires below { from + count ≤ slots_in (view_array mask) }
-    ensures { result ≡ capped_weight (masked_weight (column_of field.now) (view_array mask.entry) (view_array view.entry) from count) }
-{
     // a number of the code is below 2^64, so that the sum is too
     let _slots = view.slots();
     let end = from + count;
@@ -459,48 +424,14 @@ fn first_weights(
     weights
 }
 
-// With a dictionary: slot by slot, the entries that the indices name. Where there are more slots than first entries, these are weighed once.
-#[cycle(weights)]
-fn first_entries_weight(
-    field: &Field,
-    spec: DictSpec,
-    view: ArrayView<'_>,
-    from: usize,
-    count: usize,
-    none: &PlacedArray,
-) -> u64
-    requires empty { IsNoArray none.now }
-    requires varied { may_vary (kind_of field.now.data_type) ≡ true }
-    requires valid { has_short_validity (view_array view) ≡ false }
-    requires long { are_few ((index_of spec).bits / 8) (view_array view) (indices_in (view_array view)) ≡ false }
-    requires sound { list_all (is_kind_sound (kind_of field.now.data_type)) (array_list (dictionary_in (view_array view))) ≡ true }
-    requires within { from + count ≤ slots_in (view_array view) }
-    ensures { let kind = kind_of field.now.data_type in
-        result ≡ capped_weight (sum_from (kind_weight kind) (unless_null (indexed_cell (index_of spec) kind) (view_array view.entry)) from count) }
-{
-    let slots = CodedSlots::new(spec, view);
-    let few = first_count(view);
-    if count <= few {
-        return slots_weight(field, slots, from, count, EntryWeights::First(&[]), none);
-    }
-    let first = first_weights(field, view, few, none);
-    slots_weight(
-        field,
-        slots,
-        from,
-        count,
-        EntryWeights::First(&first[..few]),
-        none,
-    )
-}
-
 // Whether a dictionary has no entries but the first ones, and fewer than so many slots: their weights are looked up faster than offsets.
 fn are_first_alone(view: ArrayView<'_>, count: usize) -> bool {
     let entries = entry_count(view.dictionary());
     entries <= FIRST_ENTRIES as u128 && entries < count as u128
 }
 
-// The same, of whatever dictionary. Where its entries are texts or binaries in one array, their offsets tell what they weigh.
+// With a dictionary: slot by slot, the entries that the indices name. Where these are texts or binaries in one array, their offsets tell what they weigh;
+// and where there are more slots than first entries, these are weighed once.
 #[cycle(weights)]
 fn entries_weight(
     field: &Field,
@@ -519,23 +450,20 @@ fn entries_weight(
     ensures { let kind = kind_of field.now.data_type in
         result ≡ capped_weight (sum_from (kind_weight kind) (unless_null (indexed_cell (index_of spec) kind) (view_array view.entry)) from count) }
 {
-    if are_first_alone(view, count) {
-        return first_entries_weight(field, spec, view, from, count, none);
-    }
-    match sized_entries(&field.data_type, view) {
-        Some(entries) => {
-            let slots = CodedSlots::new(spec, view);
-            slots_weight(
-                field,
-                slots,
-                from,
-                count,
-                EntryWeights::Sized(entries),
-                none,
-            )
+    let slots = CodedSlots::new(spec, view);
+    if !are_first_alone(view, count) {
+        if let Some(entries) = sized_entries(&field.data_type, view) {
+            let known = EntryWeights::Sized(entries);
+            return slots_weight(field, slots, from, count, known, none);
         }
-        None => first_entries_weight(field, spec, view, from, count, none),
     }
+    let few = first_count(view);
+    if count <= few {
+        return slots_weight(field, slots, from, count, EntryWeights::First(&[]), none);
+    }
+    let first = first_weights(field, view, few, none);
+    let known = EntryWeights::First(&first[..few]);
+    slots_weight(field, slots, from, count, known, none)
 }
 
 // What a slot weighs that is null or names one of the entries whose weights are known.
@@ -544,17 +472,19 @@ fn known_weight<const SIZE: usize, const SIGNED: bool>(
     slots: CodedSlots<'_>,
     i: usize,
     known: EntryWeights<'_>,
+    entries: u64,
     of_null: u64,
 ) -> Option<u64>
     requires size { SIZE ≡ (index_of slots.spec).bits / 8 }
     requires signed { SIGNED ≡ (index_of slots.spec).signed }
     requires within { i < slots_in (view_array slots.view) }
+    requires all { entries ≡ length (weights_in known) }
     ensures { IsKnownWeight slots.entry.spec slots.entry.view (weights_in known.entry) of_null i result }
 {
     if !slots.is_valid(i) {
         return Some(of_null);
     }
-    match slots.number_below::<SIZE, SIGNED>(i, known.count()) {
+    match slots.number_below::<SIZE, SIGNED>(i, entries) {
         Some(number) => Some(known.at(number as usize)),
         None => None,
     }
@@ -574,14 +504,16 @@ fn sized_total<const SIZE: usize, const SIGNED: bool>(
     requires within { from + count ≤ slots_in (view_array slots.view) }
     ensures { IsKnownTotal slots.entry.spec slots.entry.view (weights_in known.entry) of_null from count result }
 {
+    if count > MOST_SLOTS {
+        return None;
+    }
     // a number of the code is below 2^64, so that the sum is too
     let _slots = slots.view.slots();
+    let entries = known.count();
     let mut total = 0u64;
     for i in from..from + count {
-        match known_weight::<SIZE, SIGNED>(slots, i, known, of_null) {
-            Some(weight) => total = total.saturating_add(weight),
-            None => return None,
-        }
+        let weight = known_weight::<SIZE, SIGNED>(slots, i, known, entries, of_null)?;
+        total = total.wrapping_add(weight);
     }
     Some(total.min(TOO_HEAVY))
 }

@@ -203,8 +203,8 @@ masked_weight-returns-in-None-Some t c =
     let all = masked_field_sizes field w (view_array c.args.mask) a c.args.from c.args.count c.in-None-Some.is-0 width (plain_sound field a c.in-None-Some.is-0 c.requires.sound) c.requires.within in
     reported_unit _ _ _ _ _ _ c.masked_sizes_weight.ensures (unit_of_type _ _ _ c.in-None-Some.is-1 c.sized_type.ensures.unit) all
 
-pub masked_runs_weight-loop-start-preserved-then-is_valid : goal.masked_runs_weight-loop-start-preserved-then-is_valid
-masked_runs_weight-loop-start-preserved-then-is_valid t c =
+pub masked_weight-loop-start-preserved-then-is_valid : goal.masked_weight-loop-start-preserved-then-is_valid
+masked_weight-loop-start-preserved-then-is_valid t c =
     let column : Column = column_of c.args.field.now in
     let mask : Array = view_array c.args.mask in
     let a : Array = view_array c.args.view in
@@ -216,8 +216,8 @@ masked_runs_weight-loop-start-preserved-then-is_valid t c =
     let total = valid_more _ _ _ _ _ _ _ _ _ c.loop-start.invariant.sums more (c.span_weight-run.ensures ∙ ap capped_weight (sym valid)) c.add_weights-total.ensures in
     record { low = omega (arith, seam.begins, c.loop-start.invariant.low); within = seam.ends; few = omega (arith, seam.begins, c.loop-start.invariant.few); sums = total.0; capped = total.1 }
 
-pub masked_runs_weight-loop-start-preserved : goal.masked_runs_weight-loop-start-preserved
-masked_runs_weight-loop-start-preserved t c =
+pub masked_weight-loop-start-preserved : goal.masked_weight-loop-start-preserved
+masked_weight-loop-start-preserved t c =
     let column : Column = column_of c.args.field.now in
     let mask : Array = view_array c.args.mask in
     let a : Array = view_array c.args.view in
@@ -235,11 +235,11 @@ masked_runs_weight-loop-start-preserved t c =
       capped = c.loop-start.invariant.capped;
     }
 
-pub masked_runs_weight-returns : goal.masked_runs_weight-returns
-masked_runs_weight-returns t c =
+pub masked_weight-returns : goal.masked_weight-returns
+masked_weight-returns t c =
     let none : c.args.from + c.args.count - c.loop-start.start ≡ 0 = omega (arith, c.loop-start-test.false) in
     let of_nulls = ap (λ (n : ℕ). c.loop-start.nulls * n) (field_null c.args.field.now) in
-    omega (arith, rw none at c.loop-start.invariant.sums, c.loop-start.invariant.capped, of_nulls, c.nulls_weight.ensures, c.add_weights.ensures)
+    omega (arith, rw none at c.loop-start.invariant.sums, c.loop-start.invariant.capped, of_nulls, c.nulls_weight-2.ensures, c.add_weights.ensures)
 
 pub run_weight-is_valid-requires-clause-long : goal.run_weight-is_valid-requires-clause-long
 run_weight-is_valid-requires-clause-long t c = sound_validity (kind_of c.args.field.now.data_type) (view_array c.args.view) c.requires.sound
@@ -447,60 +447,6 @@ parts_weight-returns t c =
     let none = parts_end c.args.fields.now c.loop-i.i (placed_arrays c.args.bytes.now c.args.dictionaries.now (drop c.loop-i.i c.args.arrays.now)) c.args.from c.args.count c.loop-i-test.false in
     omega (arith, none, c.loop-i.invariant.sums, c.loop-i.invariant.capped)
 
-pub first_entries_weight-slots_weight-requires : goal.first_entries_weight-slots_weight-requires
-first_entries_weight-slots_weight-requires t c =
-    let kind : Kind = kind_of c.args.field.now.data_type in
-    let same = sym c.new-slots.ensures.view in (
-      search (rules, field_lemmas),
-      (
-        c.requires.empty,
-        (
-          c.requires.varied,
-          (
-            subst (λ (v : ArrayView). list_all (is_kind_sound kind) (array_list (dictionary_in (view_array v))) ≡ true) same c.requires.sound,
-            (subst (λ (v : ArrayView). c.args.from + c.args.count ≤ slots_in (view_array v)) same c.requires.within, λ n lt. absurd (omega (arith, lt))),
-          ),
-        ),
-      ),
-    )
-
-pub first_entries_weight-returns-then-count-few : goal.first_entries_weight-returns-then-count-few
-first_entries_weight-returns-then-count-few t c =
-    let kind : Kind = kind_of c.args.field.now.data_type in
-    c.slots_weight.ensures
-    ∙ λ j. capped_weight (sum_from (kind_weight kind) (unless_null (indexed_cell (index_of (c.new-slots.ensures.spec j)) kind) (view_array (c.new-slots.ensures.view j))) c.args.from c.args.count)
-
-pub first_entries_weight-first_weights-first-requires : goal.first_entries_weight-first_weights-first-requires
-first_entries_weight-first_weights-first-requires t c =
-    (search (rules, field_lemmas), (c.first_count-few.ensures, (c.requires.empty, (c.requires.varied, c.requires.sound))))
-
-pub first_entries_weight-slots_weight-requires-2 : goal.first_entries_weight-slots_weight-requires-2
-first_entries_weight-slots_weight-requires-2 t c =
-    let kind : Kind = kind_of c.args.field.now.data_type in
-    let known : List ℕ = take c.first_count-few.result c.first_weights-first.result in
-    let same = sym c.new-slots.ensures.view in (
-      search (rules, field_lemmas),
-      (
-        c.requires.empty,
-        (
-          c.requires.varied,
-          (
-            subst (λ (v : ArrayView). list_all (is_kind_sound kind) (array_list (dictionary_in (view_array v))) ≡ true) same c.requires.sound,
-            (
-              subst (λ (v : ArrayView). c.args.from + c.args.count ≤ slots_in (view_array v)) same c.requires.within,
-              subst (λ (v : ArrayView). AreEntryWeights kind (dictionary_in (view_array v)) known) same c.first_weights-first.ensures,
-            ),
-          ),
-        ),
-      ),
-    )
-
-pub first_entries_weight-returns : goal.first_entries_weight-returns
-first_entries_weight-returns t c =
-    let kind : Kind = kind_of c.args.field.now.data_type in
-    c.slots_weight-2.ensures
-    ∙ λ j. capped_weight (sum_from (kind_weight kind) (unless_null (indexed_cell (index_of (c.new-slots.ensures.spec j)) kind) (view_array (c.new-slots.ensures.view j))) c.args.from c.args.count)
-
 pub entries_weight-slots_weight-requires : goal.entries_weight-slots_weight-requires
 entries_weight-slots_weight-requires t c =
     let kind : Kind = kind_of c.args.field.now.data_type in
@@ -527,6 +473,60 @@ pub entries_weight-returns-in-Some : goal.entries_weight-returns-in-Some
 entries_weight-returns-in-Some t c =
     let kind : Kind = kind_of c.args.field.now.data_type in
     c.slots_weight.ensures
+    ∙ λ j. capped_weight (sum_from (kind_weight kind) (unless_null (indexed_cell (index_of (c.new-slots.ensures.spec j)) kind) (view_array (c.new-slots.ensures.view j))) c.args.from c.args.count)
+
+pub entries_weight-slots_weight-requires-then-count-few : goal.entries_weight-slots_weight-requires-then-count-few
+entries_weight-slots_weight-requires-then-count-few t c =
+    let kind : Kind = kind_of c.args.field.now.data_type in
+    let same = sym c.new-slots.ensures.view in (
+      search (rules, field_lemmas),
+      (
+        c.requires.empty,
+        (
+          c.requires.varied,
+          (
+            subst (λ (v : ArrayView). list_all (is_kind_sound kind) (array_list (dictionary_in (view_array v))) ≡ true) same c.requires.sound,
+            (subst (λ (v : ArrayView). c.args.from + c.args.count ≤ slots_in (view_array v)) same c.requires.within, λ n lt. absurd (omega (arith, lt))),
+          ),
+        ),
+      ),
+    )
+
+pub entries_weight-returns-then-count-few : goal.entries_weight-returns-then-count-few
+entries_weight-returns-then-count-few t c =
+    let kind : Kind = kind_of c.args.field.now.data_type in
+    c.slots_weight-then-count-few.ensures
+    ∙ λ j. capped_weight (sum_from (kind_weight kind) (unless_null (indexed_cell (index_of (c.new-slots.ensures.spec j)) kind) (view_array (c.new-slots.ensures.view j))) c.args.from c.args.count)
+
+pub entries_weight-first_weights-first-requires : goal.entries_weight-first_weights-first-requires
+entries_weight-first_weights-first-requires t c =
+    (search (rules, field_lemmas), (c.first_count-few.ensures, (c.requires.empty, (c.requires.varied, c.requires.sound))))
+
+pub entries_weight-slots_weight-requires-2 : goal.entries_weight-slots_weight-requires-2
+entries_weight-slots_weight-requires-2 t c =
+    let kind : Kind = kind_of c.args.field.now.data_type in
+    let known : List ℕ = take c.first_count-few.result c.first_weights-first.result in
+    let same = sym c.new-slots.ensures.view in (
+      search (rules, field_lemmas),
+      (
+        c.requires.empty,
+        (
+          c.requires.varied,
+          (
+            subst (λ (v : ArrayView). list_all (is_kind_sound kind) (array_list (dictionary_in (view_array v))) ≡ true) same c.requires.sound,
+            (
+              subst (λ (v : ArrayView). c.args.from + c.args.count ≤ slots_in (view_array v)) same c.requires.within,
+              subst (λ (v : ArrayView). AreEntryWeights kind (dictionary_in (view_array v)) known) same c.first_weights-first.ensures,
+            ),
+          ),
+        ),
+      ),
+    )
+
+pub entries_weight-returns : goal.entries_weight-returns
+entries_weight-returns t c =
+    let kind : Kind = kind_of c.args.field.now.data_type in
+    c.slots_weight-2.ensures
     ∙ λ j. capped_weight (sum_from (kind_weight kind) (unless_null (indexed_cell (index_of (c.new-slots.ensures.spec j)) kind) (view_array (c.new-slots.ensures.view j))) c.args.from c.args.count)
 
 pub slots_weight-slot_weight-entry-requires : goal.slots_weight-slot_weight-entry-requires

@@ -26,8 +26,8 @@ invariant-runs_weight-loop-start l =
 abbrev pub decreases-runs_weight-loop-start : goal.decreases-runs_weight-loop-start
 decreases-runs_weight-loop-start l = l.end - l.start
 
-abbrev pub invariant-masked_runs_weight-loop-start : goal.invariant-masked_runs_weight-loop-start
-invariant-masked_runs_weight-loop-start l =
+abbrev pub invariant-masked_weight-loop-start : goal.invariant-masked_weight-loop-start
+invariant-masked_weight-loop-start l =
     let column = column_of l.field in
     record {
       low : l.fn.from ≤ l.start;
@@ -38,8 +38,8 @@ invariant-masked_runs_weight-loop-start l =
       capped : capped_weight l.total ≡ l.total;
     }
 
-abbrev pub decreases-masked_runs_weight-loop-start : goal.decreases-masked_runs_weight-loop-start
-decreases-masked_runs_weight-loop-start l = l.end - l.start
+abbrev pub decreases-masked_weight-loop-start : goal.decreases-masked_weight-loop-start
+decreases-masked_weight-loop-start l = l.end - l.start
 
 abbrev pub invariant-masked_fields_weight-loop-i : goal.invariant-masked_fields_weight-loop-i
 invariant-masked_fields_weight-loop-i l =

@@ -14,4 +14,4 @@ returns-then-not-is_valid g c = λ kind known is.
 pub returns-in-Some : goal.returns-in-Some
 returns-in-Some g c = λ kind known is.
     let valid : is_valid (view_array c.args.slots.view) c.args.i ≡ true = sym c.is_valid.ensures ∙ c.if-not-is_valid.false in
-    c.at.ensures ∙ known_weight kind (index_of c.args.slots.spec) (view_array c.args.slots.view) c.args.i c.in-Some.number (weights_in c.args.known) valid (sym c.in-Some.ensures.named) known (omega (arith, c.in-Some.ensures.below, c.count.ensures))
+    c.at.ensures ∙ known_weight kind (index_of c.args.slots.spec) (view_array c.args.slots.view) c.args.i c.in-Some.number (weights_in c.args.known) valid (sym c.in-Some.ensures.named) known (omega (arith, c.in-Some.ensures.below, c.requires.all))
