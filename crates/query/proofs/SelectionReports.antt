@@ -1,5 +1,5 @@
 -- What the parts of a selection report.
-use Rattle.std.proofs.Common.{◌≡◌, List, map, refl, ap, ◌∙◌}
+use Rattle.std.proofs.Common.{◌≡◌, ℕ, List, map, refl, ap, ◌∙◌}
 use Rattle.std.specs.Prelude.{Some, Ok, String, string_bytes}
 use Rattle.std.specs.Global.{Global}
 use Rattle.arrow_schema.specs.declared.types.Field.{Field}
