@@ -36,6 +36,7 @@ ghost use Rattle.ipc_canonical.specs.Canonical.{canonical, stream_parts};
 
 use cells::MAX_TABLE_WEIGHT;
 
+/// Worked cases of the canonical stream.
 #[tactic(auto, unfolding(crate::specs::Canonical::canonical, crate::specs::Canonical::piece_messages, columns::specs::Built::built, columns::specs::Tests::arrays_at, cells::specs::Dictionary::with_entries))]
 pub fn worked_cases()
     ensures no_rows { NoRows }
