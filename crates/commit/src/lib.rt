@@ -6,7 +6,7 @@
 //! ```
 //! let mut store = recover::<Tables, _>(alloc, &mut device)?;
 //! let places = place(alloc, &mut store.map, contents, &[], text_bytes)?;
-//! let (tables, text) = with_segment(&store.catalogue, &places)?;
+//! let (tables, texts) = with_segment(&store.catalogue, &places)?;
 //! let plan = plan_next(store.commit, version, kind, tables, places, texts, text_bytes);
 //! publish(&mut device, &store, &plan)?;
 //! store.map.give_each(&given_up);
