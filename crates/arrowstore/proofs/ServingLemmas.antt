@@ -9,7 +9,7 @@ use Rattle.catalogue.specs.Edits.{entry_of}
 use Rattle.tables.specs.declared.refusal.Refusal.TheVariants.{BadName, NoTable}
 use Rattle.tables.specs.Commands.{import_stream, append_stream}
 use Rattle.store.specs.declared.store.Store.{Store}
-use Rattle.store.specs.Deciding.{has_entry}
+use Rattle.store_runs.specs.Deciding.{has_entry}
 use Rattle.store.specs.Fits.{is_halted, listed_in}
 use Rattle.cli_refusals.specs.declared.refusal.Refusal.{Refusal}
 use Rattle.cli_commands.specs.TextRows.{RefusesText}

@@ -6,9 +6,9 @@ use Rattle.commit.specs.declared.opening_refusal.OpeningRefusal.{OpeningRefusal}
 use Rattle.tables.specs.Tables.{Tables}
 use Rattle.store.specs.declared.store.Store.{Store}
 use Rattle.store.specs.Answering.{LeavesUnopened}
-use Rattle.store.specs.Calls.{open_call, shut_by, counted}
+use Rattle.store_runs.specs.Calls.{open_call, shut_by, counted}
 use Rattle.store.specs.Fits.{device_of, is_halted, DeviceFits, FindsStore, Opens, Shuts}
-use Rattle.store.specs.Machine.{Machine}
+use Rattle.store_runs.specs.Machine.{Machine}
 use Rattle.cli_refusals.specs.declared.refusal.Refusal.{Refusal}
 use Rattle.cli_refusals.specs.declared.refusal.Refusal.TheVariants as refusals
 use Rattle.arrowstore.specs.declared.open_command.OpenCommand.{OpenCommand}

@@ -13,7 +13,7 @@ use Rattle.commit.specs.Standing.{is_size}
 use Rattle.store.specs.declared.store.Store.{Store}
 use Rattle.commit.specs.declared.sector.FormatVersion.{FormatVersion}
 use Rattle.catalogue.specs.Edits.{entry_of}
-use Rattle.store.specs.Calls.{done}
+use Rattle.store_runs.specs.Calls.{done}
 use Rattle.store.specs.Fits.{commit_of, device_of, is_halted, listed_in, IsNewStore}
 use Rattle.store.specs.Reading.{OnlyReadsStore}
 use Rattle.store.specs.Salvaging.{SalvagesAt, RefusesSalvage}

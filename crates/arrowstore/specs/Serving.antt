@@ -18,12 +18,13 @@ use Rattle.tables.specs.declared.refusal.Refusal.TheVariants.{BadName, NoTable}
 use Rattle.store.specs.declared.store.Store.{Store}
 use Rattle.store.specs.Agreeing.{SaysAgreement}
 use Rattle.store.specs.Applying.{GoesOn}
-use Rattle.store.specs.Calls.{apply_call, upgrade_call}
-use Rattle.store.specs.Deciding.{has_entry}
+use Rattle.store_runs.specs.Calls.{apply_call, upgrade_call}
+use Rattle.store_runs.specs.Deciding.{has_entry}
 use Rattle.store.specs.Fits.{StoreFits, device_of, is_halted, listed_in}
 use Rattle.store.specs.Listing.{RefusesTables, RefusesSchema}
-use Rattle.store.specs.Machine.{Machine}
-use Rattle.store.specs.Reading.{ReadsTable, RefusesRead, OnlyReadsStore, ended}
+use Rattle.store_runs.specs.Machine.{Machine}
+use Rattle.store_runs.specs.Reading.{ReadsTable, RefusesRead, ended}
+use Rattle.store.specs.Reading.{OnlyReadsStore}
 use Rattle.store.specs.Summary.{IsSummary}
 use Rattle.store.specs.Upgrading.{upgrade_ended}
 use Rattle.store.specs.declared.summary.Summary.{Summary}

@@ -19,21 +19,21 @@ use Rattle.tables.specs.Verdict.{after}
 use Rattle.tables.specs.declared.refusal.Limit.TheVariants as limits
 use Rattle.tables.specs.declared.refusal.Refusal as tables
 use Rattle.tables.specs.declared.refusal.Refusal.TheVariants as refusals
-use Rattle.store.specs.declared.compacting.Compaction.{Compaction}
-use Rattle.store.specs.declared.compacting.Compaction.TheVariants.{Merged, Moved, Nothing}
+use Rattle.store_changes.specs.declared.compacting.Compaction.{Compaction}
+use Rattle.store_changes.specs.declared.compacting.Compaction.TheVariants.{Merged, Moved, Nothing}
 use Rattle.store.specs.declared.store.Store.{Store}
 use Rattle.store.specs.Applying.{GoesOn}
-use Rattle.store.specs.Calls.{PlainCall, compact_call, PlainReply, nothing, refused, counted}
+use Rattle.store_runs.specs.Calls.{PlainCall, compact_call, PlainReply, nothing, refused, counted}
 use Rattle.store.specs.Compacting.{reply_of, step_reply, HasStepped}
-use Rattle.store.specs.Exchanging.{Shrinks, ShrinkInTurn, AreOnDevice}
+use Rattle.store_changes.specs.Exchanging.{Shrinks, ShrinkInTurn, AreOnDevice}
 use Rattle.store.specs.Fits.{StoreFits, setting_of, book_of, device_of, is_halted, listed_in}
-use Rattle.store.specs.Held.{held_by}
-use Rattle.store.specs.Machine.{Setting, Machine, running, halted, holds, meanwhile, Allows, AllowsEach, with_doubt}
+use Rattle.store_runs.specs.Held.{held_by}
+use Rattle.store_runs.specs.Machine.{Setting, Machine, running, halted, holds, meanwhile, Allows, AllowsEach, with_doubt}
 use Rattle.store.specs.Reading.{OnlyReadsStore}
-use Rattle.store.specs.Runs.{Goes, Run}
-use Rattle.store.specs.Steps.{Step}
-use Rattle.store.specs.laws.Going.{runs_joined, no_run, run_of_one}
-use Rattle.store.specs.laws.Shrinking.{few_in_turn}
+use Rattle.store_runs.specs.Runs.{Goes, Run}
+use Rattle.store_runs.specs.Steps.{Step}
+use Rattle.store_runs.specs.laws.Going.{runs_joined, no_run, run_of_one}
+use Rattle.store_changes.specs.laws.Shrinking.{few_in_turn}
 use Rattle.cli_refusals.specs.declared.refusal.Refusal.{Refusal}
 use Rattle.cli_commands.specs.Compacting.{steps_text, Steps, StepsTo, StopsBy, step_calls, RunsOn, StaysWith, Compacted}
 

@@ -27,15 +27,16 @@ use Rattle.tables.specs.laws.Maps.{found_here, found_elsewhere, one_map}
 use Rattle.tables.specs.laws.Steps.{after_one_more}
 use Rattle.store.specs.declared.store.Store.{Store}
 use Rattle.store.specs.Applying.{GoesOn}
-use Rattle.store.specs.Calls.{PlainCall, apply_call, export_call, bytes_are, PlainReply, done}
+use Rattle.store_runs.specs.Calls.{PlainCall, apply_call, export_call, bytes_are, PlainReply, done}
 use Rattle.store.specs.Fits.{StoreFits, setting_of, device_of, is_halted, listed_in}
-use Rattle.store.specs.Held.{tables_held}
-use Rattle.store.specs.Machine.{Setting, Machine, running, halted, tables_now, settle}
-use Rattle.store.specs.Reading.{ended, OnlyReadsStore, ReadsTable}
-use Rattle.store.specs.Runs.{Goes, Run}
-use Rattle.store.specs.Steps.{Step}
-use Rattle.store.specs.laws.Going.{runs_joined, no_run, run_of_one}
-use Rattle.store.specs.laws.Named.{entry_lacks}
+use Rattle.store_runs.specs.Held.{tables_held}
+use Rattle.store_runs.specs.Machine.{Setting, Machine, running, halted, tables_now, settle}
+use Rattle.store_runs.specs.Reading.{ended, ReadsTable}
+use Rattle.store.specs.Reading.{OnlyReadsStore}
+use Rattle.store_runs.specs.Runs.{Goes, Run}
+use Rattle.store_runs.specs.Steps.{Step}
+use Rattle.store_runs.specs.laws.Going.{runs_joined, no_run, run_of_one}
+use Rattle.store_changes.specs.laws.Named.{entry_lacks}
 use Rattle.cli_commands.specs.Changing.{AnswersCommand}
 use Rattle.cli_commands.specs.Copying.{ComesTo, HasAllOf, ImportsTable, ImportsEach, FailsToRead, RefusesTable, StopsCopying, RefusesCopy}
 use Rattle.cli_commands.proofs.ReadingLemmas.{read_again}

@@ -17,8 +17,9 @@ use Rattle.tables.specs.declared.refusal.Refusal as tables
 use Rattle.tables.specs.declared.refusal.Refusal.TheVariants.{Write}
 use Rattle.store.specs.declared.store.Store.{Store}
 use Rattle.store.specs.Fits.{device_of, is_halted, listed_in}
-use Rattle.store.specs.Calls.{PlainReply, done, refused, is_device_reply, counted}
-use Rattle.store.specs.Reading.{ReadsTable, RefusesRead, OnlyReadsStore}
+use Rattle.store_runs.specs.Calls.{PlainReply, done, refused, is_device_reply, counted}
+use Rattle.store_runs.specs.Reading.{ReadsTable, RefusesRead}
+use Rattle.store.specs.Reading.{OnlyReadsStore}
 use Rattle.cli_refusals.specs.declared.hint.Hinted.{Hinted}
 use Rattle.cli_refusals.specs.declared.hint.Hinted.TheVariants.{Part, Table}
 use Rattle.cli_refusals.specs.declared.refusal.Refusal.{Refusal}

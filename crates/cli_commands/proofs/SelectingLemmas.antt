@@ -13,8 +13,9 @@ use Rattle.query.specs.declared.errors.QueryError.{QueryError}
 use Rattle.query.specs.declared.errors.QueryError.TheVariants as queries
 use Rattle.query.specs.declared.row_form.RowForm.{RowForm}
 use Rattle.store.specs.declared.store.Store.{Store}
-use Rattle.store.specs.Calls.{done}
-use Rattle.store.specs.Reading.{ReadsTable, OnlyReadsStore}
+use Rattle.store_runs.specs.Calls.{done}
+use Rattle.store_runs.specs.Reading.{ReadsTable}
+use Rattle.store.specs.Reading.{OnlyReadsStore}
 use Rattle.cli_refusals.specs.declared.refusal.Refusal.{Refusal}
 use Rattle.cli_refusals.specs.declared.refusal.Refusal.TheVariants.{Fault, TooManyBytes, Io, BadSize, BadScript, Fields, Text, Query, Opening, Store as OfStore, OutOfMemory}
 use Rattle.cli_refusals.specs.Refusals.{query_refusal}

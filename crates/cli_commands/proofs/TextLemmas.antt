@@ -10,7 +10,7 @@ use Rattle.query.specs.Query.{PlainQuery}
 use Rattle.query.specs.declared.row_form.RowForm.{RowForm}
 use Rattle.text_import.specs.declared.refusal.Refused.{Refused}
 use Rattle.tables.specs.declared.refusal.Refusal as tables
-use Rattle.store.specs.Reading.{ReadsTable}
+use Rattle.store_runs.specs.Reading.{ReadsTable}
 use Rattle.cli_refusals.specs.declared.refusal.Refusal.{Refusal}
 use Rattle.cli_refusals.specs.declared.refusal.Refusal.TheVariants.{Io}
 use Rattle.text_import.specs.declared.form.TextForm.{TextForm}

@@ -9,18 +9,18 @@ use Rattle.tables.specs.Tables.{Tables}
 use Rattle.tables.specs.Verdict.{after}
 use Rattle.tables.specs.declared.refusal.Refusal as tables
 use Rattle.tables.specs.declared.refusal.Refusal.TheVariants as refusals
-use Rattle.store.specs.declared.compacting.Compaction.{Compaction}
-use Rattle.store.specs.declared.compacting.Compaction.TheVariants.{Nothing}
+use Rattle.store_changes.specs.declared.compacting.Compaction.{Compaction}
+use Rattle.store_changes.specs.declared.compacting.Compaction.TheVariants.{Nothing}
 use Rattle.store.specs.declared.store.Store.{Store}
 use Rattle.store.specs.Applying.{IsKept}
-use Rattle.store.specs.Calls.{PlainCall, compact_call, PlainReply, nothing, refused, counted}
+use Rattle.store_runs.specs.Calls.{PlainCall, compact_call, PlainReply, nothing, refused, counted}
 use Rattle.store.specs.Compacting.{reply_of, HasStepped, RefusesStep}
-use Rattle.store.specs.Exchanging.{Shrinks}
+use Rattle.store_changes.specs.Exchanging.{Shrinks}
 use Rattle.store.specs.Fits.{StoreFits, setting_of, book_of, device_of, is_halted, listed_in}
-use Rattle.store.specs.Held.{held_by}
-use Rattle.store.specs.Machine.{Machine, holds}
+use Rattle.store_runs.specs.Held.{held_by}
+use Rattle.store_runs.specs.Machine.{Machine, holds}
 use Rattle.store.specs.Reading.{OnlyReadsStore}
-use Rattle.store.specs.Runs.{Run}
+use Rattle.store_runs.specs.Runs.{Run}
 use Rattle.cli_refusals.specs.declared.refusal.Refusal.{Refusal}
 use Rattle.cli_commands.specs.Changing.{Follows}
 

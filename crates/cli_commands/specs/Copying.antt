@@ -11,12 +11,13 @@ use Rattle.tables.specs.Verdict.{after}
 use Rattle.tables.specs.declared.refusal.Refusal.{Refusal}
 use Rattle.tables.specs.declared.refusal.Refusal.TheVariants.{OutOfMemory}
 use Rattle.store.specs.declared.store.Store.{Store}
-use Rattle.store.specs.Calls.{PlainReply, apply_call, done}
+use Rattle.store_runs.specs.Calls.{PlainReply, apply_call, done}
 use Rattle.store.specs.Fits.{StoreFits, setting_of, device_of, is_halted, listed_in}
 use Rattle.store.specs.Listing.{RefusesTables}
-use Rattle.store.specs.Machine.{Machine}
-use Rattle.store.specs.Reading.{OnlyReadsStore, RefusesRead, ReadsTable}
-use Rattle.store.specs.Runs.{Run}
+use Rattle.store_runs.specs.Machine.{Machine}
+use Rattle.store.specs.Reading.{OnlyReadsStore}
+use Rattle.store_runs.specs.Reading.{RefusesRead, ReadsTable}
+use Rattle.store_runs.specs.Runs.{Run}
 use Rattle.cli_commands.specs.Changing.{AnswersCommand}
 
 -- commands of an open store that were acknowledged, one after another, with these tables after them: some machine goes on, and the store stands for it

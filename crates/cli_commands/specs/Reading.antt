@@ -6,9 +6,9 @@ use Rattle.cells.specs.Cell.{PlainTable}
 use Rattle.catalogue.specs.Entries.{PlainCatalogue}
 use Rattle.catalogue.specs.Edits.{entry_of, tables_of}
 use Rattle.tables.specs.declared.refusal.Refusal as tables
-use Rattle.store.specs.Calls.{PlainReply, done, refused}
+use Rattle.store_runs.specs.Calls.{PlainReply, done, refused}
 use Rattle.store.specs.Listing.{RefusesTables}
-use Rattle.store.specs.Reading.{ReadsTable, RefusesRead}
+use Rattle.store_runs.specs.Reading.{ReadsTable, RefusesRead}
 use Rattle.cli_refusals.specs.declared.hint.Hinted.{Hinted}
 use Rattle.cli_refusals.specs.declared.hint.Hinted.TheVariants.{Table}
 use Rattle.cli_refusals.specs.declared.refusal.Refusal.{Refusal}

@@ -13,7 +13,7 @@ use Rattle.query.specs.declared.row_form.RowForm.{RowForm}
 use Rattle.query.specs.declared.row_form.RowForm.TheVariants.{Array, Object}
 use Rattle.tables.specs.declared.refusal.QueryRefusal.{QueryRefusal}
 use Rattle.tables.specs.declared.refusal.QueryRefusal.TheVariants.{UnknownColumn, BadCondition, NotComparable}
-use Rattle.store.specs.Reading.{ReadsTable, RefusesRead}
+use Rattle.store_runs.specs.Reading.{ReadsTable, RefusesRead}
 use Rattle.cli_refusals.specs.declared.refusal.Refusal.{Refusal}
 use Rattle.cli_refusals.specs.declared.refusal.Refusal.TheVariants.{Io, Query, Store, OutOfMemory}
 

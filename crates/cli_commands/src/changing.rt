@@ -7,11 +7,11 @@ ghost use Rattle.tables.specs.Tables.{Tables};
 ghost use Rattle.tables.specs.declared.refusal.Refusal.TheVariants.{BadName, NoTable};
 ghost use Rattle.tables.specs.View.{command_of};
 ghost use Rattle.store.specs.Applying.{GoesOn};
-ghost use Rattle.store.specs.Calls.{apply_call};
-ghost use Rattle.store.specs.Deciding.{has_entry};
+ghost use Rattle.store_runs.specs.Calls.{apply_call};
+ghost use Rattle.store_runs.specs.Deciding.{has_entry};
 ghost use Rattle.store.specs.Fits.{StoreFits, listed_in};
-ghost use Rattle.store.specs.Machine.{Machine};
-ghost use Rattle.store.specs.Reading.{ended};
+ghost use Rattle.store_runs.specs.Machine.{Machine};
+ghost use Rattle.store_runs.specs.Reading.{ended};
 ghost use Rattle.cli_commands.specs.Changing.{Answered, AnswersCommand, AnswersInput};
 
 use cli_refusals::{Refusal, write_whole};

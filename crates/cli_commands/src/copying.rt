@@ -1,7 +1,7 @@
 // Copies all tables of a store into another one.
 ghost use Rattle.std.specs.Prelude.{map, string_bytes, Ok, IfErr, OnOk};
 ghost use Rattle.catalogue.specs.Edits.{tables_of};
-ghost use Rattle.store.specs.Calls.{done};
+ghost use Rattle.store_runs.specs.Calls.{done};
 ghost use Rattle.store.specs.Fits.{listed_in};
 ghost use Rattle.store.specs.Reading.{OnlyReadsStore};
 ghost use Rattle.cli_commands.specs.Copying.{IsOnlyRead, HasAllOf, ImportsTable, ImportsEach, RefusesTable, StopsCopying, RefusesCopy};

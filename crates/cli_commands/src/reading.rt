@@ -7,7 +7,8 @@ ghost use Rattle.cells.specs.Cell.{PlainTable};
 ghost use Rattle.catalogue.specs.Edits.{entry_of, tables_of};
 ghost use Rattle.ipc_canonical.specs.Canonical.{canonical};
 ghost use Rattle.store.specs.Fits.{device_of, is_halted, listed_in};
-ghost use Rattle.store.specs.Reading.{ReadsTable, RefusesRead, OnlyReadsStore, ended};
+ghost use Rattle.store_runs.specs.Reading.{ReadsTable, RefusesRead, ended};
+ghost use Rattle.store.specs.Reading.{OnlyReadsStore};
 ghost use Rattle.cli_commands.specs.Reading.{OfStore, store_ended, IsReadable, FirstUnread, RefusesCheck, IsHintOf, HintsUnread, IfChecked};
 
 use cli_refusals::{Hinted, Refusal, write_whole};

@@ -3,9 +3,9 @@ ghost use Rattle.std.specs.Prelude.{◌≡◌, ◌≢◌, true, codes, IfErr, On
 ghost use Rattle.std.specs.Io.KnownBytes.{Appends};
 ghost use Rattle.tables.specs.Tables.{Tables};
 ghost use Rattle.store.specs.Applying.{GoesOn};
-ghost use Rattle.store.specs.Calls.{upgrade_call};
+ghost use Rattle.store_runs.specs.Calls.{upgrade_call};
 ghost use Rattle.store.specs.Fits.{StoreFits};
-ghost use Rattle.store.specs.Machine.{Machine};
+ghost use Rattle.store_runs.specs.Machine.{Machine};
 ghost use Rattle.store.specs.Upgrading.{upgrade_ended};
 ghost use Rattle.cli_commands.specs.Upgrading.{AnsweredUpgrade, AnswersUpgrade};
 

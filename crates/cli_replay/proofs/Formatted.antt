@@ -19,12 +19,12 @@ use Rattle.store.specs.declared.store.Store.{Store}
 use Rattle.store.specs.Beginning.{IsLeftOf}
 use Rattle.commit.specs.Standing.{is_size}
 use Rattle.tables.specs.Tables.{Tables, no_tables}
-use Rattle.store.specs.Calls.{format_call, done}
+use Rattle.store_runs.specs.Calls.{format_call, done}
 use Rattle.store.specs.Fits.{setting_of, fresh, resumed, device_of, DeviceFits, FormatsStore, Opens}
 use Rattle.store.specs.Opening.{TellsFormatting}
-use Rattle.store.specs.Machine.{Setting, Machine, Allows, shut_down}
+use Rattle.store_runs.specs.Machine.{Setting, Machine, Allows, shut_down}
 use Rattle.store.specs.Places.{ShutFits}
-use Rattle.store.specs.Steps.{Step}
+use Rattle.store_runs.specs.Steps.{Step}
 use Rattle.cli_replay.specs.Replay.{IsEmptyStore, IsOfNewDevice, after_opening}
 
 -- what a formatting made goes on as a store that a run may begin with

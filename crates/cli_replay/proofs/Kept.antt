@@ -11,13 +11,13 @@ use Rattle.store.specs.declared.call.StoreOrDevice.{StoreOrDevice}
 use Rattle.store.specs.declared.call.StoreOrDevice.TheVariants as places
 use Rattle.store.specs.Answering.{AnswersCall}
 use Rattle.store.specs.Beginning.{IsLeftOf}
-use Rattle.store.specs.Calls.{PlainCall, open_call, tables_call, PlainReply, done, counts}
+use Rattle.store_runs.specs.Calls.{PlainCall, open_call, tables_call, PlainReply, done, counts}
 use Rattle.store.specs.Fits.{setting_of, DeviceFits, resumed}
-use Rattle.store.specs.History.{InOrder, in_doubt, acknowledged, begun, Settles}
-use Rattle.store.specs.Machine.{Setting, Machine, has_written, with_doubt, opened, shut_down}
+use Rattle.store_runs.specs.History.{InOrder, in_doubt, acknowledged, begun, Settles}
+use Rattle.store_runs.specs.Machine.{Setting, Machine, has_written, with_doubt, opened, shut_down}
 use Rattle.store.specs.Places.{AreCallsOf, device_in, ShutFits, PlaceFits}
-use Rattle.store.specs.Runs.{Run}
-use Rattle.store.specs.Steps.{Step}
+use Rattle.store_runs.specs.Runs.{Run}
+use Rattle.store_runs.specs.Steps.{Step}
 use Rattle.cli_replay.specs.Playing.{Plays}
 use Rattle.cli_replay.specs.Replay.{IsKept}
 use Rattle.cli_replay.proofs.Runs.{played_run}

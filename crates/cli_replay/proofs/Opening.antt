@@ -10,14 +10,14 @@ use Rattle.store.specs.declared.call.Call.TheVariants as calls_in
 use Rattle.store.specs.declared.call.StoreOrDevice.{StoreOrDevice}
 use Rattle.store.specs.declared.call.StoreOrDevice.TheVariants as places
 use Rattle.store.specs.Answering.{AnswersCall}
-use Rattle.store.specs.Calls.{PlainCall, open_call, shut_by}
+use Rattle.store_runs.specs.Calls.{PlainCall, open_call, shut_by}
 use Rattle.store.specs.Fits.{setting_of, resumed}
-use Rattle.store.specs.Machine.{Setting, Machine}
+use Rattle.store_runs.specs.Machine.{Setting, Machine}
 use Rattle.store.specs.Places.{ShutFits, reply_in}
 use Rattle.store.specs.declared.call.Reply.{Reply}
 use Rattle.store.specs.declared.call.Reply.TheVariants as replies_in
 use Rattle.commit.specs.Standing.{is_size}
-use Rattle.store.specs.Steps.{Step, StepOpen}
+use Rattle.store_runs.specs.Steps.{Step, StepOpen}
 use Rattle.std.specs.Prelude.{ℕ, List, Option}
 use Rattle.cli_replay.specs.Replay.{IsOfPlaying, RefusesReplay}
 

@@ -3,7 +3,7 @@ use Rattle.std.proofs.Common.{◌≡◌, ◌++◌, ◌∙◌, ◌∷◌, [], ℕ
 use Rattle.sector_dev.specs.declared.device.SectorDevice.{Ghosts}
 use Rattle.store.specs.declared.call.Call.{Call}
 use Rattle.store.specs.declared.call.StoreOrDevice.{StoreOrDevice}
-use Rattle.store.specs.Calls.{PlainReply}
+use Rattle.store_runs.specs.Calls.{PlainReply}
 use Rattle.store.specs.Places.{device_in, reply_in, replies_of}
 use Rattle.store.specs.declared.call.Reply.{Reply}
 use Rattle.std.proofs.lemmas.List.{map-append}

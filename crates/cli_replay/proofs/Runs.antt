@@ -4,9 +4,9 @@ use Rattle.sector_dev.specs.declared.device.SectorDevice.{Ghosts}
 use Rattle.tables.specs.Tables.{Tables}
 use Rattle.store.specs.declared.call.Call.{Call}
 use Rattle.store.specs.declared.call.StoreOrDevice.{StoreOrDevice}
-use Rattle.store.specs.Calls.{PlainCall, PlainReply}
-use Rattle.store.specs.Machine.{Machine}
-use Rattle.store.specs.Runs.{Run}
+use Rattle.store_runs.specs.Calls.{PlainCall, PlainReply}
+use Rattle.store_runs.specs.Machine.{Machine}
+use Rattle.store_runs.specs.Runs.{Run}
 use Rattle.store.specs.Fits.{setting_of}
 use Rattle.store.specs.Places.{device_in, PlaceFits, PlaceGoes, PlaceRuns}
 use Rattle.cli_replay.specs.Playing.{PlaysLine, Plays, ArePlayedAsRun}

@@ -5,8 +5,8 @@ use Rattle.tables.specs.Tables.{Tables}
 use Rattle.store.specs.declared.call.Call.{Call}
 use Rattle.store.specs.declared.call.StoreOrDevice.{StoreOrDevice}
 use Rattle.store.specs.declared.call.Reply.{Reply}
-use Rattle.store.specs.Calls.{PlainCall, PlainReply, done, counts, refused, shut_by}
-use Rattle.store.specs.Machine.{Machine}
+use Rattle.store_runs.specs.Calls.{PlainCall, PlainReply, done, counts, refused, shut_by}
+use Rattle.store_runs.specs.Machine.{Machine}
 use Rattle.store.specs.Places.{AreCallsOf, device_in, reply_in, PlaceRuns}
 use Rattle.store.specs.Answering.{AnswersCall}
 use Rattle.cli_refusals.specs.declared.refusal.Refusal.{Refusal}

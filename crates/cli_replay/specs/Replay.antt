@@ -19,8 +19,8 @@ use Rattle.store.specs.declared.call.Call.TheVariants as calls
 use Rattle.store.specs.declared.call.StoreOrDevice.{StoreOrDevice}
 use Rattle.store.specs.declared.call.StoreOrDevice.TheVariants as places
 use Rattle.store.specs.Beginning.{IsLeftOf}
-use Rattle.store.specs.Calls.{PlainCall, PlainReply, done, counts}
-use Rattle.store.specs.History.{InOrder, acknowledged, begun}
+use Rattle.store_runs.specs.Calls.{PlainCall, PlainReply, done, counts}
+use Rattle.store_runs.specs.History.{InOrder, acknowledged, begun}
 use Rattle.store.specs.Fits.{FormatsStore, device_of, resumed}
 use Rattle.store.specs.Places.{AreCallsOf, device_in, ShutFits}
 use Rattle.store.specs.Answering.{AnswersCall}

@@ -5,7 +5,7 @@ ghost use Rattle.sector_dev.specs.Chosen.{IsChosen};
 ghost use Rattle.sector_dev.specs.Faults.{no_faults};
 ghost use Rattle.sector_dev.specs.View.{size_of, failed_of, faults_of, history_of};
 ghost use Rattle.store.specs.Beginning.{IsLeftOf};
-ghost use Rattle.store.specs.Calls.{done};
+ghost use Rattle.store_runs.specs.Calls.{done};
 ghost use Rattle.store.specs.Answering.{AnswersCall};
 ghost use Rattle.store.specs.Places.{reply_in};
 ghost use Rattle.cli_replay.specs.Playing.{FoundText};

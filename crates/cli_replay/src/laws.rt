@@ -3,8 +3,8 @@ ghost use Rattle.std.specs.Prelude.{◌≡◌, true, Bool, List};
 ghost use Rattle.tables.specs.Tables.{Tables};
 ghost use Rattle.store.specs.declared.call.Call.{Call};
 ghost use Rattle.store.specs.declared.call.StoreOrDevice.{StoreOrDevice};
-ghost use Rattle.store.specs.Calls.{PlainReply};
-ghost use Rattle.store.specs.Machine.{Machine};
+ghost use Rattle.store_runs.specs.Calls.{PlainReply};
+ghost use Rattle.store_runs.specs.Machine.{Machine};
 ghost use Rattle.store.specs.Places.{PlaceFits};
 ghost use Rattle.cli_replay.specs.Playing.{Plays, ArePlayedAsRun};
 

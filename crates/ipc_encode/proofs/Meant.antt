@@ -8,7 +8,8 @@ use Rattle.arrow_schema.specs.Column.{PlainSchema}
 use Rattle.ipc_canonical.specs.Canonical.{canonical, piece_messages}
 use Rattle.ipc_canonical.specs.Pieces.{IsPieceOf}
 use Rattle.ipc_encode.proofs.Steps.{few_rows}
-use Rattle.ipc_encode.specs.Pieces.{piece_stream, IsPiece}
+use Rattle.ipc_canonical.specs.PieceStreams.{piece_stream}
+use Rattle.ipc_encode.specs.Pieces.{IsPiece}
 use Rattle.cells.specs.Cell.{Cell, PlainTable}
 use Rattle.ipc_message.specs.Header.{supported_codes}
 use Rattle.ipc_stream.specs.Meaning.{meaning}

@@ -11,7 +11,7 @@ use Rattle.ipc_canonical.specs.Canonical.{canonical, entries_message, entries_me
 use Rattle.ipc_canonical.specs.Pieces.{IsPieceOf}
 use Rattle.ipc_canonical.specs.laws.FewColumns.{dictionaries_have_few}
 use Rattle.batch_build.specs.Batch.{PlainBatch, buffers_in, dictionary_of, node_in, dictionary_in, batch_in, with_arrays, batch_of, built_below}
-use Rattle.ipc_encode.specs.Pieces.{piece_stream, piece_streams, piece_counts}
+use Rattle.ipc_canonical.specs.PieceStreams.{piece_stream, piece_streams, piece_counts}
 use Rattle.ipc_encode.specs.View.{with_schema}
 use Rattle.batch_build.specs.declared.batch.BuiltBatch.{BuiltBatch}
 use Rattle.ipc_encode.specs.inner.Messages.{built_messages, built_batch, entries_of_piece, batch_of_piece, IsFront, AreFew, HasFew}

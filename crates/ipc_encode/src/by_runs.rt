@@ -5,7 +5,7 @@ ghost use Rattle.arrow_schema.specs.Column.{columns_of};
 ghost use Rattle.arrow_schema.specs.View.{schema_of};
 ghost use Rattle.ipc_canonical.specs.Canonical.{canonical, rows_messages};
 ghost use Rattle.ipc_canonical.specs.Pieces.{IsPieceOf};
-ghost use Rattle.ipc_encode.specs.Pieces.{piece_stream, piece_streams, piece_counts};
+ghost use Rattle.ipc_canonical.specs.PieceStreams.{piece_stream, piece_streams, piece_counts};
 ghost use Rattle.ipc_encode.specs.View.{joined_parts, streams_behind, streams_in};
 ghost use Rattle.ipc_encode.specs.inner.Stream.{stream_in};
 ghost use Rattle.ipc_write.specs.Written.{schema_message};

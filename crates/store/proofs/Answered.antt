@@ -16,23 +16,23 @@ use Rattle.store.specs.declared.call.StoreOrDevice.{StoreOrDevice}
 use Rattle.store.specs.declared.call.StoreOrDevice.TheVariants as places
 use Rattle.store.specs.declared.store.Store.{Store}
 use Rattle.commit.specs.declared.opening_refusal.OpeningRefusal.{OpeningRefusal}
-use Rattle.store.specs.Calls.{PlainCall, needs_store, apply_call, format_call, open_call, close_call, tables_call, schema_call, read_call, export_call, stream_call, open_export_call, export_next_call, close_export_call, compact_call, upgrade_call, PlainReply, done, refused, shut_by}
-use Rattle.store.specs.Machine.{pinned_by, Setting, Machine, Phase, shut, running, halted, shut_down, Allows, AllowsEach, SparesKept}
-use Rattle.store.specs.Steps.{Step}
-use Rattle.store.specs.Runs.{Goes}
+use Rattle.store_runs.specs.Calls.{PlainCall, needs_store, apply_call, format_call, open_call, close_call, tables_call, schema_call, read_call, export_call, stream_call, open_export_call, export_next_call, close_export_call, compact_call, upgrade_call, PlainReply, done, refused, shut_by}
+use Rattle.store_runs.specs.Machine.{pinned_by, Setting, Machine, Phase, shut, running, halted, shut_down, Allows, AllowsEach, SparesKept}
+use Rattle.store_runs.specs.Steps.{Step}
+use Rattle.store_runs.specs.Runs.{Goes}
 use Rattle.store.specs.Fits.{setting_of, StoreFits, Opens, Shuts}
 use Rattle.store.specs.Applying.{GoesOn}
 use Rattle.store.specs.Places.{IsCallOf, AreCallsOf, asks_store, reply_in, replies_of, device_in, ShutFits, PlaceFits, PlaceGoes, PlaceRuns, PlaceLives}
 use Rattle.store.proofs.Taken.{some_bytes}
 use Rattle.store.proofs.Asked.{not_less, refused_elsewhere}
-use Rattle.store.specs.laws.Going.{no_run, run_of_one, runs_joined}
-use Rattle.store.specs.laws.Left.{left_from}
-use Rattle.store.specs.laws.Kept.{stops_keep}
-use Rattle.store.specs.laws.Cut.{replied_at, snapshot_at}
-use Rattle.store.specs.laws.Settled.{run_settles, run_settles_all}
-use Rattle.store.specs.laws.Counted.{undisturbed}
-use Rattle.store.specs.laws.Never.{tells_none_damaged, tells_a_store_since}
-use Rattle.store.specs.laws.Unhalted.{tells_no_halt}
+use Rattle.store_runs.specs.laws.Going.{no_run, run_of_one, runs_joined}
+use Rattle.store_runs.specs.laws.Left.{left_from}
+use Rattle.store_runs.specs.laws.Kept.{stops_keep}
+use Rattle.store_runs.specs.laws.Cut.{replied_at, snapshot_at}
+use Rattle.store_runs.specs.laws.Settled.{run_settles, run_settles_all}
+use Rattle.store_runs.specs.laws.Counted.{undisturbed}
+use Rattle.store_runs.specs.laws.Never.{tells_none_damaged, tells_a_store_since}
+use Rattle.store_runs.specs.laws.Unhalted.{tells_no_halt}
 
 not_running : (p : Phase) → p ≡ shut → p ≢ running
 not_running shut is other = cc other

@@ -21,18 +21,20 @@ use Rattle.tables.specs.Verdict.{verdict}
 use Rattle.tables.specs.laws.Steps.{told_by_tables}
 use Rattle.store.specs.declared.store.Store.{Store}
 use Rattle.pages.specs.declared.stored.StoredCatalogue.{StoredCatalogue}
-use Rattle.store.specs.Calls.{apply_call, PlainReply, refused, is_failure, is_device_reply, counted}
-use Rattle.store.specs.Changes.{PlainChange}
-use Rattle.store.specs.Deciding.{IsDecided}
+use Rattle.store_runs.specs.Calls.{apply_call, PlainReply, refused, is_failure, is_device_reply, counted}
+use Rattle.store_runs.specs.Changes.{PlainChange}
+use Rattle.store_runs.specs.Deciding.{IsDecided}
 use Rattle.pages.specs.Stored.{stored_reading}
-use Rattle.store.specs.Machine.{pinned_by, Setting, Machine, running, halted, tables_now, has_written, AllowsEach, SparesKept}
-use Rattle.store.specs.Reading.{OnlyReadsStore, ended}
-use Rattle.store.specs.Runs.{Goes, TellsFound, TellsRoom}
-use Rattle.store.specs.Steps.{Step, RefusesFrom}
+use Rattle.store_runs.specs.Machine.{pinned_by, Setting, Machine, running, halted, tables_now, has_written, AllowsEach, SparesKept}
+use Rattle.store.specs.Reading.{OnlyReadsStore}
+use Rattle.store_runs.specs.Reading.{ended}
+use Rattle.store_runs.specs.Runs.{Goes, TellsFound, TellsRoom}
+use Rattle.store_runs.specs.Steps.{Step, RefusesFrom}
 use Rattle.store.specs.Fits.{setting_of, StoreFits, commit_of, listed_in, IsOnDisk}
-use Rattle.store.specs.Applying.{EndsAs, IsKept, HasDone, IsOldOrDone, IsApplying, IsApplyingAtEachMoment, IsDoneOnDisk, GoesOn}
-use Rattle.store.specs.Carrying.{IsCarried}
-use Rattle.store.specs.Verdicts.{IsVerdict, IsUndecided}
+use Rattle.store.specs.Applying.{EndsAs, IsKept, IsApplyingAtEachMoment, IsDoneOnDisk, GoesOn}
+use Rattle.store_changes.specs.OnDisk.{HasDone, IsOldOrDone, IsApplying}
+use Rattle.store_runs.specs.Carrying.{IsCarried}
+use Rattle.store_changes.specs.Verdicts.{IsVerdict, IsUndecided}
 use Rattle.store.proofs.Asked.{still, not_running, refused_elsewhere}
 use Rattle.store.proofs.ReadsStore.{moments_read, stays_reading, halts_reading, spared_reading}
 

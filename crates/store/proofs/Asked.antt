@@ -11,10 +11,10 @@ use Rattle.tables.specs.declared.refusal.Refusal.{Refusal}
 use Rattle.tables.specs.Refusals.{Origin, by_tables, by_room, by_memory, by_device, by_halt, elsewhere, origin_of}
 use Rattle.tables.specs.Commands.{PlainCommand}
 use Rattle.store.specs.declared.store.Store.{Store}
-use Rattle.store.specs.Calls.{PlainCall, apply_call, format_call, open_call, close_call, tables_call, schema_call, read_call, export_call, stream_call, open_export_call, export_next_call, close_export_call, compact_call, upgrade_call, PlainReply, refused, is_device_reply}
-use Rattle.store.specs.Machine.{Setting, Phase, running, halted, Machine, AllowsEach, pinned_by, SparesKept}
-use Rattle.store.specs.Steps.{Step}
-use Rattle.store.specs.Runs.{TellsFound, RoomFrom, TellsRoom}
+use Rattle.store_runs.specs.Calls.{PlainCall, apply_call, format_call, open_call, close_call, tables_call, schema_call, read_call, export_call, stream_call, open_export_call, export_next_call, close_export_call, compact_call, upgrade_call, PlainReply, refused, is_device_reply}
+use Rattle.store_runs.specs.Machine.{Setting, Phase, running, halted, Machine, AllowsEach, pinned_by, SparesKept}
+use Rattle.store_runs.specs.Steps.{Step}
+use Rattle.store_runs.specs.Runs.{TellsFound, RoomFrom, TellsRoom}
 use Rattle.store.specs.Fits.{setting_of, StoreFits}
 use Rattle.store.specs.Applying.{GoesOn}
 

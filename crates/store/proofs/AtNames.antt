@@ -11,12 +11,12 @@ use Rattle.query.specs.Query.{PlainQuery}
 use Rattle.tables.specs.Commands.{save_as}
 use Rattle.tables.specs.declared.refusal.Refusal.{Refusal}
 use Rattle.tables.specs.declared.refusal.Refusal.TheVariants.{Halted, NoTable, OutOfMemory, Write}
-use Rattle.store.specs.Changes.{PlainChange}
-use Rattle.store.specs.Deciding.{of_entry, streamed_rows, given_rows, selected_entry, IsAdded, IsSaved, IsAnswered}
-use Rattle.store.specs.Reading.{IsRead, Unreads, ReadsTable, RefusesRead}
-use Rattle.store.specs.declared.new_rows.NewRows.{NewRows}
-use Rattle.store.specs.declared.new_rows.NewRows.TheVariants.{Stream, Given, OfTable}
-use Rattle.store.specs.inner.Appending.{append_of, added_to, IsAppended}
+use Rattle.store_runs.specs.Changes.{PlainChange}
+use Rattle.store_runs.specs.Deciding.{of_entry, streamed_rows, given_rows, selected_entry, IsAdded, IsSaved, IsAnswered}
+use Rattle.store_runs.specs.Reading.{IsRead, Unreads, ReadsTable, RefusesRead}
+use Rattle.store_changes.specs.declared.new_rows.NewRows.{NewRows}
+use Rattle.store_changes.specs.declared.new_rows.NewRows.TheVariants.{Stream, Given, OfTable}
+use Rattle.store_changes.specs.Appending.{append_of, added_to, IsAppended}
 use Rattle.store.specs.inner.Saving.{IsSelected}
 
 -- ---- a reading

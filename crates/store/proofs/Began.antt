@@ -17,9 +17,9 @@ use Rattle.commit.specs.laws.Sectors.{none_begins}
 use Rattle.tables.specs.Tables.{Tables, no_tables}
 use Rattle.tables.specs.Commands.{PlainCommand}
 use Rattle.tables.specs.Verdict.{after}
-use Rattle.store.specs.Machine as machines
-use Rattle.store.specs.Machine.{Machine, shut_down, with_doubt, Allows, holds}
-use Rattle.store.specs.Held.{held_of, held_by}
+use Rattle.store_runs.specs.Machine as machines
+use Rattle.store_runs.specs.Machine.{Machine, shut_down, with_doubt, Allows, holds}
+use Rattle.store_runs.specs.Held.{held_of, held_by}
 use Rattle.pages.specs.Stored.{stored_reading}
 use Rattle.store.specs.Fits.{setting_of, DeviceFits, fresh, resumed, doubting, HoldsNoneOrEmpty, HoldsWithOrWithout}
 use Rattle.store.specs.Beginning.{IsLeftOf, BeginsAnew}

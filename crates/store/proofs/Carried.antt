@@ -31,19 +31,19 @@ use Rattle.tables.specs.Commands.{PlainCommand}
 use Rattle.tables.specs.Verdict.{verdict, after}
 use Rattle.tables.specs.laws.Steps.{accepted, after_one_more}
 use Rattle.pages.specs.declared.stored.StoredCatalogue.{StoredCatalogue}
-use Rattle.store.specs.Calls.{apply_call, refused, counted}
-use Rattle.store.specs.Machine.{pinned_by, Machine, running, tables_now, Allows, AllowsEach, has_written, SparesKept}
-use Rattle.store.specs.Steps.{Step, RefusesFrom}
-use Rattle.store.specs.Runs.{Goes}
+use Rattle.store_runs.specs.Calls.{apply_call, refused, counted}
+use Rattle.store_runs.specs.Machine.{pinned_by, Machine, running, tables_now, Allows, AllowsEach, has_written, SparesKept}
+use Rattle.store_runs.specs.Steps.{Step, RefusesFrom}
+use Rattle.store_runs.specs.Runs.{Goes}
 use Rattle.pages.specs.Stored.{stored_reading}
 use Rattle.store.specs.declared.store.Store.{Store}
 use Rattle.store.specs.Fits.{book_of, setting_of, listed_in}
-use Rattle.store.specs.Changes.{PlainChange, CanChange, IsChange}
-use Rattle.store.specs.Applying.{HasCarried, IsOldOrCarried, IsTaking, IsCarrying}
-use Rattle.store.specs.Carrying.{IsCarried, IsCarriedOut, asked_sizes}
-use Rattle.store.specs.inner.Prepared.{IsPrepared}
+use Rattle.store_runs.specs.Changes.{PlainChange, CanChange, IsChange}
+use Rattle.store_changes.specs.OnDisk.{HasCarried, IsOldOrCarried, IsTaking, IsCarrying}
+use Rattle.store_runs.specs.Carrying.{IsCarried, IsCarriedOut, asked_sizes}
+use Rattle.store_changes.specs.Prepared.{IsPrepared}
 use Rattle.store.proofs.Asked.{not_less}
-use Rattle.store.proofs.Prepared.{runs_are, placed_is, streams_held, can_replace}
+use Rattle.store_changes.specs.laws.Prepared.{runs_are, placed_is, streams_held, can_replace}
 use Rattle.export_book.specs.Book.{runs_kept}
 use Rattle.store.proofs.Roomed.{room_by}
 

@@ -38,23 +38,25 @@ use Rattle.tables.specs.Refusals.{by_room, origin_of}
 use Rattle.tables.specs.Tables.{Tables, table_at}
 use Rattle.tables.specs.Verdict.{after}
 use Rattle.store.specs.declared.store.Store.{Store}
-use Rattle.store.specs.Calls.{PlainCall, open_export_call, export_next_call, close_export_call, PlainReply, done, export_is, piece_is, refused, is_device_reply}
-use Rattle.store.specs.Machine.{Setting, Machine, Export, running, halted, tables_now, Allows, pinned_by, export_at, gave, is_of}
-use Rattle.store.specs.Steps.{Step, IsExportOf}
-use Rattle.store.specs.Runs.{TellsFound, TellsRoom}
-use Rattle.store.specs.Held.{tables_held, table_held, rows_each, rows_held, pieces_held, segment_rows}
+use Rattle.store_runs.specs.Calls.{PlainCall, open_export_call, export_next_call, close_export_call, PlainReply, done, export_is, piece_is, refused, is_device_reply}
+use Rattle.store_runs.specs.Machine.{Setting, Machine, Export, running, halted, tables_now, Allows, pinned_by, export_at, gave, is_of}
+use Rattle.store_runs.specs.Steps.{Step, IsExportOf}
+use Rattle.store_runs.specs.Runs.{TellsFound, TellsRoom}
+use Rattle.store_runs.specs.Held.{tables_held, table_held, rows_each, rows_held, pieces_held, segment_rows}
 use Rattle.pages.specs.Stored.{stored_reading}
 use Rattle.store.specs.Fits.{setting_of, StoreFits, IsSound, ExportFits, ExportsFit, book_of, commit_of, listed_in}
 use Rattle.store.specs.Applying.{GoesOn}
-use Rattle.store.specs.Reading.{LacksRows, OnlyReadsDevice, OnlyReadsStore}
+use Rattle.store_runs.specs.Reading.{LacksRows, OnlyReadsDevice}
+use Rattle.store.specs.Reading.{OnlyReadsStore}
 use Rattle.store.specs.Exporting.{RefusesExport, RefusesRoom, OpensExport, OpensAt, PieceIs, GivesPiece, after_giving, RefusesSegment, RefusesNumber, RefusesPiece, ReadsForExport, RefusesClosing, ClosesAt}
-use Rattle.store.specs.laws.Digests.{damaged_lacks}
-use Rattle.store.specs.laws.Named.{entry_has, entry_lacks, held_has}
-use Rattle.store.specs.laws.Spared.{each_joined}
-use Rattle.store.specs.inner.LawsBelow.{TableLaws}
+use Rattle.store_changes.specs.laws.Digests.{damaged_lacks}
+use Rattle.store_changes.specs.laws.Named.{entry_has, entry_lacks, held_has}
+use Rattle.store_changes.specs.laws.Spared.{each_joined}
+use Rattle.store_changes.specs.LawsBelow.{TableLaws}
 use Rattle.store.proofs.Asked.{is_running, not_running, refused_elsewhere}
-use Rattle.store.proofs.ReadTables.{held_is_table}
-use Rattle.store.proofs.ReadsStore.{shown_is_synced, none_written, moments_read, spared_reading, stays_reading, halts_reading}
+use Rattle.store_changes.specs.laws.ReadTables.{held_is_table}
+use Rattle.store_changes.specs.laws.Synced.{shown_is_synced}
+use Rattle.store.proofs.ReadsStore.{none_written, moments_read, spared_reading, stays_reading, halts_reading}
 use Rattle.store.proofs.OpenExports.{FitsAt, found_fits, count_fits, more_fits, given_fits, left_fits, each_count, each_at, piece_at}
 
 -- a law of streams: what their parts mean, joined

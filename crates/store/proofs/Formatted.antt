@@ -23,11 +23,11 @@ use Rattle.catalogue.specs.declared.entry.SegmentForm.{SegmentForm}
 use Rattle.catalogue.specs.Reading.{catalogue_at}
 use Rattle.tables.specs.Tables.{Tables, no_tables}
 use Rattle.tables.specs.Verdict.{after}
-use Rattle.store.specs.Calls.{format_call, PlainReply, done, shut_by, may_be_done, counted}
-use Rattle.store.specs.Steps.{Step}
-use Rattle.store.specs.Runs.{Goes}
-use Rattle.store.specs.Machine.{no_store, holds, Machine, opened, shut_down, Allows, AllowsEach, meanwhile, has_written}
-use Rattle.store.specs.Held.{tables_held, held_tables, held_of, held_by}
+use Rattle.store_runs.specs.Calls.{format_call, PlainReply, done, shut_by, may_be_done, counted}
+use Rattle.store_runs.specs.Steps.{Step}
+use Rattle.store_runs.specs.Runs.{Goes}
+use Rattle.store_runs.specs.Machine.{no_store, holds, Machine, opened, shut_down, Allows, AllowsEach, meanwhile, has_written}
+use Rattle.store_runs.specs.Held.{tables_held, held_tables, held_of, held_by}
 use Rattle.pages.specs.Stored.{stored_reading, form_of, or_no_text}
 use Rattle.store.specs.Fits.{setting_of, IsFresh}
 use Rattle.store.specs.Opening.{formatting_of, TellsFormatting, IsOfFormatting}

@@ -21,23 +21,24 @@ use Rattle.tables.specs.Tables.{Tables}
 use Rattle.tables.specs.Commands.{PlainCommand}
 use Rattle.tables.specs.Verdict.{verdict, after}
 use Rattle.store.specs.declared.store.Store.{Store}
-use Rattle.store.specs.Calls.{apply_call, done, refused, counted}
-use Rattle.store.specs.Machine.{holds, Setting, Machine, running, halted, tables_now, Allows, meanwhile, has_written, settle, halt}
-use Rattle.store.specs.Steps.{Step}
-use Rattle.store.specs.Runs.{Goes}
-use Rattle.store.specs.Held.{tables_held, held_tables, held_by}
+use Rattle.store_runs.specs.Calls.{apply_call, done, refused, counted}
+use Rattle.store_runs.specs.Machine.{holds, Setting, Machine, running, halted, tables_now, Allows, meanwhile, has_written, settle, halt}
+use Rattle.store_runs.specs.Steps.{Step}
+use Rattle.store_runs.specs.Runs.{Goes}
+use Rattle.store_runs.specs.Held.{tables_held, held_tables, held_by}
 use Rattle.pages.specs.Stored.{stored_reading}
 use Rattle.store.specs.Fits.{book_of, setting_of, listed_in, ExportsFit, StoreFits, IsSound}
-use Rattle.store.specs.Changes.{PlainChange, MakesOf, placed_segments}
-use Rattle.store.specs.Deciding.{IsDecided}
+use Rattle.store_runs.specs.Changes.{PlainChange, MakesOf, placed_segments}
+use Rattle.store_runs.specs.Deciding.{IsDecided}
 use Rattle.store.specs.Exported.{AreExportable}
-use Rattle.store.specs.Carrying.{IsCarried, placed, commit_placed}
-use Rattle.store.specs.Reading.{ended}
-use Rattle.store.specs.Applying.{GoesOn, EndsAs, IsKept, HasCarried, IsOldOrCarried, IsTaking, IsCarrying, IsCarryingAtEachMoment, IsCarriedOnDisk, HasDone, IsApplying, IsApplyingAtEachMoment, IsDoneOnDisk}
-use Rattle.store.specs.laws.Frame.{held_is, same_tables}
-use Rattle.store.specs.laws.Changed.{edited_held, placed_held}
+use Rattle.store_runs.specs.Carrying.{IsCarried, placed, commit_placed}
+use Rattle.store_runs.specs.Reading.{ended}
+use Rattle.store.specs.Applying.{GoesOn, EndsAs, IsKept, IsCarryingAtEachMoment, IsCarriedOnDisk, IsApplyingAtEachMoment, IsDoneOnDisk}
+use Rattle.store_changes.specs.OnDisk.{HasCarried, IsOldOrCarried, IsTaking, IsCarrying, HasDone, IsApplying}
+use Rattle.store_changes.specs.laws.Frame.{held_is, same_tables}
+use Rattle.store_changes.specs.laws.Changed.{edited_held, placed_held}
 use Rattle.store.proofs.Asked.{not_less}
-use Rattle.store.proofs.ReadsStore.{shown_is_synced}
+use Rattle.store_changes.specs.laws.Synced.{shown_is_synced}
 use Rattle.store.proofs.Roomed.{carried_out, refused_out}
 use Rattle.store.proofs.Spares.{last_moment, spares_in, exports_on}
 use Rattle.store.proofs.Carried.{new_after, is_accepted, refused_goes}

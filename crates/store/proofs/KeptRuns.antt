@@ -13,7 +13,7 @@ use Rattle.commit.specs.Standing.{is_size, is_on_device, all_on_device, are_apar
 use Rattle.commit.specs.laws.Apart.{HasEntered, entered_more}
 use Rattle.commit.specs.laws.Frame.{fault_none}
 use Rattle.store.specs.Summary.{CountsKept}
-use Rattle.store.specs.laws.Shrinking.{on_both}
+use Rattle.store_changes.specs.laws.Shrinking.{on_both}
 use Rattle.store.proofs.Fitted.{apart_fit, used_fit}
 
 -- the first of the runs that are kept: those of them that are not in use have come into use in a map, after those that are

@@ -26,17 +26,17 @@ use Rattle.commit.specs.laws.Fit.{times_some, some_times, once, all_on}
 use Rattle.commit.specs.laws.Frame.{fault_none}
 use Rattle.export_book.specs.Book as books
 use Rattle.export_book.specs.Book.{PlainExport, AreRising, runs_kept}
-use Rattle.store.specs.Machine.{Export, is_of, export_at, gave}
+use Rattle.store_runs.specs.Machine.{Export, is_of, export_at, gave}
 use Rattle.store.specs.Exported.{IsExportable, AreExportable}
-use Rattle.store.specs.Held.{segment_rows, with_rows, rows_each, pieces_held}
+use Rattle.store_runs.specs.Held.{segment_rows, with_rows, rows_each, pieces_held}
 use Rattle.store.specs.Fits.{ExportFits, ExportsFit}
 use Rattle.store.specs.Exporting.{OfSegment, PieceIs}
-use Rattle.store.specs.laws.Digests.{read_rows}
+use Rattle.store_changes.specs.laws.Digests.{read_rows}
 use Rattle.commit.specs.Placing.{Uses}
 use Rattle.catalogue.specs.Schemas.{is_within_limits}
 use Rattle.catalogue.specs.laws.Kept.{passes_limits, entry_is}
-use Rattle.store.specs.laws.Edited.{none_listed}
-use Rattle.store.proofs.ReadTables.{runs_on_device}
+use Rattle.store_changes.specs.laws.Edited.{none_listed}
+use Rattle.store_changes.specs.laws.ReadTables.{runs_on_device}
 
 -- ---- one by one
 

@@ -15,12 +15,12 @@ use Rattle.commit.specs.declared.reading.OpenError.TheVariants as errors
 use Rattle.catalogue.specs.Entries.{PlainCatalogue}
 use Rattle.tables.specs.Tables.{Tables}
 use Rattle.tables.specs.Verdict.{after}
-use Rattle.store.specs.Calls.{open_call, PlainReply, done, shut_by, may_be_done, counted}
-use Rattle.store.specs.Steps.{Step}
-use Rattle.store.specs.Runs.{Goes}
-use Rattle.store.specs.Machine as machines
-use Rattle.store.specs.Machine.{broken, holds, Machine, with_doubt, running, opened, shut_down, Allows, AllowsEach, meanwhile, has_written}
-use Rattle.store.specs.Held.{tables_held, held_tables, held_of, held_by}
+use Rattle.store_runs.specs.Calls.{open_call, PlainReply, done, shut_by, may_be_done, counted}
+use Rattle.store_runs.specs.Steps.{Step}
+use Rattle.store_runs.specs.Runs.{Goes}
+use Rattle.store_runs.specs.Machine as machines
+use Rattle.store_runs.specs.Machine.{broken, holds, Machine, with_doubt, running, opened, shut_down, Allows, AllowsEach, meanwhile, has_written}
+use Rattle.store_runs.specs.Held.{tables_held, held_tables, held_of, held_by}
 use Rattle.pages.specs.Stored.{stored_reading}
 use Rattle.store.specs.Fits.{setting_of}
 use Rattle.store.specs.Opening.{opening_of, TellsOpening}

@@ -22,26 +22,22 @@ use Rattle.tables.specs.declared.refusal.Refusal.TheVariants as refusals
 use Rattle.tables.specs.Refusals.{by_room, origin_of}
 use Rattle.tables.specs.Tables.{Tables, table_at}
 use Rattle.tables.specs.Verdict.{after}
+use Rattle.store_changes.specs.laws.Synced.{shown_is_synced}
 use Rattle.store.specs.declared.store.Store.{Store}
-use Rattle.store.specs.Calls.{PlainCall, read_call, export_call, PlainReply, refused, is_device_reply, may_be_done}
-use Rattle.store.specs.Machine.{pinned_by, SparesKept, Setting, Machine, running, halted, halt, meanwhile, has_written, tables_now, Allows, AllowsEach}
-use Rattle.store.specs.Steps.{Step, Stays, RefusesReading}
-use Rattle.store.specs.Runs.{TellsFound, TellsRoom}
-use Rattle.store.specs.Held.{tables_held, table_held}
+use Rattle.store_runs.specs.Calls.{PlainCall, read_call, export_call, PlainReply, refused, is_device_reply, may_be_done}
+use Rattle.store_runs.specs.Machine.{pinned_by, SparesKept, Setting, Machine, running, halted, halt, meanwhile, has_written, tables_now, Allows, AllowsEach}
+use Rattle.store_runs.specs.Steps.{Step, Stays, RefusesReading}
+use Rattle.store_runs.specs.Runs.{TellsFound, TellsRoom}
+use Rattle.store_runs.specs.Held.{tables_held, table_held}
 use Rattle.pages.specs.Stored.{stored_reading}
 use Rattle.store.specs.Fits.{book_of, setting_of, StoreFits, DeviceFits, ExportsFit, IsSound, listed_in}
 use Rattle.store.specs.Applying.{GoesOn}
-use Rattle.store.specs.Reading.{IsUnread, IsDamaged, Unreads, RefusesRead, ReadsTable, OnlyReadsStore}
-use Rattle.store.specs.laws.Named.{entry_has, entry_lacks}
+use Rattle.store_runs.specs.Reading.{IsUnread, IsDamaged, Unreads, RefusesRead, ReadsTable}
+use Rattle.store.specs.Reading.{OnlyReadsStore}
+use Rattle.store_changes.specs.laws.Named.{entry_has, entry_lacks}
 use Rattle.store.proofs.Asked.{not_less, is_running, not_running, refused_elsewhere}
-use Rattle.store.specs.inner.LawsBelow.{TableLaws}
-use Rattle.store.proofs.ReadTables.{unread_not_held, damaged_not_held}
-
--- ---- images
-
--- where nothing is pending reads show what is synced
-pub shown_is_synced : (d : Disk) → ((n : ℕ) → (d.at n).shown ≡ (d.at n).synced) → shown_image d ≡ synced_image d
-shown_is_synced d quiet = λ i n. quiet n i
+use Rattle.store_changes.specs.LawsBelow.{TableLaws}
+use Rattle.store_changes.specs.laws.ReadTables.{unread_not_held, damaged_not_held}
 
 -- ---- moments
 

@@ -11,9 +11,10 @@ use Rattle.store.specs.declared.store.Store.{Store}
 use Rattle.store.specs.declared.call.Call.{Call}
 use Rattle.store.specs.declared.call.StoreOrDevice.{StoreOrDevice}
 use Rattle.store.specs.declared.call.StoreOrDevice.TheVariants as places
-use Rattle.store.specs.Calls.{PlainCall, needs_store, apply_call, format_call, open_call, close_call, tables_call, schema_call, read_call, export_call, stream_call, open_export_call, export_next_call, close_export_call, compact_call, upgrade_call, PlainReply, done, refused, is_device_reply, counted}
+use Rattle.store_runs.specs.Calls.{PlainCall, needs_store, apply_call, format_call, open_call, close_call, tables_call, schema_call, read_call, export_call, stream_call, open_export_call, export_next_call, close_export_call, compact_call, upgrade_call, PlainReply, done, refused, is_device_reply, counted}
 use Rattle.store.specs.Listing.{RefusesTables, RefusesSchema}
-use Rattle.store.specs.Reading.{OnlyReadsStore, ended}
+use Rattle.store.specs.Reading.{OnlyReadsStore}
+use Rattle.store_runs.specs.Reading.{ended}
 use Rattle.store.specs.Places.{IsStreamOf, device_in}
 use Rattle.store.specs.Answering.{Answers, AnswersEach, TakesInput, AnswersAs, AnswersCall, AnswersCalls}
 use Rattle.store.proofs.Answered.{are_more, runs_more, runs_none, stays_open}

@@ -15,16 +15,16 @@ use Rattle.tables.specs.Refusals.{Origin, by_tables, by_room, by_memory, by_devi
 use Rattle.tables.specs.Tables.{Tables}
 use Rattle.tables.specs.Commands.{PlainCommand}
 use Rattle.store.specs.declared.store.Store.{Store}
-use Rattle.store.specs.Machine.{Machine, pinned_by}
-use Rattle.store.specs.laws.Edited.{none_listed}
+use Rattle.store_runs.specs.Machine.{Machine, pinned_by}
+use Rattle.store_changes.specs.laws.Edited.{none_listed}
 use Rattle.store.specs.laws.Exported.{kept_pinned}
 use Rattle.pages.specs.Stored.{stored_reading}
-use Rattle.store.specs.Runs.{RoomFrom}
+use Rattle.store_runs.specs.Runs.{RoomFrom}
 use Rattle.store.specs.Fits.{book_of, listed_in, IsSound}
-use Rattle.store.specs.Changes.{PlainChange}
-use Rattle.store.specs.Deciding.{IsDecided}
-use Rattle.store.specs.Carrying.{IsCarried, IsCarriedOut}
-use Rattle.store.proofs.ReadsStore.{shown_is_synced}
+use Rattle.store_runs.specs.Changes.{PlainChange}
+use Rattle.store_runs.specs.Deciding.{IsDecided}
+use Rattle.store_runs.specs.Carrying.{IsCarried, IsCarriedOut}
+use Rattle.store_changes.specs.laws.Synced.{shown_is_synced}
 
 pub room_by : (o : Origin) (size : ℕ) (pinned : List Run) (before after : Disk) (c : PlainCommand) (r : Refusal) → IsCarriedOut size pinned before after c (Err r) → RoomFrom o size pinned before after c r
 room_by by_tables size pinned before after c r ended = tt

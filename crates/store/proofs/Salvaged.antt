@@ -15,13 +15,12 @@ use Rattle.catalogue.specs.declared.entry.Segment.{Segment}
 use Rattle.catalogue.specs.Entries.{PlainEntry}
 use Rattle.tables.specs.declared.refusal.Refusal.{Refusal}
 use Rattle.tables.specs.declared.refusal.Refusal.TheVariants as refusals
-use Rattle.store.specs.Calls.{done, refused, is_failure}
-use Rattle.store.specs.Exporting.{HasRows}
-use Rattle.store.specs.Held.{segment_rows}
-use Rattle.store.specs.Reading.{LacksRows, OnlyReadsDevice}
-use Rattle.store.specs.laws.Digests.{read_rows, damaged_lacks}
+use Rattle.store_runs.specs.Calls.{done, refused, is_failure}
+use Rattle.store_runs.specs.Reading.{HasRows, LacksRows, OnlyReadsDevice}
+use Rattle.store_runs.specs.Held.{segment_rows}
+use Rattle.store_changes.specs.laws.Digests.{read_rows, damaged_lacks}
 use Rattle.store.specs.Salvaging.{AreFound, rows_found, left_out, Salvages, SalvagesAt, BreaksOff, RefusesSalvage}
-use Rattle.store.specs.inner.Reading.{FailsReading}
+use Rattle.store_changes.specs.ReadSegment.{FailsReading}
 use Rattle.store.specs.inner.Salvaging.{is_of_segment, FailsWriting, FindsMessages, messages_found, SalvagesOne, SalvagesEach}
 
 -- ---- one segment

@@ -17,12 +17,12 @@ use Rattle.tables.specs.Verdict.{bad_name, of_query, empty_table}
 use Rattle.tables.specs.declared.refusal.Limit.TheVariants as limits
 use Rattle.tables.specs.declared.refusal.Refusal.{Refusal}
 use Rattle.tables.specs.declared.refusal.Refusal.TheVariants as refusals
-use Rattle.store.specs.Calls.{is_failure}
-use Rattle.store.specs.Changes.{PlainChange}
-use Rattle.store.specs.Deciding.{has_entry, taken_in, full_in, create_tests, unselected, selected_entry, decided_selection, entry_selected, IsSaved}
-use Rattle.store.specs.Reading.{IsRead, Unreads}
+use Rattle.store_runs.specs.Calls.{is_failure}
+use Rattle.store_runs.specs.Changes.{PlainChange}
+use Rattle.store_runs.specs.Deciding.{has_entry, taken_in, full_in, create_tests, unselected, selected_entry, decided_selection, entry_selected, IsSaved}
+use Rattle.store_runs.specs.Reading.{IsRead, Unreads}
 use Rattle.store.specs.inner.Saving.{IsSelected}
-use Rattle.store.specs.inner.Tests.{Tests}
+use Rattle.store_changes.specs.Tests.{Tests}
 
 -- ---- no test tells that the store is halted, or that its device failed
 

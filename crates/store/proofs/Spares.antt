@@ -12,14 +12,15 @@ use Rattle.commit.specs.Standing.{standing, used_runs, InSome}
 use Rattle.export_book.specs.Book.{PlainBook, runs_kept}
 use Rattle.tables.specs.Tables.{Tables}
 use Rattle.store.specs.declared.store.Store.{Store}
-use Rattle.store.specs.Machine.{Machine, SparesKept, pinned_by}
+use Rattle.store_runs.specs.Machine.{Machine, SparesKept, pinned_by}
 use Rattle.pages.specs.Stored.{stored_reading}
 use Rattle.store.specs.Fits.{book_of, listed_in, ExportsFit, IsSound}
 use Rattle.store.specs.Exported.{AreExportable}
-use Rattle.store.specs.Changes.{PlainChange}
-use Rattle.store.specs.Carrying.{asked_sizes}
-use Rattle.store.specs.Applying.{IsTaking, IsCarrying, IsCarryingAtEachMoment}
-use Rattle.store.specs.laws.Spared.{pins_spared}
+use Rattle.store_runs.specs.Changes.{PlainChange}
+use Rattle.store_runs.specs.Carrying.{asked_sizes}
+use Rattle.store_changes.specs.OnDisk.{IsTaking, IsCarrying}
+use Rattle.store.specs.Applying.{IsCarryingAtEachMoment}
+use Rattle.store_changes.specs.laws.Spared.{pins_spared}
 use Rattle.store.specs.laws.Exported.{kept_pinned, kept_behind, same_exports}
 use Rattle.store.proofs.Roomed.{pins}
 

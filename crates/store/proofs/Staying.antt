@@ -22,20 +22,21 @@ use Rattle.tables.specs.declared.refusal.Limit.TheVariants as limits
 use Rattle.tables.specs.Tables.{Tables}
 use Rattle.tables.specs.Verdict.{after}
 use Rattle.store.specs.declared.store.Store.{Store}
-use Rattle.store.specs.Calls.{PlainCall, PlainReply, compact_call, upgrade_call, refused, counted, is_change, is_device_reply, may_be_done}
-use Rattle.store.specs.Machine.{pinned_by, holds, Setting, Machine, running, halted, Allows, AllowsEach, SparesKept, meanwhile, has_written, halt}
-use Rattle.store.specs.Steps.{Step}
-use Rattle.store.specs.Runs.{Goes, TellsFound, TellsRoom}
-use Rattle.store.specs.Held.{tables_held, held_tables, held_by}
+use Rattle.store_runs.specs.Calls.{PlainCall, PlainReply, compact_call, upgrade_call, refused, counted, is_change, is_device_reply, may_be_done}
+use Rattle.store_runs.specs.Machine.{pinned_by, holds, Setting, Machine, running, halted, Allows, AllowsEach, SparesKept, meanwhile, has_written, halt}
+use Rattle.store_runs.specs.Steps.{Step}
+use Rattle.store_runs.specs.Runs.{Goes, TellsFound, TellsRoom}
+use Rattle.store_runs.specs.Held.{tables_held, held_tables, held_by}
 use Rattle.pages.specs.Stored.{stored_reading}
 use Rattle.store.specs.Fits.{book_of, setting_of, listed_in, ExportsFit, StoreFits, IsSound}
-use Rattle.store.specs.Changes.{PlainChange, edited, placed_segments, HoldsStreams}
+use Rattle.store_runs.specs.Changes.{PlainChange, edited, placed_segments, HoldsStreams}
 use Rattle.store.specs.Exported.{AreExportable}
-use Rattle.store.specs.laws.Changed.{placed_held}
-use Rattle.store.specs.Carrying.{outline, placed, commit_placed}
+use Rattle.store_changes.specs.laws.Changed.{placed_held}
+use Rattle.store_runs.specs.Carrying.{outline, placed, commit_placed}
 use Rattle.store.specs.Reading.{OnlyReadsStore}
-use Rattle.store.specs.Applying.{GoesOn, EndsAs, IsKept, HasCarried, IsOldOrCarried, IsCarrying, IsCarryingAtEachMoment, IsCarriedOnDisk}
-use Rattle.store.specs.laws.Frame.{held_is, same_tables}
+use Rattle.store.specs.Applying.{GoesOn, EndsAs, IsKept, IsCarryingAtEachMoment, IsCarriedOnDisk}
+use Rattle.store_changes.specs.OnDisk.{HasCarried, IsOldOrCarried, IsCarrying}
+use Rattle.store_changes.specs.laws.Frame.{held_is, same_tables}
 use Rattle.store.proofs.Asked.{not_less}
 use Rattle.store.proofs.ReadsStore.{moments_read, spared_reading}
 use Rattle.store.proofs.Spares.{spares_in, exports_on}

@@ -14,17 +14,17 @@ use Rattle.catalogue.specs.laws.Changed.{found_passes}
 use Rattle.tables.specs.declared.refusal.Refusal.{Refusal}
 use Rattle.tables.specs.declared.refusal.Refusal.TheVariants as refusals
 use Rattle.tables.specs.Tables.{Tables}
-use Rattle.store.specs.Held.{is_undamaged, bytes_of, rows_in_segment, segment_rows, joined_rows, rows_held, table_held, tables_held}
-use Rattle.store.specs.Changes.{rows_under}
-use Rattle.store.specs.Reading.{LacksBytes}
-use Rattle.store.specs.Compacting.{pair_of, UnreadsPair, UnreadsInPairs, UnreadsMoving, UnreadsStep}
-use Rattle.store.specs.inner.LawsBelow.{TableLaws}
-use Rattle.store.specs.inner.Reading.{FailsReading}
-use Rattle.store.specs.laws.Changed.{rows_behind}
-use Rattle.store.specs.laws.Digests.{rows_damaged, rows_unread}
-use Rattle.store.specs.laws.Named.{entry_has}
-use Rattle.store.proofs.ReadTables.{read_is_held, held_is_table, parts_of, unread_not_held, damaged_not_held}
-use Rattle.store.proofs.StepParts.{at_name, one_from}
+use Rattle.store_runs.specs.Held.{is_undamaged, bytes_of, rows_in_segment, segment_rows, joined_rows, rows_held, table_held, tables_held}
+use Rattle.store_runs.specs.Changes.{rows_under}
+use Rattle.store_runs.specs.Reading.{LacksBytes}
+use Rattle.store_changes.specs.Compacting.{pair_of, UnreadsPair, UnreadsInPairs, UnreadsMoving, UnreadsStep}
+use Rattle.store_changes.specs.LawsBelow.{TableLaws}
+use Rattle.store_changes.specs.ReadSegment.{FailsReading}
+use Rattle.store_changes.specs.laws.Changed.{rows_behind}
+use Rattle.store_changes.specs.laws.Digests.{rows_damaged, rows_unread}
+use Rattle.store_changes.specs.laws.Named.{entry_has}
+use Rattle.store_changes.specs.laws.ReadTables.{read_is_held, held_is_table, parts_of, unread_not_held, damaged_not_held}
+use Rattle.store_changes.specs.laws.StepParts.{at_name, one_from}
 
 -- the rows of segments in three parts
 three_parts : (schema : PlainSchema) (segments : List Segment) (place count : ℕ) (image : Image) (rows : List (List Cell)) → rows_held schema segments image ≡ Some rows

@@ -19,25 +19,27 @@ use Rattle.tables.specs.declared.refusal.Refusal.TheVariants as refusals
 use Rattle.tables.specs.Tables.{Tables}
 use Rattle.tables.specs.Verdict.{after}
 use Rattle.store.specs.declared.store.Store.{Store}
-use Rattle.store.specs.declared.compacting.Compaction.{Compaction}
-use Rattle.store.specs.declared.compacting.Compaction.TheVariants as compactions
-use Rattle.store.specs.Calls.{PlainReply, compact_call, done, nothing, refused, is_failure, counted, is_change, is_device_reply}
-use Rattle.store.specs.Machine.{Setting, Machine, running}
-use Rattle.store.specs.Steps.{Step}
-use Rattle.store.specs.Runs.{TellsFound}
-use Rattle.store.specs.Held.{tables_held}
+use Rattle.store_changes.specs.declared.compacting.Compaction.{Compaction}
+use Rattle.store_changes.specs.declared.compacting.Compaction.TheVariants as compactions
+use Rattle.store_runs.specs.Calls.{PlainReply, compact_call, done, nothing, refused, is_failure, counted, is_change, is_device_reply}
+use Rattle.store_runs.specs.Machine.{Setting, Machine, running}
+use Rattle.store_runs.specs.Steps.{Step}
+use Rattle.store_runs.specs.Runs.{TellsFound}
+use Rattle.store_runs.specs.Held.{tables_held}
 use Rattle.store.specs.Fits.{book_of, setting_of, listed_in, StoreFits}
-use Rattle.store.specs.Changes.{PlainChange, edited, HoldsStreams}
+use Rattle.store_runs.specs.Changes.{PlainChange, edited, HoldsStreams}
 use Rattle.store.specs.Exported.{AreExportable}
 use Rattle.store.specs.Reading.{OnlyReadsStore}
 use Rattle.store.specs.Applying.{GoesOn, EndsAs, IsKept, IsCarryingAtEachMoment, IsCarriedOnDisk}
-use Rattle.store.specs.Compacting.{reply_of, IsStep, UnreadsStep}
-use Rattle.store.specs.inner.LawsBelow.{LawsBelow, TableLaws}
-use Rattle.store.specs.inner.Reading.{FailsReading}
+use Rattle.store.specs.Compacting.{reply_of}
+use Rattle.store_changes.specs.Compacting.{IsStep, UnreadsStep}
+use Rattle.store_changes.specs.LawsBelow.{LawsBelow, TableLaws}
+use Rattle.store_changes.specs.ReadSegment.{FailsReading}
 use Rattle.store.proofs.Asked.{not_running, still}
 use Rattle.store.proofs.Applied.{is_device, refused_by}
-use Rattle.store.proofs.ReadsStore.{shown_is_synced, stays_reading, halts_reading}
-use Rattle.store.proofs.StepChanges.{step_keeps, step_few}
+use Rattle.store_changes.specs.laws.Synced.{shown_is_synced}
+use Rattle.store.proofs.ReadsStore.{stays_reading, halts_reading}
+use Rattle.store_changes.specs.laws.StepChanges.{step_keeps, step_few}
 use Rattle.store.proofs.StepReads.{step_fails}
 use Rattle.store.proofs.Staying.{compact_stays, changed_goes, refusal_goes, goes_behind}
 

@@ -19,17 +19,17 @@ use Rattle.tables.specs.Tables.{Tables}
 use Rattle.tables.specs.Commands.{PlainCommand, import_stream, append_stream}
 use Rattle.tables.specs.Verdict.{too_many_bytes, of_table, of_meaning, put, appended_table, appended_stream, verdict}
 use Rattle.store.specs.declared.store.Store.{Store}
-use Rattle.store.specs.Calls.{apply_call, stream_call, refused, is_failure}
-use Rattle.store.specs.Machine.{Setting, Machine, tables_now}
-use Rattle.store.specs.Steps.{Step, StepApply, StepStream}
-use Rattle.store.specs.Held.{tables_held}
+use Rattle.store_runs.specs.Calls.{apply_call, stream_call, refused, is_failure}
+use Rattle.store_runs.specs.Machine.{Setting, Machine, tables_now}
+use Rattle.store_runs.specs.Steps.{Step, StepApply, StepStream}
+use Rattle.store_runs.specs.Held.{tables_held}
 use Rattle.store.specs.Fits.{setting_of, StoreFits, listed_in}
-use Rattle.store.specs.Deciding.{Addition, of_entry, rows_of_table, streamed_rows, decided_table, IsAdded, IsDecided, IsAnswered}
+use Rattle.store_runs.specs.Deciding.{Addition, of_entry, rows_of_table, streamed_rows, decided_table, IsAdded, IsDecided, IsAnswered}
 use Rattle.store.specs.Applying.{GoesOn}
-use Rattle.store.specs.Reading.{ended}
+use Rattle.store_runs.specs.Reading.{ended}
 use Rattle.store.specs.Input.{HasGiven, RefusesInput}
 use Rattle.store.specs.Answering.{Applies, TakesInput}
-use Rattle.store.specs.laws.Named.{entry_has, entry_lacks}
+use Rattle.store_changes.specs.laws.Named.{entry_has, entry_lacks}
 use Rattle.store.proofs.Asked.{is_running, still}
 use Rattle.store.proofs.Applied.{reads_nothing, read_halts, refuses_first, refuses_halted, stood}
 

@@ -21,27 +21,29 @@ use Rattle.tables.specs.declared.refusal.Refusal.TheVariants as refusals
 use Rattle.tables.specs.Tables.{Tables}
 use Rattle.tables.specs.Verdict.{after}
 use Rattle.store.specs.declared.store.Store.{Store}
-use Rattle.store.specs.Calls.{PlainReply, upgrade_call, done, already, refused, counted}
-use Rattle.store.specs.Machine.{Setting, Machine, running}
-use Rattle.store.specs.Steps.{Step}
-use Rattle.store.specs.Held.{tables_held}
+use Rattle.store_runs.specs.Calls.{PlainReply, upgrade_call, done, already, refused, counted}
+use Rattle.store_runs.specs.Machine.{Setting, Machine, running}
+use Rattle.store_runs.specs.Steps.{Step}
+use Rattle.store_runs.specs.Held.{tables_held}
 use Rattle.store.specs.Fits.{book_of, setting_of, listed_in, StoreFits}
-use Rattle.store.specs.Changes.{PlainChange, CanChange, IsChange, edited, HoldsStreams}
-use Rattle.store.specs.Carrying.{outline}
+use Rattle.store_runs.specs.Changes.{PlainChange, CanChange, IsChange, edited, HoldsStreams}
+use Rattle.store_runs.specs.Carrying.{outline}
 use Rattle.store.specs.Exported.{AreExportable}
-use Rattle.store.specs.Reading.{Unreads, OnlyReadsStore}
+use Rattle.store_runs.specs.Reading.{Unreads}
+use Rattle.store.specs.Reading.{OnlyReadsStore}
 use Rattle.store.specs.Applying.{GoesOn, EndsAs, IsKept, IsCarryingAtEachMoment, IsCarriedOnDisk}
-use Rattle.store.specs.Upgrading.{IsUpgrade, StopsReading}
-use Rattle.store.specs.inner.LawsBelow.{TableLaws}
-use Rattle.store.specs.inner.Reading.{FailsReading}
-use Rattle.store.specs.laws.Named.{entry_has}
+use Rattle.store_changes.specs.Digesting.{IsUpgrade, StopsReading}
+use Rattle.store_changes.specs.LawsBelow.{TableLaws}
+use Rattle.store_changes.specs.ReadSegment.{FailsReading}
+use Rattle.store_changes.specs.laws.Named.{entry_has}
 use Rattle.store.specs.laws.Upgraded.{digests_number, segments_number, digests_are, digests_held}
 use Rattle.store.proofs.Asked.{not_running, still}
 use Rattle.store.proofs.Applied.{refused_by}
-use Rattle.store.proofs.ReadTables.{unread_not_held, damaged_not_held}
-use Rattle.store.proofs.ReadsStore.{shown_is_synced, stays_reading, halts_reading}
+use Rattle.store_changes.specs.laws.ReadTables.{unread_not_held, damaged_not_held}
+use Rattle.store_changes.specs.laws.Synced.{shown_is_synced}
+use Rattle.store.proofs.ReadsStore.{stays_reading, halts_reading}
 use Rattle.store.proofs.Staying.{upgrade_stays, changed_goes, refusal_goes, goes_behind}
-use Rattle.store.proofs.StepParts.{at_name}
+use Rattle.store_changes.specs.laws.StepParts.{at_name}
 use Rattle.store.proofs.Stepped.{halts_by}
 
 -- ---- the change

@@ -24,19 +24,19 @@ use Rattle.store.specs.declared.call.StoreOrDevice.{StoreOrDevice}
 use Rattle.store.specs.declared.call.StoreOrDevice.TheVariants as places
 use Rattle.commit.specs.declared.opening_refusal.OpeningRefusal.{OpeningRefusal}
 use Rattle.commit.specs.declared.opening_refusal.OpeningRefusal.TheVariants as openings
-use Rattle.store.specs.Calls.{PlainCall, apply_call, format_call, open_call, close_call, tables_call, schema_call, read_call, export_call, stream_call, open_export_call, export_next_call, close_export_call, compact_call, upgrade_call}
-use Rattle.store.specs.Calls.{PlainReply, done, counts, schema_is, table_is, bytes_are, export_is, piece_is, nothing, refused, shut_by, counted}
+use Rattle.store_runs.specs.Calls.{PlainCall, apply_call, format_call, open_call, close_call, tables_call, schema_call, read_call, export_call, stream_call, open_export_call, export_next_call, close_export_call, compact_call, upgrade_call, PlainReply, done, counts, schema_is, table_is, bytes_are, export_is, piece_is, nothing, refused, shut_by, counted}
 use Rattle.store.specs.Opening.{TellsOpening, TellsFormatting, IsOfFormatting}
 use Rattle.pages.specs.Stored.{stored_reading}
-use Rattle.store.specs.Machine.{Machine}
+use Rattle.store_runs.specs.Machine.{Machine}
 use Rattle.store.specs.Fits.{StoreFits, book_of, device_of, commit_of, listed_in, is_halted, IsOnDisk, FindsStore, FormatsStore, IsNewStore}
-use Rattle.store.specs.Deciding.{reads_device}
+use Rattle.store_runs.specs.Deciding.{reads_device}
 use Rattle.store.specs.Applying.{GoesOn, IsApplied, IsKept, IsApplyingAtEachMoment, IsDoneOnDisk}
 use Rattle.store.specs.Listing.{RefusesTables, RefusesSchema}
-use Rattle.store.specs.Reading.{RefusesRead, ReadsTable, OnlyReadsStore, ended}
-use Rattle.store.specs.declared.compacting.Compaction.{Compaction}
-use Rattle.store.specs.declared.compacting.Compaction.TheVariants as compactions
-use Rattle.store.specs.Exchanging.{Shrinks}
+use Rattle.store_runs.specs.Reading.{RefusesRead, ReadsTable, ended}
+use Rattle.store.specs.Reading.{OnlyReadsStore}
+use Rattle.store_changes.specs.declared.compacting.Compaction.{Compaction}
+use Rattle.store_changes.specs.declared.compacting.Compaction.TheVariants as compactions
+use Rattle.store_changes.specs.Exchanging.{Shrinks}
 use Rattle.store.specs.Compacting.{step_reply, HasStepped, RefusesStep}
 use Rattle.store.specs.declared.upgrading.Upgraded.{Upgraded}
 use Rattle.store.specs.declared.upgrading.Upgraded.TheVariants as upgradeds

@@ -4,7 +4,7 @@ use Rattle.sector_dev.specs.Disk.{Story, now, shown_image, MayLeave}
 use Rattle.sector_dev.specs.History.{all_synced}
 use Rattle.tables.specs.Tables.{Tables, no_tables}
 use Rattle.tables.specs.Verdict.{after}
-use Rattle.store.specs.Machine.{Machine, with_doubt}
+use Rattle.store_runs.specs.Machine.{Machine, with_doubt}
 use Rattle.store.specs.Fits.{DeviceFits, fresh, resumed}
 
 -- a device after a stop: it holds one of the images that the stop may leave of it, all synced, and has its size

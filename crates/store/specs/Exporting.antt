@@ -3,10 +3,7 @@ use Rattle.std.specs.Prelude.{◌≡◌, ◌==◌, ◌||◌, ℕ, Bool, true, fa
 use Rattle.sector_dev.specs.Disk.{Image, Story}
 use Rattle.sector_dev.specs.declared.device.SectorDevice.{Ghosts}
 use Rattle.segments.specs.Usages.{PinsAll, UnpinsAll}
-use Rattle.arrow_schema.specs.Column.{PlainSchema}
-use Rattle.cells.specs.Cell.{Cell}
 use Rattle.ipc_write.specs.Written.{schema_message, end_of_stream}
-use Rattle.ipc_canonical.specs.Canonical.{rows_messages}
 use Rattle.catalogue.specs.declared.entry.Segment.{Segment}
 use Rattle.catalogue.specs.Entries.{PlainEntry, runs_in_segments}
 use Rattle.export_book.specs.Book.{PlainExport, PlainBook, is_full, with_open, with_given, without}
@@ -14,9 +11,9 @@ use Rattle.tables.specs.declared.refusal.Limit.TheVariants as limits
 use Rattle.tables.specs.declared.refusal.Refusal.{Refusal}
 use Rattle.tables.specs.declared.refusal.Refusal.TheVariants as refusals
 use Rattle.store.specs.declared.store.Store.{Store}
-use Rattle.store.specs.Calls.{PlainReply, is_device_reply}
+use Rattle.store_runs.specs.Calls.{PlainReply, is_device_reply}
 use Rattle.store.specs.Fits.{commit_of, listed_in, book_of, is_halted}
-use Rattle.store.specs.Reading.{HasRead, LacksRows, OnlyReadsDevice}
+use Rattle.store_runs.specs.Reading.{LacksRows, OnlyReadsDevice, HasRows}
 
 -- ---- opening
 
@@ -46,11 +43,6 @@ OpensAt false None old id new = ⊥
 OpensAt false (Some e) old id new = OpensExport old e id new
 
 -- ---- giving
-
--- the messages of the rows that were read of a segment
-abbrev pub HasRows : (tells : Bool) → Image → PlainSchema → Segment → Option (List ℕ) → Type 0
-HasRows tells image schema g piece =
-    (rows : List (List Cell)) × HasRead tells image schema g rows × (piece ≡ Some (rows_messages schema rows))
 
 -- a piece of a segment; after the segments the end of stream, and then none
 abbrev pub OfSegment : (tells : Bool) → Image → PlainExport → Option Segment → (place : ℕ) → Option (List ℕ) → Type 0

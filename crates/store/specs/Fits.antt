@@ -20,10 +20,10 @@ use Rattle.tables.specs.Commands.{PlainCommand}
 use Rattle.tables.specs.Verdict.{after}
 use Rattle.store.specs.declared.store.Store.{Store}
 use Rattle.commit.specs.declared.opening_refusal.OpeningRefusal.{OpeningRefusal}
-use Rattle.store.specs.Calls.{PlainCall, done, shut_by}
-use Rattle.store.specs.Machine.{Export, no_store, holds, Setting, Machine, shut, running, halted, shut_down, Allows}
-use Rattle.store.specs.Runs.{Goes}
-use Rattle.store.specs.Held.{pieces_held, tables_held, held_by}
+use Rattle.store_runs.specs.Calls.{PlainCall, done, shut_by}
+use Rattle.store_runs.specs.Machine.{Export, no_store, holds, Setting, Machine, shut, running, halted, shut_down, Allows}
+use Rattle.store_runs.specs.Runs.{Goes}
+use Rattle.store_runs.specs.Held.{pieces_held, tables_held, held_by}
 use Rattle.pages.specs.Stored.{stored_reading}
 
 -- how a run on a device of this size is judged

@@ -14,14 +14,14 @@ use Rattle.store.specs.declared.call.Reply.{Reply}
 use Rattle.store.specs.declared.call.Reply.TheVariants as replies
 use Rattle.store.specs.declared.call.StoreOrDevice.{StoreOrDevice}
 use Rattle.store.specs.declared.call.StoreOrDevice.TheVariants as places
-use Rattle.store.specs.Calls.{PlainCall, apply_call, format_call, open_call, close_call, tables_call, schema_call, read_call, export_call, stream_call, open_export_call, export_next_call, close_export_call, compact_call, upgrade_call, PlainReply, done, counts, schema_is, table_is, bytes_are, export_is, piece_is, merged, moved, nothing, already, refused, shut_by, is_device_reply}
-use Rattle.store.specs.Machine.{Machine, shut, halted}
-use Rattle.store.specs.Runs.{Goes, Run}
-use Rattle.store.specs.Since.{story_at, IsLeftFrom}
-use Rattle.store.specs.History.{any_change, begun, acknowledged, Settles, SettlesAll, Keeps, tells_damage, tells_no_store}
-use Rattle.store.specs.Snapshots.{given, has_ended, stays_open}
-use Rattle.store.specs.Reached.{IsReplied, GivesSnapshot}
-use Rattle.store.specs.Halting.{phase_where, tells_halt_while_open}
+use Rattle.store_runs.specs.Calls.{PlainCall, apply_call, format_call, open_call, close_call, tables_call, schema_call, read_call, export_call, stream_call, open_export_call, export_next_call, close_export_call, compact_call, upgrade_call, PlainReply, done, counts, schema_is, table_is, bytes_are, export_is, piece_is, merged, moved, nothing, already, refused, shut_by, is_device_reply}
+use Rattle.store_runs.specs.Machine.{Machine, shut, halted}
+use Rattle.store_runs.specs.Runs.{Goes, Run}
+use Rattle.store_runs.specs.Since.{story_at, IsLeftFrom}
+use Rattle.store_runs.specs.History.{any_change, begun, acknowledged, Settles, SettlesAll, Keeps, tells_damage, tells_no_store}
+use Rattle.store_runs.specs.Snapshots.{given, has_ended, stays_open}
+use Rattle.store_runs.specs.Reached.{IsReplied, GivesSnapshot}
+use Rattle.store_runs.specs.Halting.{phase_where, tells_halt_while_open}
 use Rattle.store.specs.Fits.{setting_of, DeviceFits, StoreFits}
 
 -- a command with all the bytes that a reader had left, where that is known

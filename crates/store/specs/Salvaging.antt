@@ -11,7 +11,7 @@ use Rattle.catalogue.specs.Entries.{PlainEntry}
 use Rattle.tables.specs.declared.refusal.Refusal.{Refusal}
 use Rattle.tables.specs.declared.refusal.Refusal.TheVariants as refusals
 use Rattle.store.specs.declared.salvaging.LeftOut.{LeftOut}
-use Rattle.store.specs.Held.{segment_rows}
+use Rattle.store_runs.specs.Held.{segment_rows}
 
 -- what reads of the device show of each segment: its rows, or that it does not hold them
 abbrev pub AreFound : (tells : Bool) → Image → PlainSchema → List Segment → List (Option (List (List Cell))) → Type 0

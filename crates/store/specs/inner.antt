@@ -1,11 +1,3 @@
-pub mod Tests
-pub mod Appending
 pub mod Saving
-pub mod Prepared
-pub mod TableBuilder
-pub mod Reading
-pub mod LawsBelow
-pub mod Compacting
 pub mod Exporting
-pub mod Upgrading
 pub mod Salvaging

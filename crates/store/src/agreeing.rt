@@ -3,7 +3,7 @@ ghost use Rattle.std.specs.Prelude.{◌≡◌, true, IfOk, IfErr};
 ghost use Rattle.sector_dev.specs.Disk.{now, shown_image};
 ghost use Rattle.commit.specs.Standing.{is_size};
 ghost use Rattle.commit.specs.Agreeing.{commits_agree};
-ghost use Rattle.store.specs.Reading.{OnlyReadsDevice, ended};
+ghost use Rattle.store_runs.specs.Reading.{OnlyReadsDevice, ended};
 
 use crate::Store;
 use crate::reading::halts;

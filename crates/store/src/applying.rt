@@ -4,25 +4,27 @@ ghost use Rattle.sector_dev.specs.Disk.{now, shown_image};
 ghost use Rattle.sector_dev.specs.Time.{OnlyReads};
 ghost use Rattle.tables.specs.Tables.{Tables};
 ghost use Rattle.tables.specs.View.{command_of};
-ghost use Rattle.store.specs.Changes.{change_of, CanChange};
-ghost use Rattle.store.specs.Deciding.{IsAnswered, reads_device};
+ghost use Rattle.store_changes.specs.Change.{change_of};
+ghost use Rattle.store_runs.specs.Changes.{CanChange};
+ghost use Rattle.store_runs.specs.Deciding.{IsAnswered, reads_device};
 ghost use Rattle.store.specs.Fits.{listed_in};
-ghost use Rattle.store.specs.Reading.{OnlyReadsStore, ended};
-ghost use Rattle.store.specs.inner.Tests.{decision_of};
+ghost use Rattle.store.specs.Reading.{OnlyReadsStore};
+ghost use Rattle.store_runs.specs.Reading.{ended};
+ghost use Rattle.store_changes.specs.Tests.{decision_of};
 
 use crate::Store;
-use crate::change::Change;
-use crate::deciding::{decide_create, decide_drop, decide_import, decide_rename};
-use crate::laws::decisions_are_verdicts;
-use crate::new_rows::NewRows;
 use sector_dev::SectorDevice;
 use std::alloc::Global;
+use store_changes::{
+    Change, NewRows, decide_create, decide_drop, decide_import, decide_rename,
+    decisions_are_verdicts,
+};
 use tables::{Command, Refusal, commands_bring_tables};
 
 impl<D: SectorDevice> Store<D> {
     ghost use Rattle.std.specs.Prelude.{◌↔◌, true, Err, OnOk};
-    ghost use Rattle.store.specs.Calls.{apply_call, counted};
-    ghost use Rattle.store.specs.Machine.{Machine};
+    ghost use Rattle.store_runs.specs.Calls.{apply_call, counted};
+    ghost use Rattle.store_runs.specs.Machine.{Machine};
     ghost use Rattle.store.specs.Fits.{StoreFits, device_of, is_halted, book_of, IsOnDisk};
     ghost use Rattle.store.specs.Applying.{GoesOn, IsApplied, IsKept, IsApplyingAtEachMoment, IsDoneOnDisk};
 

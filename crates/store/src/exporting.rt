@@ -6,20 +6,21 @@ ghost use Rattle.cells.specs.Cell.{PlainTable};
 ghost use Rattle.catalogue.specs.Edits.{entry_of};
 ghost use Rattle.ipc_canonical.specs.Canonical.{canonical};
 ghost use Rattle.tables.specs.Tables.{Tables};
-ghost use Rattle.store.specs.Calls.{export_call, bytes_are, refused};
-ghost use Rattle.store.specs.Machine.{Machine};
+ghost use Rattle.store_runs.specs.Calls.{export_call, bytes_are, refused};
+ghost use Rattle.store_runs.specs.Machine.{Machine};
 ghost use Rattle.store.specs.Fits.{StoreFits, device_of, listed_in, is_halted};
 ghost use Rattle.store.specs.Applying.{GoesOn};
-ghost use Rattle.store.specs.Reading.{RefusesRead, ReadsTable, OnlyReadsStore, ended};
+ghost use Rattle.store_runs.specs.Reading.{RefusesRead, ReadsTable, ended};
+ghost use Rattle.store.specs.Reading.{OnlyReadsStore};
 ghost use Rattle.values.specs.TableView.{table_of};
 
 use crate::Store;
-use crate::laws::table_laws;
 use ipc_canonical::canonical_means_its_table;
 use ipc_encode::{WriteError, encode, encode_to};
 use sector_dev::SectorDevice;
 use std::alloc::Global;
 use std::io::Write;
+use store_changes::table_laws;
 use tables::Refusal;
 use values::Table;
 

@@ -12,13 +12,12 @@ ghost use Rattle.catalogue.specs.Entries.{is_segment, plain_entry, runs_in_segme
 ghost use Rattle.commit.specs.Standing.{is_size, is_on_device};
 ghost use Rattle.export_book.specs.Plain.{plain_export};
 ghost use Rattle.store.specs.Exported.{IsExportable};
-ghost use Rattle.store.specs.Exporting.{HasRows, PieceIs, RefusesNumber};
-ghost use Rattle.store.specs.Reading.{LacksRows, OnlyReadsDevice, ended};
+ghost use Rattle.store_runs.specs.Reading.{HasRows, LacksRows, OnlyReadsDevice, ended};
+ghost use Rattle.store.specs.Exporting.{PieceIs, RefusesNumber};
 ghost use Rattle.store.specs.inner.Exporting.{IsSnapshot};
 
 use crate::Store;
-use crate::laws::table_laws;
-use crate::reading::{halts, read_segment};
+use crate::reading::halts;
 use arrow_schema::Schema;
 use catalogue::{Segment, TableEntry};
 use export_book::OpenExport;
@@ -28,6 +27,7 @@ use ipc_write::{write_end, write_schema};
 use sector_dev::SectorDevice;
 use segments::{FreeMap, Run};
 use std::alloc::{AllocError, Global};
+use store_changes::{read_segment, table_laws};
 use tables::{Limit, Refusal};
 use values::Table;
 
@@ -171,8 +171,8 @@ impl<D: SectorDevice> Store<D> {
     ghost use Rattle.catalogue.specs.Edits.{entry_of};
     ghost use Rattle.export_book.specs.Book.{open_at};
     ghost use Rattle.tables.specs.Tables.{Tables};
-    ghost use Rattle.store.specs.Calls.{open_export_call, export_next_call, close_export_call, done, export_is, piece_is, refused};
-    ghost use Rattle.store.specs.Machine.{Machine};
+    ghost use Rattle.store_runs.specs.Calls.{open_export_call, export_next_call, close_export_call, done, export_is, piece_is, refused};
+    ghost use Rattle.store_runs.specs.Machine.{Machine};
     ghost use Rattle.store.specs.Fits.{StoreFits, device_of, listed_in, book_of, is_halted};
     ghost use Rattle.store.specs.Applying.{GoesOn};
     ghost use Rattle.store.specs.Exporting.{RefusesExport, OpensAt, GivesPiece, after_giving, RefusesPiece, ReadsForExport, RefusesClosing, ClosesAt};

@@ -42,8 +42,8 @@ impl<D: SectorDevice> Store<D> {
     ghost use Rattle.commit.specs.Formatting.{IsFormatting};
     ghost use Rattle.commit.specs.declared.cause.Cause.TheVariants.{DeviceSize};
     ghost use Rattle.tables.specs.Tables.{Tables};
-    ghost use Rattle.store.specs.Calls.{format_call, shut_by, counted};
-    ghost use Rattle.store.specs.Machine.{Machine};
+    ghost use Rattle.store_runs.specs.Calls.{format_call, shut_by, counted};
+    ghost use Rattle.store_runs.specs.Machine.{Machine};
     ghost use Rattle.store.specs.Fits.{DeviceFits, FormatsStore, IsNewStore, Opens, Shuts, device_of};
     ghost use Rattle.store.specs.Opening.{TellsFormatting, IsOfFormatting};
 

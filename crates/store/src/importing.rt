@@ -1,21 +1,21 @@
 // Commands whose bytes come from a reader.
 use crate::Store;
-use crate::deciding::has_table;
 use crate::input::named_input;
 use catalogue::is_name;
 use sector_dev::SectorDevice;
 use std::alloc::Global;
 use std::io::Read;
+use store_changes::has_table;
 use tables::{Command, Refusal};
 
 impl<D: SectorDevice> Store<D> {
     ghost use Rattle.std.specs.Prelude.{◌≡◌};
     ghost use Rattle.catalogue.specs.Entries.{is_name};
     ghost use Rattle.tables.specs.Commands.{import_stream, append_stream};
-    ghost use Rattle.store.specs.Calls.{counted};
+    ghost use Rattle.store_runs.specs.Calls.{counted};
     ghost use Rattle.store.specs.Fits.{device_of, is_halted, listed_in};
-    ghost use Rattle.store.specs.Reading.{ended};
-    ghost use Rattle.store.specs.Deciding.{has_entry};
+    ghost use Rattle.store_runs.specs.Reading.{ended};
+    ghost use Rattle.store_runs.specs.Deciding.{has_entry};
     ghost use Rattle.store.specs.Input.{ReadsFrom};
     ghost use Rattle.store.specs.Answering.{TakesInput};
 

@@ -12,8 +12,8 @@ impl<D: SectorDevice> Store<D> {
     ghost use Rattle.arrow_schema.specs.View.{schema_of};
     ghost use Rattle.catalogue.specs.Edits.{entry_of, tables_of};
     ghost use Rattle.tables.specs.Tables.{Tables};
-    ghost use Rattle.store.specs.Calls.{tables_call, schema_call, counts, schema_is, refused};
-    ghost use Rattle.store.specs.Machine.{Machine};
+    ghost use Rattle.store_runs.specs.Calls.{tables_call, schema_call, counts, schema_is, refused};
+    ghost use Rattle.store_runs.specs.Machine.{Machine};
     ghost use Rattle.store.specs.Fits.{StoreFits, listed_in, is_halted};
     ghost use Rattle.store.specs.Applying.{GoesOn};
     ghost use Rattle.store.specs.Listing.{RefusesTables, RefusesSchema};

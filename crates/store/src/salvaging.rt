@@ -8,9 +8,9 @@ ghost use Rattle.arrow_schema.specs.View.{schema_of};
 ghost use Rattle.ipc_write.specs.Written.{schema_message, end_of_stream};
 ghost use Rattle.catalogue.specs.Entries.{is_segment, is_entry, plain_entry};
 ghost use Rattle.commit.specs.Standing.{is_size, is_on_device, all_on_device};
-ghost use Rattle.store.specs.Reading.{OnlyReadsDevice, ended};
+ghost use Rattle.store_runs.specs.Reading.{OnlyReadsDevice, ended};
 ghost use Rattle.store.specs.Salvaging.{Salvages, BreaksOff, plain_left};
-ghost use Rattle.store.specs.inner.Reading.{FailsReading, runs_in};
+ghost use Rattle.store_changes.specs.ReadSegment.{FailsReading, runs_in};
 ghost use Rattle.store.specs.inner.Salvaging.{is_of_segment, FailsWriting, FindsMessages, SalvagesOne, SalvagesEach};
 
 use crate::Store;

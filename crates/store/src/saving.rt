@@ -10,39 +10,29 @@ ghost use Rattle.catalogue.specs.View.{catalogue_of};
 ghost use Rattle.commit.specs.Standing.{is_size, all_on_device};
 ghost use Rattle.query.specs.View.{query_in};
 ghost use Rattle.tables.specs.Commands.{save_as};
-ghost use Rattle.tables.specs.Verdict.{empty_table};
 ghost use Rattle.values.specs.Table.{IsTable};
 ghost use Rattle.values.specs.TableView.{table_of};
-ghost use Rattle.store.specs.Calls.{is_failure};
-ghost use Rattle.store.specs.Changes.{change_of, CanChange};
-ghost use Rattle.store.specs.Deciding.{create_tests, unselected, selected_entry, decided_selection};
-ghost use Rattle.store.specs.Reading.{OnlyReadsDevice, ended};
-ghost use Rattle.store.specs.inner.Reading.{runs_in};
-ghost use Rattle.store.specs.inner.Saving.{IsPut, IsSelected};
-ghost use Rattle.store.specs.inner.Tests.{decision_of};
+ghost use Rattle.store_runs.specs.Calls.{is_failure};
+ghost use Rattle.store_changes.specs.Change.{change_of, IsPut};
+ghost use Rattle.store_runs.specs.Changes.{CanChange};
+ghost use Rattle.store_runs.specs.Deciding.{create_tests, unselected, selected_entry, decided_selection};
+ghost use Rattle.store_runs.specs.Reading.{OnlyReadsDevice, ended};
+ghost use Rattle.store_changes.specs.ReadSegment.{runs_in};
+ghost use Rattle.store.specs.inner.Saving.{IsSelected};
+ghost use Rattle.store_changes.specs.Tests.{decision_of};
 
 use crate::Store;
-use crate::change::Change;
-use crate::deciding::{put_table, test_create};
-use crate::reading::{halts, read_entry};
-use crate::table_builder::TableBuilder;
+use crate::reading::halts;
 use arrow_schema::Schema;
 use catalogue::{Catalogue, TableEntry, counts_after_changes};
 use ipc_encode::pieces_are_tables;
 use query::{Query, selection_is_a_table};
 use sector_dev::SectorDevice;
 use selection::select;
-use std::alloc::{AllocError, Global};
+use std::alloc::Global;
+use store_changes::{Change, put_table, read_entry, test_create, without_rows};
 use tables::Refusal;
 use values::Table;
-
-// A table of this schema without rows.
-fn without_rows(alloc: Global, schema: &Schema) -> Result<Table, AllocError>
-    requires { IsWithinLimits (schema_of schema.now) }
-    ensures { IfOk result (λ t. table_of t ≡ empty_table (schema_of schema.now)) }
-{
-    TableBuilder::empty(alloc, schema.copy(alloc)?).finish(alloc)
-}
 
 // S12: the query makes nothing of tables of this schema.
 fn test_query(alloc: Global, schema: &Schema, query: &Query) -> Result<(), Refusal>
@@ -131,7 +121,7 @@ fn save_from_entry<D: SectorDevice>(
 }
 
 impl<D: SectorDevice> Store<D> {
-    ghost use Rattle.store.specs.Deciding.{IsAnswered};
+    ghost use Rattle.store_runs.specs.Deciding.{IsAnswered};
     ghost use Rattle.store.specs.Fits.{device_of, listed_in};
     ghost use Rattle.store.specs.Reading.{OnlyReadsStore};
 

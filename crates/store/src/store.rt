@@ -39,8 +39,8 @@ impl<D: SectorDevice> Store<D> {
     ghost use Rattle.commit.specs.Opening.{IsOpening, standing_shown};
     ghost use Rattle.commit.specs.declared.cause.Cause.TheVariants.{DeviceSize};
     ghost use Rattle.tables.specs.Tables.{Tables};
-    ghost use Rattle.store.specs.Calls.{open_call, shut_by, counted};
-    ghost use Rattle.store.specs.Machine.{Machine};
+    ghost use Rattle.store_runs.specs.Calls.{open_call, shut_by, counted};
+    ghost use Rattle.store_runs.specs.Machine.{Machine};
     ghost use Rattle.store.specs.Fits.{DeviceFits, FindsStore, Opens, Shuts, commit_of, device_of, is_halted};
     ghost use Rattle.pages.specs.Stored.{stored_reading};
     ghost use Rattle.store.specs.Opening.{TellsOpening};

@@ -10,10 +10,10 @@ use Rattle.tables.specs.Tables.{Tables, no_tables, table_at}
 use Rattle.tables.specs.Verdict.{after}
 use Rattle.store.specs.declared.store.Store.{Store}
 use Rattle.store.specs.Applying.{GoesOn}
-use Rattle.store.specs.Calls.{apply_call, done}
+use Rattle.store_runs.specs.Calls.{apply_call, done}
 use Rattle.store.specs.Fits.{StoreFits, setting_of, device_of}
-use Rattle.store.specs.Machine.{Machine}
-use Rattle.store.specs.Runs.{Run}
+use Rattle.store_runs.specs.Machine.{Machine}
+use Rattle.store_runs.specs.Runs.{Run}
 
 -- the table of a name was read, and the other store has imported a stream that means it
 pub record TableCopied {D E : Type 0} {g : Ghosts D} {h : Ghosts E} (a : Tables) (m : Machine) (b : Tables) (n : Machine) (name : List ℕ) (from' : Store D g) (to to' : Store E h) : Type 0 where

@@ -9,8 +9,8 @@ use Rattle.ipc_canonical.specs.Canonical.{rows_messages}
 use Rattle.catalogue.specs.declared.entry.Segment.{Segment}
 use Rattle.tables.specs.declared.refusal.Refusal.{Refusal}
 use Rattle.tables.specs.declared.refusal.Refusal.TheVariants as refusals
-use Rattle.store.specs.Exporting.{HasRows}
-use Rattle.store.specs.Held.{segment_rows}
+use Rattle.store_runs.specs.Reading.{HasRows}
+use Rattle.store_runs.specs.Held.{segment_rows}
 use Rattle.store.specs.Salvaging.{AreFound, left_out}
 
 -- a refusal that is of one segment alone

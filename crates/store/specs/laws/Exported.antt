@@ -9,11 +9,11 @@ use Rattle.ipc_canonical.specs.Canonical.{stream_parts}
 use Rattle.commit.specs.Standing.{is_on_device, all_on_device, InSome}
 use Rattle.export_book.specs.Book.{PlainExport, runs_kept}
 use Rattle.catalogue.specs.Entries.{runs_in_segments}
-use Rattle.store.specs.Machine.{Export}
+use Rattle.store_runs.specs.Machine.{Export}
 use Rattle.store.specs.Exported.{IsExportable, AreExportable}
 use Rattle.store.specs.Fits.{ExportFits, ExportsFit}
-use Rattle.store.specs.laws.Frame.{in_left, in_right}
-use Rattle.store.specs.laws.Spared.{same_each}
+use Rattle.store_changes.specs.laws.Frame.{in_left, in_right}
+use Rattle.store_changes.specs.laws.Spared.{same_each}
 
 -- the runs that a book keeps are those of the machine's exports
 pub kept_pinned : (image : Image) (bs : List PlainExport) (es : List Export) → ExportsFit image bs es → runs_kept bs ≡ flat_map (λ (e : Export). e.runs) es

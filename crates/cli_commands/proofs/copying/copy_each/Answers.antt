@@ -1,7 +1,7 @@
 use Rattle.std.proofs.Common.{◌≤◌, take, map, string_bytes, refl, sym, subst}
 use Rattle.std.specs.Prelude.{Ok}
 use Rattle.std.proofs.lemmas.List.{take_all, length-map}
-use Rattle.store.specs.Calls.{done}
+use Rattle.store_runs.specs.Calls.{done}
 use Rattle.cli_commands.specs.Copying.{ImportsEach}
 use Rattle.cli_commands.proofs.CopyingLemmas.{CopiesSoFar, none_copied_yet, one_more_copied, copied_all, next_of, since, refuses_since, imports_more}
 use Rattle.cli_commands.proofs.ReadingLemmas.{found_at, read_nothing, read_again}

@@ -1,6 +1,6 @@
 -- The tables so far are copied, and the store that is copied was only read.
 use Rattle.std.proofs.Common.{take, map, string_bytes}
-use Rattle.store.specs.Calls.{done}
+use Rattle.store_runs.specs.Calls.{done}
 use Rattle.store.specs.Reading.{OnlyReadsStore}
 use Rattle.cli_commands.specs.Copying.{ImportsEach}
 use Rattle.cli_commands.proofs.CopyingLemmas.{CopiesSoFar}

@@ -2,7 +2,7 @@ use Rattle.std.specs.Prelude.{string_bytes}
 use Rattle.std.proofs.Common.{inl, inr, refl, ap}
 use Rattle.std.proofs.lemmas.Result.{err_from_is_err_and}
 use Rattle.tables.specs.Commands.{import_stream}
-use Rattle.store.specs.Calls.{done, refused}
+use Rattle.store_runs.specs.Calls.{done, refused}
 use Rattle.cli_commands.proofs.CopyingLemmas.{copies_table, imports_table, imports_where_done, refuses_where_not}
 use Rattle.cli_commands.proofs.ReadingLemmas.{read_nothing, where_done}
 use Rattle.cli_commands.proofs.copying.copy_table.Goals as goal

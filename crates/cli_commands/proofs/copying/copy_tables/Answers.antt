@@ -3,7 +3,7 @@ use Rattle.std.specs.Prelude.{OnOk}
 use Rattle.std.proofs.Common.{◌∙◌, ap, inl, map, refl, subst}
 use Rattle.std.proofs.lemmas.Result.{err_from_is_err_and}
 use Rattle.cli_commands.specs.Copying.{ImportsEach}
-use Rattle.store.specs.Calls.{done}
+use Rattle.store_runs.specs.Calls.{done}
 use Rattle.cli_commands.proofs.CopyingLemmas.{has_all, stops_or_not}
 use Rattle.cli_commands.proofs.ReadingLemmas.{read_nothing}
 use Rattle.cli_commands.proofs.copying.copy_tables.Goals as goal

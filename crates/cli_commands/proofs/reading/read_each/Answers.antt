@@ -2,7 +2,7 @@ use Rattle.std.specs.Prelude.{string_bytes}
 use Rattle.std.proofs.Common.{refl}
 use Rattle.sector_dev.specs.Disk.{now, shown_image}
 use Rattle.values.specs.TableView.{table_of}
-use Rattle.store.specs.Calls.{done}
+use Rattle.store_runs.specs.Calls.{done}
 use Rattle.store.specs.Fits.{device_of, is_halted, listed_in}
 use Rattle.cli_commands.specs.Reading.{IsReadable}
 use Rattle.cli_commands.proofs.ReadingLemmas.{all_next, found_at, as_read, read_again, read_nothing, IsAsRead, readable_here, refused_here, hints_unread}

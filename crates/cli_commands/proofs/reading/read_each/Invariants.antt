@@ -1,7 +1,7 @@
 use Rattle.std.proofs.Common.{◌≡◌, true, take, map, string_bytes}
 use Rattle.std.specs.List.{AllByRecursion}
 use Rattle.sector_dev.specs.Disk.{now, shown_image}
-use Rattle.store.specs.Calls.{done}
+use Rattle.store_runs.specs.Calls.{done}
 use Rattle.store.specs.Fits.{device_of, is_halted, listed_in}
 use Rattle.store.specs.Reading.{OnlyReadsStore}
 use Rattle.cli_commands.specs.Reading.{IsReadable}

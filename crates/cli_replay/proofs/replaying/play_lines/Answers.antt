@@ -11,7 +11,7 @@ use Rattle.tables.specs.Tables.{Tables}
 use Rattle.store.specs.declared.call.Reply.{Reply}
 use Rattle.store.specs.Beginning.{IsLeftOf}
 use Rattle.store.specs.Fits.{DeviceFits}
-use Rattle.store.specs.Machine.{Machine, shut_down}
+use Rattle.store_runs.specs.Machine.{Machine, shut_down}
 use Rattle.store.specs.Places.{replies_of, ShutFits}
 use Rattle.cli_replay.specs.Playing.{replies_text}
 use Rattle.cli_replay.proofs.Formatted.{still_empty, all_faults}

@@ -2,7 +2,7 @@ use Rattle.std.specs.List.{AllByRecursion}
 use Rattle.std.proofs.Common.{◌<◌, ◌^◌, List, ℕ, length, ap, sym, subst, ◌∙◌, arith}
 use Rattle.arrow_schema.specs.Column.{PlainSchema, columns_of}
 use Rattle.arrow_schema.specs.View.{schema_of}
-use Rattle.ipc_encode.specs.Pieces.{piece_streams, piece_counts}
+use Rattle.ipc_canonical.specs.PieceStreams.{piece_streams, piece_counts}
 use Rattle.ipc_encode.specs.View.{streams_behind}
 use Rattle.cells.specs.Cell.{Cell}
 use Rattle.values.specs.PlainTables.{plain_table}

@@ -8,7 +8,7 @@ use Rattle.arrow_schema.specs.View.{schema_of}
 use Rattle.ipc_encode.proofs.Alone.{IsAlone, each_alone}
 use Rattle.ipc_encode.proofs.RunSteps.{all_left, none_left, some_left, first_piece, next_left}
 use Rattle.ipc_encode.proofs.Steps.{first_streams, first_counts, last_made, next_made}
-use Rattle.ipc_encode.specs.Pieces.{piece_stream, piece_streams, piece_counts}
+use Rattle.ipc_canonical.specs.PieceStreams.{piece_stream, piece_streams, piece_counts}
 use Rattle.ipc_encode.specs.View.{joined_parts, streams_behind}
 use Rattle.cells.specs.Cell.{Cell, PlainTable}
 use Rattle.facts.specs.laws.Lists.{all_more}

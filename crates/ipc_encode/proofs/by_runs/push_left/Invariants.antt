@@ -3,7 +3,7 @@ use Rattle.std.proofs.Common.{◌≡◌, ◌-◌, ◌<◌, ◌^◌, ◌++◌, le
 use Rattle.arrow_schema.specs.Column.{columns_of}
 use Rattle.arrow_schema.specs.View.{schema_of}
 use Rattle.ipc_encode.proofs.Alone.{IsAlone}
-use Rattle.ipc_encode.specs.Pieces.{piece_stream, piece_streams, piece_counts}
+use Rattle.ipc_canonical.specs.PieceStreams.{piece_stream, piece_streams, piece_counts}
 use Rattle.ipc_encode.specs.View.{streams_behind}
 use Rattle.table_cut.specs.Left.{runs_left, rows_left}
 use Rattle.ipc_write.specs.Written.{schema_message}

@@ -4,7 +4,7 @@ use Rattle.arrow_schema.specs.Column.{PlainSchema}
 use Rattle.arrow_schema.specs.View.{schema_of}
 use Rattle.ipc_canonical.specs.Canonical.{piece_messages}
 use Rattle.ipc_encode.proofs.Steps.{one_stream}
-use Rattle.ipc_encode.specs.Pieces.{piece_stream}
+use Rattle.ipc_canonical.specs.PieceStreams.{piece_stream}
 use Rattle.ipc_encode.specs.View.{joined_parts}
 use Rattle.ipc_encode.specs.inner.Stream.{stream_in}
 use Rattle.cells.specs.Cell.{Cell}

@@ -2,7 +2,7 @@ use Rattle.std.specs.List.{AllByRecursion}
 use Rattle.std.proofs.Common.{◌≡◌, ◌-◌, ◌≤◌, ◌<◌, ◌^◌, ◌++◌, length, map, drop}
 use Rattle.arrow_schema.specs.View.{schema_of}
 use Rattle.ipc_canonical.specs.Pieces.{IsPieceOf}
-use Rattle.ipc_encode.specs.Pieces.{piece_stream, piece_streams, piece_counts}
+use Rattle.ipc_canonical.specs.PieceStreams.{piece_stream, piece_streams, piece_counts}
 use Rattle.ipc_encode.specs.View.{streams_behind, with_schema}
 use Rattle.ipc_write.specs.Written.{schema_message}
 use Rattle.table_cut.specs.Cut.{pieces}

@@ -8,10 +8,9 @@ use Rattle.catalogue.specs.declared.entry.Segment.{Segment}
 use Rattle.export_book.specs.Book.{PlainExport}
 use Rattle.export_book.specs.Plain.{plain_export}
 use Rattle.tables.specs.declared.refusal.Refusal.TheVariants.{OutOfMemory}
-use Rattle.store.specs.Calls.{is_failure, done}
-use Rattle.store.specs.Exporting.{HasRows}
-use Rattle.store.specs.Reading.{LacksRows}
-use Rattle.store.proofs.ReadTables.{reads_quiet, reads_ended, run_at}
+use Rattle.store_runs.specs.Calls.{is_failure, done}
+use Rattle.store_runs.specs.Reading.{HasRows, LacksRows}
+use Rattle.store_changes.specs.laws.ReadTables.{reads_quiet, reads_ended, run_at}
 use Rattle.store.proofs.ExportAnswers.{piece_first, refused_first, piece_behind, refused_behind}
 use Rattle.arrow_schema.specs.Column.{PlainSchema}
 use Rattle.arrow_schema.specs.Limits.{IsWithinLimits}

@@ -7,9 +7,9 @@ use Rattle.values.specs.TableView.{table_of}
 use Rattle.ipc_canonical.specs.Canonical.{rows_messages}
 use Rattle.tables.specs.declared.refusal.Refusal.{Refusal}
 use Rattle.tables.specs.declared.refusal.Refusal.TheVariants.{OutOfMemory}
-use Rattle.store.specs.Calls.{is_failure}
-use Rattle.store.specs.Reading.{LacksRows}
-use Rattle.store.proofs.ReadTables.{reads_ended}
+use Rattle.store_runs.specs.Calls.{is_failure}
+use Rattle.store_runs.specs.Reading.{LacksRows}
+use Rattle.store_changes.specs.laws.ReadTables.{reads_ended}
 use Rattle.store.proofs.exports.read_piece.Goals as goal
 
 pub returns-in-Ok-clause-reads : goal.returns-in-Ok-clause-reads

@@ -1,7 +1,7 @@
 use Rattle.std.proofs.Common.{ap, sym, ◌∙◌, subst, true, ◌≡◌, ◌+◌, ◌++◌, ◌∷◌, [], if◌then◌else◌, Bool, arith, List, ℕ, vec_len, is_ok}
 use Rattle.std.proofs.lemmas.List.{length_push}
 use Rattle.store.specs.declared.call.Reply.{Reply}
-use Rattle.store.specs.Calls.{PlainReply}
+use Rattle.store_runs.specs.Calls.{PlainReply}
 use Rattle.store.specs.Places.{reply_in, replies_of}
 use Rattle.store.specs.Answering.{AnswersCalls}
 use Rattle.store.proofs.Answered.{replies_more}

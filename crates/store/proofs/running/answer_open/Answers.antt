@@ -2,7 +2,7 @@ use Rattle.std.proofs.Common.{refl, sym, ap, ◌∙◌, subst}
 use Rattle.tables.specs.Commands.{import_stream, append_stream}
 use Rattle.tables.specs.View.{command_of}
 use Rattle.store.specs.declared.call.StoreOrDevice.TheVariants as places
-use Rattle.store.specs.Calls.{apply_call, format_call, open_call, close_call, tables_call, schema_call, read_call, export_call, open_export_call, export_next_call, close_export_call, compact_call, upgrade_call, done, counted}
+use Rattle.store_runs.specs.Calls.{apply_call, format_call, open_call, close_call, tables_call, schema_call, read_call, export_call, open_export_call, export_next_call, close_export_call, compact_call, upgrade_call, done, counted}
 use Rattle.store.specs.Fits.{DeviceFits}
 use Rattle.store.specs.Places.{IsStreamOf, IsCallOf, reply_in, PlaceGoes}
 use Rattle.store.specs.Answering.{AnswersFormatting, AnswersOpening}

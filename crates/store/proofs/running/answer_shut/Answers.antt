@@ -1,5 +1,5 @@
 use Rattle.std.proofs.Common.{refl, sym, subst}
-use Rattle.store.specs.Calls.{format_call, open_call}
+use Rattle.store_runs.specs.Calls.{format_call, open_call}
 use Rattle.store.specs.Places.{IsCallOf}
 use Rattle.store.proofs.running.answer_shut.Goals as goal
 

@@ -1,5 +1,5 @@
 use Rattle.tables.specs.View.{command_of}
-use Rattle.store.specs.Calls.{apply_call, done, refused}
+use Rattle.store_runs.specs.Calls.{apply_call, done, refused}
 use Rattle.store.proofs.Answered.{stays_open}
 use Rattle.store.proofs.running.apply_in.Goals as goal
 

@@ -1,5 +1,5 @@
 use Rattle.std.proofs.Common.{ap}
-use Rattle.store.specs.Calls.{close_export_call, done, refused}
+use Rattle.store_runs.specs.Calls.{close_export_call, done, refused}
 use Rattle.store.proofs.Answered.{stays_open}
 use Rattle.store.proofs.running.close_export_in.Goals as goal
 

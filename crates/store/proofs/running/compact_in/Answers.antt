@@ -1,6 +1,6 @@
 use Rattle.std.proofs.Common.{Ok, Err, refl, sym, ap, ◌∙◌, subst}
 use Rattle.store.specs.declared.call.StoreOrDevice.TheVariants as places
-use Rattle.store.specs.Calls.{compact_call, refused, counted}
+use Rattle.store_runs.specs.Calls.{compact_call, refused, counted}
 use Rattle.store.specs.Compacting.{reply_of}
 use Rattle.store.specs.Places.{PlaceGoes}
 use Rattle.store.proofs.Answered.{stays_open}

@@ -1,4 +1,4 @@
-use Rattle.store.specs.Calls.{export_call, bytes_are, refused}
+use Rattle.store_runs.specs.Calls.{export_call, bytes_are, refused}
 use Rattle.store.proofs.Answered.{stays_open}
 use Rattle.std.proofs.Common.{refl}
 use Rattle.store.proofs.Replied.{read_done}

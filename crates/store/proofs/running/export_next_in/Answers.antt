@@ -1,5 +1,5 @@
 use Rattle.std.specs.Prelude.{option_map}
-use Rattle.store.specs.Calls.{export_next_call, piece_is, refused}
+use Rattle.store_runs.specs.Calls.{export_next_call, piece_is, refused}
 use Rattle.store.proofs.Answered.{stays_open}
 use Rattle.store.proofs.running.export_next_in.Goals as goal
 

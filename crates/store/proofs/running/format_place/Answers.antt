@@ -1,4 +1,4 @@
-use Rattle.store.specs.Calls.{format_call}
+use Rattle.store_runs.specs.Calls.{format_call}
 use Rattle.store.proofs.Answered.{opens_place, shuts_place}
 use Rattle.store.proofs.running.format_place.Goals as goal
 

@@ -1,5 +1,5 @@
 use Rattle.std.proofs.Common.{map, refl, string_bytes}
-use Rattle.store.specs.Calls.{tables_call, counts, refused}
+use Rattle.store_runs.specs.Calls.{tables_call, counts, refused}
 use Rattle.store.proofs.Answered.{stays_open}
 use Rattle.store.proofs.Replied.{list_counts}
 use Rattle.store.proofs.running.list_in.Goals as goal

@@ -1,5 +1,5 @@
 use Rattle.std.proofs.Common.{ap}
-use Rattle.store.specs.Calls.{open_export_call, export_is, refused}
+use Rattle.store_runs.specs.Calls.{open_export_call, export_is, refused}
 use Rattle.store.proofs.Answered.{stays_open}
 use Rattle.store.proofs.running.open_export_in.Goals as goal
 

@@ -1,5 +1,5 @@
 use Rattle.values.specs.TableView.{table_of}
-use Rattle.store.specs.Calls.{read_call, table_is, refused}
+use Rattle.store_runs.specs.Calls.{read_call, table_is, refused}
 use Rattle.store.proofs.Answered.{stays_open}
 use Rattle.std.proofs.Common.{refl}
 use Rattle.store.proofs.Replied.{read_done}

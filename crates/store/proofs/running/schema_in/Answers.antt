@@ -1,6 +1,6 @@
 use Rattle.std.proofs.Common.{refl}
 use Rattle.arrow_schema.specs.View.{schema_of}
-use Rattle.store.specs.Calls.{schema_call, schema_is, refused}
+use Rattle.store_runs.specs.Calls.{schema_call, schema_is, refused}
 use Rattle.store.proofs.Answered.{stays_open}
 use Rattle.store.proofs.Replied.{schema_counts}
 use Rattle.store.proofs.running.schema_in.Goals as goal

@@ -1,6 +1,6 @@
 use Rattle.std.proofs.Common.{Ok, Err, refl, sym, ap, ◌∙◌, subst}
 use Rattle.store.specs.declared.call.StoreOrDevice.TheVariants as places
-use Rattle.store.specs.Calls.{upgrade_call, refused, counted}
+use Rattle.store_runs.specs.Calls.{upgrade_call, refused, counted}
 use Rattle.store.specs.Upgrading.{upgrade_reply}
 use Rattle.store.specs.Places.{PlaceGoes}
 use Rattle.store.proofs.Answered.{stays_open}

@@ -4,9 +4,9 @@ use Rattle.std.proofs.lemmas.Result.{on_ok_weaker, IfErr-weaker}
 use Rattle.sector_dev.specs.Disk.{now, shown_image}
 use Rattle.arrow_schema.specs.View.{schema_of}
 use Rattle.tables.specs.declared.refusal.Refusal.TheVariants.{Write}
-use Rattle.store.specs.Calls.{is_failure}
+use Rattle.store_runs.specs.Calls.{is_failure}
 use Rattle.store.specs.Salvaging.{BreaksOff, plain_left}
-use Rattle.store.proofs.ReadTables.{reads_ended}
+use Rattle.store_changes.specs.laws.ReadTables.{reads_ended}
 use Rattle.store.proofs.Salvaged.{salvaged_rows, breaks_writing}
 use Rattle.store.proofs.salvaging.salvage_segment.Goals as goal
 

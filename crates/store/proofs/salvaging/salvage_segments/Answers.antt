@@ -9,11 +9,11 @@ use Rattle.catalogue.specs.declared.entry.Segment.{Segment}
 use Rattle.catalogue.specs.Entries.{is_segment}
 use Rattle.commit.specs.Standing.{is_size, is_on_device}
 use Rattle.arrow_schema.specs.View.{schema_of}
-use Rattle.store.specs.Calls.{done, refused}
+use Rattle.store_runs.specs.Calls.{done, refused}
 use Rattle.store.specs.Salvaging.{plain_left}
 use Rattle.store.specs.declared.salvaging.LeftOut.{LeftOut}
 use Rattle.store.specs.inner.Salvaging.{SalvagesEach}
-use Rattle.store.proofs.ReadTables.{run_at, take_next, reads_more, reads_none, image_then}
+use Rattle.store_changes.specs.laws.ReadTables.{run_at, take_next, reads_more, reads_none, image_then}
 use Rattle.store.proofs.Salvaged.{each_first, each_more}
 use Rattle.store.proofs.salvaging.salvage_segments.Goals as goal
 

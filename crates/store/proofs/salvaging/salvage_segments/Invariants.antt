@@ -1,8 +1,8 @@
 use Rattle.std.specs.Prelude.{take}
 use Rattle.sector_dev.specs.Disk.{now, shown_image}
 use Rattle.arrow_schema.specs.View.{schema_of}
-use Rattle.store.specs.Calls.{done}
-use Rattle.store.specs.Reading.{OnlyReadsDevice}
+use Rattle.store_runs.specs.Calls.{done}
+use Rattle.store_runs.specs.Reading.{OnlyReadsDevice}
 use Rattle.store.specs.Salvaging.{plain_left}
 use Rattle.store.specs.inner.Salvaging.{SalvagesEach}
 use Rattle.store.proofs.salvaging.salvage_segments.Given as goal

@@ -3,9 +3,9 @@ use Rattle.query.specs.Selection.{selection}
 use Rattle.query.specs.View.{query_in}
 use Rattle.cells.specs.Cell.{PlainTable}
 use Rattle.values.specs.TableView.{table_of}
-use Rattle.store.specs.Calls.{is_failure}
-use Rattle.store.specs.Changes.{put}
-use Rattle.store.specs.Deciding.{pieces_put}
+use Rattle.store_runs.specs.Calls.{is_failure}
+use Rattle.store_runs.specs.Changes.{put}
+use Rattle.store_runs.specs.Deciding.{pieces_put}
 use Rattle.store.proofs.Selected.{select_quiet, select_told}
 use Rattle.store.proofs.saving.put_selection.Goals as goal
 

@@ -12,15 +12,16 @@ use Rattle.catalogue.specs.laws.Kept.{entry_is}
 use Rattle.commit.specs.Placing.{AreShort}
 use Rattle.ipc_message.specs.laws.Accepted.{first_none}
 use Rattle.query.specs.View.{query_in}
-use Rattle.store.specs.Changes.{PlainChange, change_of, CanChange, IsChange}
+use Rattle.store_runs.specs.Changes.{PlainChange, CanChange, IsChange}
+use Rattle.store_changes.specs.Change.{change_of}
 use Rattle.values.specs.TableView.{table_of}
 use Rattle.tables.specs.declared.refusal.Refusal.{Refusal}
-use Rattle.store.specs.Deciding.{create_tests, unselected}
-use Rattle.store.specs.Reading.{Unreads}
-use Rattle.store.specs.inner.Tests.{decision_of}
-use Rattle.store.proofs.ReadTables.{reads_quiet, reads_ended}
+use Rattle.store_runs.specs.Deciding.{create_tests, unselected}
+use Rattle.store_runs.specs.Reading.{Unreads}
+use Rattle.store_changes.specs.Tests.{decision_of}
+use Rattle.store_changes.specs.laws.ReadTables.{reads_quiet, reads_ended}
 use Rattle.store.proofs.Selected.{tested_on, refused_first, not_read, selected}
-use Rattle.store.proofs.Tested.{Counts, create_names, table_is_change}
+use Rattle.store_changes.specs.laws.Tested.{Counts, create_names, table_is_change}
 use Rattle.store.proofs.saving.save_from_entry.Goals as goal
 
 memory_on : OutOfMemory ≢ Halted

@@ -4,7 +4,7 @@ use Rattle.cells.specs.Cell.{PlainTable}
 use Rattle.query.specs.Selection.{selection}
 use Rattle.query.specs.View.{query_in}
 use Rattle.values.specs.TableView.{table_of}
-use Rattle.store.specs.Calls.{is_failure}
+use Rattle.store_runs.specs.Calls.{is_failure}
 use Rattle.store.proofs.Selected.{test_of, select_quiet, select_untold}
 use Rattle.store.proofs.saving.test_query.Goals as goal
 

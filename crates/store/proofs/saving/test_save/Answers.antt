@@ -4,7 +4,7 @@ use Rattle.arrow_schema.specs.View.{schema_of}
 use Rattle.catalogue.specs.View.{catalogue_of}
 use Rattle.query.specs.View.{query_in}
 use Rattle.tables.specs.declared.refusal.Refusal.{Refusal}
-use Rattle.store.specs.Deciding.{create_tests, unselected}
+use Rattle.store_runs.specs.Deciding.{create_tests, unselected}
 use Rattle.store.proofs.Selected.{create_quiet, both_pass, later_tells}
 use Rattle.store.proofs.saving.test_save.Goals as goal
 

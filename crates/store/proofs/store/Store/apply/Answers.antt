@@ -9,19 +9,20 @@ use Rattle.tables.specs.declared.refusal.Refusal.{Refusal}
 use Rattle.tables.specs.declared.refusal.Refusal.TheVariants as refusals
 use Rattle.tables.specs.View.{command_of}
 use Rattle.tables.specs.Verdict.{verdict}
-use Rattle.store.specs.Calls.{done, refused, counted}
+use Rattle.store_runs.specs.Calls.{done, refused, counted}
 use Rattle.catalogue.specs.View.{catalogue_of}
 use Rattle.commit.specs.declared.recovery.Opened.{Opened}
 use Rattle.segments.specs.laws.Usages.{or_false}
 use Rattle.pages.specs.declared.stored.StoredCatalogue.{StoredCatalogue}
-use Rattle.store.specs.Changes.{change_of, CanChange}
-use Rattle.store.specs.Held.{tables_held}
-use Rattle.store.specs.Machine.{tables_now}
+use Rattle.store_changes.specs.Change.{change_of}
+use Rattle.store_runs.specs.Changes.{CanChange}
+use Rattle.store_runs.specs.Held.{tables_held}
+use Rattle.store_runs.specs.Machine.{tables_now}
 use Rattle.store.specs.Fits.{setting_of, listed_in}
 use Rattle.store.specs.Applying.{IsKept}
-use Rattle.store.specs.Reading.{ended}
-use Rattle.store.specs.Deciding.{IsAnswered, reads_device}
-use Rattle.store.proofs.Decided.{is_change, with_ok}
+use Rattle.store_runs.specs.Reading.{ended}
+use Rattle.store_runs.specs.Deciding.{IsAnswered, reads_device}
+use Rattle.store_changes.specs.laws.Decided.{is_change, with_ok}
 use Rattle.store.proofs.Asked.{is_running}
 use Rattle.store.proofs.ReadsStore.{shown, fits_reading}
 use Rattle.store.proofs.Applied.{change_verdict, refuses_first, refuses_halted, goes_after, tells_command, err_weaker, ends_after, kept_after, on_disk_after, decided_after, stood, writes_after, written_after, read_kept, read_halts}

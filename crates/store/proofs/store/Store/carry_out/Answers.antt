@@ -16,16 +16,17 @@ use Rattle.commit.specs.Placing.{Uses, Takes}
 use Rattle.commit.specs.Standing.{is_size, is_on_device, runs_fault}
 use Rattle.commit.specs.laws.Taking.{took_takes}
 use Rattle.pages.specs.declared.stored.StoredCatalogue.{StoredCatalogue}
-use Rattle.store.specs.Calls.{is_failure, is_device_reply}
-use Rattle.store.specs.Machine.{halted, running}
+use Rattle.store_runs.specs.Calls.{is_failure, is_device_reply}
+use Rattle.store_runs.specs.Machine.{halted, running}
 use Rattle.export_book.specs.Book.{runs_kept}
 use Rattle.store.specs.Exported.{AreExportable}
 use Rattle.store.specs.Fits.{book_of, listed_in}
-use Rattle.store.specs.Changes.{PlainChange, change_of}
-use Rattle.store.specs.Applying.{IsCarrying}
-use Rattle.store.specs.Carrying.{IsCarried, asked_sizes}
-use Rattle.store.specs.Reading.{ended}
-use Rattle.store.proofs.Prepared.{placed_is, failed_usages, placed_then, fit_then, uses_then}
+use Rattle.store_runs.specs.Changes.{PlainChange}
+use Rattle.store_changes.specs.Change.{change_of}
+use Rattle.store_changes.specs.OnDisk.{IsCarrying}
+use Rattle.store_runs.specs.Carrying.{IsCarried, asked_sizes}
+use Rattle.store_runs.specs.Reading.{ended}
+use Rattle.store_changes.specs.laws.Prepared.{placed_is, failed_usages, placed_then, fit_then, uses_then}
 use Rattle.tables.specs.declared.refusal.Refusal.{Refusal}
 use Rattle.tables.specs.declared.refusal.Refusal.TheVariants as refusals
 use Rattle.ipc_encode.specs.View.{streams_in}

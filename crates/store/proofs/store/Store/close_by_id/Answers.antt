@@ -7,10 +7,10 @@ use Rattle.commit.specs.Placing.{Uses}
 use Rattle.export_book.specs.Book.{PlainBook, PlainExport, runs_kept, open_at, without}
 use Rattle.export_book.specs.Plain.{plain_export}
 use Rattle.tables.specs.declared.refusal.Refusal.TheVariants.{Halted, NoExport}
-use Rattle.store.specs.Calls.{refused}
+use Rattle.store_runs.specs.Calls.{refused}
 use Rattle.store.specs.Exported.{AreExportable}
 use Rattle.store.specs.Fits.{book_of, listed_in}
-use Rattle.store.proofs.ReadTables.{reads_quiet}
+use Rattle.store_changes.specs.laws.ReadTables.{reads_quiet}
 use Rattle.store.proofs.OpenExports.{left_exportable, closed_uses, none_left_out}
 use Rattle.store.proofs.ExportAnswers.{close_halted, close_missing, closes_at}
 use Rattle.store.proofs.store.Store.close_by_id.Goals as goal

@@ -1,7 +1,7 @@
 use Rattle.std.proofs.Common.{refl, sym, subst}
-use Rattle.store.specs.Calls.{done}
-use Rattle.store.specs.Reading.{OnlyReadsDevice}
-use Rattle.store.proofs.ReadTables.{reads_quiet}
+use Rattle.store_runs.specs.Calls.{done}
+use Rattle.store_runs.specs.Reading.{OnlyReadsDevice}
+use Rattle.store_changes.specs.laws.ReadTables.{reads_quiet}
 use Rattle.store.proofs.ExportSteps.{closes_goes, close_refused}
 use Rattle.store.proofs.store.Store.close_export.Goals as goal
 

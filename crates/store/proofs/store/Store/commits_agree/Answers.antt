@@ -7,11 +7,11 @@ use Rattle.catalogue.specs.Entries.{runs_of}
 use Rattle.commit.specs.Standing.{is_size, is_on_device, runs_fault}
 use Rattle.tables.specs.declared.refusal.Refusal.TheVariants.{Halted}
 use Rattle.store.specs.Agreeing.{SaysAgreement, RefusesAgreement}
-use Rattle.store.specs.Calls.{is_device_reply, refused}
+use Rattle.store_runs.specs.Calls.{is_device_reply, refused}
 use Rattle.store.specs.Exported.{AreExportable}
 use Rattle.store.specs.Fits.{book_of, listed_in}
-use Rattle.store.specs.Reading.{ended}
-use Rattle.store.proofs.ReadTables.{reads_quiet}
+use Rattle.store_runs.specs.Reading.{ended}
+use Rattle.store_changes.specs.laws.ReadTables.{reads_quiet}
 use Rattle.store.proofs.store.Store.commits_agree.Goals as goal
 
 pub returns-then-self-clause-reads : goal.returns-then-self-clause-reads

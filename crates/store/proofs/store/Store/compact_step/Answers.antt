@@ -10,16 +10,17 @@ use Rattle.catalogue.specs.laws.Kept.{catalogue_is}
 use Rattle.commit.specs.declared.recovery.Opened.{Opened}
 use Rattle.tables.specs.declared.refusal.Refusal.{Refusal}
 use Rattle.tables.specs.declared.refusal.Refusal.TheVariants as refusals
-use Rattle.store.specs.declared.compacting.Compaction.{Compaction}
+use Rattle.store_changes.specs.declared.compacting.Compaction.{Compaction}
 use Rattle.pages.specs.declared.stored.StoredCatalogue.{StoredCatalogue}
-use Rattle.store.specs.Calls.{done}
-use Rattle.store.specs.Changes.{change_of, CanChange}
+use Rattle.store_runs.specs.Calls.{done}
+use Rattle.store_changes.specs.Change.{change_of}
+use Rattle.store_runs.specs.Changes.{CanChange}
 use Rattle.store.specs.Fits.{listed_in}
 use Rattle.store.specs.Compacting.{RefusesStep}
 use Rattle.store.proofs.Asked.{is_running}
 use Rattle.store.proofs.ReadsStore.{fits_reading}
 use Rattle.store.proofs.Applied.{ends_after}
-use Rattle.store.proofs.StepChanges.{can_step, carried_shrinks}
+use Rattle.store_changes.specs.laws.StepChanges.{can_step, carried_shrinks}
 use Rattle.store.proofs.Stepped.{done_counts, never_nothing, nothing_read, made_goes, refused_goes, off_goes, none_goes, unread_goes}
 use Rattle.store.proofs.store.Store.compact_step.Goals as goal
 

@@ -7,13 +7,13 @@ use Rattle.tables.specs.declared.command.Command.{Command}
 use Rattle.tables.specs.declared.refusal.Refusal.TheVariants as refusals
 use Rattle.tables.specs.Commands.{create, import_stream, rename, drop_table}
 use Rattle.tables.specs.View.{command_of}
-use Rattle.store.specs.Calls.{is_failure}
-use Rattle.store.specs.Deciding.{IsAnswered, reads_device}
+use Rattle.store_runs.specs.Calls.{is_failure}
+use Rattle.store_runs.specs.Deciding.{IsAnswered, reads_device}
 use Rattle.store.specs.Fits.{listed_in}
-use Rattle.store.specs.Reading.{ended}
-use Rattle.store.specs.inner.Tests.{decision_of}
+use Rattle.store_runs.specs.Reading.{ended}
+use Rattle.store_changes.specs.Tests.{decision_of}
 use Rattle.store.proofs.Applied.{ended_quiet, reads_nothing}
-use Rattle.store.proofs.Quiet.{IsQuiet, answers_quiet}
+use Rattle.store_changes.specs.laws.Quiet.{IsQuiet, answers_quiet}
 use Rattle.store.proofs.store.Store.decide.Goals as goal
 
 pub returns-in-Create-clause-reads : goal.returns-in-Create-clause-reads

@@ -9,13 +9,13 @@ use Rattle.catalogue.specs.laws.Changed.{found_passes}
 use Rattle.commit.specs.laws.Frame.{fault_none}
 use Rattle.tables.specs.declared.refusal.Refusal.TheVariants.{NoTable}
 use Rattle.store.specs.Exported.{AreExportable}
-use Rattle.store.specs.Calls.{is_device_reply, refused}
+use Rattle.store_runs.specs.Calls.{is_device_reply, refused}
 use Rattle.store.specs.Fits.{book_of, listed_in}
-use Rattle.store.specs.Reading.{ended}
-use Rattle.store.specs.inner.Tests.{decision_of}
+use Rattle.store_runs.specs.Reading.{ended}
+use Rattle.store_changes.specs.Tests.{decision_of}
 use Rattle.commit.specs.Standing.{is_size, is_on_device, runs_fault}
 use Rattle.store.proofs.AtNames.{append_at, append_nowhere}
-use Rattle.store.proofs.ReadTables.{runs_on_device, reads_quiet}
+use Rattle.store_changes.specs.laws.ReadTables.{runs_on_device, reads_quiet}
 use Rattle.store.proofs.store.Store.decide_append.Goals as goal
 
 pub append_to_entry-change-requires-clause-placed : goal.append_to_entry-change-requires-clause-placed

@@ -9,13 +9,13 @@ use Rattle.commit.specs.laws.Frame.{fault_none}
 use Rattle.query.specs.View.{query_in}
 use Rattle.tables.specs.declared.refusal.Refusal.TheVariants.{NoTable}
 use Rattle.store.specs.Exported.{AreExportable}
-use Rattle.store.specs.Calls.{is_device_reply, refused}
+use Rattle.store_runs.specs.Calls.{is_device_reply, refused}
 use Rattle.store.specs.Fits.{book_of, listed_in}
-use Rattle.store.specs.Reading.{ended}
-use Rattle.store.specs.inner.Tests.{decision_of}
+use Rattle.store_runs.specs.Reading.{ended}
+use Rattle.store_changes.specs.Tests.{decision_of}
 use Rattle.commit.specs.Standing.{is_size, is_on_device, runs_fault}
 use Rattle.store.proofs.AtNames.{save_at, save_nowhere}
-use Rattle.store.proofs.ReadTables.{runs_on_device, reads_quiet}
+use Rattle.store_changes.specs.laws.ReadTables.{runs_on_device, reads_quiet}
 use Rattle.store.proofs.store.Store.decide_save.Goals as goal
 
 pub save_from_entry-change-requires-clause-placed : goal.save_from_entry-change-requires-clause-placed

@@ -7,7 +7,7 @@ use Rattle.ipc_encode.specs.declared.writing.WriteError.{WriteError}
 use Rattle.ipc_encode.specs.declared.writing.WriteError.TheVariants as errors
 use Rattle.values.specs.TableView.{table_of}
 use Rattle.tables.specs.declared.refusal.Refusal.TheVariants.{Write, OutOfMemory}
-use Rattle.store.specs.Calls.{refused}
+use Rattle.store_runs.specs.Calls.{refused}
 use Rattle.store.specs.Fits.{listed_in}
 use Rattle.store.proofs.AtNames.{read_without_memory, never_write}
 use Rattle.store.proofs.Replied.{read_done}

@@ -4,7 +4,7 @@ use Rattle.catalogue.specs.Edits.{entry_of}
 use Rattle.values.specs.TableView.{table_of}
 use Rattle.tables.specs.declared.refusal.Refusal.TheVariants.{OutOfMemory}
 use Rattle.store.specs.Applying.{GoesOn}
-use Rattle.store.specs.Calls.{export_call, bytes_are, refused}
+use Rattle.store_runs.specs.Calls.{export_call, bytes_are, refused}
 use Rattle.store.specs.Fits.{listed_in}
 use Rattle.store.proofs.AtNames.{read_without_memory}
 use Rattle.store.proofs.Replied.{read_done}

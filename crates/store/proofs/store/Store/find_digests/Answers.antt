@@ -6,11 +6,11 @@ use Rattle.cells.specs.Cell.{PlainTable}
 use Rattle.catalogue.specs.Entries.{PlainEntry, PlainCatalogue, runs_of}
 use Rattle.commit.specs.Standing.{is_size, is_on_device, all_on_device, runs_fault}
 use Rattle.commit.specs.laws.Frame.{fault_none}
-use Rattle.store.specs.Calls.{is_device_reply}
+use Rattle.store_runs.specs.Calls.{is_device_reply}
 use Rattle.store.specs.Fits.{book_of, listed_in}
 use Rattle.store.specs.Exported.{AreExportable}
-use Rattle.store.specs.Reading.{IsRead, ended}
-use Rattle.store.specs.Upgrading.{segments_of, AreDigests, StopsReading}
+use Rattle.store_runs.specs.Reading.{IsRead, ended}
+use Rattle.store_changes.specs.Digesting.{segments_of, AreDigests, StopsReading}
 use Rattle.store.proofs.store.Store.find_digests.Goals as goal
 
 pub all_digests-digests-requires-clause-placed : goal.all_digests-digests-requires-clause-placed

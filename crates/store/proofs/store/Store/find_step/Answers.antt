@@ -6,12 +6,12 @@ use Rattle.segments.specs.Usages.{IsUsedIn}
 use Rattle.catalogue.specs.Entries.{PlainCatalogue, runs_of}
 use Rattle.commit.specs.Standing.{is_size, is_on_device, all_on_device, runs_fault}
 use Rattle.commit.specs.laws.Frame.{fault_none}
-use Rattle.store.specs.Calls.{is_device_reply}
+use Rattle.store_runs.specs.Calls.{is_device_reply}
 use Rattle.store.specs.Fits.{book_of, listed_in}
-use Rattle.store.specs.Reading.{ended}
+use Rattle.store_runs.specs.Reading.{ended}
 use Rattle.store.specs.Exported.{AreExportable}
-use Rattle.store.specs.Compacting.{UnreadsStep}
-use Rattle.store.specs.inner.Compacting.{FindsStep}
+use Rattle.store_changes.specs.Compacting.{UnreadsStep}
+use Rattle.store_changes.specs.Finding.{FindsStep}
 use Rattle.store.proofs.store.Store.find_step.Goals as goal
 
 pub decide_step-step-requires-clause-placed : goal.decide_step-step-requires-clause-placed

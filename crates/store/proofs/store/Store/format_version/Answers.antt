@@ -13,10 +13,10 @@ use Rattle.catalogue.specs.Entries.{PlainCatalogue, runs_of}
 use Rattle.catalogue.specs.View.{catalogue_of}
 use Rattle.commit.specs.declared.opening_refusal.OpeningRefusal.{OpeningRefusal}
 use Rattle.tables.specs.Tables.{no_tables}
-use Rattle.store.specs.Calls.{format_call, shut_by, counted}
-use Rattle.store.specs.Machine.{opened, shut_down, Allows}
-use Rattle.store.specs.Runs.{Goes}
-use Rattle.store.specs.Held.{tables_held}
+use Rattle.store_runs.specs.Calls.{format_call, shut_by, counted}
+use Rattle.store_runs.specs.Machine.{opened, shut_down, Allows}
+use Rattle.store_runs.specs.Runs.{Goes}
+use Rattle.store_runs.specs.Held.{tables_held}
 use Rattle.pages.specs.Stored.{stored_reading}
 use Rattle.export_book.specs.Book.{PlainBook, runs_kept}
 use Rattle.store.specs.Exported.{AreExportable}

@@ -10,11 +10,11 @@ use Rattle.commit.specs.Standing.{is_size, is_on_device, runs_fault}
 use Rattle.export_book.specs.Book.{PlainBook, runs_kept, open_at}
 use Rattle.export_book.specs.Plain.{plain_export}
 use Rattle.tables.specs.declared.refusal.Refusal.TheVariants.{Halted, NoExport}
-use Rattle.store.specs.Calls.{is_device_reply, refused}
+use Rattle.store_runs.specs.Calls.{is_device_reply, refused}
 use Rattle.store.specs.Exported.{AreExportable}
-use Rattle.store.specs.Reading.{ended}
+use Rattle.store_runs.specs.Reading.{ended}
 use Rattle.store.specs.Fits.{book_of, listed_in}
-use Rattle.store.proofs.ReadTables.{reads_quiet}
+use Rattle.store_changes.specs.laws.ReadTables.{reads_quiet}
 use Rattle.store.proofs.OpenExports.{found_exportable, given_exportable, kept_given}
 use Rattle.store.proofs.ExportAnswers.{piece_given, piece_refused, next_halted, next_missing, may_give_some, counted_some, counted_none}
 use Rattle.store.proofs.store.Store.give_piece.Goals as goal

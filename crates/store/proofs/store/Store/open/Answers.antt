@@ -8,9 +8,9 @@ use Rattle.commit.specs.Standing.{is_size, Stands}
 use Rattle.commit.specs.Opening.{standing_shown}
 use Rattle.catalogue.specs.View.{catalogue_of}
 use Rattle.commit.specs.declared.opening_refusal.OpeningRefusal.{OpeningRefusal}
-use Rattle.store.specs.Calls.{open_call, shut_by, counted}
-use Rattle.store.specs.Machine.{Export, shut_down, Allows}
-use Rattle.store.specs.Runs.{Goes}
+use Rattle.store_runs.specs.Calls.{open_call, shut_by, counted}
+use Rattle.store_runs.specs.Machine.{Export, shut_down, Allows}
+use Rattle.store_runs.specs.Runs.{Goes}
 use Rattle.pages.specs.Stored.{stored_reading}
 use Rattle.export_book.specs.Book.{PlainBook, runs_kept}
 use Rattle.store.specs.Exported.{AreExportable}

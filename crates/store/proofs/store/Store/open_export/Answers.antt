@@ -1,9 +1,9 @@
 use Rattle.catalogue.specs.laws.Kept.{catalogue_is}
-use Rattle.store.specs.Calls.{done}
+use Rattle.store_runs.specs.Calls.{done}
 use Rattle.store.specs.Fits.{listed_in}
-use Rattle.store.proofs.ReadTables.{reads_quiet}
+use Rattle.store_changes.specs.laws.ReadTables.{reads_quiet}
 use Rattle.store.proofs.ExportSteps.{opens_goes, open_refused}
-use Rattle.store.specs.Reading.{OnlyReadsDevice}
+use Rattle.store_runs.specs.Reading.{OnlyReadsDevice}
 use Rattle.std.proofs.Common.{refl, sym, subst}
 use Rattle.store.proofs.store.Store.open_export.Goals as goal
 

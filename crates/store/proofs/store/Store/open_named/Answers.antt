@@ -12,10 +12,10 @@ use Rattle.commit.specs.Placing.{Uses}
 use Rattle.export_book.specs.Book.{PlainBook, PlainExport, runs_kept, with_open}
 use Rattle.export_book.specs.laws.Kept.{kept_few}
 use Rattle.tables.specs.declared.refusal.Refusal.TheVariants.{OutOfMemory}
-use Rattle.store.specs.Calls.{refused}
+use Rattle.store_runs.specs.Calls.{refused}
 use Rattle.store.specs.Exported.{AreExportable}
 use Rattle.store.specs.Fits.{book_of, listed_in}
-use Rattle.store.proofs.ReadTables.{reads_quiet}
+use Rattle.store_changes.specs.laws.ReadTables.{reads_quiet}
 use Rattle.store.proofs.OpenExports.{entry_once, entry_used, entry_short, entry_exportable, more_exportable, opened_uses}
 use Rattle.store.proofs.ExportAnswers.{found_in, opens_at, open_refused_at}
 use Rattle.store.proofs.store.Store.open_named.Goals as goal

@@ -1,8 +1,8 @@
 use Rattle.std.proofs.Common.{refl}
 use Rattle.catalogue.specs.laws.Kept.{catalogue_is}
 use Rattle.values.specs.TableView.{table_of}
-use Rattle.store.specs.Calls.{done, read_call, table_is}
-use Rattle.store.specs.Steps.{Step}
+use Rattle.store_runs.specs.Calls.{done, read_call, table_is}
+use Rattle.store_runs.specs.Steps.{Step}
 use Rattle.store.specs.Fits.{listed_in}
 use Rattle.store.proofs.ReadsStore.{found_table, stays_reading, refused_reading, read_step}
 use Rattle.store.proofs.store.Store.read.Goals as goal

@@ -10,12 +10,12 @@ use Rattle.catalogue.specs.laws.Changed.{found_passes}
 use Rattle.commit.specs.laws.Frame.{fault_none}
 use Rattle.tables.specs.declared.refusal.Refusal.TheVariants.{Halted, NoTable}
 use Rattle.store.specs.Exported.{AreExportable}
-use Rattle.store.specs.Calls.{is_device_reply, refused}
+use Rattle.store_runs.specs.Calls.{is_device_reply, refused}
 use Rattle.store.specs.Fits.{book_of, listed_in}
-use Rattle.store.specs.Reading.{ended}
+use Rattle.store_runs.specs.Reading.{ended}
 use Rattle.commit.specs.Standing.{is_size, is_on_device, runs_fault}
 use Rattle.store.proofs.AtNames.{read_at, read_nowhere, read_halted, unread_at}
-use Rattle.store.proofs.ReadTables.{runs_on_device, reads_quiet}
+use Rattle.store_changes.specs.laws.ReadTables.{runs_on_device, reads_quiet}
 use Rattle.store.proofs.store.Store.read_named.Goals as goal
 
 pub read_entry-table-requires-clause-placed : goal.read_entry-table-requires-clause-placed

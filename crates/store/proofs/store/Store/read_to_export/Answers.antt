@@ -6,8 +6,8 @@ use Rattle.ipc_message.specs.Header.{supported_codes}
 use Rattle.ipc_stream.specs.Meaning.{meaning}
 use Rattle.values.specs.TableView.{table_of}
 use Rattle.tables.specs.declared.refusal.Refusal.TheVariants.{OutOfMemory}
-use Rattle.store.specs.Calls.{done, export_call, bytes_are, refused}
-use Rattle.store.specs.Steps.{Step}
+use Rattle.store_runs.specs.Calls.{done, export_call, bytes_are, refused}
+use Rattle.store_runs.specs.Steps.{Step}
 use Rattle.store.specs.Fits.{listed_in}
 use Rattle.store.proofs.ReadsStore.{found_table, stays_reading, refused_reading, export_step}
 use Rattle.store.proofs.store.Store.read_to_export.Goals as goal

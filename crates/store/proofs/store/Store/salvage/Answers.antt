@@ -9,13 +9,13 @@ use Rattle.catalogue.specs.laws.Changed.{found_passes}
 use Rattle.commit.specs.laws.Frame.{fault_none}
 use Rattle.tables.specs.declared.refusal.Refusal.TheVariants.{Halted, NoTable}
 use Rattle.store.specs.Exported.{AreExportable}
-use Rattle.store.specs.Calls.{is_device_reply, refused}
+use Rattle.store_runs.specs.Calls.{is_device_reply, refused}
 use Rattle.store.specs.Fits.{book_of, listed_in}
-use Rattle.store.specs.Reading.{ended}
+use Rattle.store_runs.specs.Reading.{ended}
 use Rattle.store.specs.Salvaging.{plain_left}
 use Rattle.commit.specs.Standing.{is_size, is_on_device, runs_fault}
 use Rattle.store.proofs.Salvaged.{salvages_at, refuses_at, refuses_nowhere, refuses_halted}
-use Rattle.store.proofs.ReadTables.{runs_on_device, reads_quiet}
+use Rattle.store_changes.specs.laws.ReadTables.{runs_on_device, reads_quiet}
 use Rattle.store.proofs.store.Store.salvage.Goals as goal
 
 pub salvage_entry-left_out-requires-clause-placed : goal.salvage_entry-left_out-requires-clause-placed

@@ -11,10 +11,10 @@ use Rattle.catalogue.specs.View.{catalogue_of}
 use Rattle.catalogue.specs.declared.catalogue.Catalogue.{Catalogue}
 use Rattle.tables.specs.declared.refusal.Refusal.TheVariants.{Halted, NoTable, OutOfMemory}
 use Rattle.tables.specs.Verdict.{after}
-use Rattle.store.specs.Calls.{schema_call, schema_is, refused}
-use Rattle.store.specs.Steps.{Step}
+use Rattle.store_runs.specs.Calls.{schema_call, schema_is, refused}
+use Rattle.store_runs.specs.Steps.{Step}
 use Rattle.store.specs.Fits.{listed_in}
-use Rattle.store.specs.laws.Named.{entry_has, entry_lacks, held_has}
+use Rattle.store_changes.specs.laws.Named.{entry_has, entry_lacks, held_has}
 use Rattle.store.proofs.Asked.{not_running, is_running, told_of, still}
 use Rattle.store.proofs.store.Store.schema.Goals as goal
 

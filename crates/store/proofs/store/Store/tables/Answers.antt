@@ -7,10 +7,10 @@ use Rattle.catalogue.specs.declared.catalogue.Catalogue.{Catalogue}
 use Rattle.catalogue.specs.laws.Kept.{catalogue_is}
 use Rattle.tables.specs.declared.refusal.Refusal.TheVariants.{Halted, OutOfMemory}
 use Rattle.tables.specs.Verdict.{after}
-use Rattle.store.specs.Calls.{tables_call, counts, refused}
-use Rattle.store.specs.Steps.{Step}
+use Rattle.store_runs.specs.Calls.{tables_call, counts, refused}
+use Rattle.store_runs.specs.Steps.{Step}
 use Rattle.store.specs.Fits.{listed_in}
-use Rattle.store.specs.laws.Listed.{held_counts}
+use Rattle.store_changes.specs.laws.Listed.{held_counts}
 use Rattle.store.proofs.Asked.{not_running, is_running, told_of, still}
 use Rattle.store.proofs.store.Store.tables.Goals as goal
 

@@ -9,11 +9,12 @@ use Rattle.commit.specs.declared.recovery.Opened.{Opened}
 use Rattle.commit.specs.declared.sector.FormatVersion.TheVariants.{One, Two}
 use Rattle.tables.specs.declared.refusal.Refusal.TheVariants as refusals
 use Rattle.pages.specs.declared.stored.StoredCatalogue.{StoredCatalogue}
-use Rattle.store.specs.Calls.{done}
-use Rattle.store.specs.Changes.{digest, CanChange}
-use Rattle.store.specs.Deciding.{names_changed}
+use Rattle.store_runs.specs.Calls.{done}
+use Rattle.store_runs.specs.Changes.{digest, CanChange}
+use Rattle.store_runs.specs.Deciding.{names_changed}
 use Rattle.store.specs.Fits.{listed_in}
-use Rattle.store.specs.Upgrading.{IsUpgrade, RefusesUpgrade}
+use Rattle.store_changes.specs.Digesting.{IsUpgrade}
+use Rattle.store.specs.Upgrading.{RefusesUpgrade}
 use Rattle.store.proofs.Asked.{is_running}
 use Rattle.store.proofs.ReadsStore.{fits_reading}
 use Rattle.store.proofs.Applied.{ends_after, kept_after}

@@ -1,5 +1,0 @@
-use Rattle.store.specs.laws.Settled.{run_settles}
-use Rattle.store.proofs.laws.acknowledged_commands_are_settled.Goals as goal
-
-pub returns : goal.returns
-returns c = run_settles

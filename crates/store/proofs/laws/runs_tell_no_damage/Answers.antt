@@ -1,5 +1,0 @@
-use Rattle.store.specs.laws.Never.{tells_none_damaged, tells_a_store_since}
-use Rattle.store.proofs.laws.runs_tell_no_damage.Goals as goal
-
-pub returns : goal.returns
-returns c = record { damage = tells_none_damaged; no_store = tells_a_store_since }

@@ -1,5 +1,0 @@
-use Rattle.store.specs.laws.Unhalted.{tells_no_halt}
-use Rattle.store.proofs.laws.undisturbed_runs_tell_no_halt.Goals as goal
-
-pub returns : goal.returns
-returns c = tells_no_halt

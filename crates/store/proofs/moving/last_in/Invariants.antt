@@ -1,6 +1,0 @@
-use Rattle.store.specs.inner.Compacting.{IsLastIn}
-use Rattle.store.proofs.moving.last_in.Given as goal
-
--- the one that starts last so far
-abbrev pub invariant-loop-place : goal.invariant-loop-place
-invariant-loop-place l = IsLastIn l.table l.segments l.place l.last

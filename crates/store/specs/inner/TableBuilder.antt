@@ -1,8 +1,0 @@
--- The table that gathered segments are.
-use Rattle.arrow_schema.specs.View.{schema_of}
-use Rattle.cells.specs.Cell.{PlainTable}
-use Rattle.values.specs.Parts.{parts_table}
-use Rattle.store.specs.declared.table_builder.TableBuilder.{TableBuilder}
-
-abbrev pub table_so_far : TableBuilder → PlainTable
-table_so_far g = parts_table (schema_of g.schema) g.parts.items

@@ -1,0 +1,11 @@
+mod EditedCounts
+mod Turns
+mod GivenRows
+mod Appended
+mod Saved
+mod Verdicts
+mod MoreRows
+mod Undamaged
+mod Streamed
+mod StepFound
+mod Digesting

@@ -1,0 +1,116 @@
+use Rattle.std.proofs.Common.{◌≡◌, ◌++◌, ◌∙◌, true, ℕ, List, Result, Err, map, take, take_all, refl, sym, ap, subst, arith}
+use Rattle.sector_dev.specs.Disk.{now, shown_image}
+use Rattle.catalogue.specs.declared.entry.Segment.{Segment}
+use Rattle.catalogue.specs.declared.entry.TableEntry.{TableEntry}
+use Rattle.catalogue.specs.Entries.{plain_entry, is_entry, runs_in_segments}
+use Rattle.catalogue.specs.laws.Changed.{found_passes}
+use Rattle.commit.specs.Standing.{is_size, all_on_device}
+use Rattle.tables.specs.declared.refusal.Refusal.{Refusal}
+use Rattle.tables.specs.declared.refusal.Refusal.TheVariants as refusals
+use Rattle.store_runs.specs.Calls.{done, refused}
+use Rattle.store_changes.specs.Digesting.{segments_of, AreDigests}
+use Rattle.store_changes.specs.laws.ReadTables.{reads_none, reads_more, reads_ended, image_then, runs_on_device}
+use Rattle.store_changes.specs.laws.StepParts.{at_name}
+use Rattle.store_changes.proofs.StepFound.{item_at, read_then}
+use Rattle.store_changes.proofs.Digesting.{digests_behind, digests_then, segments_more, tables_more, unreads_then, inside_map}
+use Rattle.store_changes.proofs.digests.all_digests.Goals as goal
+
+-- memory was refused
+abbrev no_memory : Result ℕ Refusal
+no_memory = Err refusals.OutOfMemory
+
+pub loop-entry-init : goal.loop-entry-init
+loop-entry-init g c =
+    let D = g.D.SectorDevice in
+    record { reads = reads_none D.size D.story D.failed D.tells c.args.device.now; read = λ number e lt at. absurd (omega (arith, lt)); own = c.new-digests.ensures.items }
+
+pub entry_digests-requires-clause-size : goal.entry_digests-requires-clause-size
+entry_digests-requires-clause-size g c = ap is_size c.loop-entry.invariant.reads.same ∙ c.requires.size
+
+pub entry_digests-requires-clause-placed : goal.entry_digests-requires-clause-placed
+entry_digests-requires-clause-placed g c =
+    let D = g.D.SectorDevice in
+    let listed = map plain_entry c.args.entries.now in
+    let item = c.entry-item.result in
+    let at = item_at c.args.entries.now c.loop-entry.entry-index item c.loop-entry-test.true c.entry-item.is in
+    subst (λ (n : ℕ). all_on_device n (runs_in_segments (plain_entry item).segments) ≡ true) (sym c.loop-entry.invariant.reads.same)
+    (runs_on_device (D.size c.args.device.now) listed (plain_entry item).name (plain_entry item) c.requires.placed (at_name listed c.loop-entry.entry-index (plain_entry item) c.requires.stands.order at))
+
+pub entry_digests-requires-clause-sound : goal.entry_digests-requires-clause-sound
+entry_digests-requires-clause-sound g c =
+    let listed = map plain_entry c.args.entries.now in
+    let item = c.entry-item.result in
+    let at = item_at c.args.entries.now c.loop-entry.entry-index item c.loop-entry-test.true c.entry-item.is in
+    found_passes is_entry listed (plain_entry item).name (plain_entry item) c.requires.stands.entries (at_name listed c.loop-entry.entry-index (plain_entry item) c.requires.stands.order at)
+
+pub loop-entry-preserved : goal.loop-entry-preserved
+loop-entry-preserved g c =
+    let D = g.D.SectorDevice in
+    let before = D.story c.args.device.now in
+    let mid = D.story c.loop-entry.device in
+    let shown = shown_image (now before) in
+    let later = shown_image (now mid) in
+    let entries = c.args.entries.now in
+    let i = c.loop-entry.entry-index in
+    let item = c.entry-item.result in
+    let e = plain_entry item in
+    let same : D.tells ≡ true → later ≡ shown = λ told. image_then before mid (c.loop-entry.invariant.reads.moments told) in
+    let own = digests_then D.tells shown later same e.segments c.in-Ok.own.items c.in-Ok.ensures.found in
+    let behind = digests_behind D.tells shown (segments_of (map plain_entry (take i entries))) e.segments c.loop-entry.digests.items c.in-Ok.own.items c.loop-entry.invariant.own own in
+    record {
+      reads = reads_more D.size D.story D.failed D.tells done c.args.device.now c.loop-entry.device c.entry_digests.new.device c.loop-entry.invariant.reads c.in-Ok.ensures.reads;
+      read = tables_more D.tells shown (map plain_entry entries) i e (item_at entries i item c.loop-entry-test.true c.entry-item.is) c.loop-entry.invariant.read
+          (c.in-Ok.ensures.read.0, read_then D.tells shown later same e c.in-Ok.ensures.read.0 c.in-Ok.ensures.read.1);
+      own = subst (λ (gs : List Segment). AreDigests D.tells shown gs c.extend_from_slice.new.self.items) (sym (segments_more entries i item c.loop-entry-test.true c.entry-item.is))
+          (subst (λ (ds : List (List ℕ)). AreDigests D.tells shown (segments_of (map plain_entry (take i entries)) ++ e.segments) ds)
+          (sym (c.in-Ok-extend_from_slice.ensures.items ∙ ap (λ (ds : List (List ℕ)). c.loop-entry.digests.items ++ ds) c.deref.ensures.value)) behind);
+    }
+
+pub returns-in-Err-clause-reads : goal.returns-in-Err-clause-reads
+returns-in-Err-clause-reads g c =
+    let D = g.D.SectorDevice in
+    reads_more D.size D.story D.failed D.tells (refused c.in-Err.refusal) c.args.device.now c.loop-entry.device c.entry_digests.new.device c.loop-entry.invariant.reads c.in-Err.ensures.reads
+
+pub returns-in-Err-clause-stops : goal.returns-in-Err-clause-stops
+returns-in-Err-clause-stops g c =
+    let D = g.D.SectorDevice in
+    let before = D.story c.args.device.now in
+    let mid = D.story c.loop-entry.device in
+    let item = c.entry-item.result in
+    record {
+      number = c.loop-entry.entry-index;
+      entry = plain_entry item;
+      at = item_at c.args.entries.now c.loop-entry.entry-index item c.loop-entry-test.true c.entry-item.is;
+      before = c.loop-entry.invariant.read;
+      stops = unreads_then D.tells (shown_image (now before)) (shown_image (now mid)) (λ told. image_then before mid (c.loop-entry.invariant.reads.moments told)) (plain_entry item) c.in-Err.refusal c.in-Err.ensures.unread;
+    }
+
+pub returns-clause-reads : goal.returns-clause-reads
+returns-clause-reads g c = c.loop-entry.invariant.reads
+
+pub returns-clause-read : goal.returns-clause-read
+returns-clause-read g c = λ number e at.
+    c.loop-entry.invariant.read number e (let inside = inside_map c.args.entries.now number e at in omega (arith, inside, c.loop-entry-test.false)) at
+
+pub returns-clause-found : goal.returns-clause-found
+returns-clause-found g c =
+    let D = g.D.SectorDevice in
+    subst (λ (es : List TableEntry). AreDigests D.tells (shown_image (now (D.story c.args.device.now))) (segments_of (map plain_entry es)) c.loop-entry.digests.items)
+    (take_all c.loop-entry.entry-index c.args.entries.now (omega (arith, c.loop-entry-test.false))) c.loop-entry.invariant.own
+
+pub returns-in-Err-extend_from_slice-clause-reads : goal.returns-in-Err-extend_from_slice-clause-reads
+returns-in-Err-extend_from_slice-clause-reads g c =
+    let D = g.D.SectorDevice in
+    reads_ended D.size D.story D.failed D.tells no_memory c.args.device.now c.entry_digests.new.device refl
+    (reads_more D.size D.story D.failed D.tells done c.args.device.now c.loop-entry.device c.entry_digests.new.device c.loop-entry.invariant.reads c.in-Ok.ensures.reads)
+
+pub returns-in-Err-extend_from_slice-clause-stops : goal.returns-in-Err-extend_from_slice-clause-stops
+returns-in-Err-extend_from_slice-clause-stops g c =
+    let item = c.entry-item.result in
+    record {
+      number = c.loop-entry.entry-index;
+      entry = plain_entry item;
+      at = item_at c.args.entries.now c.loop-entry.entry-index item c.loop-entry-test.true c.entry-item.is;
+      before = c.loop-entry.invariant.read;
+      stops = tt;
+    }

@@ -1,0 +1,16 @@
+pub mod Change
+pub mod Digesting
+pub mod Finding
+pub mod OnDisk
+pub mod ReadSegment
+pub mod Exchanging
+pub mod Under
+pub mod Compacting
+pub mod Verdicts
+pub mod Digests
+pub mod Tests
+pub mod Appending
+pub mod Prepared
+pub mod LawsBelow
+pub mod laws
+pub mod inner

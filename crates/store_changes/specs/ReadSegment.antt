@@ -1,0 +1,31 @@
+-- What is read of one segment.
+use Rattle.std.specs.Prelude.{◌≡◌, ℕ, Bool, true, false, List, map}
+use Rattle.sector_dev.specs.Disk.{Image}
+use Rattle.segments.specs.declared.run.Run.{Run}
+use Rattle.arrow_schema.specs.Column.{PlainSchema}
+use Rattle.cells.specs.Cell.{Cell}
+use Rattle.catalogue.specs.declared.entry.Segment.{Segment}
+use Rattle.tables.specs.declared.refusal.Refusal.{Refusal}
+use Rattle.tables.specs.declared.refusal.Refusal.TheVariants as refusals
+use Rattle.store_runs.specs.Held.{is_undamaged, bytes_of, segment_rows}
+use Rattle.store_runs.specs.Reading.{ArePast}
+
+-- why the rows of the segment at a place don't go after these rows
+abbrev pub UnreadsSegment : (tells : Bool) → Image → PlainSchema → List (List Cell) → Segment → (place : ℕ) → Refusal → Type 0
+UnreadsSegment tells image schema rows segment place refusals.Device = Unit {0}
+UnreadsSegment tells image schema rows segment place refusals.OutOfMemory = Unit {0}
+UnreadsSegment tells image schema rows segment place (refusals.SegmentUnread other) =
+    (other ≡ place) × (tells ≡ true → (is_undamaged segment.digest (bytes_of segment image) ≡ true) × ArePast schema rows (segment_rows schema segment image))
+UnreadsSegment tells image schema rows segment place (refusals.SegmentDamaged other) =
+    (other ≡ place) × (tells ≡ true → is_undamaged segment.digest (bytes_of segment image) ≡ false)
+UnreadsSegment tells image schema rows segment place _ = ⊥
+
+-- a call that reads fails only by its device or for want of memory
+abbrev pub FailsReading : Refusal → Type 0
+FailsReading refusals.Device = Unit {0}
+FailsReading refusals.OutOfMemory = Unit {0}
+FailsReading _ = ⊥
+
+-- the runs of segments
+abbrev pub runs_in : List Segment → List Run
+runs_in segments = map (λ (s : Segment). s.place.run) segments

@@ -1,0 +1,2 @@
+pub mod Digesting
+pub mod TableBuilder

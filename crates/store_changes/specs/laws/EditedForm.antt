@@ -1,0 +1,55 @@
+-- An edited catalogue keeps the form of its segments, where the new ones have it.
+use Rattle.std.specs.Prelude.{◌≡◌, ◌++◌, ℕ, Bool, true, List, [], ◌∷◌, take, drop}
+use Rattle.std.proofs.Common.{sym, ap, ◌∙◌, arith}
+use Rattle.std.proofs.lemmas.Bool.{and_parts, and_from}
+use Rattle.std.proofs.lemmas.List.Folds.{list_all-append}
+use Rattle.catalogue.specs.declared.entry.Segment.{Segment}
+use Rattle.catalogue.specs.declared.entry.SegmentForm.{SegmentForm}
+use Rattle.catalogue.specs.Entries.{PlainEntry, PlainCatalogue, has_digest, has_digests, has_form}
+use Rattle.catalogue.specs.Edits.{entry_of, without, named, from_place, with_others}
+use Rattle.catalogue.specs.laws.Order.{with_all, without_all}
+use Rattle.catalogue.specs.laws.Digests.{digested_form}
+use Rattle.catalogue.specs.laws.Changed.{parted, found_passes, refilled_all, renamed_is, more_is, exchanged_is}
+use Rattle.commit.specs.declared.sector.FormatVersion.{FormatVersion}
+use Rattle.pages.specs.Stored.{form_of}
+use Rattle.store_runs.specs.Changes.{PlainEdit, put, extend, move, remove, exchange, digest, new_entry, page_instead, edited, version_after, IsEdit}
+
+module _ (v : FormatVersion) where
+  abbrev form : SegmentForm
+  form = form_of v
+
+  abbrev pub entry_has : PlainEntry → Bool
+  entry_has e = has_digests form e.segments
+
+  both_have : (a b : List Segment) → has_digests form a ≡ true → has_digests form b ≡ true → has_digests form (a ++ b) ≡ true
+  both_have a b one other = list_all-append (λ (s : Segment). has_digest form s.digest) a b ∙ and_from (has_digests form a) (has_digests form b) one other
+
+  parts_have : (a b : List Segment) → has_digests form (a ++ b) ≡ true → (has_digests form a ≡ true) × (has_digests form b ≡ true)
+  parts_have a b all = and_parts (has_digests form a) (has_digests form b) (sym (list_all-append (λ (s : Segment). has_digest form s.digest) a b) ∙ all)
+
+  others_have : (segments : List Segment) (place count : ℕ) (others : List Segment) → has_digests form segments ≡ true → has_digests form others ≡ true → has_digests form (with_others segments place count others) ≡ true
+  others_have segments place count others all each =
+      let front = take place segments in
+      let gone = from_place segments place count in
+      let rest = drop count (drop place segments) in
+      let first = parts_have front (gone ++ rest) (ap (has_digests form) (sym (parted segments place count)) ∙ all) in
+      both_have front (others ++ rest) first.0 (both_have others rest each (parts_have gone rest first.1).1)
+
+  -- the form of the version after the edit
+  pub edited_form : (c : PlainCatalogue) (edit : PlainEdit) (streams : List (List ℕ)) (segments : List Segment) → IsEdit c edit streams → has_form form c ≡ true → has_digests form segments ≡ true
+      → has_form (form_of (version_after edit v)) (edited c edit segments) ≡ true
+  edited_form c (put name schema) streams segments can all each = with_all entry_has c (new_entry name schema segments (page_instead (entry_of c name) schema segments)) all each
+  edited_form c (extend name) streams [] can all each = all
+  edited_form c (extend name) streams (s ∷ ss) can all each =
+      let e : PlainEntry = can.0 in
+      ap (has_form form) (more_is c name e s ss can.1)
+      ∙ refilled_all entry_has c name (e.segments ++ s ∷ ss) (λ x is. both_have e.segments (s ∷ ss) (found_passes entry_has c name e all can.1) each) all
+  edited_form c (move from to) streams segments can all each =
+      let e : PlainEntry = can.2.0 in
+      ap (has_form form) (renamed_is c from to e can.2.1) ∙ with_all entry_has (without c from) (named to e) (without_all entry_has c from all) (found_passes entry_has c from e all can.2.1)
+  edited_form c (remove name) streams segments can all each = without_all entry_has c name all
+  edited_form c (exchange name place count) streams segments can all each =
+      let e : PlainEntry = can.0 in
+      ap (has_form form) (exchanged_is c name e can.1 place count segments)
+      ∙ refilled_all entry_has c name (with_others e.segments place count segments) (λ x is. others_have e.segments place count segments (found_passes entry_has c name e all can.1) each) all
+  edited_form c (digest ds) streams segments can all each = let number = can.0 in digested_form c ds (omega (arith, number))

@@ -1,0 +1,34 @@
+-- Segments that are exchanged for others with the same rows leave the tables as they are.
+use Rattle.std.specs.Prelude.{◌≡◌, ◌++◌, ℕ, List, take, drop, Option, Some, None}
+use Rattle.std.proofs.Common.{sym, ap, ◌∙◌, take-append-drop}
+use Rattle.sector_dev.specs.Disk.{Image}
+use Rattle.arrow_schema.specs.Column.{PlainSchema}
+use Rattle.cells.specs.Cell.{Cell}
+use Rattle.catalogue.specs.declared.entry.Segment.{Segment}
+use Rattle.catalogue.specs.Entries.{PlainEntry, PlainCatalogue}
+use Rattle.catalogue.specs.Edits.{with_segments, from_place, with_others, with_exchanged}
+use Rattle.store_runs.specs.Held.{joined_rows, rows_held, tables_held}
+use Rattle.store_changes.specs.Exchanging.{HoldsSame}
+use Rattle.store_changes.specs.laws.Changed.{rows_behind, same_with}
+
+module _ (image : Image) where
+  -- the rows of all
+  same_rows : (schema : PlainSchema) (segments others : List Segment) (place count : ℕ) → rows_held schema others image ≡ rows_held schema (from_place segments place count) image
+      → rows_held schema (with_others segments place count others) image ≡ rows_held schema segments image
+  same_rows schema segments others place count same =
+      let front = take place segments in
+      let rest = drop count (drop place segments) in
+      let parted : from_place segments place count ++ rest ≡ drop place segments = take-append-drop count (drop place segments) in
+      rows_behind schema front (others ++ rest) image
+      ∙ ap (joined_rows (rows_held schema front image))
+      (rows_behind schema others rest image ∙ ap (λ (o : Option (List (List Cell))). joined_rows o (rows_held schema rest image)) same
+      ∙ sym (rows_behind schema (from_place segments place count) rest image) ∙ ap (λ (ss : List Segment). rows_held schema ss image) parted)
+      ∙ sym (rows_behind schema front (drop place segments) image)
+      ∙ ap (λ (ss : List Segment). rows_held schema ss image) (take-append-drop place segments)
+
+  pub exchanged_held : (c : PlainCatalogue) (name : List ℕ) (place count : ℕ) (others : List Segment) → HoldsSame image c name place count others
+      → tables_held image (with_exchanged c name place count others) ≡ tables_held image c
+  exchanged_held c name place count others has =
+      let e = has.entry in
+      ap (λ (o : Option PlainEntry). tables_held image (elim o [ None ↦ c | Some x ↦ with_segments c name (with_others x.segments place count others) ])) has.found
+      ∙ same_with image c name e (with_others e.segments place count others) has.found (same_rows e.schema e.segments others place count has.same)

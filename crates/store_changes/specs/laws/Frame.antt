@@ -1,0 +1,71 @@
+-- What an image holds depends on the runs of its catalogue alone.
+use Rattle.std.specs.Prelude.{◌≡◌, ◌≤◌, ◌<◌, ◌+◌, ◌^◌, ◌==◌, ◌&&◌, ℕ, true, nat_le, nat_lt, List, [], ◌∷◌, ◌++◌, map, refl}
+use Rattle.std.specs.List.{list_all}
+use Rattle.std.proofs.Common.{inl, inr, ap, arith}
+use Rattle.std.proofs.lemmas.Bool.{and_parts, eqb-true}
+use Rattle.sector_dev.specs.Disk.{Image}
+use Rattle.segments.specs.Sectors.{sector_count}
+use Rattle.segments.specs.laws.ReadBack.{same_bytes}
+use Rattle.segments.specs.declared.run.Run.{Run}
+use Rattle.arrow_schema.specs.Column.{PlainSchema}
+use Rattle.catalogue.specs.declared.entry.Segment.{Segment}
+use Rattle.catalogue.specs.declared.limits.TheConstants.{MAX_SEGMENT_ROWS}
+use Rattle.catalogue.specs.Entries.{PlainEntry, PlainCatalogue, is_between, is_filled, is_digest, is_segment, is_entry, page_runs, runs_in_segments, runs_in, runs_of}
+use Rattle.catalogue.specs.laws.Kept.{entry_is}
+use Rattle.commit.specs.declared.sector.Commit.{Commit}
+use Rattle.commit.specs.Standing.{rules, standing, InSome}
+use Rattle.store_runs.specs.Held.{rows_in_segment, segment_rows, joined_rows, rows_held, table_of_rows, table_held, with_held, tables_held, held_of, held_by}
+use Rattle.pages.specs.Stored.{stored_reading}
+
+pub in_left : (rs ss : List Run) (n : ℕ) → InSome rs n → InSome (rs ++ ss) n
+in_left [] ss n none = absurd none
+in_left (r ∷ rs) ss n (inl here) = inl here
+in_left (r ∷ rs) ss n (inr later) = inr (in_left rs ss n later)
+
+pub in_right : (rs ss : List Run) (n : ℕ) → InSome ss n → InSome (rs ++ ss) n
+in_right [] ss n some = some
+in_right (r ∷ rs) ss n some = inr (in_right rs ss n some)
+
+-- the sectors of a segment are those that its bytes need
+pub sectors_of : (segment : Segment) → is_segment segment ≡ true → segment.place.run.count ≡ sector_count segment.place.bytes
+sectors_of segment sound =
+    let e = segment.place in
+    let filled = and_parts (is_filled 1 e) (is_between 1 MAX_SEGMENT_ROWS segment.rows && is_digest segment.digest) sound in
+    let some = and_parts (nat_lt e.run.start (2 ^ 64) && nat_lt e.bytes (2 ^ 64)) (nat_le 1 e.bytes && (e.run.count == sector_count e.bytes)) filled.0 in
+    eqb-true e.run.count (sector_count e.bytes) (and_parts (nat_le 1 e.bytes) (e.run.count == sector_count e.bytes) some.1).1
+
+module _ (a b : Image) where
+  pub same_segment : (schema : PlainSchema) (segment : Segment) → is_segment segment ≡ true
+      → ((n : ℕ) → segment.place.run.start ≤ n → n < segment.place.run.start + segment.place.run.count → b n ≡ a n) → segment_rows schema segment b ≡ segment_rows schema segment a
+  unfolding segment_rows
+  same_segment schema segment sound same =
+      let count = sectors_of segment sound in
+      ap (rows_in_segment schema segment) (same_bytes b a segment.place.run.start segment.place.bytes (λ j lt. same (segment.place.run.start + j) (omega arith) (omega (arith, count, lt))))
+
+  pub same_rows : (schema : PlainSchema) (segments : List Segment) → list_all is_segment segments ≡ true
+      → ((n : ℕ) → InSome (map (λ (s : Segment). s.place.run) segments) n → b n ≡ a n) → rows_held schema segments b ≡ rows_held schema segments a
+  unfolding rows_held
+  same_rows schema [] sound same = refl
+  same_rows schema (segment ∷ segments) sound same =
+      let parts = and_parts (is_segment segment) (list_all is_segment segments) sound in
+      let first = same_segment schema segment parts.0 (λ n low high. same n (inl (low, high))) in
+      let others = same_rows schema segments parts.1 (λ n some. same n (inr some)) in
+      λ i. joined_rows (first i) (others i)
+
+  same_table : (entry : PlainEntry) → is_entry entry ≡ true → ((n : ℕ) → InSome (runs_in entry) n → b n ≡ a n) → table_held b entry ≡ table_held a entry
+  same_table entry sound same = ap (table_of_rows entry.schema) (same_rows entry.schema entry.segments (entry_is entry sound).segments (λ n some. same n (in_right (page_runs entry.page) (runs_in_segments entry.segments) n some)))
+
+  -- images that agree on the runs of a catalogue hold the same tables of it
+  pub same_tables : (c : PlainCatalogue) → list_all is_entry c ≡ true → ((n : ℕ) → InSome (runs_of c) n → b n ≡ a n) → tables_held b c ≡ tables_held a c
+  unfolding tables_held
+  same_tables [] sound same = refl
+  same_tables (entry ∷ entries) sound same =
+      let parts = and_parts (is_entry entry) (list_all is_entry entries) sound in
+      let first = same_table entry parts.0 (λ n some. same n (in_left (runs_in entry) (runs_of entries) n some)) in
+      let others = same_tables entries parts.1 (λ n some. same n (in_right (runs_in entry) (runs_of entries) n some)) in
+      λ i. with_held entry.name (first i) (others i)
+
+-- what an image holds that a commit and its catalogue rule
+pub held_is : (size : ℕ) (image : Image) (k : Commit) (c : PlainCatalogue) → standing stored_reading size image ≡ rules k c → held_by size image ≡ held_of image (rules k c)
+unfolding held_by
+held_is size image k c is = ap (held_of image) is

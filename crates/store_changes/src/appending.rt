@@ -1,0 +1,112 @@
+// Rows are appended to the table of an entry, which is read for its weight.
+ghost use Rattle.std.specs.Prelude.{◌≡◌, ◌≢◌, ◌⊎◌, ◌++◌, List, Some, Err, IfOk, IfErr, false, true, not, nat_le, string_bytes};
+ghost use Rattle.facts.specs.Checks.{when};
+ghost use Rattle.sector_dev.specs.Disk.{now, shown_image};
+ghost use Rattle.cells.specs.Cell.{Cell};
+ghost use Rattle.cells.specs.Weight.{table_weight};
+ghost use Rattle.catalogue.specs.Edits.{entry_of};
+ghost use Rattle.catalogue.specs.Entries.{plain_entry, is_entry, PlainCatalogue};
+ghost use Rattle.commit.specs.Standing.{is_size, all_on_device};
+ghost use Rattle.values.specs.Table.{IsTable};
+ghost use Rattle.values.specs.TableView.{table_of};
+ghost use Rattle.store_runs.specs.Calls.{is_failure};
+ghost use Rattle.store_changes.specs.Change.{change_of};
+ghost use Rattle.store_runs.specs.Changes.{CanChange, rows_under};
+ghost use Rattle.store_runs.specs.Deciding.{decided_behind};
+ghost use Rattle.store_runs.specs.Reading.{OnlyReadsDevice, ended};
+ghost use Rattle.store_changes.specs.Appending.{added_to, IsAppended};
+ghost use Rattle.store_changes.specs.ReadSegment.{runs_in};
+ghost use Rattle.store_changes.specs.Tests.{Tests, decision_of};
+
+use crate::change::{Change, Edit, NewSegments, SegmentRows};
+use crate::new_rows::{NewRows, pass_new};
+use crate::reading::gather_entry;
+use catalogue::TableEntry;
+use cells::MAX_TABLE_WEIGHT;
+use ipc_encode::pieces_are_tables;
+use sector_dev::SectorDevice;
+use std::alloc::Global;
+use tables::{Limit, Refusal};
+use values::{Table, WeighedTable};
+
+// S7 Weight: the table and its new rows would be too heavy.
+fn test_weight(weight: u64) -> Result<(), Refusal>
+    ensures { Tests result (when (not (nat_le weight MAX_TABLE_WEIGHT)) (Refusal.TooMany Limit.Weight)) }
+{
+    if weight > MAX_TABLE_WEIGHT {
+        Err(Refusal::TooMany(Limit::Weight))
+    } else {
+        Ok(())
+    }
+}
+
+// New rows after those of an entry's table, where both weigh so much together: the pieces of the new rows, under the entry's own schema.
+fn decide_behind(
+    alloc: Global,
+    entry: &TableEntry,
+    name: String,
+    new: Table,
+    weight: u64,
+) -> Result<Change, Refusal>
+    requires table { IsTable (rows_under (plain_entry entry.now).schema (table_of new).rows) }
+    ensures ok { IfOk result (λ change. (c : PlainCatalogue) → entry_of c (string_bytes name) ≡ Some (plain_entry entry.now)
+        → CanChange c (change_of change)) }
+    ensures answers { (decision_of result ≡ Err Refusal.OutOfMemory) ⊎ ((standing : List (List Cell))
+        → weight ≡ table_weight (plain_entry entry.now).schema (standing ++ (table_of new).rows)
+        → decision_of result ≡ decided_behind (string_bytes name) (record { entry = plain_entry entry.now; rows = (table_of new).rows }) standing) }
+    ensures no_device { IfErr result (λ e. is_failure e ≡ false) }
+    ensures not_halted { IfErr result (λ e. e ≢ Refusal.Halted) }
+{
+    pieces_are_tables();
+    test_weight(weight)?;
+    let schema = entry.schema().copy(alloc)?;
+    let rows = SegmentRows {
+        table: new,
+        schema: Some(schema),
+    };
+    Ok(Change {
+        edit: Edit::Extend { name },
+        new: Some(NewSegments::Rows(rows)),
+    })
+}
+
+/// An append to the table of an entry: its tests in order, of which the last reads the table.
+///
+/// # Errors
+/// Those of the new rows, in their order; those of reading the table; `TooMany(Weight)`; `OutOfMemory`.
+pub fn append_to_entry<D: SectorDevice>(
+    alloc: Global,
+    device: &mut D,
+    entry: &TableEntry,
+    name: String,
+    new: NewRows,
+) -> Result<Change, Refusal>
+    requires size { is_size (D.size device.old) ≡ true }
+    requires placed { all_on_device (D.size device.old) (runs_in (plain_entry entry.now).segments) ≡ true }
+    requires sound { is_entry (plain_entry entry.now) ≡ true }
+    ensures reads { OnlyReadsDevice D.size D.story D.failed D.tells (ended result) device.old device.new }
+    ensures ok { IfOk result (λ change. (c : PlainCatalogue) → entry_of c (string_bytes name) ≡ Some (plain_entry entry.now)
+        → CanChange c (change_of change)) }
+    ensures answers { IsAppended D.tells (shown_image (now (D.story device.old))) (string_bytes name) (added_to new (plain_entry entry.now))
+        (decision_of result) }
+    ensures not_halted { IfErr result (λ e. e ≢ Refusal.Halted) }
+{
+    let passed = match pass_new(alloc, entry, new) {
+        Ok(passed) => passed,
+        Err(refusal) => return Err(refusal),
+    };
+    let standing = match gather_entry(alloc, device, entry) {
+        Ok(standing) => standing,
+        Err(refusal) => {
+            // By a call: its drop written out is long.
+            drop(passed);
+            return Err(refusal);
+        }
+    };
+    match passed {
+        Some(WeighedTable { table, weight }) => {
+            decide_behind(alloc, entry, name, table, standing.weight + weight)
+        }
+        None => Err(Refusal::TooMany(Limit::Weight)),
+    }
+}

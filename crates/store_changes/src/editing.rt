@@ -1,0 +1,364 @@
+// Edits of a catalogue, and the segments that are new in it.
+ghost use Rattle.std.specs.Prelude.{◌≡◌, ◌<◌, ◌≤◌, ◌+◌, ◌^◌, ◌++◌, ℕ, true, List, Some, map, flat_map, option_map, length, string_bytes, IfOk, OnOk};
+ghost use Rattle.std.specs.List.{list_all};
+ghost use Rattle.std.specs.Str.{bytes_eq};
+ghost use Rattle.arrow_schema.specs.Limits.{IsWithinLimits};
+ghost use Rattle.arrow_schema.specs.View.{schema_of};
+ghost use Rattle.ipc_write.specs.Written.{schema_message};
+ghost use Rattle.sha2.specs.Sha256.{sha256};
+ghost use Rattle.segments.specs.Pieces.{bytes_of_parts, plain_pieces};
+ghost use Rattle.segments.specs.Writing.{runs_of};
+ghost use Rattle.commit.specs.Placing.{plain_contents};
+ghost use Rattle.catalogue.specs.declared.entry.Segment.{Segment};
+ghost use Rattle.catalogue.specs.Edits.{page_behind, entry_of, from_place};
+ghost use Rattle.catalogue.specs.Entries.{plain_entry, is_segment, is_entry, segment_count, IsCatalogue};
+ghost use Rattle.catalogue.specs.View.{catalogue_of};
+ghost use Rattle.store_changes.specs.Change.{edit_of};
+ghost use Rattle.store_runs.specs.Changes.{new_entry, page_over, page_instead, edited, page_lost, given_by, lost_page, name_edited, given_up, version_after, digest_for, IsEdit};
+ghost use Rattle.store_runs.specs.Carrying.{unplaced};
+ghost use Rattle.store_changes.specs.Prepared.{in_runs, CanGive};
+ghost use Rattle.store_changes.specs.laws.Edited.{segments_at};
+
+use crate::change::Edit;
+use arrow_schema::Schema;
+use catalogue::{Catalogue, MAX_SEGMENT_ROWS, Segment, TableEntry, put_runs};
+use cells::MAX_PIECE_ROWS;
+use commit::FormatVersion;
+use ipc_write::write_schema;
+use sector_dev::SECTOR_BYTES;
+use segments::{Extent, Piece, PiecePart, Run, byte_count};
+use sha2::{Digest, Sha256};
+use std::alloc::{AllocError, Global};
+
+// A segment holds the rows of one piece.
+const _: () = prove!(MAX_SEGMENT_ROWS == MAX_PIECE_ROWS as u64);
+
+// Whether two schemas have one message.
+fn have_one_message(alloc: Global, a: &Schema, b: &Schema) -> Result<bool, AllocError>
+    requires first { IsWithinLimits (schema_of a.now) }
+    requires second { IsWithinLimits (schema_of b.now) }
+    ensures { IfOk result (λ same. same ≡ bytes_eq (schema_message (schema_of a.now)) (schema_message (schema_of b.now))) }
+{
+    let mut one = Vec::new(alloc);
+    write_schema(alloc, &mut one, a)?;
+    let mut other = Vec::new(alloc);
+    write_schema(alloc, &mut other, b)?;
+    Ok(one.as_slice() == other.as_slice())
+}
+
+// The page of a table that gets these segments after its others: it stays where there are none.
+fn page_behind(segments: &[Segment], page: Option<Extent>) -> Option<Extent>
+    ensures { result ≡ page_behind segments.now page }
+{
+    if segments.is_empty() { page } else { None }
+}
+
+// The page of a table that takes the place of this one: it stays where its text does.
+fn page_over(
+    alloc: Global,
+    old: &TableEntry,
+    schema: &Schema,
+    segments: &[Segment],
+) -> Result<Option<Extent>, AllocError>
+    requires old { is_entry (plain_entry old.now) ≡ true }
+    requires schema { IsWithinLimits (schema_of schema.now) }
+    ensures { IfOk result (λ page. page ≡ page_over (plain_entry old.now) (schema_of schema.now) segments.now) }
+{
+    if segments.is_empty() && have_one_message(alloc, old.schema(), schema)? {
+        Ok(page_behind(old.segments(), old.page))
+    } else {
+        Ok(None)
+    }
+}
+
+// The page of a table of this name, which takes the place of one that stands there.
+fn page_instead(
+    alloc: Global,
+    catalogue: &Catalogue,
+    name: &str,
+    schema: &Schema,
+    segments: &[Segment],
+) -> Result<Option<Extent>, AllocError>
+    requires { IsWithinLimits (schema_of schema.now) }
+    ensures { IfOk result (λ page. page
+        ≡ page_instead (entry_of (catalogue_of catalogue.now) name.now) (schema_of schema.now) segments.now) }
+{
+    match catalogue.get(name) {
+        Some(old) => page_over(alloc, old, schema, segments),
+        None => Ok(None),
+    }
+}
+
+fn new_entry(
+    alloc: Global,
+    name: &String,
+    schema: &Schema,
+    segments: &[Segment],
+    page: Option<Extent>,
+) -> Result<TableEntry, AllocError>
+    ensures { IfOk result (λ e. plain_entry e ≡ new_entry (string_bytes name.now) (schema_of schema.now) segments.now page) }
+{
+    let name = name.clone()?;
+    let schema = schema.copy(alloc)?;
+    let segments = Vec::from_slice(alloc, segments)?;
+    TableEntry::new(alloc, name, schema, segments, page)
+}
+
+// The catalogue after an edit with these new segments.
+pub(crate) fn edited(
+    alloc: Global,
+    catalogue: &Catalogue,
+    edit: &Edit,
+    segments: &[Segment],
+) -> Result<Catalogue, AllocError>
+    requires edit { (streams : List (List ℕ)) × IsEdit (catalogue_of catalogue.now) (edit_of edit.now) streams }
+    requires sound { list_all is_segment segments.now ≡ true }
+    requires stands { IsCatalogue (edited (catalogue_of catalogue.now) (edit_of edit.now) segments.now) }
+    ensures { IfOk result (λ c. catalogue_of c ≡ edited (catalogue_of catalogue.now) (edit_of edit.now) segments.now) }
+{
+    let mut changed = catalogue.copy(alloc)?;
+    match edit {
+        Edit::Put { name, schema } => {
+            let page = page_instead(alloc, catalogue, name, schema, segments)?;
+            changed.put(new_entry(alloc, name, schema, segments, page)?)?;
+        }
+        Edit::Extend { name } => changed.append_segments(name, segments)?,
+        Edit::Move { from, to } => changed.rename(from, to.clone()?)?,
+        Edit::Remove { name } => {
+            changed.remove(name);
+        }
+        Edit::Exchange { name, place, count } => {
+            changed.exchange_segments(name, *place, *count, segments)?;
+        }
+        Edit::Digest { digests } => changed.set_digests(digests)?,
+    }
+    Ok(changed)
+}
+
+// n segments of a table, from a place on.
+fn segments_from(entry: &TableEntry, place: usize, count: usize) -> &[Segment]
+    requires { place + count ≤ length (plain_entry entry.now).segments }
+    ensures { result.now ≡ from_place (plain_entry entry.now).segments place count }
+{
+    &entry.segments()[place..place + count]
+}
+
+// Appends the run of a page, where another one, or none, takes its place.
+fn put_lost(runs: &mut Vec<Run>, old: Option<Extent>, new: Option<Extent>) -> Result<(), AllocError>
+    ensures { OnOk result (runs.new.items ≡ runs.old.items ++ page_lost old new) }
+{
+    match (old, new) {
+        (Some(page), None) => Ok(runs.push(page.run)?),
+        _ => Ok(()),
+    }
+}
+
+// The name of the table that an edit changes; none where it changes all.
+fn name_edited(edit: &Edit) -> Option<&str>
+    ensures { option_map (λ name. name.now) result ≡ name_edited (edit_of edit.now) }
+{
+    match edit {
+        Edit::Put { name, schema: _ } => Some(name),
+        Edit::Extend { name } => Some(name),
+        Edit::Move { from, to: _ } => Some(from),
+        Edit::Remove { name } => Some(name),
+        Edit::Exchange {
+            name,
+            place: _,
+            count: _,
+        } => Some(name),
+        Edit::Digest { digests: _ } => None,
+    }
+}
+
+// What an edit with these new segments takes out of the table that it changes.
+fn given_by(
+    alloc: Global,
+    edit: &Edit,
+    segments: &[Segment],
+    entry: &TableEntry,
+) -> Result<Vec<Run>, AllocError>
+    requires sound { is_entry (plain_entry entry.now) ≡ true }
+    requires edit { CanGive (edit_of edit.now) (plain_entry entry.now) }
+    ensures { IfOk result (λ runs. runs.items ≡ given_by (edit_of edit.now) segments.now (plain_entry entry.now)) }
+{
+    let mut runs = Vec::new(alloc);
+    match edit {
+        Edit::Put { name: _, schema } => {
+            let page = page_over(alloc, entry, schema, segments)?;
+            put_lost(&mut runs, entry.page, page)?;
+            put_runs(&mut runs, entry.segments())?;
+        }
+        Edit::Extend { name: _ } => {
+            put_lost(&mut runs, entry.page, page_behind(segments, entry.page))?;
+        }
+        Edit::Move { from: _, to: _ } => {}
+        Edit::Remove { name: _ } => {
+            put_lost(&mut runs, entry.page, None)?;
+            put_runs(&mut runs, entry.segments())?;
+        }
+        Edit::Exchange {
+            name: _,
+            place,
+            count,
+        } => {
+            put_lost(&mut runs, entry.page, None)?;
+            put_runs(&mut runs, segments_from(entry, *place, *count))?;
+        }
+        Edit::Digest { digests: _ } => {
+            put_lost(
+                &mut runs,
+                entry.page,
+                page_behind(entry.segments(), entry.page),
+            )?;
+        }
+    }
+    Ok(runs)
+}
+
+// The runs of the pages that go where all segments get digests.
+fn lost_pages(alloc: Global, entries: &[TableEntry]) -> Result<Vec<Run>, AllocError>
+    ensures { IfOk result (λ runs. runs.items ≡ flat_map lost_page (map plain_entry entries.now)) }
+{
+    let mut runs = Vec::new(alloc);
+    for entry in entries {
+        put_lost(
+            &mut runs,
+            entry.page,
+            page_behind(entry.segments(), entry.page),
+        )?;
+    }
+    Ok(runs)
+}
+
+// The runs that an edit with these new segments takes out.
+pub(crate) fn given_up(
+    alloc: Global,
+    catalogue: &Catalogue,
+    edit: &Edit,
+    segments: &[Segment],
+) -> Result<Vec<Run>, AllocError>
+    requires edit { (streams : List (List ℕ)) × IsEdit (catalogue_of catalogue.now) (edit_of edit.now) streams }
+    ensures { IfOk result (λ runs. runs.items ≡ given_up (catalogue_of catalogue.now) (edit_of edit.now) segments.now) }
+{
+    match name_edited(edit) {
+        Some(name) => match catalogue.get(name) {
+            Some(entry) => given_by(alloc, edit, segments, entry),
+            None => Ok(Vec::new(alloc)),
+        },
+        None => lost_pages(alloc, catalogue.entries()),
+    }
+}
+
+// How many segments a table has; none if it isn't there.
+fn segments_at(catalogue: &Catalogue, name: &str) -> u64
+    ensures number { result ≡ segments_at (catalogue_of catalogue.now) name.now }
+    ensures kept { IsCatalogue (catalogue_of catalogue.now) }
+{
+    match catalogue.get(name) {
+        Some(entry) => entry.segments().len() as u64,
+        None => 0,
+    }
+}
+
+// How many segments there are after an edit with n new ones.
+pub(crate) fn segments_after(catalogue: &Catalogue, edit: &Edit, new: u64) -> u64
+    requires edit { (streams : List (List ℕ)) × IsEdit (catalogue_of catalogue.now) (edit_of edit.now) streams }
+    requires few { new < 2 ^ 63 }
+    ensures { (segments : List Segment) → length segments ≡ new
+        → result ≡ segment_count (edited (catalogue_of catalogue.now) (edit_of edit.now) segments) }
+{
+    let count = catalogue.segment_count();
+    match edit {
+        Edit::Put { name, schema: _ } => count - segments_at(catalogue, name) + new,
+        Edit::Extend { name: _ } => count + new,
+        Edit::Move { from: _, to: _ } => count,
+        Edit::Remove { name } => count - segments_at(catalogue, name),
+        Edit::Exchange {
+            name: _name,
+            place: _place,
+            count: exchanged,
+        } => count - *exchanged as u64 + new,
+        Edit::Digest { digests: _ } => count,
+    }
+}
+
+// The version after an edit.
+pub(crate) fn version_after(edit: &Edit, version: FormatVersion) -> FormatVersion
+    ensures { result ≡ version_after (edit_of edit.now) version }
+{
+    match edit {
+        Edit::Digest { digests: _ } => FormatVersion::Two,
+        _ => version,
+    }
+}
+
+// The SHA-256 of parts one after another.
+fn digest_of_parts(parts: &[PiecePart<'_>]) -> [u8; 32]
+    ensures { result ≡ sha256 (bytes_of_parts parts.now) }
+{
+    let mut hasher = Sha256::new();
+    for part in parts {
+        hasher.update(part.bytes());
+    }
+    hasher.finalize()
+}
+
+// The digest of a segment of these parts, where the version has one.
+fn digest_for(version: FormatVersion, parts: &[PiecePart<'_>]) -> Option<[u8; 32]>
+    ensures { result ≡ digest_for version (bytes_of_parts parts.now) }
+{
+    match version {
+        FormatVersion::One => None,
+        FormatVersion::Two => Some(digest_of_parts(parts)),
+    }
+}
+
+// The segments of streams, with a number of rows each, that have no places yet.
+pub(crate) fn unplaced(
+    alloc: Global,
+    version: FormatVersion,
+    streams: &[Vec<PiecePart<'_>>],
+    rows: &[u64],
+) -> Result<Vec<Segment>, AllocError>
+    requires { length streams.now ≡ length rows.now }
+    ensures { IfOk result (λ segments. segments.items ≡ unplaced version (plain_contents streams.now) rows.now) }
+{
+    let mut segments = Vec::with_capacity(alloc, streams.len())?;
+    for (place, parts) in streams.iter().enumerate() {
+        let bytes = byte_count(parts).ok_or(AllocError)?;
+        let run = Run {
+            start: 0,
+            count: bytes.div_ceil(SECTOR_BYTES as u64),
+        };
+        segments.push_reserved(Segment {
+            place: Extent { run, bytes },
+            rows: rows[place],
+            digest: digest_for(version, parts),
+        });
+    }
+    Ok(segments)
+}
+
+// The same segments in the runs of these pieces.
+pub(crate) fn in_runs(
+    alloc: Global,
+    segments: &[Segment],
+    pieces: &[Piece<'_>],
+) -> Result<Vec<Segment>, AllocError>
+    requires { length segments.now ≡ length pieces.now }
+    ensures { IfOk result (λ placed. placed.items ≡ in_runs (runs_of (plain_pieces pieces.now)) segments.now) }
+{
+    let mut placed = Vec::with_capacity(alloc, pieces.len())?;
+    for (place, piece) in pieces.iter().enumerate() {
+        let segment = segments[place];
+        let run = piece.run;
+        let bytes = segment.place.bytes;
+        placed.push_reserved(Segment {
+            place: Extent { run, bytes },
+            rows: segment.rows,
+            digest: segment.digest,
+        });
+    }
+    Ok(placed)
+}

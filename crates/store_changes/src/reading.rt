@@ -1,0 +1,295 @@
+// A table is read from the segments of its entry.
+ghost use Rattle.std.specs.Prelude.{◌≡◌, ◌≢◌, ◌≤◌, ◌+◌, ◌++◌, ℕ, true, false, List, [], Option, Some, None, length, option_map, sum_by, IfOk, IfErr, IfSome};
+ghost use Rattle.std.specs.List.{list_all};
+ghost use Rattle.sector_dev.specs.Disk.{now, shown_image};
+ghost use Rattle.arrow_schema.specs.Column.{PlainSchema};
+ghost use Rattle.arrow_schema.specs.Limits.{IsWithinLimits};
+ghost use Rattle.arrow_schema.specs.View.{schema_of};
+ghost use Rattle.cells.specs.Cell.{Cell};
+ghost use Rattle.values.specs.TableView.{table_of, is_in_parts};
+ghost use Rattle.cells.specs.Weight.{table_weight};
+ghost use Rattle.ipc_write.specs.Written.{schema_message};
+ghost use Rattle.segments.specs.declared.extent.Extent.{Extent};
+ghost use Rattle.catalogue.specs.Entries.{is_segment, is_entry, plain_entry};
+ghost use Rattle.commit.specs.Standing.{is_size, is_on_device, all_on_device};
+ghost use Rattle.store_runs.specs.Held.{is_undamaged, rows_in_bytes, segment_rows, joined_rows, rows_held};
+ghost use Rattle.store_runs.specs.Reading.{IsCopy, LacksBytes, HasRead, LacksRows, HaveRead, IsRead, Unreads, OnlyReadsDevice, ended};
+ghost use Rattle.store_runs.specs.Calls.{is_failure};
+ghost use Rattle.store_changes.specs.inner.TableBuilder.{table_so_far};
+ghost use Rattle.store_changes.specs.ReadSegment.{UnreadsSegment, runs_in};
+
+use crate::laws::table_laws;
+use crate::table_builder::TableBuilder;
+use arrow_schema::Schema;
+use catalogue::{Segment, TableEntry};
+use cells::MAX_TABLE_WEIGHT;
+use ipc_message::ImportError;
+use ipc_stream::decode_weighed;
+use ipc_write::{schema_message_is_read_again, write_schema};
+use sector_dev::SectorDevice;
+use segments::{ReadError, read_run};
+use sha2::{Digest, Sha256};
+use std::alloc::{AllocError, Global};
+use tables::Refusal;
+use values::{Table, TableError, WeighedTable};
+
+// Whether bytes of a segment have the digest of its entry, if it has one.
+fn is_undamaged(segment: Segment, bytes: &[u8]) -> bool
+    ensures { result ≡ is_undamaged segment.digest (Some bytes.now) }
+{
+    match segment.digest {
+        Some(digest) => Sha256::digest(bytes).as_slice() == digest.as_slice(),
+        None => true,
+    }
+}
+
+// The bytes of the segment at a place, as they were written.
+pub(crate) fn read_bytes<D: SectorDevice>(
+    alloc: Global,
+    device: &mut D,
+    segment: Segment,
+    place: usize,
+) -> Result<Vec<u8>, Refusal>
+    requires size { is_size (D.size device.old) ≡ true }
+    requires placed { is_on_device (D.size device.old) segment.place.run ≡ true }
+    requires sound { is_segment segment ≡ true }
+    ensures reads { OnlyReadsDevice D.size D.story D.failed D.tells (ended result) device.old device.new }
+    ensures copy { IfOk result (λ bytes. IsCopy D.tells (shown_image (now (D.story device.old))) segment bytes.items) }
+    ensures told { IfErr result (LacksBytes D.tells (shown_image (now (D.story device.old))) segment place) }
+{
+    match read_run(
+        alloc,
+        device,
+        segment.place.run.start,
+        segment.place.bytes as usize,
+    ) {
+        Ok(bytes) => {
+            if is_undamaged(segment, &bytes) {
+                Ok(bytes)
+            } else {
+                Err(Refusal::SegmentDamaged(place))
+            }
+        }
+        Err(ReadError::Unreadable) => Err(Refusal::SegmentUnread(place)),
+        Err(ReadError::Failed) => Err(Refusal::Device),
+        Err(ReadError::OutOfMemory) => Err(Refusal::OutOfMemory),
+    }
+}
+
+// The table of n rows that some bytes hold, if they begin with the message of its schema.
+fn table_in_bytes(
+    alloc: Global,
+    front: &[u8],
+    rows: u64,
+    bytes: Vec<u8>,
+) -> Result<Option<WeighedTable>, Refusal>
+    ensures rows { IfOk result (λ found. (s : PlainSchema) → front.now ≡ schema_message s
+        → option_map (λ w. (table_of w.table).rows) found ≡ rows_in_bytes s rows (Some bytes.items)) }
+    ensures schema { IfOk result (λ found. IfSome found (λ w. (s : PlainSchema) → IsWithinLimits s → front.now ≡ schema_message s
+        → (table_of w.table).schema ≡ s)) }
+    ensures weight { IfOk result (λ found. IfSome found (λ w. w.weight ≡ table_weight (table_of w.table).schema (table_of w.table).rows)) }
+    ensures count { IfOk result (λ found. IfSome found (λ w. length (table_of w.table).rows ≡ rows)) }
+    ensures in_parts { IfOk result (λ found. IfSome found (λ w. is_in_parts w.table ≡ true)) }
+    ensures memory { IfErr result (λ e. e ≡ Refusal.OutOfMemory) }
+{
+    schema_message_is_read_again();
+    if !bytes.starts_with(front) {
+        return Ok(None);
+    }
+    match decode_weighed(alloc, bytes) {
+        Ok(weighed) => {
+            if weighed.table.len() as u64 == rows {
+                Ok(Some(weighed))
+            } else {
+                Ok(None)
+            }
+        }
+        Err(ImportError::Fault(_)) => Ok(None),
+        Err(ImportError::OutOfMemory) => Err(Refusal::OutOfMemory),
+    }
+}
+
+/// The table that the segment at a place holds, if it begins with the message of its schema.
+///
+/// # Errors
+/// `SegmentUnread` and `SegmentDamaged` with its place, `Device`, `OutOfMemory`.
+pub fn read_segment<D: SectorDevice>(
+    alloc: Global,
+    device: &mut D,
+    front: &[u8],
+    segment: Segment,
+    place: usize,
+) -> Result<WeighedTable, Refusal>
+    requires size { is_size (D.size device.old) ≡ true }
+    requires placed { is_on_device (D.size device.old) segment.place.run ≡ true }
+    requires sound { is_segment segment ≡ true }
+    ensures reads { OnlyReadsDevice D.size D.story D.failed D.tells (ended result) device.old device.new }
+    ensures rows { IfOk result (λ w. (s : PlainSchema) → front.now ≡ schema_message s
+        → HasRead D.tells (shown_image (now (D.story device.old))) s segment (table_of w.table).rows) }
+    ensures schema { IfOk result (λ w. (s : PlainSchema) → IsWithinLimits s → front.now ≡ schema_message s → (table_of w.table).schema ≡ s) }
+    ensures weight { IfOk result (λ w. w.weight ≡ table_weight (table_of w.table).schema (table_of w.table).rows) }
+    ensures count { IfOk result (λ w. length (table_of w.table).rows ≡ segment.rows) }
+    ensures in_parts { IfOk result (λ w. is_in_parts w.table ≡ true) }
+    ensures told { IfErr result (λ e. (s : PlainSchema) → front.now ≡ schema_message s
+        → LacksRows D.tells (shown_image (now (D.story device.old))) s segment place e) }
+{
+    match read_bytes(alloc, device, segment, place) {
+        Ok(bytes) => match table_in_bytes(alloc, front, segment.rows, bytes) {
+            Ok(Some(weighed)) => Ok(weighed),
+            Ok(None) => Err(Refusal::SegmentUnread(place)),
+            Err(refusal) => Err(refusal),
+        },
+        Err(refusal) => Err(refusal),
+    }
+}
+
+// Why the rows of the segment at a place don't go after others: they are too heavy, or there is no memory.
+fn joining_refusal(error: TableError, place: usize) -> Refusal
+    ensures memory { error ≡ TableError.OutOfMemory → result ≡ Refusal.OutOfMemory }
+    ensures segment { error ≢ TableError.OutOfMemory → result ≡ Refusal.SegmentUnread place }
+    ensures no_device { is_failure result ≡ false }
+{
+    match error {
+        TableError::OutOfMemory => Refusal::OutOfMemory,
+        TableError::Weight => Refusal::SegmentUnread(place),
+        TableError::Unfit(_) => Refusal::SegmentUnread(place),
+    }
+}
+
+// The rows of the segment at a place after those before it.
+fn append_segment<D: SectorDevice>(
+    alloc: Global,
+    device: &mut D,
+    front: &[u8],
+    gathered: TableBuilder,
+    segment: Segment,
+    place: usize,
+) -> Result<TableBuilder, Refusal>
+    requires size { is_size (D.size device.old) ≡ true }
+    requires placed { is_on_device (D.size device.old) segment.place.run ≡ true }
+    requires sound { is_segment segment ≡ true }
+    requires limits { IsWithinLimits (table_so_far gathered).schema }
+    requires message { front.now ≡ schema_message (table_so_far gathered).schema }
+    ensures reads { OnlyReadsDevice D.size D.story D.failed D.tells (ended result) device.old device.new }
+    ensures schema { IfOk result (λ g. (table_so_far g).schema ≡ (table_so_far gathered).schema) }
+    ensures light { IfOk result (λ g. table_weight (table_so_far g).schema (table_so_far g).rows ≤ MAX_TABLE_WEIGHT) }
+    ensures rows { IfOk result (λ g. D.tells ≡ true → Some (table_so_far g).rows ≡ joined_rows (Some (table_so_far gathered).rows)
+        (segment_rows (table_so_far gathered).schema segment (shown_image (now (D.story device.old))))) }
+    ensures read { IfOk result (λ g. (own : List (List Cell)) × HasRead D.tells (shown_image (now (D.story device.old)))
+        (table_so_far gathered).schema segment own × ((table_so_far g).rows ≡ (table_so_far gathered).rows ++ own)) }
+    ensures count { IfOk result (λ g. length (table_so_far g).rows ≡ length (table_so_far gathered).rows + segment.rows) }
+    ensures unread { IfErr result (UnreadsSegment D.tells (shown_image (now (D.story device.old)))
+        (table_so_far gathered).schema (table_so_far gathered).rows segment place) }
+{
+    match read_segment(alloc, device, front, segment, place) {
+        Ok(weighed) => match gathered.append(weighed) {
+            Ok(more) => Ok(more),
+            Err(error) => Err(joining_refusal(error, place)),
+        },
+        Err(refusal) => Err(refusal),
+    }
+}
+
+// The rows of all segments, one after another.
+fn read_segments<D: SectorDevice>(
+    alloc: Global,
+    device: &mut D,
+    front: &[u8],
+    empty: TableBuilder,
+    segments: &[Segment],
+) -> Result<TableBuilder, Refusal>
+    requires size { is_size (D.size device.old) ≡ true }
+    requires placed { all_on_device (D.size device.old) (runs_in segments.now) ≡ true }
+    requires sound { list_all is_segment segments.now ≡ true }
+    requires limits { IsWithinLimits (table_so_far empty).schema }
+    requires message { front.now ≡ schema_message (table_so_far empty).schema }
+    requires none { (table_so_far empty).rows ≡ [] }
+    ensures reads { OnlyReadsDevice D.size D.story D.failed D.tells (ended result) device.old device.new }
+    ensures schema { IfOk result (λ g. (table_so_far g).schema ≡ (table_so_far empty).schema) }
+    ensures count { IfOk result (λ g. length (table_so_far g).rows ≡ sum_by (λ s. s.rows) segments.now) }
+    ensures rows { IfOk result (λ g. D.tells ≡ true
+        → rows_held (table_so_far empty).schema segments.now (shown_image (now (D.story device.old))) ≡ Some (table_so_far g).rows) }
+    ensures read { IfOk result (λ g. HaveRead D.tells (shown_image (now (D.story device.old))) (table_so_far empty).schema segments.now
+        (table_so_far g).rows) }
+    ensures unread { IfErr result (λ e. (name : List ℕ) (page : Option Extent) → Unreads D.tells (shown_image (now (D.story device.old)))
+        (record { name = name; schema = (table_so_far empty).schema; segments = segments.now; page = page }) e) }
+{
+    let mut gathered = empty;
+    for (place, segment) in segments.iter().enumerate() {
+        match append_segment(alloc, device, front, gathered, *segment, place) {
+            Ok(more) => gathered = more,
+            Err(refusal) => return Err(refusal),
+        }
+    }
+    Ok(gathered)
+}
+
+// The message of a schema, and no rows of it.
+fn start_table(alloc: Global, schema: &Schema) -> Result<(Vec<u8>, TableBuilder), AllocError>
+    requires limits { IsWithinLimits (schema_of schema.now) }
+    ensures message { IfOk result (λ r. r.0.items ≡ schema_message (schema_of schema.now)) }
+    ensures empty { IfOk result (λ r. table_so_far r.1 ≡ record { schema = schema_of schema.now; rows = [] }) }
+{
+    let mut front = Vec::new(alloc);
+    write_schema(alloc, &mut front, schema)?;
+    let empty = TableBuilder::empty(alloc, schema.copy(alloc)?);
+    Ok((front, empty))
+}
+
+// The table of gathered rows.
+fn finish_table(alloc: Global, gathered: TableBuilder) -> Result<Table, Refusal>
+    ensures table { IfOk result (λ t. table_of t ≡ table_so_far gathered) }
+    ensures memory { IfErr result (λ e. e ≡ Refusal.OutOfMemory) }
+{
+    match gathered.finish(alloc) {
+        Ok(table) => Ok(table),
+        Err(_) => Err(Refusal::OutOfMemory),
+    }
+}
+
+// The rows of an entry's segments.
+pub(crate) fn gather_entry<D: SectorDevice>(
+    alloc: Global,
+    device: &mut D,
+    entry: &TableEntry,
+) -> Result<TableBuilder, Refusal>
+    requires size { is_size (D.size device.old) ≡ true }
+    requires placed { all_on_device (D.size device.old) (runs_in (plain_entry entry.now).segments) ≡ true }
+    requires sound { is_entry (plain_entry entry.now) ≡ true }
+    ensures reads { OnlyReadsDevice D.size D.story D.failed D.tells (ended result) device.old device.new }
+    ensures table { IfOk result (λ g. IsRead D.tells (shown_image (now (D.story device.old))) (plain_entry entry.now) (table_so_far g)) }
+    ensures unread { IfErr result (Unreads D.tells (shown_image (now (D.story device.old))) (plain_entry entry.now)) }
+{
+    table_laws();
+    match start_table(alloc, entry.schema()) {
+        Ok((front, empty)) => {
+            match read_segments(alloc, device, &front, empty, entry.segments()) {
+                Ok(gathered) => Ok(gathered),
+                Err(refusal) => Err(refusal),
+            }
+        }
+        Err(_) => Err(Refusal::OutOfMemory),
+    }
+}
+
+/// The table of an entry.
+///
+/// # Errors
+/// Of the first segment that is not read, `SegmentUnread` or `SegmentDamaged` with its place; `Device`, `OutOfMemory`.
+pub fn read_entry<D: SectorDevice>(
+    alloc: Global,
+    device: &mut D,
+    entry: &TableEntry,
+) -> Result<Table, Refusal>
+    requires size { is_size (D.size device.old) ≡ true }
+    requires placed { all_on_device (D.size device.old) (runs_in (plain_entry entry.now).segments) ≡ true }
+    requires sound { is_entry (plain_entry entry.now) ≡ true }
+    ensures reads { OnlyReadsDevice D.size D.story D.failed D.tells (ended result) device.old device.new }
+    ensures table { IfOk result (λ t. IsRead D.tells (shown_image (now (D.story device.old))) (plain_entry entry.now) (table_of t)) }
+    ensures unread { IfErr result (Unreads D.tells (shown_image (now (D.story device.old))) (plain_entry entry.now)) }
+{
+    match gather_entry(alloc, device, entry) {
+        Ok(gathered) => finish_table(alloc, gathered),
+        Err(refusal) => Err(refusal),
+    }
+}

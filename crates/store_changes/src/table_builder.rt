@@ -1,0 +1,96 @@
+// The rows of a table's segments, as they are read one after another.
+ghost use Rattle.std.specs.Prelude.{◌≡◌, true};
+ghost use Rattle.arrow_schema.specs.Column.{columns_of};
+ghost use Rattle.arrow_schema.specs.View.{schema_of};
+ghost use Rattle.cells.specs.Weight.{table_weight};
+ghost use Rattle.values.specs.Parts.{parts_table, are_parts_sound};
+ghost use Rattle.values.specs.Table.{IsTable};
+
+use arrow_schema::Schema;
+use cells::MAX_TABLE_WEIGHT;
+use std::alloc::{AllocError, Global};
+use values::{Table, TableError, TablePart, WeighedTable, tables_are_joined_and_cut};
+
+/// A table while its segments are read: their record batches, which keep the bytes that were read.
+#[derive(Drop)]
+pub(crate) struct TableBuilder {
+    pub(crate) schema: Schema,
+    pub(crate) parts: Vec<TablePart>,
+    pub(crate) weight: u64,
+    ghost sound: { are_parts_sound (columns_of (schema_of schema).columns) parts.items ≡ true },
+    ghost kept: { IsTable (parts_table (schema_of schema) parts.items) },
+    ghost weighs: { weight ≡ table_weight (schema_of schema) (parts_table (schema_of schema) parts.items).rows },
+}
+
+impl TableBuilder {
+    ghost use Rattle.std.specs.Prelude.{◌≢◌, ◌<◌, ◌≤◌, ◌++◌, ℕ, [], IfOk, IfErr};
+    ghost use Rattle.arrow_schema.specs.Limits.{IsWithinLimits};
+    ghost use Rattle.values.specs.TableView.{table_of, is_in_parts};
+    ghost use Rattle.store_changes.specs.inner.TableBuilder.{table_so_far};
+
+    /// No rows yet.
+    pub(crate) fn empty(alloc: Global, schema: Schema) -> TableBuilder
+        requires { IsWithinLimits (schema_of schema) }
+        ensures { table_so_far result ≡ record { schema = schema_of schema; rows = [] } }
+    {
+        TableBuilder {
+            schema,
+            parts: Vec::new(alloc),
+            weight: 0,
+        }
+    }
+
+    /// The rows of a table of the same schema after those so far. No cell is copied.
+    ///
+    /// # Errors
+    /// `Weight` where the rows are too heavy together; `OutOfMemory`.
+    pub(crate) fn append(self, more: WeighedTable) -> Result<TableBuilder, TableError>
+        requires schema { (table_of more.table).schema ≡ (table_so_far self).schema }
+        requires weight { more.weight ≡ table_weight (table_of more.table).schema (table_of more.table).rows }
+        requires in_parts { is_in_parts more.table ≡ true }
+        ensures joined { IfOk result (λ g. table_so_far g
+            ≡ record { schema = (table_so_far self).schema; rows = (table_so_far self).rows ++ (table_of more.table).rows }) }
+        ensures light { IfOk result (λ g. table_weight (table_so_far g).schema (table_so_far g).rows ≤ MAX_TABLE_WEIGHT) }
+        ensures heavy { IfErr result (λ e. e ≡ TableError.Weight
+            → MAX_TABLE_WEIGHT < table_weight (table_so_far self).schema ((table_so_far self).rows ++ (table_of more.table).rows)) }
+        ensures fit { IfErr result (λ e. (i : ℕ) → e ≢ TableError.Unfit i) }
+    {
+        tables_are_joined_and_cut();
+        let WeighedTable { table, weight } = more;
+        table.schema();
+        let TableBuilder {
+            schema,
+            mut parts,
+            weight: so_far,
+        } = self;
+        if weight > MAX_TABLE_WEIGHT - so_far {
+            return Err(TableError::Weight);
+        }
+        let mut new = table.into_parts();
+        parts.append(&mut new)?;
+        Ok(TableBuilder {
+            schema,
+            parts,
+            weight: so_far + weight,
+        })
+    }
+
+    /// The table of the rows.
+    pub(crate) fn finish(self, alloc: Global) -> Result<Table, AllocError>
+        ensures { IfOk result (λ table. table_of table ≡ table_so_far self) }
+    {
+        let TableBuilder { schema, parts, .. } = self;
+        Table::from_parts(alloc, schema, parts)
+    }
+}
+
+/// A table of this schema without rows.
+///
+/// # Errors
+/// Where memory is refused.
+pub fn without_rows(alloc: Global, schema: &Schema) -> Result<Table, AllocError>
+    requires { IsWithinLimits (schema_of schema.now) }
+    ensures { IfOk result (λ t. table_of t ≡ empty_table (schema_of schema.now)) }
+{
+    TableBuilder::empty(alloc, schema.copy(alloc)?).finish(alloc)
+}

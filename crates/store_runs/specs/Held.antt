@@ -1,0 +1,115 @@
+-- What an image holds to one who opens it: its tables, where each segment can be read.
+use Rattle.std.specs.Prelude.{◌==◌, ℕ, Bool, true, nat_eq, List, [], ◌∷◌, ◌++◌, length, Option, Some, None, option_map, Result, Ok, Err, if◌then◌else◌}
+use Rattle.std.specs.List.{starts_with}
+use Rattle.std.specs.Str.{bytes_eq}
+use Rattle.sha2.specs.Sha256.{sha256}
+use Rattle.sector_dev.specs.Disk.{Image}
+use Rattle.segments.specs.Sectors.{bytes_at}
+use Rattle.arrow_schema.specs.Column.{PlainSchema}
+use Rattle.cells.specs.Cell.{Cell, PlainTable}
+use Rattle.values.specs.Table.{Refusal, table_from}
+use Rattle.ipc_message.specs.declared.fault.Fault.{Fault}
+use Rattle.ipc_message.specs.Header.{supported_codes}
+use Rattle.ipc_write.specs.Written.{schema_message}
+use Rattle.ipc_canonical.specs.Canonical.{stream_parts}
+use Rattle.ipc_stream.specs.Meaning.{meaning}
+use Rattle.catalogue.specs.declared.entry.Segment.{Segment}
+use Rattle.catalogue.specs.Entries.{PlainEntry, PlainCatalogue}
+use Rattle.commit.specs.Standing as standings
+use Rattle.commit.specs.Standing.{Standing, standing}
+use Rattle.pages.specs.Stored.{stored_reading}
+use Rattle.tables.specs.Tables.{Tables, no_tables, with_table}
+use Rattle.store_runs.specs.Machine.{Held, no_store, broken, holds}
+
+-- ---- a segment
+
+-- the rows of a table that a stream means, where there are n of them
+abbrev pub rows_where : ℕ → Result PlainTable Fault → Option (List (List Cell))
+rows_where count (Err fault) = None
+rows_where count (Ok table) = if length table.rows == count then Some table.rows else None
+
+-- the rows that some bytes hold: a stream that begins with the message of this schema and means n rows
+abbrev pub rows_in_bytes : PlainSchema → ℕ → Option (List ℕ) → Option (List (List Cell))
+rows_in_bytes schema count None = None
+rows_in_bytes schema count (Some bytes) = if starts_with nat_eq bytes (schema_message schema) then rows_where count (meaning supported_codes bytes) else None
+
+-- the bytes that were read of a segment have the SHA-256 of its entry, if there are both
+abbrev pub is_undamaged : (digest bytes : Option (List ℕ)) → Bool
+is_undamaged None bytes = true
+is_undamaged (Some digest) None = true
+is_undamaged (Some digest) (Some bytes) = bytes_eq (sha256 bytes) digest
+
+-- the bytes that lie in a segment, where each of its sectors can be read
+abbrev pub bytes_of : Segment → Image → Option (List ℕ)
+bytes_of segment image = bytes_at image segment.place.run.start segment.place.bytes
+
+-- the rows that some bytes of a segment hold: none where they have another digest
+abbrev pub rows_in_segment : PlainSchema → Segment → (bytes : Option (List ℕ)) → Option (List (List Cell))
+rows_in_segment schema segment bytes = if is_undamaged segment.digest bytes then rows_in_bytes schema segment.rows bytes else None
+
+unfoldable pub segment_rows : PlainSchema → Segment → Image → Option (List (List Cell))
+segment_rows schema segment image = rows_in_segment schema segment (bytes_of segment image)
+
+-- ---- a table
+
+-- rows before others, where both can be read
+abbrev pub joined_rows : Option (List (List Cell)) → Option (List (List Cell)) → Option (List (List Cell))
+joined_rows None others = None
+joined_rows (Some rows) others = option_map (λ more. rows ++ more) others
+
+unfoldable pub rows_held : PlainSchema → List Segment → Image → Option (List (List Cell))
+rows_held schema [] image = Some []
+rows_held schema (segment ∷ segments) image = joined_rows (segment_rows schema segment image) (rows_held schema segments image)
+
+-- ---- an export
+
+abbrev pub with_rows : Option (List (List Cell)) → Option (List (List (List Cell))) → Option (List (List (List Cell)))
+with_rows None others = None
+with_rows (Some rows) others = option_map (λ lists. rows ∷ lists) others
+
+-- the rows of each of these segments, where all can be read
+unfoldable pub rows_each : PlainSchema → List Segment → Image → Option (List (List (List Cell)))
+rows_each schema [] image = Some []
+rows_each schema (segment ∷ segments) image = with_rows (segment_rows schema segment image) (rows_each schema segments image)
+
+-- the pieces of an export of these segments: the message of the schema, the messages of each segment's rows, and the end of stream
+abbrev pub pieces_held : PlainSchema → List Segment → Image → Option (List (List ℕ))
+pieces_held schema segments image = option_map (stream_parts schema) (rows_each schema segments image)
+
+-- ---- the table of rows
+
+-- the table of these rows, where they are one
+abbrev pub table_where : Result PlainTable Refusal → Option PlainTable
+table_where (Ok table) = Some table
+table_where (Err refusal) = None
+
+abbrev pub table_of_rows : PlainSchema → Option (List (List Cell)) → Option PlainTable
+table_of_rows schema None = None
+table_of_rows schema (Some rows) = table_where (table_from schema rows)
+
+abbrev pub table_held : Image → PlainEntry → Option PlainTable
+table_held image entry = table_of_rows entry.schema (rows_held entry.schema entry.segments image)
+
+-- ---- the tables
+
+abbrev pub with_held : List ℕ → Option PlainTable → Option Tables → Option Tables
+with_held name None others = None
+with_held name (Some table) others = option_map (λ tables. with_table tables name table) others
+
+-- the tables of a catalogue, where each can be read
+unfoldable pub tables_held : Image → PlainCatalogue → Option Tables
+tables_held image [] = Some no_tables
+tables_held image (entry ∷ entries) = with_held entry.name (table_held image entry) (tables_held image entries)
+
+abbrev pub held_tables : Option Tables → Held
+held_tables None = broken
+held_tables (Some tables) = holds tables
+
+abbrev pub held_of : Image → Standing PlainCatalogue → Held
+held_of image standings.no_store = no_store
+held_of image (standings.damaged cause) = broken
+held_of image (standings.rules k c) = held_tables (tables_held image c)
+
+-- what one who opens an image on a device of this size finds
+unfoldable pub held_by : ℕ → Image → Held
+held_by size image = held_of image (standing stored_reading size image)

@@ -1,0 +1,15 @@
+pub mod Calls
+pub mod Machine
+pub mod Steps
+pub mod Runs
+pub mod Since
+pub mod History
+pub mod Halting
+pub mod Snapshots
+pub mod Reached
+pub mod Held
+pub mod Changes
+pub mod Deciding
+pub mod Carrying
+pub mod Reading
+pub mod laws

@@ -1,0 +1,9 @@
+pub mod Going
+pub mod Left
+pub mod Counted
+pub mod Never
+pub mod Unhalted
+pub mod Settled
+pub mod Kept
+pub mod Snapshots
+pub mod Cut

@@ -1,0 +1,14 @@
+//! The model of a store's runs, as plain data: calls and their replies, what each changes of the tables, and what a stop may leave.
+//!
+//! `specs/Steps.antt` says how a reply follows from the tables, `specs/Machine.antt` what a stop at any moment may leave, `specs/Deciding.antt`
+//! and `specs/Carrying.antt` how a command changes a catalogue, and `specs/Runs.antt` what a run of calls is. The functions are laws of whole runs.
+#![tactic(auto)]
+
+mod laws;
+
+pub use laws::{
+    a_stop_keeps_what_was_acknowledged, acknowledged_commands_are_settled, each_stop_is_allowed,
+    runs_go_on, runs_tell_no_damage, snapshots_give_their_table,
+    undisturbed_runs_settle_what_was_acknowledged, undisturbed_runs_tell_no_failure,
+    undisturbed_runs_tell_no_halt,
+};
