@@ -2,6 +2,7 @@ mod AsWritten
 mod Cleared
 mod CodeArrays
 mod CodedFields
+mod EntryArrays
 mod MaskedContents
 mod MaskedLists
 mod MaskedParts

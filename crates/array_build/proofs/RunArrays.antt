@@ -230,7 +230,7 @@ fixed_runs_are p kind width mask runs is =
     ap (λ (q : PlainBatch). with_buffer q (flat_map (fixed_value kind) (masked_cells (plain_column kind None) mask runs))) (masked_kind_slots p kind mask runs (fixed_has kind width is))
     ∙ fixed_are p kind width (masked_cells (plain_column kind None) mask runs) is
 
-contents_are : (p : PlainBatch) (kind : Kind) (width : ℕ) (cells : List Cell) → contents_width kind ≡ Some width
+pub contents_are : (p : PlainBatch) (kind : Kind) (width : ℕ) (cells : List Cell) → contents_width kind ≡ Some width
     → with_contents width (with_slots p cells) cells ≡ with_arrays p (built_at (plain_column kind None) cells)
 contents_are p texts width cells is = let e : 4 ≡ width = cc in rw (← e) (texts_are Four p cells)
 contents_are p large_texts width cells is = let e : 8 ≡ width = cc in rw (← e) (texts_are Eight p cells)

@@ -13,6 +13,7 @@ ghost use Rattle.cells.specs.Cell.{Cell};
 ghost use Rattle.columns.specs.Buildable.{can_build, can_build_parts};
 
 use crate::as_written::are_as_written;
+use crate::entry_arrays::build_entries;
 use crate::flat_runs::{build_run_bits, build_run_contents, build_run_nulls, build_run_values};
 use crate::masked_contents::build_masked_contents;
 use crate::masked_lists::push_masked_lists;
@@ -24,7 +25,7 @@ use crate::run_slots::push_run_slots;
 use crate::slot_masks::push_masked_slots;
 use crate::widths::{contents_width, offsets_width, value_width};
 use arrow_schema::{DataType, DictSpec, Field};
-use batch_build::{BuiltBatch, build_values, empty_batch, push_buffer, push_dictionary};
+use batch_build::{BuiltBatch, empty_batch, push_buffer, push_dictionary};
 use columns::{OffsetWidth, SlotRun};
 use dictionary_codes::{KnownEntries, count_slots};
 use std::alloc::{AllocError, Global};
@@ -46,8 +47,8 @@ fn build_coded_column<'k, 'a: 'k>(
     ensures { OnOk result (batch_in batch.new ≡ with_arrays (batch_in batch.old)
         (built_at (column_of field.now) (masked_cells (column_of field.now) mask.now runs.now))) }
 {
-    let cells = push_run_indices(alloc, batch, entries, field, spec, runs, mask)?;
-    let values = build_values(alloc, &field.data_type, &cells)?;
+    let named = push_run_indices(alloc, batch, entries, field, spec, runs, mask)?;
+    let values = build_entries(alloc, &field.data_type, &named)?;
     push_dictionary(batch, values)
 }
 

@@ -8,6 +8,7 @@
 
 mod as_written;
 mod by_runs;
+mod entry_arrays;
 mod flat_runs;
 mod item_slots;
 mod mask_bits;

@@ -8,17 +8,17 @@ ghost use Rattle.dictionary_codes.specs.Masks.{IsMask, masked_cells};
 ghost use Rattle.dictionary_codes.specs.CodedCells.{is_coded};
 ghost use Rattle.columns.specs.Runs.{are_runs_sound};
 ghost use Rattle.cells.specs.Dictionary.{entries_of};
-ghost use Rattle.values.specs.Borrowed.{borrowed_cell};
+ghost use Rattle.cells.specs.Entry.{entry_cell};
 
 use crate::run_slots::push_bit_slots;
 use arrow_schema::{DictSpec, Field};
 use batch_build::{BuiltBatch, push_buffer};
+use cells::Entry;
 use columns::SlotRun;
 use dictionary_codes::{KnownEntries, codes_of_runs};
 use std::alloc::{AllocError, Global};
-use values::ValueRef;
 
-/// Adds the node, the validity bitmap and the indices of the cells of runs under a mask, and gives the cells of the entries that they name.
+/// Adds the node, the validity bitmap and the indices of the cells of runs under a mask, and gives the entries that they name.
 pub(crate) fn push_run_indices<'a>(
     alloc: Global,
     batch: &mut BuiltBatch<'_>,
@@ -27,12 +27,12 @@ pub(crate) fn push_run_indices<'a>(
     spec: DictSpec,
     runs: &[SlotRun<'a>],
     mask: &[u8],
-) -> Result<Vec<ValueRef<'a>>, AllocError>
+) -> Result<Vec<Entry<'a>>, AllocError>
     requires spec { field.now.dictionary ≡ Some spec }
     requires sound { are_runs_sound (column_of field.now) runs.now ≡ true }
     requires mask { IsMask mask.now runs.now }
     requires coded { list_all is_coded (masked_cells (column_of field.now) mask.now runs.now) ≡ true }
-    ensures entries { IfOk result (λ entries. map borrowed_cell entries.items ≡ entries_of (masked_cells (column_of field.now) mask.now runs.now)) }
+    ensures entries { IfOk result (λ entries. map entry_cell entries.items ≡ entries_of (masked_cells (column_of field.now) mask.now runs.now)) }
     ensures batch { OnOk result (batch_in batch.new
         ≡ with_indices (batch_in batch.old) (index_of spec) (masked_cells (column_of field.now) mask.now runs.now)) }
 {

@@ -32,7 +32,7 @@ pub(crate) fn push_indices<'a>(
 
 /// The batch of n values, as a dictionary.
 #[tactic(auto, unfolding(crate::specs::Batch::batch_in))]
-pub(crate) fn values_of(count: usize, batch: BuiltBatch<'_>) -> BuiltDictionary<'_>
+pub fn values_of(count: usize, batch: BuiltBatch<'_>) -> BuiltDictionary<'_>
     ensures { dictionary_in result ≡ record { slots = count; nodes = (batch_in batch.entry).nodes; buffers = (batch_in batch.entry).buffers } }
 {
     let BuiltBatch {

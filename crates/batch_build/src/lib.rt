@@ -33,5 +33,5 @@ pub use batch::{
     push_validity,
 };
 pub use building::{build, build_values};
-pub use coded_cells::push_dictionary;
+pub use coded_cells::{push_dictionary, values_of};
 pub use widths::offset_size;

@@ -114,11 +114,6 @@ key_cell [] n k at = cc
 key_cell (x ∷ xs) zero k at = let e : x ≡ k = cc in ap entry_cell e
 key_cell (x ∷ xs) (suc n) k at = key_cell xs n k at
 
-pub no_key : (ks : List Entry) (n : ℕ) → slice_get ks n ≡ None → get_or (map entry_cell ks) n null ≡ null
-no_key [] n at = refl
-no_key (x ∷ xs) zero at = cc
-no_key (x ∷ xs) (suc n) at = no_key xs n at
-
 -- ---- lists
 
 within_places : (places : List (Option ℕ)) (n p : ℕ) → get_or places n None ≡ Some p → n < length places
@@ -311,6 +306,15 @@ last_taken places named n within h y q there = elim (cases_lt y n) [
 -- a number that has a place is one of them
 pub placed_within : (places : List (Option ℕ)) (named : List ℕ) (q n : ℕ) → HavePlaces places named → slice_get named q ≡ Some n → n < length places
 placed_within places named q n h found = within_places places n q (h q n found)
+
+-- and so is one that is named
+pub named_within : (places : List (Option ℕ)) (named : List ℕ) (q : ℕ) → HavePlaces places named → q < length named → get_or named q 0 < length places
+named_within places named q h lt = placed_within places named q (get_or named q 0) h (at named q lt)
+  where
+    at : (xs : List ℕ) (i : ℕ) → i < length xs → slice_get xs i ≡ Some (get_or xs i 0)
+    at [] i within = absurd (omega (arith, within))
+    at (x ∷ xs) zero within = refl
+    at (x ∷ xs) (suc i) within = at xs i (omega (arith, within))
 
 -- where none is named no number has a place
 pub no_places : (places : List (Option ℕ)) (n : ℕ) → ArePlaces places [] → get_or places n None ≡ None

@@ -6,27 +6,27 @@ ghost use Rattle.dictionary_codes.specs.Masks.{IsMask, masked_cells, runs_bits};
 ghost use Rattle.dictionary_codes.specs.CodedCells.{is_coded};
 ghost use Rattle.columns.specs.Runs.{are_runs_sound, runs_cells};
 ghost use Rattle.cells.specs.Dictionary.{entries_of};
+ghost use Rattle.cells.specs.Entry.{entry_cell};
 ghost use Rattle.columns.specs.Buildable.{is_null_or_entry};
 ghost use Rattle.columns.specs.Built.{index_bytes};
 ghost use Rattle.columns.specs.Texts.{has_utf8_texts};
-ghost use Rattle.values.specs.Borrowed.{borrowed_cell};
 ghost use Rattle.cells.specs.Nulls.{is_there};
 
 use crate::known_entries::KnownEntries;
 use crate::run_codes::put_codes;
 use crate::run_slots::count_slots;
 use arrow_schema::{BitWidth, DictSpec, Field};
+use cells::Entry;
 use columns::SlotRun;
 use std::alloc::{AllocError, Global};
-use values::ValueRef;
 
-/// What slots have in a column with a dictionary: the bytes of their indices, 0 at nulls; whether each has one, and is no null; and the cells of the entries
-/// that the indices name (Arrow columnar format, "Dictionary-encoded Layout").
+/// What slots have in a column with a dictionary: the bytes of their indices, 0 at nulls; whether each has one, and is no null; and the entries that the
+/// indices name (Arrow columnar format, "Dictionary-encoded Layout").
 #[derive(Drop)]
 pub struct RunCodes<'a> {
     pub indices: Vec<u8>,
     pub valid: Vec<bool>,
-    pub entries: Vec<ValueRef<'a>>,
+    pub entries: Vec<Entry<'a>>,
 }
 
 // Room for n indices. More bytes than a number holds have none in memory.
@@ -59,7 +59,7 @@ fn new_codes<'a>(
         ≡ flat_map (index_bytes (index_of spec) (entries_of (masked_cells (column_of field.now) mask.now runs.now)))
         (masked_cells (column_of field.now) mask.now runs.now)) }
     ensures valid { IfOk result (λ codes. codes.valid.items ≡ map is_there (masked_cells (column_of field.now) mask.now runs.now)) }
-    ensures entries { IfOk result (λ codes. map borrowed_cell codes.entries.items ≡ entries_of (masked_cells (column_of field.now) mask.now runs.now)) }
+    ensures entries { IfOk result (λ codes. map entry_cell codes.entries.items ≡ entries_of (masked_cells (column_of field.now) mask.now runs.now)) }
 {
     let mut indices = room_for(alloc, spec.index.width, slots)?;
     let mut valid = vec![in alloc; false; slots]?;
@@ -73,7 +73,7 @@ fn new_codes<'a>(
         runs,
         mask,
     )?;
-    let entries = entries.cells(alloc)?;
+    let entries = entries.entries(alloc)?;
     Ok(RunCodes {
         indices,
         valid,
@@ -102,7 +102,7 @@ pub fn codes_of_runs<'a>(
         ≡ flat_map (index_bytes (index_of spec) (entries_of (masked_cells (column_of field.now) mask.now runs.now)))
         (masked_cells (column_of field.now) mask.now runs.now)) }
     ensures valid { IfOk result (λ codes. codes.valid.items ≡ map is_there (masked_cells (column_of field.now) mask.now runs.now)) }
-    ensures entries { IfOk result (λ codes. map borrowed_cell codes.entries.items ≡ entries_of (masked_cells (column_of field.now) mask.now runs.now)) }
+    ensures entries { IfOk result (λ codes. map entry_cell codes.entries.items ≡ entries_of (masked_cells (column_of field.now) mask.now runs.now)) }
 {
     entries.end();
     let slots = count_slots(runs)?;

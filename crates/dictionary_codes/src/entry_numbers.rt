@@ -30,18 +30,6 @@ pub(crate) fn number_of<'a>(
     }
 }
 
-/// The cell of an entry.
-pub(crate) fn cell_of<'a>(entry: &Entry<'a>) -> ValueRef<'a>
-    ensures { borrowed_cell result ≡ entry_cell entry.now }
-{
-    match entry {
-        Entry::Bool(boolean) => ValueRef::Bool(*boolean),
-        Entry::Int(number) => ValueRef::Int(*number),
-        Entry::Text(text) => ValueRef::Text(text),
-        Entry::Bytes(bytes) => ValueRef::Bytes(bytes),
-    }
-}
-
 // The place that a code is, or 0 where there is none.
 #[inline]
 fn place_or_zero(code: Option<usize>) -> u64

@@ -9,7 +9,7 @@ ghost use Rattle.cells.specs.Dictionary.{is_entry, with_entry};
 ghost use Rattle.cells.specs.Entry.{entry_cell};
 ghost use Rattle.values.specs.Borrowed.{borrowed_cell};
 
-use crate::entry_numbers::{cell_of, number_of};
+use crate::entry_numbers::number_of;
 use crate::known_dictionary::KnownDictionary;
 use crate::stamped_numbers::StampedNumbers;
 use arrow_schema::Field;
@@ -165,14 +165,12 @@ fn count_numbers(dictionaries: &[KnownDictionary<'_>]) -> usize {
     count
 }
 
-// The cell that was seen under a number: a null where none was.
-fn seen_cell<'a>(seen: &IndexSet<Entry<'a>>, number: usize) -> ValueRef<'a>
-    ensures { borrowed_cell result ≡ get_or (map entry_cell seen.now.keys) number null }
+// The entry that was seen under a number.
+fn seen_entry<'a>(seen: &IndexSet<Entry<'a>>, number: usize) -> Entry<'a>
+    requires { number < length seen.now.keys }
+    ensures { entry_cell result ≡ get_or (map entry_cell seen.now.keys) number null }
 {
-    match seen.get_index(number) {
-        Some(entry) => cell_of(entry),
-        None => ValueRef::Null,
-    }
+    seen[number]
 }
 
 impl<'a> KnownEntries<'a> {
@@ -258,15 +256,15 @@ impl<'a> KnownEntries<'a> {
         self.named.len()
     }
 
-    /// The cells of the entries that are named.
-    pub(crate) fn cells(&self, alloc: Global) -> Result<Vec<ValueRef<'a>>, AllocError>
-        ensures { IfOk result (λ cells. map borrowed_cell cells.items ≡ named_cells self.now) }
+    /// The entries that are named.
+    pub(crate) fn entries(&self, alloc: Global) -> Result<Vec<Entry<'a>>, AllocError>
+        ensures { IfOk result (λ entries. map entry_cell entries.items ≡ named_cells self.now) }
     {
-        let mut cells = Vec::with_capacity(alloc, self.named.len())?;
+        let mut entries = Vec::with_capacity(alloc, self.named.len())?;
         for number in &self.named {
-            cells.push_reserved(seen_cell(&self.seen, *number));
+            entries.push_reserved(seen_entry(&self.seen, *number));
         }
-        Ok(cells)
+        Ok(entries)
     }
 
     // Names none.

@@ -10,17 +10,17 @@ use Rattle.batch_build.specs.Batch.{PlainBatch, batch_in, dictionary_in, plain_c
 use Rattle.dictionary_codes.specs.Masks.{masked_cells}
 use Rattle.cells.specs.Cell.{Cell}
 use Rattle.columns.specs.Buildable.{can_build}
-use Rattle.values.specs.Borrowed.{borrowed_cell}
+use Rattle.cells.specs.Entry.{entry_cell}
 
 pub push_run_indices-requires-clause-coded : goal.push_run_indices-requires-clause-coded
 push_run_indices-requires-clause-coded c =
     field_coded c.args.field.now (masked_cells (column_of c.args.field.now) c.args.mask.now c.args.runs.now) (ap is_some c.requires.spec) c.requires.fits
 
-pub build_values-requires : goal.build_values-requires
-build_values-requires c =
+pub build_entries-requires : goal.build_entries-requires
+build_entries-requires c =
     let kind : Kind = kind_of c.args.field.now.data_type in
     let cells : List Cell = masked_cells (column_of c.args.field.now) c.args.mask.now c.args.runs.now in
-    let entries = ap (map borrowed_cell) c.deref.ensures.value ∙ c.in_ok-cells.ensures.entries in
+    let entries = ap (map entry_cell) c.deref.ensures.value ∙ c.in_ok-named.ensures.entries in
     ap (can_build (plain_column kind None)) entries
     ∙ entries_can kind (index_of c.args.spec) cells (dictionary_can_be_built c.args.field.now c.args.spec cells c.requires.spec c.requires.fits)
 
@@ -28,8 +28,8 @@ pub returns : goal.returns
 returns c =
     let kind : Kind = kind_of c.args.field.now.data_type in
     let cells : List Cell = masked_cells (column_of c.args.field.now) c.args.mask.now c.args.runs.now in
-    let entries = ap (map borrowed_cell) c.deref.ensures.value ∙ c.in_ok-cells.ensures.entries in
-    let built = dictionary_built kind (index_of c.args.spec) cells (map borrowed_cell c.deref.result.now) (batch_in c.args.batch.now) (batch_in c.push_run_indices.new.batch)
-    (dictionary_in c.in_ok-values.values) entries c.in_ok-cells.ensures.batch c.in_ok-values.ensures
+    let entries = ap (map entry_cell) c.deref.ensures.value ∙ c.in_ok-named.ensures.entries in
+    let built = dictionary_built kind (index_of c.args.spec) cells (map entry_cell c.deref.result.now) (batch_in c.args.batch.now) (batch_in c.push_run_indices.new.batch)
+    (dictionary_in c.in_ok-values.values) entries c.in_ok-named.ensures.batch c.in_ok-values.ensures
     ∙ dictionary_field (batch_in c.args.batch.now) c.args.field.now c.args.spec cells c.requires.spec in
     subst (λ (p : PlainBatch). OnOk c.push_dictionary.result (batch_in c.push_dictionary.new.batch ≡ p)) built c.push_dictionary.ensures
