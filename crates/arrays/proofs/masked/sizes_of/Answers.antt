@@ -62,14 +62,14 @@ offset-first-requires c =
     let before = c.loop-left.invariant in
     let run = c.first_run-unset.ensures in
     let high = run_end c.args.bits c.args.count c.args.from c.loop-left.at c.loop-left.left _ _ c.requires.bits before.low before.rest run.some run.set in
-    (omega (arith, high, run.some, c.requires.within), omega (arith, high, c.requires.within))
+    record { some = omega (arith, high, run.some, c.requires.within); within = omega (arith, high, c.requires.within) }
 
 pub offset-last-requires : goal.offset-last-requires
 offset-last-requires c =
     let before = c.loop-left.invariant in
     let run = c.first_run-unset.ensures in
     let high = run_end c.args.bits c.args.count c.args.from c.loop-left.at c.loop-left.left _ _ c.requires.bits before.low before.rest run.some run.set in
-    (omega (arith, high, run.some, c.requires.within), omega (arith, high, c.requires.within))
+    record { some = omega (arith, high, run.some, c.requires.within); within = omega (arith, high, c.requires.within) }
 
 pub overflow_sub-total : goal.overflow_sub-total
 overflow_sub-total c =
