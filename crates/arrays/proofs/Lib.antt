@@ -13,6 +13,7 @@ pub mod Ends
 pub mod Answered
 pub mod SpanWeights
 pub mod KindWeights
+pub mod NextBits
 pub mod MaskedSizes
 pub mod MaskedWeights
 pub mod EntryWeights

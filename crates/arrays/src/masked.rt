@@ -1,27 +1,22 @@
 // How much texts, binaries and lists weigh of which some are null, or stand below nulls, where their offsets alone tell it.
-ghost use Rattle.std.specs.Prelude.{◌≡◌, ◌+◌, ◌-◌, ◌*◌, ◌≤◌, ◌<◌, ◌&&◌, ℕ, false, IfSome, Some, None, option_map, if◌then◌else◌};
+ghost use Rattle.std.specs.Prelude.{◌≡◌, ◌==◌, ◌+◌, ◌*◌, ◌^◌, ◌≤◌, ◌<◌, ◌&&◌, ℕ, false, IfSome, Some, None, option_map, if◌then◌else◌};
+ghost use Rattle.std.specs.Int.{bit_at};
 ghost use Rattle.arrow_schema.specs.View.{column_of, kind_of};
 ghost use Rattle.cells.specs.Cell.{null};
 ghost use Rattle.cells.specs.Weight.{capped_weight, weight};
 ghost use Rattle.columns.specs.Array.{slots_in};
-ghost use Rattle.columns.specs.CellAt.{is_valid, span_size};
+ghost use Rattle.columns.specs.CellAt.{is_valid};
 ghost use Rattle.columns.specs.Offsets.{width_of};
 ghost use Rattle.columns.specs.Tests.{are_few_offsets, are_unordered, has_short_validity};
 ghost use Rattle.columns.specs.View.{view_array};
 ghost use Rattle.arrays.specs.inner.Varying.{may_vary_in};
-ghost use Rattle.arrays.specs.inner.Weights.{contents_width, masked_sizes, own_sizes, sized_width, unit_weight};
+ghost use Rattle.arrays.specs.inner.Weights.{chosen_sizes, contents_width, masked_sizes, sized_width, unit_weight};
 
-use crate::sized_slots::{SizedSlots, ValidSlots};
+use crate::sized_slots::{SLOTS_AT_ONCE, SizedSlots, ValidSlots};
 use crate::varying::may_vary;
 use arrow_schema::{DataType, Field};
 use cells::{Value, add_weights, multiply_weight, weight};
 use columns::{ArrayView, OffsetWidth};
-
-// A run of fewer slots costs more than these one by one.
-const FEW: usize = 3;
-
-// So many slots are then gone through one by one.
-const AT_ONCE: usize = 32;
 
 /// How much the slots of a type weigh: one each, and so much for each byte or item between their offsets, which are so wide.
 #[derive(Clone, Copy)]
@@ -76,108 +71,58 @@ pub(crate) fn sized_type(data_type: &DataType) -> Option<SizedType>
     }
 }
 
-// What a slot has, if it is valid and is so in another array too.
+// Which of the next slots are valid and are so in another array too: a bit for each, the first the lowest.
 #[inline]
-fn masked_size(slots: SizedSlots<'_>, mask: ValidSlots<'_>, i: usize) -> u64
-    requires within { i < slots_in (view_array slots.view) }
-    requires below { i < slots_in (view_array mask.view) }
-    ensures { let own = view_array slots.entry.view in
-        result ≡ (if is_valid (view_array mask.entry.view) i && is_valid own i then span_size (width_of slots.entry.width) own i else 0) }
+fn joined_bits(slots: SizedSlots<'_>, mask: ValidSlots<'_>, from: usize, count: usize) -> u64
+    requires few { count ≤ SLOTS_AT_ONCE }
+    requires some { 0 < count }
+    requires within { from + count ≤ slots_in (view_array slots.view) }
+    requires below { from + count ≤ slots_in (view_array mask.view) }
+    ensures few { result < 2 ^ count }
+    ensures bits { (j : ℕ) → j < count → (bit_at result j == 1)
+        ≡ (is_valid (view_array mask.entry.view) (from + j) && is_valid (view_array slots.entry.view) (from + j)) }
 {
-    if mask.is_valid(i) { slots.size(i) } else { 0 }
+    let both = mask.next_bits(from) & slots.valid().next_bits(from);
+    both % (1 << count)
 }
 
-// The bytes of slots that are valid and are so in another array too, slot by slot.
-fn slot_sizes(slots: SizedSlots<'_>, mask: ValidSlots<'_>, from: usize, to: usize) -> u64
-    requires order { from ≤ to }
-    requires within { to ≤ slots_in (view_array slots.view) }
-    requires below { to ≤ slots_in (view_array mask.view) }
-    ensures { result
-        ≡ capped_weight (masked_sizes (width_of slots.entry.width) (view_array mask.entry.view) (view_array slots.entry.view) from (to - from)) }
+// How many bits stand below the lowest that is set, and how many from there on are set.
+#[inline]
+fn first_run(bits: u64) -> (usize, usize)
+    requires some { 0 < bits }
+    requires few { bits < 2 ^ SLOTS_AT_ONCE }
+    ensures unset { (j : ℕ) → j < result.0 → bit_at bits j ≡ 0 }
+    ensures set { (j : ℕ) → j < result.1 → bit_at bits (result.0 + j) ≡ 1 }
+    ensures some { 0 < result.1 }
+    ensures within { result.0 + result.1 ≤ SLOTS_AT_ONCE }
 {
+    let unset = bits.trailing_zeros() as usize;
+    let set = (bits >> unset).trailing_ones() as usize;
+    (unset, set)
+}
+
+// The bytes of the slots whose bits are set, of those from one on: of a run of them they stand between two offsets.
+fn sizes_of(slots: SizedSlots<'_>, bits: u64, from: usize, count: usize) -> u64
+    requires few { count ≤ SLOTS_AT_ONCE }
+    requires bits { bits < 2 ^ count }
+    requires within { from + count ≤ slots_in (view_array slots.view) }
+    requires ordered { (most : ℕ) × (are_unordered (width_of slots.width) most (view_array slots.view) ≡ false) }
+    ensures { result ≡ chosen_sizes (width_of slots.entry.width) bits from (view_array slots.entry.view) from count }
+{
+    // a number of the code is below 2^64, so that the sum is too
+    let _slots = slots.slots();
+    let mut left = bits;
+    let mut at = from;
     let mut total = 0;
-    for i in from..to {
-        total = add_weights(total, masked_size(slots, mask, i));
+    while left != 0 {
+        let (unset, set) = first_run(left);
+        let first = slots.offset(at + unset);
+        at += unset + set;
+        let last = slots.offset(at);
+        total += last - first;
+        left >>= unset + set;
     }
     total
-}
-
-// Up to where slots are gone through one by one, where a run is short.
-fn end_of_few(start: usize, end: usize) -> usize
-    requires { start < end }
-    ensures later { start < result }
-    ensures within { result ≤ end }
-{
-    if end - start < AT_ONCE {
-        end
-    } else {
-        start + AT_ONCE
-    }
-}
-
-// The bytes of the next slots of which those that are valid count, and where the others begin: of a run of valid slots they stand between two offsets.
-fn own_step(slots: SizedSlots<'_>, start: usize, end: usize) -> (u64, usize)
-    requires some { start < end }
-    requires within { end ≤ slots_in (view_array slots.view) }
-    requires ordered { (most : ℕ) × (are_unordered (width_of slots.width) most (view_array slots.view) ≡ false) }
-    ensures later { start < result.1 }
-    ensures within { result.1 ≤ end }
-    ensures sizes { result.0 ≡ capped_weight (own_sizes (width_of slots.entry.width) (view_array slots.entry.view) start (result.1 - start)) }
-{
-    let valid = slots.valid();
-    let next = valid.run_to(start, end);
-    if !valid.is_valid(start) {
-        return (0, next);
-    }
-    if next - start < FEW {
-        let stop = end_of_few(start, end);
-        return (slot_sizes(slots, valid, start, stop), stop);
-    }
-    (add_weights(0, slots.spanned(start, next)), next)
-}
-
-// The bytes of slots that are valid.
-fn own_sizes(slots: SizedSlots<'_>, from: usize, end: usize) -> u64
-    requires order { from ≤ end }
-    requires within { end ≤ slots_in (view_array slots.view) }
-    requires ordered { (most : ℕ) × (are_unordered (width_of slots.width) most (view_array slots.view) ≡ false) }
-    ensures { result ≡ capped_weight (own_sizes (width_of slots.entry.width) (view_array slots.entry.view) from (end - from)) }
-{
-    let mut total = 0;
-    let mut start = from;
-    while start < end {
-        let step = own_step(slots, start, end);
-        total = add_weights(total, step.0);
-        start = step.1;
-    }
-    total
-}
-
-// The bytes of the next slots that are valid and are so in another array too, and where the others begin.
-fn masked_step(
-    slots: SizedSlots<'_>,
-    mask: ValidSlots<'_>,
-    start: usize,
-    end: usize,
-) -> (u64, usize)
-    requires some { start < end }
-    requires within { end ≤ slots_in (view_array slots.view) }
-    requires ordered { (most : ℕ) × (are_unordered (width_of slots.width) most (view_array slots.view) ≡ false) }
-    requires below { end ≤ slots_in (view_array mask.view) }
-    ensures later { start < result.1 }
-    ensures within { result.1 ≤ end }
-    ensures sizes { result.0 ≡ capped_weight (masked_sizes (width_of slots.entry.width) (view_array mask.entry.view) (view_array slots.entry.view)
-        start (result.1 - start)) }
-{
-    let next = mask.run_to(start, end);
-    if !mask.is_valid(start) {
-        return (0, next);
-    }
-    if next - start < FEW {
-        let stop = end_of_few(start, end);
-        return (slot_sizes(slots, mask, start, stop), stop);
-    }
-    (own_sizes(slots, start, next), next)
 }
 
 // The bytes of slots that are valid and are so in another array too.
@@ -194,9 +139,10 @@ fn masked_sizes(slots: SizedSlots<'_>, mask: ValidSlots<'_>, from: usize, count:
     let mut total = 0;
     let mut start = from;
     while start < end {
-        let step = masked_step(slots, mask, start, end);
-        total = add_weights(total, step.0);
-        start = step.1;
+        let some = (end - start).min(SLOTS_AT_ONCE);
+        let bits = joined_bits(slots, mask, start, some);
+        total = add_weights(total, sizes_of(slots, bits, start, some));
+        start += some;
     }
     total
 }

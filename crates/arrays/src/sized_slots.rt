@@ -1,12 +1,18 @@
 // Slots of texts or binaries, with the buffers that each slot is read from.
-ghost use Rattle.std.specs.Prelude.{◌≡◌, ◌<◌, ◌≤◌, ◌+◌, ◌-◌, ℕ, false, if◌then◌else◌};
+ghost use Rattle.std.specs.Prelude.{◌≡◌, ◌==◌, ◌<◌, ◌≤◌, ◌+◌, ◌-◌, ◌*◌, ℕ, false, length, if◌then◌else◌};
+ghost use Rattle.std.specs.Int.{bit_at};
+ghost use Rattle.bitmap.specs.Bits.{bit};
 ghost use Rattle.columns.specs.Array.{offsets_in, slots_in, validity_in};
 ghost use Rattle.columns.specs.CellAt.{is_valid, number_at, span_size};
 ghost use Rattle.columns.specs.Offsets.{width_of};
 ghost use Rattle.columns.specs.Tests.{are_few_offsets, has_short_validity};
 ghost use Rattle.columns.specs.View.{view_array};
 
+use byteorder::{ByteOrder, LittleEndian};
 use columns::{ArrayView, OffsetWidth, offset_at};
+
+/// Of how many slots the validity is looked at in one number: 8 bytes have as many bits from any bit of the first.
+pub(crate) const SLOTS_AT_ONCE: usize = 56;
 
 /// Which slots of an array are valid. Its validity bitmap is found once, and not again for each slot.
 #[derive(Clone, Copy)]
@@ -29,29 +35,31 @@ impl<'a> ValidSlots<'a> {
         }
     }
 
-    /// Whether a slot is valid.
+    /// Which of the next slots are valid: a bit for each of 56, or of those that are left.
     #[inline]
-    pub(crate) fn is_valid(self, i: usize) -> bool
-        requires { i < slots_in (view_array self.view) }
-        ensures { result ≡ is_valid (view_array self.entry.view) i }
-    {
-        self.validity.is_empty() || bitmap::get(self.validity, i)
-    }
-
-    /// Where a run of slots ends that are all valid, or all not, or `to` where it is longer.
-    #[inline]
-    pub(crate) fn run_to(self, from: usize, to: usize) -> usize
-        requires some { from < to }
-        requires within { to ≤ slots_in (view_array self.view) }
-        ensures begins { from < result }
-        ensures ends { result ≤ to }
-        ensures alike { (i : ℕ) → from ≤ i → i < result → is_valid (view_array self.entry.view) i ≡ is_valid (view_array self.entry.view) from }
+    pub(crate) fn next_bits(self, from: usize) -> u64
+        requires { from < slots_in (view_array self.view) }
+        ensures { (j : ℕ) → j < 56 → from + j < slots_in (view_array self.entry.view)
+            → (bit_at result j == 1) ≡ is_valid (view_array self.entry.view) (from + j) }
     {
         if self.validity.is_empty() {
-            return to;
+            return u64::MAX;
         }
-        bitmap::run_end(self.validity, from, to)
+        next_bits(self.validity, from)
     }
+}
+
+// Bits from one on, the first the lowest: as many as 8 bytes hold from any bit of the first, and none past the end.
+#[inline]
+fn next_bits(bits: &[u8], from: usize) -> u64
+    requires { from < 8 * length bits.now }
+    ensures { (j : ℕ) → j < 56 → from + j < 8 * length bits.now → bit_at result j == 1 ≡ bit bits.now (from + j) }
+{
+    let rest = &bits[from / 8..];
+    if rest.len() < 8 {
+        return LittleEndian::read_uint(rest, rest.len()) >> (from % 8);
+    }
+    LittleEndian::read_u64(rest) >> (from % 8)
 }
 
 /// The same of an array of texts or binaries, whose offsets are found once too.
@@ -101,16 +109,14 @@ impl<'a> SizedSlots<'a> {
         }
     }
 
-    /// How many bytes there are between the offset of a slot and that of a later one, or of the end.
+    /// The offset of a slot, or of the end.
     #[inline]
-    pub(crate) fn spanned(self, from: usize, to: usize) -> u64
-        requires some { from < to }
-        requires within { to ≤ slots_in (view_array self.view) }
-        ensures { let numbers = offsets_in (view_array self.entry.view) in let width = width_of self.entry.width in
-            result ≡ number_at width numbers to - number_at width numbers from }
+    pub(crate) fn offset(self, i: usize) -> u64
+        requires some { 0 < slots_in (view_array self.view) }
+        requires within { i ≤ slots_in (view_array self.view) }
+        ensures { result ≡ number_at (width_of self.entry.width) (offsets_in (view_array self.entry.view)) i }
     {
-        let start = offset_at(self.offsets, self.width, from);
-        offset_at(self.offsets, self.width, to).saturating_sub(start)
+        offset_at(self.offsets, self.width, i)
     }
 
     // How many bytes there are between the offsets of a slot.
@@ -121,8 +127,8 @@ impl<'a> SizedSlots<'a> {
     {
         // a number of the code is below 2^64, so that the sum is too
         let _slots = self.view.slots();
-        let start = offset_at(self.offsets, self.width, i);
-        offset_at(self.offsets, self.width, i + 1).saturating_sub(start)
+        let start = self.offset(i);
+        self.offset(i + 1).saturating_sub(start)
     }
 
     /// How many bytes a slot has: a null has none.

@@ -1,5 +1,6 @@
 -- What spans of slots weigh.
-use Rattle.std.specs.Prelude.{◌≡◌, ◌<◌, get_or, length, ℕ, ◌+◌, ◌&&◌, List, map, sum_by, Option, Some, None, IfSome, if◌then◌else◌}
+use Rattle.std.specs.Prelude.{◌≡◌, ◌==◌, ◌<◌, get_or, length, ℕ, ◌+◌, ◌-◌, ◌&&◌, List, map, sum_by, Option, Some, None, IfSome, if◌then◌else◌}
+use Rattle.std.specs.Int.{bit_at}
 use Rattle.std.specs.List.{range_with_len}
 use Rattle.arrow_schema.specs.Column.{PlainSchema, Kind, Column, Columns, texts, large_texts, binaries, large_binaries, lists, large_lists, no_column, and_column}
 use Rattle.cells.specs.Cell.{Cell, null}
@@ -65,11 +66,11 @@ unit_weight (lists item) = weight item null
 unit_weight (large_lists item) = weight item null
 unit_weight k = 1
 
--- what some slots have by their offsets, of those that are valid
-abbrev pub own_sizes : (width : ℕ) → Array → (start n : ℕ) → ℕ
-own_sizes width a start n = sum_from (λ (size : ℕ). size) (λ i. if is_valid a i then span_size width a i else 0) start n
+-- what some slots have by their offsets, of those whose bits are set, the first of which is that of a slot
+abbrev pub chosen_sizes : (width bits first : ℕ) → Array → (start n : ℕ) → ℕ
+chosen_sizes width bits first a start n = sum_from (λ (size : ℕ). size) (λ i. if bit_at bits (i - first) == 1 then span_size width a i else 0) start n
 
--- the same of those that are so in another array too
+-- the same of those that are valid and are so in another array too
 abbrev pub masked_sizes : (width : ℕ) → (mask a : Array) → (start n : ℕ) → ℕ
 masked_sizes width mask a start n = sum_from (λ (size : ℕ). size) (λ i. if is_valid mask i && is_valid a i then span_size width a i else 0) start n
 

@@ -1,11 +1,12 @@
-use Rattle.std.specs.Prelude.{◌&&◌, if◌then◌else◌}
-use Rattle.std.proofs.Common.{ℕ, ◌+◌, ◌-◌, ◌≡◌, arith, ap}
+use Rattle.std.specs.Prelude.{◌==◌, ◌&&◌, if◌then◌else◌}
+use Rattle.std.specs.Int.{bit_at}
+use Rattle.std.proofs.Common.{ℕ, Bool, ◌+◌, ◌-◌, ◌≡◌, arith, ap, ◌∙◌}
 use Rattle.columns.specs.Array.{Array}
 use Rattle.columns.specs.CellAt.{is_valid, span_size}
 use Rattle.columns.specs.Offsets.{width_of}
 use Rattle.columns.specs.View.{view_array}
-use Rattle.arrays.specs.inner.Weights.{masked_sizes}
-use Rattle.arrays.proofs.MaskedSizes.{sizes_more}
+use Rattle.arrays.specs.inner.Weights.{chosen_sizes, masked_sizes}
+use Rattle.arrays.proofs.MaskedSizes.{sizes_more, sizes_same}
 use Rattle.arrays.proofs.masked.masked_sizes.Goals as goal
 
 pub loop-start-preserved : goal.loop-start-preserved
@@ -14,14 +15,20 @@ loop-start-preserved c =
     let mask : Array = view_array c.args.mask.view in
     let w : ℕ = width_of c.args.slots.width in
     let start : ℕ = c.loop-start.start in
-    let step = c.masked_step-step.ensures in
-    let next : ℕ = c.masked_step-step.result.1 in
-    let more = sizes_more (λ i. if is_valid mask i && is_valid a i then span_size w a i else 0) start next (c.args.from + c.args.count) (omega (arith, step.later)) step.within in
+    let some : ℕ = c.min-some.result in
+    let bits : ℕ = c.joined_bits-bits.result in
+    let own : ℕ → ℕ = λ i. if is_valid mask i && is_valid a i then span_size w a i else 0 in
+    let least = c.min-some.ensures in
+    let width : start + some - start ≡ some = omega arith in
+    let same : chosen_sizes w bits start a start some ≡ masked_sizes w mask a start some = sizes_same (λ i. if bit_at bits (i - start) == 1 then span_size w a i else 0) own start some (λ i le lt.
+    let place : start + (i - start) ≡ i = omega (arith, le) in
+    ap (λ (b : Bool). if b then span_size w a i else 0) (c.joined_bits-bits.ensures.bits (i - start) (omega (arith, le, lt)) ∙ ap (λ (k : ℕ). is_valid mask k && is_valid a k) place)) in
+    let more = rw width at (sizes_more own start (start + some) (c.args.from + c.args.count) (omega arith) (omega (arith, least, c.loop-start-test.true))) in
     let total = c.add_weights-total.ensures in
     record {
-      low = omega (arith, step.later, c.loop-start.invariant.low);
-      within = step.within;
-      sums = omega (arith, c.loop-start.invariant.sums, more, step.sizes, total);
+      low = omega (arith, c.loop-start.invariant.low);
+      within = omega (arith, least, c.loop-start-test.true);
+      sums = omega (arith, c.loop-start.invariant.sums, more, same, c.sizes_of.ensures, total);
       capped = omega (arith, total);
     }
 
