@@ -1,10 +1,13 @@
 // The rows of a table's segments, as they are read one after another.
-ghost use Rattle.std.specs.Prelude.{◌≡◌, true};
+ghost use Rattle.std.specs.Prelude.{◌≡◌, true, IfOk};
 ghost use Rattle.arrow_schema.specs.Column.{columns_of};
+ghost use Rattle.arrow_schema.specs.Limits.{IsWithinLimits};
 ghost use Rattle.arrow_schema.specs.View.{schema_of};
 ghost use Rattle.cells.specs.Weight.{table_weight};
 ghost use Rattle.values.specs.Parts.{parts_table, are_parts_sound};
 ghost use Rattle.values.specs.Table.{IsTable};
+ghost use Rattle.values.specs.TableView.{table_of, is_in_parts};
+ghost use Rattle.tables.specs.Verdict.{empty_table};
 
 use arrow_schema::Schema;
 use cells::MAX_TABLE_WEIGHT;
@@ -23,9 +26,7 @@ pub(crate) struct TableBuilder {
 }
 
 impl TableBuilder {
-    ghost use Rattle.std.specs.Prelude.{◌≢◌, ◌<◌, ◌≤◌, ◌++◌, ℕ, [], IfOk, IfErr};
-    ghost use Rattle.arrow_schema.specs.Limits.{IsWithinLimits};
-    ghost use Rattle.values.specs.TableView.{table_of, is_in_parts};
+    ghost use Rattle.std.specs.Prelude.{◌≢◌, ◌<◌, ◌≤◌, ◌++◌, ℕ, [], IfErr};
     ghost use Rattle.store_changes.specs.inner.TableBuilder.{table_so_far};
 
     /// No rows yet.
