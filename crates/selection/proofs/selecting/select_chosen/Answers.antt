@@ -40,8 +40,8 @@ select_runs-requires-clause-few c =
     let whole : parts_table (schema_of c.schema-schema.result.now) parts ≡ t = ap (λ (x : PlainSchema). parts_table x parts) c.schema-schema.ensures.schema ∙ sym c.in-Some.ensures.rows in
     omega (arith, ap (λ (u : PlainTable). length u.rows) whole, c.len-rows.ensures)
 
-pub returns-Some-clause-ok : goal.returns-Some-clause-ok
-returns-Some-clause-ok c =
+pub returns-in-Some-clause-ok : goal.returns-in-Some-clause-ok
+returns-in-Some-clause-ok c =
     let parts = c.in-Some.parts.now in
     let t = table_of c.args.table.now in
     let whole : parts_table (schema_of c.schema-schema.result.now) parts ≡ t = ap (λ (x : PlainSchema). parts_table x parts) c.schema-schema.ensures.schema ∙ sym c.in-Some.ensures.rows in
