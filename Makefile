@@ -1,5 +1,5 @@
 # The program, the gate, and the tests of both. `make` and `make install` need sh, make, gzip and sha256sum alone where dist/ holds the program of
-# the sources that stand here; all else needs rt (the Rattle toolchain), gcc and python3.
+# the sources that are here; all else needs rt (the Rattle toolchain), gcc and python3.
 SOURCES := $(shell find crates.txt crates -name out -prune -o -type f -print)
 
 # The crates with calls that are refused memory in turn, and their tests as they are built.

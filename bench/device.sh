@@ -1,5 +1,5 @@
 #!/bin/sh
-# Writes, syncs and reads so many mebibytes through a device that is a file, writes and syncs as many by rows of sectors, and does the same by dd, some times in
+# Writes, syncs and reads this many mebibytes through a device that is a file, writes and syncs as many by rows of sectors, and does the same by dd, some times in
 # turn in one run, and prints the least times and their ratios.
 #   bench/device.sh PROGRAM [MEBIBYTES] [FOLDER] [TIMES]
 # The program is that of crates/bench; `make bench-device` builds it.

@@ -35,7 +35,7 @@ def ratio(seconds, plain):
 
 
 def write_again(path, size, fields, batch, first=b""):
-    """Writes a record batch again and again, up to about so many bytes, and before it the first messages. Batch by batch: what this process ever held
+    """Writes a record batch again and again, up to about this many bytes, and before it the first messages. Batch by batch: what this process ever held
     counts as memory of the programs that it starts."""
     with open(path, "wb") as out:
         out.write(streams.schema(fields))
@@ -46,14 +46,14 @@ def write_again(path, size, fields, batch, first=b""):
 
 
 def write_integers(path, size, most):
-    """Writes about so many bytes of a stream of one int32 column, of numbers below a limit."""
+    """Writes about this many bytes of a stream of one int32 column, of numbers below a limit."""
     pick = random.Random(1)
     values = b"".join(pick.randrange(most).to_bytes(4, "little") for _ in range(ROWS_IN_BATCH))
     write_again(path, size, [streams.field("a", False, 2, streams.integer("int32"))], streams.record_batch(ROWS_IN_BATCH, [values]))
 
 
 def write_texts(path, size, count):
-    """Writes about so many bytes of a stream of an int32 column `a` and a column `s` of so many different texts."""
+    """Writes about this many bytes of a stream of an int32 column `a` and a column `s` of this many different texts."""
     pick = random.Random(1)
     texts = [f"text number {pick.randrange(count)}".encode() for _ in range(ROWS_IN_BATCH)]
     ends = [0]
@@ -65,7 +65,7 @@ def write_texts(path, size, count):
 
 
 def write_coded(path, size, kind, count):
-    """Writes about so many bytes of a stream of ten columns of texts with a dictionary of so many, whose indices are of this type."""
+    """Writes about this many bytes of a stream of ten columns of texts with a dictionary of this many, whose indices are of this type."""
     pick = random.Random(1)
     texts = [f"text number {number}".encode() for number in range(count)]
     ends = [0]

@@ -34,7 +34,7 @@ int main(int count, char **words) {
         case 's': done = lseek(file, call[1], SEEK_SET); break;
         case 'f': done = fsync(file); break;
         case 'd': done = fdatasync(file); break;
-        default: fprintf(stderr, "play_calls: a call that the trace tells no place of\n"); return 1;
+        default: fprintf(stderr, "play_calls: a call whose place is not in the trace\n"); return 1;
         }
         if (done != call[1])
             refuse("a call answered otherwise");

@@ -97,7 +97,7 @@ def list_text(tables):
 
 
 def laid(sectors, epoch, front, text):
-    """A device with what stands in front, behind the commit sectors, then the list, and the one commit that names it."""
+    """A device with what comes first, after the commit sectors, then the list, and the one commit that names it."""
     numbers = (epoch, 2 + len(front) // SECTOR, -(-len(text) // SECTOR), len(text), sectors)
     commit = b"ARWSTOR1" + b"".join(number(value, 8) for value in numbers) + number(1, 4)
     commits = [b"", commit] if epoch % 2 else [commit, b""]

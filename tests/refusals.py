@@ -83,7 +83,7 @@ def each_read_failed(command, given, error, answer=answer_of):
 
 
 def each_write_failed(command, given, error, most, answer=answer_of):
-    """With each write to standard output failed, with this error of the system; each of the others takes at most so many bytes."""
+    """With each write to standard output failed, with this error of the system; each of the others takes at most this many bytes."""
     return in_turn(2, command, given, answer, "FAILED_WRITE", CALL_ERROR=str(error), MOST=str(most))
 
 
@@ -98,5 +98,5 @@ def each_file_read_failed(command, given, error, answer=answer_of):
 
 
 def in_pieces(command, given, most):
-    """Where each read of standard input and each write to standard output moves at most so many bytes."""
+    """Where each read of standard input and each write to standard output moves at most this many bytes."""
     return answer_of(command, given, LD_PRELOAD=library(), MOST=str(most))

@@ -2,7 +2,7 @@
    standard input, the one whose number is in FAILED_READ, or one write to its standard output, that in FAILED_WRITE, or one write to a
    file, sync of one or change of its length, that in FAILED_CHANGE, or the reads of files from that in FAILED_FILE_READ on, with the
    error CALL_ERROR, where 0 is a call that moves no byte; all are counted from 1. Where MOST is set, a read of standard input or a
-   write to standard output moves at most so many bytes. At its end the program's numbers of allocations, and of such reads, writes,
+   write to standard output moves at most this many bytes. At its end the program's numbers of allocations, and of such reads, writes,
    changes and reads of files, are written into the file COUNTS, where that is set. */
 #define _GNU_SOURCE
 #include <errno.h>

@@ -1,6 +1,6 @@
 """Streams in the Apache Arrow IPC streaming format, written from the format's description alone.
 
-Little-endian, metadata version V5. Each message is laid out front to back: a table behind
+Little-endian, metadata version V5. Each message is laid out front to back: a table after
 its vtable, inline slots in slot order, then what they refer to in slot order. This is also the order of the canonical
 stream, so with batches of 4,096 rows the program gives such a stream back unchanged.
 """

@@ -97,7 +97,7 @@ def coded(names, indices, is_delta=False):
 
 
 def worked_dictionary(kind="int8"):
-    """The texts b, a, b and a null, which are written as they stand."""
+    """The texts b, a, b and a null, which are written as they are."""
     return coded_front(kind) + names_batch([b"b", b"a"]) + coded_batch([0, 1, 0, 0], b"\x07", 1, kind) + END
 
 
