@@ -7,10 +7,11 @@ ghost use Rattle.batch_build.specs.Nodes.{list_kind};
 ghost use Rattle.array_build.specs.inner.Masked.{AddsMasked, masked_kind, masked_parts};
 ghost use Rattle.dictionary_codes.specs.Masks.{IsMask, masked_cells};
 ghost use Rattle.array_build.specs.inner.RunItems.{fixed_column, list_column};
-ghost use Rattle.array_build.specs.inner.Runs.{AddsRuns, AreAsWritten, are_runs_as_written, built_columns, contents_width, fixed_width, offsets_width};
+ghost use Rattle.array_build.specs.inner.Runs.{AddsRuns, AreAsWritten, are_runs_as_written, built_columns, fixed_width, offsets_width};
 ghost use Rattle.columns.specs.Runs.{HaveRuns, are_columns_sound, are_runs_sound, can_build_columns, runs_cells};
 ghost use Rattle.cells.specs.Cell.{Cell};
 ghost use Rattle.columns.specs.Buildable.{can_build, can_build_parts};
+ghost use Rattle.columns.specs.Offsets.{contents_width};
 
 use crate::as_written::are_as_written;
 use crate::entry_arrays::build_entries;
@@ -23,10 +24,10 @@ use crate::run_items::{item_runs, run_list_offsets};
 use crate::run_parts::field_runs;
 use crate::run_slots::push_run_slots;
 use crate::slot_masks::push_masked_slots;
-use crate::widths::{contents_width, offsets_width, value_width};
+use crate::widths::{offsets_width, value_width};
 use arrow_schema::{DataType, DictSpec, Field};
 use batch_build::{BuiltBatch, empty_batch, push_buffer, push_dictionary};
-use columns::{OffsetWidth, SlotRun};
+use columns::{OffsetWidth, SlotRun, contents_width};
 use dictionary_codes::{KnownEntries, count_slots};
 use std::alloc::{AllocError, Global};
 

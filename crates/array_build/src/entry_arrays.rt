@@ -2,7 +2,7 @@
 ghost use Rattle.std.specs.Prelude.{◌≡◌, ◌≤◌, true, OnOk, IfOk, Some, None, length, map};
 ghost use Rattle.std.specs.List.{flat_map};
 ghost use Rattle.array_build.specs.inner.MaskedContents.{with_contents};
-ghost use Rattle.array_build.specs.inner.Runs.{cell_sizes, contents_width};
+ghost use Rattle.array_build.specs.inner.Runs.{cell_sizes};
 ghost use Rattle.arrow_schema.specs.View.{kind_of};
 ghost use Rattle.batch_build.specs.Batch.{batch_in, dictionary_in, plain_column};
 ghost use Rattle.batch_build.specs.Coded.{values_batch};
@@ -10,18 +10,17 @@ ghost use Rattle.batch_build.specs.Nodes.{with_slots};
 ghost use Rattle.cells.specs.Entry.{entry_cell};
 ghost use Rattle.columns.specs.Buildable.{can_build, large_offset};
 ghost use Rattle.columns.specs.Built.{contents_of, offsets_of};
-ghost use Rattle.columns.specs.Offsets.{width_of};
+ghost use Rattle.columns.specs.Offsets.{contents_width, width_of};
 ghost use Rattle.values.specs.Borrowed.{borrowed_cell};
 
 use crate::number_bytes::last_offset;
-use crate::widths::contents_width;
 use arrow_schema::DataType;
 use batch_build::{
     BuiltBatch, BuiltDictionary, build_values, empty_batch, offset_size, push_buffer,
     push_validity, values_of,
 };
 use cells::Entry;
-use columns::{OffsetWidth, push_offset};
+use columns::{OffsetWidth, contents_width, push_offset};
 use std::alloc::{AllocError, Global};
 use values::ValueRef;
 

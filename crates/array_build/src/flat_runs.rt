@@ -5,8 +5,8 @@ ghost use Rattle.dictionary_codes.specs.Masks.{IsMask};
 ghost use Rattle.arrow_schema.specs.Column.{nulls, booleans};
 ghost use Rattle.arrow_schema.specs.View.{kind_of};
 ghost use Rattle.batch_build.specs.Batch.{plain_column};
-ghost use Rattle.array_build.specs.inner.Runs.{AddsRuns, AreAsWritten, contents_width, fixed_width};
-ghost use Rattle.columns.specs.Offsets.{width_of};
+ghost use Rattle.array_build.specs.inner.Runs.{AddsRuns, AreAsWritten, fixed_width};
+ghost use Rattle.columns.specs.Offsets.{contents_width, width_of};
 ghost use Rattle.columns.specs.Runs.{are_runs_sound};
 
 use crate::run_bits::run_booleans;

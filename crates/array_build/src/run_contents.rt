@@ -3,14 +3,14 @@ ghost use Rattle.std.specs.Prelude.{◌≡◌, ◌≤◌, ◌+◌, ◌++◌, fal
 ghost use Rattle.std.specs.List.{flat_map};
 ghost use Rattle.batch_build.specs.Batch.{batch_in, buffer_bytes, plain_column};
 ghost use Rattle.array_build.specs.inner.MaskedContents.{with_contents};
-ghost use Rattle.array_build.specs.inner.Runs.{AreAsWritten, AreOffsetsAdded, cell_sizes, contents_width, is_run_as_written, kind_cells, span_contents};
+ghost use Rattle.array_build.specs.inner.Runs.{AreAsWritten, AreOffsetsAdded, cell_sizes, is_run_as_written, kind_cells, span_contents};
 ghost use Rattle.columns.specs.Runs.{is_run_sound, run_cells};
 ghost use Rattle.columns.specs.declared.slot_runs.SlotRun.TheVariants.{Slots};
 ghost use Rattle.arrow_schema.specs.View.{kind_of};
 ghost use Rattle.columns.specs.Array.{slots_in};
 ghost use Rattle.columns.specs.Buildable.{large_offset};
 ghost use Rattle.columns.specs.Built.{contents_of, offsets_of};
-ghost use Rattle.columns.specs.Offsets.{width_of};
+ghost use Rattle.columns.specs.Offsets.{contents_width, width_of};
 ghost use Rattle.columns.specs.Tests.{are_few_offsets};
 ghost use Rattle.columns.specs.View.{view_array};
 

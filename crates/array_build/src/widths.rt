@@ -1,6 +1,6 @@
 // How wide the values or the offsets of a type are.
 ghost use Rattle.std.specs.Prelude.{◌≡◌, ◌/◌, option_map};
-ghost use Rattle.array_build.specs.inner.Runs.{contents_width, fixed_width, offsets_width};
+ghost use Rattle.array_build.specs.inner.Runs.{fixed_width, offsets_width};
 ghost use Rattle.arrow_schema.specs.View.{date_kind, kind_of};
 ghost use Rattle.cells.specs.Fit.{date_bits};
 ghost use Rattle.columns.specs.Offsets.{width_of};
@@ -26,17 +26,6 @@ pub(crate) fn value_width(data_type: &DataType) -> Option<usize>
         DataType::Date(unit) => Some(date_width(*unit)),
         DataType::Timestamp(_, _) => Some(8),
         DataType::FixedSizeBinary(width) => Some(*width as usize),
-        _ => None,
-    }
-}
-
-/// How wide the offsets of texts or binaries are.
-pub(crate) fn contents_width(data_type: &DataType) -> Option<OffsetWidth>
-    ensures { option_map width_of result ≡ contents_width (kind_of data_type.now) }
-{
-    match data_type {
-        DataType::Utf8 | DataType::Binary => Some(OffsetWidth::Four),
-        DataType::LargeUtf8 | DataType::LargeBinary => Some(OffsetWidth::Eight),
         _ => None,
     }
 }
