@@ -24,7 +24,7 @@ use columns::{OffsetWidth, contents_width, push_offset};
 use std::alloc::{AllocError, Global};
 use values::ValueRef;
 
-// What a text or a binary has: nothing where it is another value.
+// Returns the bytes of a string or binary: none for any other value.
 #[inline]
 fn contents_of<'a>(entry: Entry<'a>) -> &'a [u8]
     ensures { result.now ≡ contents_of (entry_cell entry.entry) }
@@ -36,7 +36,7 @@ fn contents_of<'a>(entry: Entry<'a>) -> &'a [u8]
     }
 }
 
-// The offsets of texts or binaries: 0, and then where each ends.
+// Makes the offsets of strings or binaries: 0, and then the end of each.
 fn entry_offsets(
     alloc: Global,
     width: OffsetWidth,
@@ -59,7 +59,7 @@ fn entry_offsets(
     Ok(offsets)
 }
 
-// The bytes of texts or binaries, one after another, where there is room for so many at once.
+// Makes the bytes of strings or binaries, one after another, in `room` bytes that are allocated at once.
 fn entry_contents(alloc: Global, entries: &[Entry<'_>], room: usize) -> Result<Vec<u8>, AllocError>
     ensures { IfOk result (λ bytes. bytes.items ≡ flat_map contents_of (map entry_cell entries.now)) }
 {
@@ -70,7 +70,7 @@ fn entry_contents(alloc: Global, entries: &[Entry<'_>], room: usize) -> Result<V
     Ok(contents)
 }
 
-// Adds the node, the validity bitmap, which has no byte, the offsets and the bytes of texts or binaries.
+// Adds the node, an empty validity bitmap, the offsets and the bytes of strings or binaries.
 fn push_entry_contents(
     alloc: Global,
     batch: &mut BuiltBatch<'_>,
@@ -88,7 +88,7 @@ fn push_entry_contents(
     push_buffer(batch, entry_contents(alloc, entries, room)?)
 }
 
-// The batch of texts or binaries.
+// Makes the batch of strings or binaries.
 fn build_entry_contents<'a>(
     alloc: Global,
     data_type: &DataType,
@@ -125,7 +125,8 @@ fn cells_of<'a>(alloc: Global, entries: &[Entry<'a>]) -> Result<Vec<ValueRef<'a>
     Ok(cells)
 }
 
-/// The batch of a dictionary's entries, which are of this type. Of texts and binaries no cell is made, which takes over three times the room of an entry.
+/// Makes the batch of a dictionary's entries, which are of this type. Strings and binaries are not made into cells, which take over three times the
+/// memory of an entry.
 pub(crate) fn build_entries<'a>(
     alloc: Global,
     data_type: &DataType,
