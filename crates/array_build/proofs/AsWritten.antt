@@ -5,7 +5,7 @@ use Rattle.std.proofs.Common.{◌≡◌, ℕ, true, false, List, [], ◌∷◌, 
 use Rattle.std.proofs.lemmas.Bool.{and_parts, eqb-true, or_left}
 use Rattle.arrow_schema.specs.Column.{Kind, nulls, booleans, integers, dates, timestamps, texts, large_texts, binaries, large_binaries, fixed_binaries, lists, large_lists, fixed_lists, structs}
 use Rattle.batch_build.specs.Batch.{plain_column}
-use Rattle.array_build.specs.inner.Runs.{are_runs_as_written, are_zeros, contents_width, fixed_width, has_nothing_below, is_as_written, is_run_as_written, offsets_width}
+use Rattle.array_build.specs.inner.Runs.{are_runs_as_written, are_zeros, fixed_width, has_nothing_below, is_as_written, is_run_as_written, offsets_width}
 use Rattle.columns.specs.Runs.{are_runs_valid, is_run_sound, is_run_valid}
 use Rattle.columns.specs.declared.slot_runs.SlotRun.{SlotRun}
 use Rattle.columns.specs.declared.slot_runs.SlotRun.TheVariants.{Slots, Nulls}
@@ -17,6 +17,7 @@ use Rattle.columns.specs.Tests.{has_short_validity}
 use Rattle.columns.specs.View.{view_array}
 use Rattle.columns.specs.declared.view.ArrayView.{ArrayView}
 use Rattle.columns.specs.laws.SoundParts.{sound_validity}
+use Rattle.columns.specs.Offsets.{contents_width}
 
 pub short_validity : (kind : Kind) (v : ArrayView) (from n : ℕ) → is_run_sound (plain_column kind None) (Slots v from n) ≡ true → has_short_validity (view_array v) ≡ false
 unfolding is_sound

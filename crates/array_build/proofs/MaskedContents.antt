@@ -21,7 +21,7 @@ use Rattle.batch_build.specs.Batch.{plain_column}
 use Rattle.dictionary_codes.specs.Masks.{IsMask, bitmap_bits, mask_bits, masked, masked_cells, slots_mask, run_bits, runs_bits}
 use Rattle.array_build.specs.inner.Masked.{are_below, masked_slots}
 use Rattle.array_build.specs.inner.MaskedContents.{AreUnder, masked_sizes, masked_spans, run_under, runs_under, total}
-use Rattle.array_build.specs.inner.Runs.{AreAsWritten, cell_sizes, contents_width, kind_cells, span_contents}
+use Rattle.array_build.specs.inner.Runs.{AreAsWritten, cell_sizes, kind_cells, span_contents}
 use Rattle.bitmap.specs.Bits.{bit}
 use Rattle.cells.specs.Cell.{Cell, null}
 use Rattle.columns.specs.Array.{Array, contents_in, slots_in}
@@ -35,6 +35,7 @@ use Rattle.columns.specs.View.{view_array}
 use Rattle.columns.specs.declared.slot_runs.SlotRun.{SlotRun}
 use Rattle.columns.specs.declared.slot_runs.SlotRun.TheVariants.{Slots, Nulls}
 use Rattle.columns.specs.declared.view.ArrayView.{ArrayView}
+use Rattle.columns.specs.Offsets.{contents_width}
 
 -- ---- slots in a row
 

@@ -16,7 +16,7 @@ use Rattle.dictionary_codes.specs.Masks.{joined, masked, masked_cells, slots_mas
 use Rattle.array_build.specs.inner.Masked.{masked_slots}
 use Rattle.array_build.specs.inner.MaskedContents.{with_contents}
 use Rattle.batch_build.specs.Nodes.{with_node, with_buffer, with_slots}
-use Rattle.array_build.specs.inner.Runs.{contents_width, fixed_value, fixed_width, kind_cells, run_values, runs_values, with_run_slots}
+use Rattle.array_build.specs.inner.Runs.{fixed_value, fixed_width, kind_cells, run_values, runs_values, with_run_slots}
 use Rattle.columns.specs.Runs.{run_cells}
 use Rattle.columns.specs.declared.slot_runs.SlotRun.{SlotRun}
 use Rattle.columns.specs.declared.slot_runs.SlotRun.TheVariants.{Slots, Nulls}
@@ -29,6 +29,7 @@ use Rattle.columns.specs.CellAt.{cell_at, kind_cell, cells_from, is_valid}
 use Rattle.columns.specs.Tests.{unset_bits}
 use Rattle.columns.specs.View.{view_array}
 use Rattle.columns.specs.declared.numbers.OffsetWidth.TheVariants.{Four, Eight}
+use Rattle.columns.specs.Offsets.{contents_width}
 
 -- a type whose valid slots are no nulls
 abbrev pub has_values : Kind → Bool

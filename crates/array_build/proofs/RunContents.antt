@@ -12,7 +12,7 @@ use Rattle.array_build.proofs.AsWritten.{has_offsets, no_byte_below, null_slot}
 use Rattle.batch_build.specs.laws.Premises.{texts_fit, binaries_fit}
 use Rattle.dictionary_codes.specs.laws.Repeated.{none_each}
 use Rattle.batch_build.specs.Batch.{plain_column}
-use Rattle.array_build.specs.inner.Runs.{cell_sizes, contents_width, is_as_written, is_run_as_written, kind_cells, offsets_width, slot_sizes, span_contents}
+use Rattle.array_build.specs.inner.Runs.{cell_sizes, is_as_written, is_run_as_written, kind_cells, offsets_width, slot_sizes, span_contents}
 use Rattle.columns.specs.Runs.{is_run_sound, run_cells}
 use Rattle.columns.specs.declared.slot_runs.SlotRun.{SlotRun}
 use Rattle.columns.specs.declared.slot_runs.SlotRun.TheVariants.{Slots, Nulls}
@@ -27,6 +27,7 @@ use Rattle.columns.specs.View.{view_array}
 use Rattle.columns.specs.declared.numbers.OffsetWidth.TheVariants.{Four, Eight}
 use Rattle.columns.specs.declared.view.ArrayView.{ArrayView}
 use Rattle.columns.specs.laws.Offsets.{offsets_ascend, spans_fit}
+use Rattle.columns.specs.Offsets.{contents_width}
 
 abbrev plain_cell : Kind → Array → ℕ → Cell
 plain_cell kind a i = cell_at (plain_column kind None) a i

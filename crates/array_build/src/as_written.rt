@@ -1,4 +1,4 @@
-// Runs that stand as they are written, also where there are nulls among their slots.
+// Runs whose slots are already as they are written, even with nulls among them.
 ghost use Rattle.std.specs.Prelude.{◌≡◌, ℕ, ◌≤◌, ◌<◌, ◌+◌, ◌-◌, ◌*◌, ◌^◌, ◌==◌, ◌||◌, false, true, None, length};
 ghost use Rattle.batch_build.specs.Batch.{plain_column};
 ghost use Rattle.array_build.specs.inner.Runs.{are_runs_as_written, are_zeros, is_run_as_written};
@@ -38,7 +38,7 @@ fn value_at(values: &[u8], width: usize, i: usize) -> &[u8]
     &values[i * width..(i + 1) * width]
 }
 
-// Whether the value of a slot is zeros. One that is as wide as a number is read as one.
+// Returns whether the value of a slot is all zeros. A value of 4 or 8 bytes is read as a number.
 fn is_zero_at(values: &[u8], width: usize, i: usize) -> bool
     requires within { (i + 1) * width ≤ length values.now }
     requires counted { i + 1 < 2 ^ 64 }
@@ -52,7 +52,7 @@ fn is_zero_at(values: &[u8], width: usize, i: usize) -> bool
     }
 }
 
-// Each slot that is not valid has zeros for a value.
+// Returns whether the value of each null slot is all zeros.
 fn have_zeros(array: ArrayView<'_>, width: usize, from: usize, len: usize) -> bool
     requires short { has_short_validity (view_array array) ≡ false }
     requires long { slots_in (view_array array) * width ≤ length (values_in (view_array array)) }
@@ -68,7 +68,7 @@ fn have_zeros(array: ArrayView<'_>, width: usize, from: usize, len: usize) -> bo
     have_zeros_at_unset(validity, array.values(), width, from, from + len)
 }
 
-// The same by the bits of a validity bitmap, from one that is not set to the next.
+// The same, by a validity bitmap: goes from one unset bit to the next.
 fn have_zeros_at_unset(validity: &[u8], values: &[u8], width: usize, from: usize, to: usize) -> bool
     requires order { from ≤ to }
     requires bits { to ≤ 8 * length validity.now }
@@ -85,7 +85,7 @@ fn have_zeros_at_unset(validity: &[u8], values: &[u8], width: usize, from: usize
     true
 }
 
-// Each slot that is not valid has nothing between its offsets.
+// Returns whether each null slot has two equal offsets.
 fn have_no_bytes(array: ArrayView<'_>, width: OffsetWidth, from: usize, len: usize) -> bool
     requires short { has_short_validity (view_array array) ≡ false }
     requires long { are_few_offsets (width_of width) (view_array array) ≡ false }
@@ -104,7 +104,7 @@ fn have_no_bytes(array: ArrayView<'_>, width: OffsetWidth, from: usize, len: usi
     have_no_bytes_at_unset(validity, array.offsets(), width, from, from + len)
 }
 
-// The same by the bits of a validity bitmap.
+// The same, by a validity bitmap.
 fn have_no_bytes_at_unset(
     validity: &[u8],
     offsets: &[u8],
@@ -128,7 +128,7 @@ fn have_no_bytes_at_unset(
     true
 }
 
-/// The slots of a run stand as they are written. Booleans, fixed lists and structs do so only without a null.
+/// Returns whether the slots of a run are already as they are written. Booleans, fixed lists and structs are so only without nulls.
 pub(crate) fn are_slots_as_written(
     data_type: &DataType,
     array: ArrayView<'_>,
@@ -155,7 +155,7 @@ fn is_as_written(data_type: &DataType, run: &SlotRun<'_>) -> bool
     }
 }
 
-/// All slots of runs stand as they are written.
+/// Returns whether all slots of the runs are already as they are written.
 pub(crate) fn are_as_written(data_type: &DataType, runs: &[SlotRun<'_>]) -> bool
     requires { are_runs_sound (plain_column (kind_of data_type.now) None) runs.now ≡ true }
     ensures { result ≡ true → are_runs_as_written (kind_of data_type.now) runs.now ≡ true }

@@ -1,4 +1,4 @@
-// Arrays of columns that are given as runs of slots: bytes of slots stay where they stand or are copied, and no cell is made but of a dictionary's entries.
+// Arrays of columns that are given as runs of slots: bytes of slots stay where they are or are copied; a cell is made only for an entry of a dictionary.
 ghost use Rattle.std.specs.Prelude.{◌≡◌, true, OnOk, IfOk, List, Some, None, is_some, length, map};
 ghost use Rattle.arrow_schema.specs.Column.{columns_of, fixed_lists, structs};
 ghost use Rattle.arrow_schema.specs.View.{kind_of, column_of};
@@ -7,10 +7,11 @@ ghost use Rattle.batch_build.specs.Nodes.{list_kind};
 ghost use Rattle.array_build.specs.inner.Masked.{AddsMasked, masked_kind, masked_parts};
 ghost use Rattle.dictionary_codes.specs.Masks.{IsMask, masked_cells};
 ghost use Rattle.array_build.specs.inner.RunItems.{fixed_column, list_column};
-ghost use Rattle.array_build.specs.inner.Runs.{AddsRuns, AreAsWritten, are_runs_as_written, built_columns, contents_width, fixed_width, offsets_width};
+ghost use Rattle.array_build.specs.inner.Runs.{AddsRuns, AreAsWritten, are_runs_as_written, built_columns, fixed_width, offsets_width};
 ghost use Rattle.columns.specs.Runs.{HaveRuns, are_columns_sound, are_runs_sound, can_build_columns, runs_cells};
 ghost use Rattle.cells.specs.Cell.{Cell};
 ghost use Rattle.columns.specs.Buildable.{can_build, can_build_parts};
+ghost use Rattle.columns.specs.Offsets.{contents_width};
 
 use crate::as_written::are_as_written;
 use crate::entry_arrays::build_entries;
@@ -23,14 +24,14 @@ use crate::run_items::{item_runs, run_list_offsets};
 use crate::run_parts::field_runs;
 use crate::run_slots::push_run_slots;
 use crate::slot_masks::push_masked_slots;
-use crate::widths::{contents_width, offsets_width, value_width};
+use crate::widths::{offsets_width, value_width};
 use arrow_schema::{DataType, DictSpec, Field};
 use batch_build::{BuiltBatch, empty_batch, push_buffer, push_dictionary};
-use columns::{OffsetWidth, SlotRun};
+use columns::{OffsetWidth, SlotRun, contents_width};
 use dictionary_codes::{KnownEntries, count_slots};
 use std::alloc::{AllocError, Global};
 
-// Adds the indices of a column with a dictionary under a mask, and its entries.
+// Adds the indices of a dictionary column under a mask, and its entries.
 fn build_coded_column<'k, 'a: 'k>(
     alloc: Global,
     batch: &mut BuiltBatch<'_>,
@@ -52,7 +53,7 @@ fn build_coded_column<'k, 'a: 'k>(
     push_dictionary(batch, values)
 }
 
-// Lists that stand as they are written.
+// Lists that are already as they are written.
 #[cycle(by_runs)]
 fn build_list_kind<'k, 'a: 'k>(
     alloc: Global,
@@ -87,7 +88,7 @@ fn build_list_kind<'k, 'a: 'k>(
     }
 }
 
-// Lists have a node, a validity bitmap and offsets, and below them the items of all.
+// Lists have a node, a validity bitmap and offsets, followed by the array of all items.
 #[cycle(by_runs)]
 fn build_run_lists<'k, 'a: 'k>(
     alloc: Global,
@@ -106,7 +107,7 @@ fn build_run_lists<'k, 'a: 'k>(
     build_run_column(alloc, batch, entries, item, &items, &[])
 }
 
-// The array of runs that stand as they are written, and all below it, of a type that has offsets.
+// Adds the array of runs that are already as they are written, and its child arrays, for a type with offsets.
 #[cycle(by_runs)]
 fn build_written_kind<'k, 'a: 'k>(
     alloc: Global,
@@ -125,7 +126,7 @@ fn build_written_kind<'k, 'a: 'k>(
     }
 }
 
-// Whether runs under a mask can be copied as they stand.
+// Returns whether runs under a mask can be copied as they are.
 fn are_copied(data_type: &DataType, runs: &[SlotRun<'_>], mask: &[u8]) -> bool
     requires { are_runs_sound (plain_column (kind_of data_type.now) None) runs.now ≡ true }
     ensures mask { result ≡ true → length mask.now ≡ 0 }
@@ -137,7 +138,7 @@ fn are_copied(data_type: &DataType, runs: &[SlotRun<'_>], mask: &[u8]) -> bool
     false
 }
 
-// Lists under a mask, whatever stands below their nulls.
+// Lists under a mask, whatever is below their nulls.
 #[cycle(by_runs)]
 fn build_masked_lists<'k, 'a: 'k>(
     alloc: Global,
@@ -196,7 +197,7 @@ fn build_masked_list_kind<'k, 'a: 'k>(
     }
 }
 
-// The array of runs under a mask, and all below it, of a type that has offsets.
+// Adds the array of runs under a mask, and its child arrays, for a type with offsets.
 #[cycle(by_runs)]
 fn build_offsets_kind<'k, 'a: 'k>(
     alloc: Global,
@@ -221,7 +222,7 @@ fn build_offsets_kind<'k, 'a: 'k>(
     }
 }
 
-// Fixed lists have a node and a validity bitmap, and below them the items of all, which are nulls below a null.
+// Fixed lists have a node and a validity bitmap, followed by the array of all items; the items of a null list are nulls.
 #[cycle(by_runs)]
 fn build_run_fixed_lists<'k, 'a: 'k>(
     alloc: Global,
@@ -244,7 +245,7 @@ fn build_run_fixed_lists<'k, 'a: 'k>(
     build_run_column(alloc, batch, entries, item, &items, &items_mask)
 }
 
-// Structs have a node and a validity bitmap, and below them the same slots of each field, which are nulls below a null.
+// Structs have a node and a validity bitmap, followed by the array of each field with the same slots; the fields of a null struct are nulls.
 #[cycle(by_runs)]
 fn build_run_structs<'k, 'a: 'k>(
     alloc: Global,
@@ -264,7 +265,7 @@ fn build_run_structs<'k, 'a: 'k>(
     build_struct_parts(alloc, batch, entries, fields, runs, &below)
 }
 
-// Adds the arrays of the fields of structs. The runs of a field are let go before those of the next one are made.
+// Adds the arrays of the fields of structs. The runs of a field are dropped before those of the next one are made.
 #[cycle(by_runs)]
 fn build_struct_parts<'k, 'a: 'k>(
     alloc: Global,
@@ -287,7 +288,7 @@ fn build_struct_parts<'k, 'a: 'k>(
     Ok(())
 }
 
-// The array of runs under a mask, and all below it, of a type that has no values of one width and no offsets.
+// Adds the array of runs under a mask, and its child arrays, for a type with neither values of one width nor offsets.
 #[cycle(by_runs)]
 fn build_other_kind<'k, 'a: 'k>(
     alloc: Global,
@@ -321,7 +322,7 @@ fn build_other_kind<'k, 'a: 'k>(
     }
 }
 
-// The same of a type that has no values of one width.
+// The same, for a type without values of one width.
 #[cycle(by_runs)]
 fn build_wide_kind<'k, 'a: 'k>(
     alloc: Global,
@@ -343,7 +344,7 @@ fn build_wide_kind<'k, 'a: 'k>(
     }
 }
 
-// The same of any type.
+// The same, for any type.
 #[cycle(by_runs)]
 fn build_run_kind<'k, 'a: 'k>(
     alloc: Global,
@@ -364,7 +365,7 @@ fn build_run_kind<'k, 'a: 'k>(
     }
 }
 
-// The same of a field.
+// The same, for a field.
 #[cycle(by_runs)]
 fn build_run_column<'k, 'a: 'k>(
     alloc: Global,
@@ -386,7 +387,7 @@ fn build_run_column<'k, 'a: 'k>(
     }
 }
 
-// Adds the arrays of columns, and all below them.
+// Adds the arrays of columns, and their child arrays.
 fn build_run_parts<'k, 'a: 'k>(
     alloc: Global,
     batch: &mut BuiltBatch<'a>,
@@ -405,11 +406,11 @@ fn build_run_parts<'k, 'a: 'k>(
     Ok(())
 }
 
-/// The same of rows whose columns are runs of slots: a buffer of one run stays where it stands, if that is how it is written; else bytes are
-/// copied run by run. No cell is looked at by itself but nulls, and the entries of a dictionary: what is known of these is kept for the next rows.
+/// Makes the batch of rows whose columns are runs of slots. A buffer of a single run stays where it is, if it is already as it is written; else bytes are
+/// copied run by run. Only nulls and entries of dictionaries are handled one by one; what is known of the entries is kept for the next rows.
 ///
 /// # Errors
-/// `AllocError` where memory was refused. The known entries may have grown; each that they have stays right, so that the next rows can be built with them.
+/// `AllocError` if memory was refused. Entries may have been added to the known ones; all of them are correct, so the next rows can be built with them.
 pub fn build_runs<'k, 'a: 'k>(
     alloc: Global,
     entries: &mut KnownEntries<'k>,

@@ -2,7 +2,7 @@
 ghost use Rattle.std.specs.Prelude.{◌≡◌, ◌≤◌, true, OnOk, IfOk, Some, None, length, map};
 ghost use Rattle.std.specs.List.{flat_map};
 ghost use Rattle.array_build.specs.inner.MaskedContents.{with_contents};
-ghost use Rattle.array_build.specs.inner.Runs.{cell_sizes, contents_width};
+ghost use Rattle.array_build.specs.inner.Runs.{cell_sizes};
 ghost use Rattle.arrow_schema.specs.View.{kind_of};
 ghost use Rattle.batch_build.specs.Batch.{batch_in, dictionary_in, plain_column};
 ghost use Rattle.batch_build.specs.Coded.{values_batch};
@@ -10,22 +10,21 @@ ghost use Rattle.batch_build.specs.Nodes.{with_slots};
 ghost use Rattle.cells.specs.Entry.{entry_cell};
 ghost use Rattle.columns.specs.Buildable.{can_build, large_offset};
 ghost use Rattle.columns.specs.Built.{contents_of, offsets_of};
-ghost use Rattle.columns.specs.Offsets.{width_of};
+ghost use Rattle.columns.specs.Offsets.{contents_width, width_of};
 ghost use Rattle.values.specs.Borrowed.{borrowed_cell};
 
 use crate::number_bytes::last_offset;
-use crate::widths::contents_width;
 use arrow_schema::DataType;
 use batch_build::{
     BuiltBatch, BuiltDictionary, build_values, empty_batch, offset_size, push_buffer,
     push_validity, values_of,
 };
 use cells::Entry;
-use columns::{OffsetWidth, push_offset};
+use columns::{OffsetWidth, contents_width, push_offset};
 use std::alloc::{AllocError, Global};
 use values::ValueRef;
 
-// What a text or a binary has: nothing where it is another value.
+// Returns the bytes of a string or binary: none for any other value.
 #[inline]
 fn contents_of<'a>(entry: Entry<'a>) -> &'a [u8]
     ensures { result.now ≡ contents_of (entry_cell entry.entry) }
@@ -37,7 +36,7 @@ fn contents_of<'a>(entry: Entry<'a>) -> &'a [u8]
     }
 }
 
-// The offsets of texts or binaries: 0, and then where each ends.
+// Makes the offsets of strings or binaries: 0, and then the end of each.
 fn entry_offsets(
     alloc: Global,
     width: OffsetWidth,
@@ -60,7 +59,7 @@ fn entry_offsets(
     Ok(offsets)
 }
 
-// The bytes of texts or binaries, one after another, where there is room for so many at once.
+// Makes the bytes of strings or binaries, one after another, in `room` bytes that are allocated at once.
 fn entry_contents(alloc: Global, entries: &[Entry<'_>], room: usize) -> Result<Vec<u8>, AllocError>
     ensures { IfOk result (λ bytes. bytes.items ≡ flat_map contents_of (map entry_cell entries.now)) }
 {
@@ -71,7 +70,7 @@ fn entry_contents(alloc: Global, entries: &[Entry<'_>], room: usize) -> Result<V
     Ok(contents)
 }
 
-// Adds the node, the validity bitmap, which has no byte, the offsets and the bytes of texts or binaries.
+// Adds the node, an empty validity bitmap, the offsets and the bytes of strings or binaries.
 fn push_entry_contents(
     alloc: Global,
     batch: &mut BuiltBatch<'_>,
@@ -89,7 +88,7 @@ fn push_entry_contents(
     push_buffer(batch, entry_contents(alloc, entries, room)?)
 }
 
-// The batch of texts or binaries.
+// Makes the batch of strings or binaries.
 fn build_entry_contents<'a>(
     alloc: Global,
     data_type: &DataType,
@@ -126,7 +125,8 @@ fn cells_of<'a>(alloc: Global, entries: &[Entry<'a>]) -> Result<Vec<ValueRef<'a>
     Ok(cells)
 }
 
-/// The batch of a dictionary's entries, which are of this type. Of texts and binaries no cell is made, which takes over three times the room of an entry.
+/// Makes the batch of a dictionary's entries, which are of this type. Strings and binaries are not made into cells, which take over three times the
+/// memory of an entry.
 pub(crate) fn build_entries<'a>(
     alloc: Global,
     data_type: &DataType,

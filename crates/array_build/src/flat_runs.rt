@@ -1,12 +1,12 @@
-// Arrays of types that have no fields below them, from runs under a mask or such as stand as they are written.
+// Arrays of types without child fields, from runs under a mask or from runs that are already as they are written.
 ghost use Rattle.std.specs.Prelude.{◌≡◌, true, OnOk, Some, None};
 ghost use Rattle.array_build.specs.inner.Masked.{AddsMasked};
 ghost use Rattle.dictionary_codes.specs.Masks.{IsMask};
 ghost use Rattle.arrow_schema.specs.Column.{nulls, booleans};
 ghost use Rattle.arrow_schema.specs.View.{kind_of};
 ghost use Rattle.batch_build.specs.Batch.{plain_column};
-ghost use Rattle.array_build.specs.inner.Runs.{AddsRuns, AreAsWritten, contents_width, fixed_width};
-ghost use Rattle.columns.specs.Offsets.{width_of};
+ghost use Rattle.array_build.specs.inner.Runs.{AddsRuns, AreAsWritten, fixed_width};
+ghost use Rattle.columns.specs.Offsets.{contents_width, width_of};
 ghost use Rattle.columns.specs.Runs.{are_runs_sound};
 
 use crate::run_bits::run_booleans;
@@ -20,7 +20,7 @@ use columns::{OffsetWidth, SlotRun};
 use dictionary_codes::count_slots;
 use std::alloc::{AllocError, Global};
 
-// Nulls have a node alone.
+// Nulls have only a node.
 #[tactic(auto, using(crate::proofs::RunArrays::null_runs_are))]
 pub(crate) fn build_run_nulls(
     batch: &mut BuiltBatch<'_>,
@@ -70,7 +70,7 @@ pub(crate) fn build_run_values<'a>(
     push_any_buffer(batch, masked_values(alloc, data_type, width, runs, mask)?)
 }
 
-/// Texts and binaries.
+/// Strings and binaries.
 pub(crate) fn build_run_contents<'a>(
     alloc: Global,
     batch: &mut BuiltBatch<'a>,

@@ -1,4 +1,4 @@
-// Some items of lists, as slots of the array that they stand in.
+// Items of lists, as slots of the array that they are in.
 ghost use Rattle.std.specs.Prelude.{◌≤◌, ◌+◌};
 ghost use Rattle.array_build.specs.inner.RunItems.{HasSlots};
 ghost use Rattle.columns.specs.Array.{items_in, slots_in};
@@ -6,7 +6,7 @@ ghost use Rattle.columns.specs.View.{view_array};
 
 use columns::{ArrayView, SlotRun};
 
-/// n items of lists or fixed lists, from one on: an array that is neither has no item.
+/// Returns `len` items of lists or fixed lists from item `from` on: an array of another type has none.
 #[tactic(auto, using(crate::proofs::RunItems::item_found, crate::proofs::RunItems::item_absent))]
 pub(crate) fn item_slots<'a>(view: ArrayView<'a>, from: usize, len: usize) -> SlotRun<'a>
     requires { from + len ≤ slots_in (items_in (view_array view)) }

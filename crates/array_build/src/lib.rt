@@ -1,9 +1,9 @@
 //! The batch of columns that are given as runs of slots, without a value for each slot (Arrow columnar format, "RecordBatch message" and
 //! "DictionaryBatch message").
 //!
-//! [`build_runs`] makes the nodes and buffers that `batch_build::build` makes of borrowed rows with the same cells. What stands in the runs as it would be
-//! written is borrowed or copied as bytes; below a null of a struct or of a fixed list, a mask tells which slots are left. What is known of dictionaries is
-//! kept for the next rows (`dictionary_codes::KnownEntries`).
+//! [`build_runs`] makes the same nodes and buffers as `batch_build::build` makes from borrowed rows with the same cells. Buffers that are already as
+//! they are written are borrowed, or copied as bytes; below a null struct or fixed list, a mask says which slots are left. What is known of dictionaries
+//! is kept for the next rows (`dictionary_codes::KnownEntries`).
 #![tactic(auto)]
 
 mod as_written;

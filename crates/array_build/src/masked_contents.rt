@@ -1,18 +1,18 @@
-// Texts and binaries under a mask: a slot whose bit is not set has no bytes, whatever stands there.
+// Strings and binaries under a mask: a slot whose bit is not set has no bytes, whatever the array has there.
 ghost use Rattle.std.specs.Prelude.{◌≡◌, ◌≤◌, ◌<◌, ◌+◌, ◌-◌, ◌*◌, ◌^◌, ◌++◌, ℕ, List, [], false, true, OnOk, IfOk, Some, None, length, if◌then◌else◌};
 ghost use Rattle.std.specs.List.{flat_map};
 ghost use Rattle.batch_build.specs.Batch.{batch_in, plain_column};
 ghost use Rattle.array_build.specs.inner.Masked.{AddsMasked, are_below, masked_kind};
 ghost use Rattle.dictionary_codes.specs.Masks.{IsMask, mask_bits, run_bits};
 ghost use Rattle.array_build.specs.inner.MaskedContents.{AreUnder, masked_sizes, masked_spans, run_under, runs_under, with_contents};
-ghost use Rattle.array_build.specs.inner.Runs.{AreOffsetsAdded, cell_sizes, contents_width, span_contents};
+ghost use Rattle.array_build.specs.inner.Runs.{AreOffsetsAdded, cell_sizes, span_contents};
 ghost use Rattle.arrow_schema.specs.View.{kind_of};
 ghost use Rattle.bitmap.specs.Bits.{bit};
 ghost use Rattle.columns.specs.Array.{slots_in, contents_in};
 ghost use Rattle.columns.specs.Buildable.{can_build, large_offset};
 ghost use Rattle.columns.specs.Built.{contents_of, offsets_of};
 ghost use Rattle.columns.specs.CellAt.{number_at};
-ghost use Rattle.columns.specs.Offsets.{width_of};
+ghost use Rattle.columns.specs.Offsets.{contents_width, width_of};
 ghost use Rattle.columns.specs.Runs.{are_runs_sound, is_run_sound};
 ghost use Rattle.columns.specs.Tests.{are_few_offsets, are_unordered};
 ghost use Rattle.columns.specs.View.{view_array};
@@ -29,7 +29,7 @@ use columns::{ArrayView, OffsetWidth, SlotRun, push_offset};
 use dictionary_codes::{count_slots, run_len};
 use std::alloc::{AllocError, Global};
 
-// The offsets at which the bytes of a run begin, by the bits of a mask from one on; and where its last end.
+// Appends the offsets at which the strings or binaries of a run begin, under the mask bits from `at` on; returns the end of the last.
 fn push_run_offsets(
     offsets: &mut Vec<u8>,
     data_type: &DataType,
@@ -60,7 +60,7 @@ fn push_run_offsets(
     }
 }
 
-// The offsets of texts or binaries under a mask: 0, and then where each ends.
+// Makes the offsets of strings or binaries under a mask: 0, and then the end of each.
 fn masked_offsets(
     alloc: Global,
     data_type: &DataType,
@@ -86,7 +86,7 @@ fn masked_offsets(
     Ok(offsets)
 }
 
-// The bytes of some slots, if they are to be there.
+// Appends the bytes of some slots if `is_there`.
 fn push_span(
     contents: &mut Vec<u8>,
     array: ArrayView<'_>,
@@ -106,7 +106,7 @@ fn push_span(
     Ok(())
 }
 
-// The bytes of some slots by the bits of a mask from one on up to another: those of bits that are set in a row are copied at once.
+// Appends the bytes of some slots under the mask bits from `at` up to `to`: those of consecutive set bits are copied at once.
 fn push_slot_contents(
     contents: &mut Vec<u8>,
     array: ArrayView<'_>,
@@ -124,7 +124,7 @@ fn push_slot_contents(
     ensures { OnOk result (contents.new.items ≡ contents.old.items
         ++ masked_spans (width_of width) (view_array array.entry) from (mask_bits mask.now at (to - at))) }
 {
-    // a number of the code is below 2^64, so that each place is too
+    // For the proof: the number is below 2^64, so that each index is too.
     let _slots = array.slots();
     let mut i = at;
     while i < to {
@@ -142,7 +142,7 @@ fn push_slot_contents(
     Ok(())
 }
 
-// The bytes of a run by the bits of a mask from one on.
+// Appends the bytes of a run under the mask bits from `at` on.
 fn push_run_contents(
     contents: &mut Vec<u8>,
     data_type: &DataType,
@@ -166,7 +166,7 @@ fn push_run_contents(
     }
 }
 
-// The bytes of texts or binaries under a mask, one after another, where there is room for so many at once.
+// Makes the bytes of strings or binaries under a mask, one after another, in `room` bytes that are allocated at once.
 fn masked_contents(
     alloc: Global,
     data_type: &DataType,
@@ -179,7 +179,7 @@ fn masked_contents(
     requires under { AreUnder (kind_of data_type.now) mask.now runs.now }
     ensures { IfOk result (λ bytes. bytes.items ≡ flat_map contents_of (runs_under (kind_of data_type.now) mask.now 0 runs.now)) }
 {
-    // as many slots as a number counts, so that each place is below 2^64
+    // For the proof: the number of slots is below 2^64, so that each index is too.
     let _slots = count_slots(runs)?;
     let mut contents = Vec::with_capacity(alloc, room)?;
     let mut at = 0;
@@ -190,7 +190,7 @@ fn masked_contents(
     Ok(contents)
 }
 
-// Adds the offsets and the bytes of texts or binaries under a mask.
+// Adds the offsets and the bytes of strings or binaries under a mask.
 fn push_masked_contents(
     alloc: Global,
     batch: &mut BuiltBatch<'_>,
@@ -211,7 +211,7 @@ fn push_masked_contents(
     push_buffer(batch, contents)
 }
 
-/// Adds the array of texts or binaries under a mask, whatever stands below their nulls.
+/// Adds the array of strings or binaries under a mask, whatever is below their nulls.
 pub(crate) fn build_masked_contents<'a>(
     alloc: Global,
     batch: &mut BuiltBatch<'a>,

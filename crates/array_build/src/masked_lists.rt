@@ -1,4 +1,4 @@
-// Lists under a mask: a slot whose bit is not set has no items, whatever stands there. Items that stand in a row are one run.
+// Lists under a mask: a slot whose bit is not set has no items, whatever the array has there. Consecutive items are one run.
 ghost use Rattle.std.specs.Prelude.{◌≡◌, ◌≤◌, ◌<◌, ◌+◌, ◌-◌, ◌*◌, ◌^◌, ◌++◌, [], true, OnOk, IfOk, length, get_or, if◌then◌else◌};
 ghost use Rattle.std.specs.List.{flat_map, list_all, range_with_len};
 ghost use Rattle.batch_build.specs.Batch.{batch_in};
@@ -33,7 +33,7 @@ use columns::{ArrayView, OffsetWidth, SlotRun, Span, push_offset};
 use dictionary_codes::{count_slots, run_len};
 use std::alloc::{AllocError, Global};
 
-// The offsets at which the items of a run begin, by the bits of a mask from one on; and where the last end.
+// Appends the offsets at which the items of a run's lists begin, under the mask bits from `at` on; returns the end of the last.
 fn push_masked_offsets(
     offsets: &mut Vec<u8>,
     item: &Field,
@@ -64,7 +64,7 @@ fn push_masked_offsets(
     }
 }
 
-// The offsets of lists under a mask: 0, and then where the items of each end.
+// Makes the offsets of lists under a mask: 0, and then the end of the items of each.
 fn masked_list_offsets(
     alloc: Global,
     item: &Field,
@@ -89,7 +89,7 @@ fn masked_list_offsets(
     Ok(offsets)
 }
 
-// Adds some items of an array, if there are any.
+// Appends items of an array, if there are any.
 fn push_items<'a>(
     items: &mut Vec<SlotRun<'a>>,
     item: &Field,
@@ -111,7 +111,7 @@ fn push_items<'a>(
     Ok(())
 }
 
-// Adds some items of an array, and keeps others back, which stand behind them: if these stand in a row with them, all are kept back.
+// Appends items of an array, and returns the later ones that are not appended yet: if these follow directly, nothing is appended, and all are returned.
 fn join_items<'a>(
     items: &mut Vec<SlotRun<'a>>,
     item: &Field,
@@ -131,7 +131,7 @@ fn join_items<'a>(
         runs_cells (column_of item.now) items.new.items ++ cells_from own span.start span.len
         ≡ (runs_cells (column_of item.now) items.old.items ++ cells_from own start len) ++ cells_from own from count) }
 {
-    // a number of the code is below 2^64, so that each place is too
+    // For the proof: the number is below 2^64, so that each index is too.
     let _items = array.item_slots();
     let end = start + len;
     if from == end {
@@ -147,7 +147,7 @@ fn join_items<'a>(
     })
 }
 
-// The same with the items of lists whose bits are all set, or with none.
+// The same, with the items of lists whose bits are all set, or with none.
 fn push_stretch<'a>(
     items: &mut Vec<SlotRun<'a>>,
     item: &Field,
@@ -179,7 +179,7 @@ fn push_stretch<'a>(
     join_items(items, item, array, start, len, span.start, span.len)
 }
 
-// Adds the items of some lists by the bits of a mask from one on up to another.
+// Appends the items of some lists under the mask bits from `at` up to `to`.
 fn push_slot_items<'a>(
     items: &mut Vec<SlotRun<'a>>,
     item: &Field,
@@ -200,7 +200,7 @@ fn push_slot_items<'a>(
     ensures cells { OnOk result (runs_cells (column_of item.now) items.new.items ≡ runs_cells (column_of item.now) items.old.items
         ++ lists_under (cell_at (list_column width (column_of item.now)) (view_array array.entry)) mask.now from at (to - at)) }
 {
-    // a number of the code is below 2^64, so that each place is too
+    // For the proof: the number is below 2^64, so that each index is too.
     let _slots = array.slots();
     let mut start = 0;
     let mut len = 0;
@@ -225,7 +225,7 @@ fn push_slot_items<'a>(
     push_items(items, item, array, start, len)
 }
 
-// Adds the items of a run by the bits of a mask from one on.
+// Appends the items of a run under the mask bits from `at` on.
 fn push_run_items<'a>(
     items: &mut Vec<SlotRun<'a>>,
     item: &Field,
@@ -251,7 +251,7 @@ fn push_run_items<'a>(
     }
 }
 
-// The items of lists under a mask, one after another.
+// Makes the runs of the items of lists under a mask, in order.
 fn masked_items<'a>(
     alloc: Global,
     item: &Field,
@@ -264,7 +264,7 @@ fn masked_items<'a>(
         ≡ flat_map item_list (runs_under (list_kind width (column_of item.now)) mask.now 0 runs.now)) }
     ensures sound { IfOk result (λ items. are_runs_sound (column_of item.now) items.items ≡ true) }
 {
-    // as many slots as a number counts, so that each place is below 2^64
+    // For the proof: the number of slots is below 2^64, so that each index is too.
     let _slots = count_slots(runs)?;
     let mut items = Vec::new(alloc);
     let mut at = 0;
@@ -275,7 +275,7 @@ fn masked_items<'a>(
     Ok(items)
 }
 
-/// Adds the node, the validity bitmap and the offsets of lists under a mask, whatever stands below their nulls, and gives the runs of their items.
+/// Adds the node, the validity bitmap and the offsets of lists under a mask, whatever is below their nulls, and returns the runs of their items.
 pub(crate) fn push_masked_lists<'a>(
     alloc: Global,
     batch: &mut BuiltBatch<'_>,

@@ -1,4 +1,4 @@
-// Little-endian numbers, written over what stands there.
+// Little-endian numbers, written over existing bytes.
 ghost use Rattle.std.specs.Prelude.{◌≡◌, ◌≤◌, ◌+◌, ◌++◌, ◌*◌, drop, length, take};
 ghost use Rattle.byteorder.specs.Endian.{little_bytes};
 ghost use Rattle.columns.specs.Offsets.{width_of};
@@ -7,7 +7,7 @@ use byteorder::{ByteOrder, LittleEndian};
 use columns::OffsetWidth;
 use dictionary_codes::put_number;
 
-/// Writes an offset over the one at a place.
+/// Writes an offset over the one at an index.
 #[inline]
 pub(crate) fn put_offset(offsets: &mut [u8], width: OffsetWidth, place: usize, offset: u64)
     requires { width_of width * place + width_of width ≤ length offsets.old }
@@ -20,7 +20,7 @@ pub(crate) fn put_offset(offsets: &mut [u8], width: OffsetWidth, place: usize, o
     }
 }
 
-/// The last of some offsets, or 0 where there is none: how many bytes stand before it, for which room is reserved.
+/// Returns the last of some offsets, or 0 if there is none: it is the number of bytes to allocate.
 pub(crate) fn last_offset(offsets: &[u8], width: OffsetWidth) -> usize {
     let len = offsets.len();
     match width {

@@ -15,7 +15,7 @@ use columns::SlotRun;
 use dictionary_codes::count_slots;
 use std::alloc::{AllocError, Global};
 
-// The values of a run of booleans, whatever stands below nulls.
+// Appends the values of a run of booleans, whatever is below nulls.
 #[tactic(auto, using(crate::proofs::RunBits::no_values))]
 fn push_run(bits: &mut MaskBuilder, run: &SlotRun<'_>) -> Result<(), AllocError>
     requires { is_run_sound (plain_column booleans None) run.now ≡ true }
@@ -30,7 +30,7 @@ fn push_run(bits: &mut MaskBuilder, run: &SlotRun<'_>) -> Result<(), AllocError>
     }
 }
 
-// The same, a flag for each slot.
+// The same, as a `bool` for each slot.
 #[tactic(auto, using(crate::proofs::RunBits::no_values))]
 fn push_flags(flags: &mut Vec<bool>, run: &SlotRun<'_>) -> Result<(), AllocError>
     requires { is_run_sound (plain_column booleans None) run.now ≡ true }
@@ -42,7 +42,7 @@ fn push_flags(flags: &mut Vec<bool>, run: &SlotRun<'_>) -> Result<(), AllocError
     }
 }
 
-// A flag for each slot of runs, of which there are about n.
+// Makes a `bool` for each slot of the runs, which have about `slots` slots.
 fn boolean_flags(alloc: Global, slots: usize, runs: &[SlotRun<'_>]) -> Result<Vec<bool>, AllocError>
     requires { are_runs_sound (plain_column booleans None) runs.now ≡ true }
     ensures { IfOk result (λ flags. flags.items ≡ runs_values runs.now) }
@@ -54,7 +54,7 @@ fn boolean_flags(alloc: Global, slots: usize, runs: &[SlotRun<'_>]) -> Result<Ve
     Ok(flags)
 }
 
-// A bit for each of the n slots of runs, whatever stands below nulls.
+// Makes a bit for each slot of the runs, whatever is below nulls.
 fn written_booleans(
     alloc: Global,
     slots: usize,
@@ -73,7 +73,7 @@ fn written_booleans(
     Ok(bits.into_mask())
 }
 
-/// A bit for each slot under a mask, set where it is the boolean true.
+/// Makes a bit for each slot under a mask, which is set if the slot is the boolean true.
 pub(crate) fn run_booleans(
     alloc: Global,
     runs: &[SlotRun<'_>],

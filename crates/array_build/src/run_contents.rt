@@ -1,16 +1,16 @@
-// The bytes of texts and binaries, and where they end, of runs that stand as they are written.
+// The bytes and offsets of strings and binaries, for runs that are already as they are written.
 ghost use Rattle.std.specs.Prelude.{◌≡◌, ◌≤◌, ◌+◌, ◌++◌, false, true, OnOk, IfOk, Some, None, length, replicate};
 ghost use Rattle.std.specs.List.{flat_map};
 ghost use Rattle.batch_build.specs.Batch.{batch_in, buffer_bytes, plain_column};
 ghost use Rattle.array_build.specs.inner.MaskedContents.{with_contents};
-ghost use Rattle.array_build.specs.inner.Runs.{AreAsWritten, AreOffsetsAdded, cell_sizes, contents_width, is_run_as_written, kind_cells, span_contents};
+ghost use Rattle.array_build.specs.inner.Runs.{AreAsWritten, AreOffsetsAdded, cell_sizes, is_run_as_written, kind_cells, span_contents};
 ghost use Rattle.columns.specs.Runs.{is_run_sound, run_cells};
 ghost use Rattle.columns.specs.declared.slot_runs.SlotRun.TheVariants.{Slots};
 ghost use Rattle.arrow_schema.specs.View.{kind_of};
 ghost use Rattle.columns.specs.Array.{slots_in};
 ghost use Rattle.columns.specs.Buildable.{large_offset};
 ghost use Rattle.columns.specs.Built.{contents_of, offsets_of};
-ghost use Rattle.columns.specs.Offsets.{width_of};
+ghost use Rattle.columns.specs.Offsets.{contents_width, width_of};
 ghost use Rattle.columns.specs.Tests.{are_few_offsets};
 ghost use Rattle.columns.specs.View.{view_array};
 
@@ -23,7 +23,7 @@ use columns::{ArrayView, OffsetWidth, SlotRun, bytes_at, push_offset};
 use dictionary_codes::count_slots;
 use std::alloc::{AllocError, Global};
 
-/// The bytes of some slots' texts or binaries.
+/// Returns the bytes of the strings or binaries of some slots.
 pub(crate) fn slot_contents<'a>(
     array: ArrayView<'a>,
     width: OffsetWidth,
@@ -40,7 +40,7 @@ pub(crate) fn slot_contents<'a>(
     bytes_at(array.contents(), array.spanned(width, from, len))
 }
 
-// The bytes of the slots of a run.
+// Returns the bytes of the slots of a run.
 fn run_slice<'a>(
     data_type: &DataType,
     width: OffsetWidth,
@@ -56,7 +56,7 @@ fn run_slice<'a>(
     slot_contents(array, width, from, len)
 }
 
-// The bytes of a run.
+// Appends the bytes of a run.
 #[tactic(auto, using(crate::proofs::RunContents::no_contents))]
 fn push_contents(
     contents: &mut Vec<u8>,
@@ -79,7 +79,7 @@ fn push_contents(
     }
 }
 
-// The bytes of all texts or binaries, copied, where there is room for so many at once.
+// Copies the bytes of all strings or binaries into `room` bytes that are allocated at once.
 fn copied_contents(
     alloc: Global,
     data_type: &DataType,
@@ -98,7 +98,7 @@ fn copied_contents(
     Ok(contents)
 }
 
-// The bytes of all texts or binaries, one after another; a null has none. They are where they stand, if the slots of one run are all.
+// Returns the bytes of all strings or binaries, one after another; a null has none. They are borrowed if there is only one run, of slots.
 fn run_contents<'a>(
     alloc: Global,
     data_type: &DataType,
@@ -116,7 +116,7 @@ fn run_contents<'a>(
     Ok(Buffer::Made(copied_contents(alloc, data_type, width, runs, room)?))
 }
 
-/// The same offset for each of some nulls.
+/// Appends the same offset for each of `count` nulls.
 pub(crate) fn push_null_offsets(
     offsets: &mut Vec<u8>,
     width: OffsetWidth,
@@ -131,7 +131,7 @@ pub(crate) fn push_null_offsets(
     Ok(())
 }
 
-// The offsets at which the bytes of a run begin; and where its last end.
+// Appends the offsets at which the strings or binaries of a run begin; returns the end of the last.
 fn push_run_offsets(
     offsets: &mut Vec<u8>,
     data_type: &DataType,
@@ -158,7 +158,7 @@ fn push_run_offsets(
     }
 }
 
-// The offsets of texts or binaries: 0, and then where each ends.
+// Makes the offsets of strings or binaries: 0, and then the end of each.
 fn run_offsets(
     alloc: Global,
     data_type: &DataType,
@@ -181,7 +181,7 @@ fn run_offsets(
     Ok(offsets)
 }
 
-/// Adds the offsets and the bytes of texts or binaries.
+/// Adds the offsets and the bytes of strings or binaries.
 pub(crate) fn push_written_contents<'a>(
     alloc: Global,
     batch: &mut BuiltBatch<'a>,

@@ -1,4 +1,4 @@
-// The items of lists of one size, whatever stands below nulls, and the mask of these items.
+// The items of fixed-size lists, whatever is below nulls, and the mask of these items.
 ghost use Rattle.std.specs.Prelude.{◌≡◌, ◌≤◌, ◌<◌, ◌-◌, ◌*◌, ◌++◌, true, IfOk, length, replicate};
 ghost use Rattle.std.specs.List.{flat_map};
 ghost use Rattle.std.specs.Simd.Lanes.{mask_l};
@@ -15,7 +15,7 @@ use bitmap::{MaskBuilder, get, packed_reads_back};
 use columns::SlotRun;
 use std::alloc::{AllocError, Global};
 
-// The items of a run: as many nulls below a null. More than a number counts have no room in memory.
+// Returns the items of a run: a null has `size` nulls. 2^64 items or more are refused, since no memory has room for them.
 #[tactic(auto, using(crate::proofs::RunFixedItems::fixed_of_nulls))]
 fn fixed_item_run<'a>(
     item: &Field,
@@ -27,7 +27,7 @@ fn fixed_item_run<'a>(
 {
     match run {
         SlotRun::Slots { array, from, len } => {
-            // a number of the code is below 2^64, so that the products are too
+            // For the proof: the number is below 2^64, so that the products are too.
             let _most = array.item_slots();
             let start = *from * size;
             let count = *len * size;
@@ -40,7 +40,7 @@ fn fixed_item_run<'a>(
     }
 }
 
-/// The items of lists of one size, one after another, whatever stands below nulls.
+/// Makes the runs of the items of fixed-size lists, in order, whatever is below nulls.
 pub(crate) fn fixed_item_runs<'a>(
     alloc: Global,
     item: &Field,
@@ -58,7 +58,7 @@ pub(crate) fn fixed_item_runs<'a>(
     Ok(items)
 }
 
-// A bit so many times, as a number.
+// Returns a bit, repeated, as a number.
 fn alike_word(set: bool, size: usize) -> u64
     requires { size ≤ 32 }
     ensures { result ≡ mask_l (replicate size set) }
@@ -66,7 +66,7 @@ fn alike_word(set: bool, size: usize) -> u64
     if set { (1 << size) - 1 } else { 0 }
 }
 
-// Some bits of a mask, each so many times, as a number.
+// Returns some bits of a mask, each repeated, as a number.
 fn repeated_word(mask: &[u8], from: usize, to: usize, size: usize) -> u64
     requires within { to ≤ 8 * length mask.now }
     requires order { from ≤ to }
@@ -81,7 +81,7 @@ fn repeated_word(mask: &[u8], from: usize, to: usize, size: usize) -> u64
     word
 }
 
-// Adds the next bits of a mask, each so many times, of one slot or as many as there is room for in a number. Gives where the others begin.
+// Appends the next bits of a mask, each repeated: those of one slot, or of all slots that fit into a number. Returns the index of the next bit.
 fn push_repeated(
     bits: &mut MaskBuilder,
     mask: &[u8],
@@ -105,7 +105,7 @@ fn push_repeated(
     Ok(next)
 }
 
-// Each of n bits of a mask, so many times.
+// Makes a mask with each of the bits of a mask repeated.
 fn repeated_bits(
     alloc: Global,
     mask: &[u8],
@@ -124,7 +124,7 @@ fn repeated_bits(
     Ok(bits.into_mask())
 }
 
-// The same of a mask that may have no byte.
+// The same, for a mask that may be empty.
 fn repeated_mask(
     alloc: Global,
     mask: &[u8],
@@ -143,7 +143,7 @@ fn repeated_mask(
     repeated_bits(alloc, mask, slots, size)
 }
 
-/// The mask of the items of lists of one size: each bit of the mask of the lists, so many times.
+/// Makes the mask of the items of fixed-size lists: each bit of the mask of the lists, repeated for each of its items.
 pub(crate) fn item_mask(
     alloc: Global,
     mask: &[u8],

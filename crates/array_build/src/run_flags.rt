@@ -1,4 +1,4 @@
-// A `bool` for each slot of runs that have few slots each: many are packed at once, where each run of bits would cost a call.
+// A `bool` for each slot of runs that have few slots each: many are packed at once, since adding bits run by run costs a call for each.
 ghost use Rattle.std.specs.Prelude.{◌≡◌, ◌≤◌, ◌+◌, ◌-◌, ◌*◌, ◌++◌, false, true, OnOk, IfOk, length, map, replicate};
 ghost use Rattle.std.specs.List.{list_all, range_with_len};
 ghost use Rattle.dictionary_codes.specs.Masks.{run_bits, runs_bits};
@@ -13,15 +13,15 @@ use bitmap::get;
 use columns::{ArrayView, SlotRun};
 use std::alloc::{AllocError, Global};
 
-// Runs that have no more slots than this, one with another, are short.
+// Runs that have no more slots than this, on average, are short.
 const SHORT_RUN: usize = 16;
 
-/// Whether n slots are in short runs.
+/// Returns whether the slots are in short runs.
 pub(crate) fn are_short(slots: usize, runs: &[SlotRun<'_>]) -> bool {
     slots / SHORT_RUN < runs.len()
 }
 
-/// The same n times.
+/// Appends the same value `count` times.
 pub(crate) fn push_alike(flags: &mut Vec<bool>, count: usize, flag: bool) -> Result<(), AllocError>
     ensures { OnOk result (flags.new.items ≡ flags.old.items ++ replicate count flag) }
 {
@@ -32,7 +32,7 @@ pub(crate) fn push_alike(flags: &mut Vec<bool>, count: usize, flag: bool) -> Res
     Ok(())
 }
 
-// Whether each of some bits is set.
+// Appends whether each of some bits is set.
 fn push_bits(flags: &mut Vec<bool>, bits: &[u8], from: usize, to: usize) -> Result<(), AllocError>
     requires order { from ≤ to }
     requires within { to ≤ 8 * length bits.now }
@@ -45,7 +45,7 @@ fn push_bits(flags: &mut Vec<bool>, bits: &[u8], from: usize, to: usize) -> Resu
     Ok(())
 }
 
-// Whether each of some slots is valid.
+// Appends whether each of some slots is valid.
 fn push_slots(
     flags: &mut Vec<bool>,
     array: ArrayView<'_>,
@@ -60,7 +60,7 @@ fn push_slots(
     if validity.is_empty() {
         return push_alike(flags, len, true);
     }
-    // a number of the code is below 2^64, so that the sum is too
+    // For the proof: the number is below 2^64, so that the sum is too.
     let _slots = array.slots();
     push_bits(flags, validity, from, from + len)
 }
@@ -75,7 +75,7 @@ fn push_run(flags: &mut Vec<bool>, run: &SlotRun<'_>) -> Result<(), AllocError>
     }
 }
 
-/// Whether each slot of runs is valid, of which there are about n.
+/// Makes a `bool` for each slot of the runs, which have about `slots` slots: whether it is valid.
 pub(crate) fn run_flags(
     alloc: Global,
     slots: usize,
@@ -91,7 +91,7 @@ pub(crate) fn run_flags(
     Ok(flags)
 }
 
-/// Whether each of some bits of booleans is set.
+/// Appends whether the value of each of some slots of booleans is set.
 pub(crate) fn push_booleans(
     flags: &mut Vec<bool>,
     array: ArrayView<'_>,
@@ -102,7 +102,7 @@ pub(crate) fn push_booleans(
     requires long { from + len ≤ 8 * length (bits_in (view_array array)) }
     ensures { OnOk result (flags.new.items ≡ flags.old.items ++ map (bit (bits_in (view_array array.entry))) (range_with_len from len)) }
 {
-    // a number of the code is below 2^64, so that the sum is too
+    // For the proof: the number is below 2^64, so that the sum is too.
     let _slots = array.slots();
     push_bits(flags, array.bits(), from, from + len)
 }

@@ -1,4 +1,4 @@
-// The node and the indices of runs of slots of a column with a dictionary.
+// The node and the indices of runs of slots of a dictionary column.
 ghost use Rattle.std.specs.Prelude.{◌≡◌, true, OnOk, IfOk, Some, map};
 ghost use Rattle.std.specs.List.{list_all};
 ghost use Rattle.arrow_schema.specs.View.{column_of, index_of};
@@ -18,7 +18,7 @@ use columns::SlotRun;
 use dictionary_codes::{KnownEntries, codes_of_runs};
 use std::alloc::{AllocError, Global};
 
-/// Adds the node, the validity bitmap and the indices of the cells of runs under a mask, and gives the entries that they name.
+/// Adds the node, the validity bitmap and the indices of the cells of runs under a mask, and returns the entries that they name.
 pub(crate) fn push_run_indices<'a>(
     alloc: Global,
     batch: &mut BuiltBatch<'_>,

@@ -1,4 +1,4 @@
-// The items of lists, and where they end, of runs that stand as they are written.
+// The items and offsets of lists, for runs that are already as they are written.
 ghost use Rattle.std.specs.Prelude.{◌≡◌, ◌≤◌, ◌+◌, true, IfOk, length};
 ghost use Rattle.std.specs.List.{flat_map};
 ghost use Rattle.batch_build.specs.Nodes.{list_kind};
@@ -20,7 +20,7 @@ use columns::{OffsetWidth, SlotRun, push_offset};
 use dictionary_codes::count_slots;
 use std::alloc::{AllocError, Global};
 
-// The offsets at which the items of a run begin, where the first begin at `start`; and where the last end.
+// Appends the offsets at which the items of a run's lists begin, the first at `start`; returns the end of the last.
 fn push_list_offsets(
     offsets: &mut Vec<u8>,
     item: &Field,
@@ -46,7 +46,7 @@ fn push_list_offsets(
     }
 }
 
-/// The offsets of lists: 0, and then where the items of each end.
+/// Makes the offsets of lists: 0, and then the end of the items of each.
 pub(crate) fn run_list_offsets(
     alloc: Global,
     item: &Field,
@@ -68,7 +68,7 @@ pub(crate) fn run_list_offsets(
     Ok(offsets)
 }
 
-// The items of a run, which are one span: a null has none.
+// Returns the items of a run, which are consecutive: a null has none.
 fn item_run<'a>(item: &Field, width: OffsetWidth, run: &SlotRun<'a>) -> SlotRun<'a>
     requires sound { is_run_sound (list_column width (column_of item.now)) run.now ≡ true }
     requires written { is_run_as_written (list_kind width (column_of item.now)) run.now ≡ true }
@@ -86,7 +86,7 @@ fn item_run<'a>(item: &Field, width: OffsetWidth, run: &SlotRun<'a>) -> SlotRun<
     }
 }
 
-/// The items of lists, one after another; a null has none.
+/// Makes the runs of the items of lists, in order; a null has none.
 pub(crate) fn item_runs<'a>(
     alloc: Global,
     item: &Field,

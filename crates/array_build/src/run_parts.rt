@@ -11,7 +11,7 @@ use columns::{ArrayView, SlotRun};
 use dictionary_codes::count_slots;
 use std::alloc::{AllocError, Global};
 
-// The slots that the field at a place has of some structs: below a null there is a null, and structs without an array for it have no slot.
+// Returns the slots that the field at an index has for some structs: a null struct has a null, and structs without an array for the field have no slot.
 fn part_run<'a>(run: &SlotRun<'a>, place: usize) -> SlotRun<'a>
     ensures { IsPartOf place run.now result }
 {
@@ -32,7 +32,7 @@ fn part_run<'a>(run: &SlotRun<'a>, place: usize) -> SlotRun<'a>
     }
 }
 
-// The runs of the slots that the field at a place has below structs, whatever its type.
+// Makes the runs of the slots that the field at an index has below structs, whatever its type.
 fn runs_at<'a>(
     alloc: Global,
     runs: &[SlotRun<'a>],
@@ -54,7 +54,7 @@ fn has_nulls_alone(field: &Field) -> bool
     matches!(field.data_type, DataType::Null) && field.dictionary.is_none()
 }
 
-// As many nulls as runs have slots.
+// Makes one run with a null for each slot of the runs.
 fn as_nulls<'a>(alloc: Global, runs: &[SlotRun<'_>]) -> Result<Vec<SlotRun<'a>>, AllocError>
     ensures { IfOk result (λ parts. parts.items ≡ Nulls (length (runs_bits runs.now)) ∷ []) }
 {
@@ -64,7 +64,7 @@ fn as_nulls<'a>(alloc: Global, runs: &[SlotRun<'_>]) -> Result<Vec<SlotRun<'a>>,
     Ok(parts)
 }
 
-/// The runs of the slots that a field, which stands at a place, has below structs. Nulls have no bytes: all of them are one run.
+/// Makes the runs of the slots that a field, which is at an index, has below structs. The slots of a null-typed field have no bytes, and are one run.
 pub(crate) fn field_runs<'a>(
     alloc: Global,
     field: &Field,

@@ -18,7 +18,7 @@ use columns::{ArrayView, SlotRun};
 use dictionary_codes::count_slots;
 use std::alloc::{AllocError, Global};
 
-/// The run, where there is no other.
+/// Returns the run, if there is only one.
 pub(crate) fn only_run<'a>(runs: &[SlotRun<'a>]) -> Option<SlotRun<'a>>
     ensures { IfSome result (λ run. runs.now ≡ run ∷ []) }
 {
@@ -28,7 +28,7 @@ pub(crate) fn only_run<'a>(runs: &[SlotRun<'a>]) -> Option<SlotRun<'a>>
     }
 }
 
-/// Whether each of some slots is valid.
+/// Returns whether all of some slots are valid.
 pub(crate) fn are_all_valid(array: ArrayView<'_>, from: usize, len: usize) -> bool
     requires long { has_short_validity (view_array array) ≡ false }
     requires within { from + len ≤ slots_in (view_array array) }
@@ -60,7 +60,7 @@ fn has_no_null(run: &SlotRun<'_>) -> bool
     }
 }
 
-// Whether there is no null.
+// Returns whether there is no null.
 fn have_no_null(runs: &[SlotRun<'_>]) -> bool
     requires { list_all has_validity runs.now ≡ true }
     ensures { result ≡ list_all (λ b. b) (runs_bits runs.now) }
@@ -73,7 +73,7 @@ fn have_no_null(runs: &[SlotRun<'_>]) -> bool
     true
 }
 
-// A bit for each of some slots, set where it is valid.
+// Appends a bit for each of some slots, which is set if the slot is valid.
 fn push_slot_bits(
     bits: &mut MaskBuilder,
     array: ArrayView<'_>,
@@ -102,7 +102,7 @@ fn push_run_bits(bits: &mut MaskBuilder, run: &SlotRun<'_>) -> Result<(), AllocE
     }
 }
 
-/// The validity bitmap of runs that have n slots.
+/// Makes the validity bitmap of runs.
 pub(crate) fn run_validity(
     alloc: Global,
     slots: usize,
@@ -126,7 +126,7 @@ pub(crate) fn run_validity(
     Ok(bits.into_mask())
 }
 
-/// Adds the node and the validity bitmap of runs of any type but that of nulls.
+/// Adds the node and the validity bitmap of runs of any type except nulls.
 pub(crate) fn push_run_slots(
     alloc: Global,
     batch: &mut BuiltBatch<'_>,
@@ -140,7 +140,7 @@ pub(crate) fn push_run_slots(
     push_validity(batch, slots, validity)
 }
 
-// Whether all bits are set: each is looked at, which compiles to a loop over many at once.
+// Returns whether all bits are set: each byte is tested, without an early return, so that the loop compiles to one over many bytes at once.
 fn are_all_set(bits: &[bool]) -> bool
     ensures { result ≡ list_all (λ b. b) bits.now }
 {
@@ -151,7 +151,7 @@ fn are_all_set(bits: &[bool]) -> bool
     all
 }
 
-// The validity bitmap of slots that are valid where their bit is set.
+// Makes the validity bitmap of slots that are valid if their bit is set.
 fn bits_validity(alloc: Global, bits: &[bool]) -> Result<Vec<u8>, AllocError>
     ensures bits { IfOk result (λ bytes. bytes.items ≡ bitmap_of bits.now) }
     ensures long { IfOk result (λ bytes. (length bytes.items == 0 || nat_le (length bits.now) (8 * length bytes.items)) ≡ true) }
@@ -162,7 +162,7 @@ fn bits_validity(alloc: Global, bits: &[bool]) -> Result<Vec<u8>, AllocError>
     pack(alloc, bits)
 }
 
-/// The same of slots that are valid where their bit is set.
+/// The same, for slots that are valid if their bit is set.
 pub(crate) fn push_bit_slots(
     alloc: Global,
     batch: &mut BuiltBatch<'_>,

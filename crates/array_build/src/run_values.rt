@@ -24,21 +24,21 @@ use columns::{ArrayView, SlotRun};
 use dictionary_codes::{count_slots, put_number};
 use std::alloc::{AllocError, Global};
 
-// The values of some slots of an array.
+// Returns the values of some slots of an array.
 fn slot_values<'a>(array: ArrayView<'a>, width: usize, from: usize, len: usize) -> &'a [u8]
     requires long { (from + len) * width ≤ length (values_in (view_array array)) }
     requires within { from + len ≤ slots_in (view_array array) }
     ensures values { result.now ≡ take (len * width) (drop (from * width) (values_in (view_array array.entry))) }
     ensures bytes { AreBytes (values_in (view_array array.entry)) }
 {
-    // a number of the code is below 2^64, so that the sum is too
+    // For the proof: the number is below 2^64, so that the sum is too.
     let _slots = array.slots();
     let values = array.values();
     are_bytes(values);
     &values[from * width..(from + len) * width]
 }
 
-// The values of the slots of a run.
+// Returns the values of the slots of a run.
 fn run_slice<'a>(
     data_type: &DataType,
     width: usize,
@@ -55,7 +55,7 @@ fn run_slice<'a>(
     slot_values(array, width, from, len)
 }
 
-/// Zeros for n values. More bytes than a number counts have no room in memory.
+/// Appends zeros for `count` values. 2^64 bytes or more are refused, since no memory has room for them.
 fn push_zeros(values: &mut Vec<u8>, width: usize, count: usize) -> Result<(), AllocError>
     ensures { OnOk result (values.new.items ≡ values.old.items ++ replicate (count * width) 0) }
 {
@@ -69,7 +69,7 @@ fn push_zeros(values: &mut Vec<u8>, width: usize, count: usize) -> Result<(), Al
     }
 }
 
-// Puts zeros for a value. One that is as wide as a number is written as one.
+// Sets a value to zeros. A value of 4 or 8 bytes is written as a number.
 #[inline]
 fn clear_value(values: &mut [u8], at: usize, width: usize)
     requires { at + width ≤ length values.old }
@@ -82,7 +82,7 @@ fn clear_value(values: &mut [u8], at: usize, width: usize)
     }
 }
 
-// Puts zeros for each value, from a place on, whose bit is not set: from one such bit to the next.
+// Sets each value to zeros whose bit is not set, from an index on: goes from one such bit to the next.
 fn clear_unset(values: &mut [u8], start: usize, width: usize, bits: &[u8], from: usize, to: usize)
     requires order { from ≤ to }
     requires bits { to ≤ 8 * length bits.now }
@@ -96,7 +96,7 @@ fn clear_unset(values: &mut [u8], start: usize, width: usize, bits: &[u8], from:
     }
 }
 
-// Adds the values of some slots, with zeros where one is null.
+// Appends the values of some slots, with zeros for nulls.
 fn push_slots(
     values: &mut Vec<u8>,
     array: ArrayView<'_>,
@@ -129,7 +129,7 @@ fn push_slots(
     Ok(())
 }
 
-// The values of a run of a type.
+// Appends the values of a run of a type.
 #[tactic(auto, using(crate::proofs::RunValues::null_bytes))]
 fn push_run(
     values: &mut Vec<u8>,
@@ -148,7 +148,7 @@ fn push_run(
     }
 }
 
-// The values of runs, copied, with zeros where there is a null.
+// Copies the values of runs, with zeros for nulls.
 fn copied_values(
     alloc: Global,
     data_type: &DataType,
@@ -167,7 +167,7 @@ fn copied_values(
     Ok(values)
 }
 
-// The values of runs, with zeros where there is a null: where they stand, if the slots of one run are all and stand as they are written.
+// Returns the values of runs, with zeros for nulls. They are borrowed if there is only one run, and it is already as it is written.
 fn run_values<'a>(
     alloc: Global,
     data_type: &DataType,
@@ -186,7 +186,7 @@ fn run_values<'a>(
     Ok(Buffer::Made(copied_values(alloc, data_type, width, runs)?))
 }
 
-/// The values of runs under a mask, with zeros where there is a null.
+/// Returns the values of runs under a mask, with zeros for nulls.
 pub(crate) fn masked_values<'a>(
     alloc: Global,
     data_type: &DataType,

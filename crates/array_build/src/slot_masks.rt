@@ -1,5 +1,5 @@
-// Masks of what stands below structs and fixed lists, as validity bitmaps: where a bit is not set the cell is null, whatever stands there. A mask has no byte
-// where all bits are set.
+// Masks of the slots below structs and fixed lists, as validity bitmaps: if a bit is not set, the cell is null, whatever the array has there. A mask is
+// empty if all bits are set.
 ghost use Rattle.std.specs.Prelude.{◌≡◌, ◌≤◌, ◌*◌, true, IfOk, OnOk, length};
 ghost use Rattle.std.specs.List.{list_all};
 ghost use Rattle.batch_build.specs.Batch.{batch_in};
@@ -17,12 +17,12 @@ use columns::SlotRun;
 use dictionary_codes::count_slots;
 use std::alloc::{AllocError, Global};
 
-/// A byte is below 256: a contract knows it of a slice that it is given.
+/// States that each byte is below 256, which a contract knows of a slice that is passed.
 pub(crate) fn are_bytes(bytes: &[u8])
     ensures { AreBytes bytes.now }
 {}
 
-/// The bits that are set in both masks, each of which has a bit for each slot.
+/// Makes the mask of the bits that are set in both masks. Each has a bit for each slot.
 pub(crate) fn both_set(
     alloc: Global,
     mask: &[u8],
@@ -39,7 +39,7 @@ pub(crate) fn both_set(
     Ok(bytes)
 }
 
-// The validity bitmap of runs that have n slots, under a mask.
+// Makes the validity bitmap of runs under a mask.
 fn masked_validity(
     alloc: Global,
     slots: usize,
@@ -78,7 +78,7 @@ pub(crate) fn push_slots_under(
     push_validity(batch, slots, validity)
 }
 
-/// Adds the node and the validity bitmap of runs under a mask, and gives the mask of what stands below them.
+/// Adds the node and the validity bitmap of runs under a mask, and returns the mask of the slots below them.
 pub(crate) fn push_masked_slots(
     alloc: Global,
     batch: &mut BuiltBatch<'_>,

@@ -1,4 +1,4 @@
-// Where the spans of slots begin that stand one after another, all of them or those under a mask: their offsets, from another start on.
+// Offsets of consecutive slots, all of them or those under a mask, from a new start on.
 ghost use Rattle.std.specs.Prelude.{◌≡◌, ◌≤◌, ◌<◌, ◌+◌, ◌-◌, ◌*◌, ◌^◌, ◌++◌, ℕ, List, false, IfOk, length, if◌then◌else◌};
 ghost use Rattle.dictionary_codes.specs.Masks.{mask_bits};
 ghost use Rattle.array_build.specs.inner.MaskedContents.{masked_sizes, total};
@@ -17,7 +17,7 @@ use bitmap::get;
 use columns::{ArrayView, OffsetWidth, offset_at};
 use std::alloc::AllocError;
 
-// Writes the offsets at which the spans of slots begin, the first at `start`, over as many; and answers where the last ends.
+// Overwrites offsets with those at which the spans of slots begin, the first at `start`; returns the end of the last span.
 fn put_slot_offsets(
     room: &mut [u8],
     width: OffsetWidth,
@@ -36,7 +36,7 @@ fn put_slot_offsets(
         (slot_sizes (width_of width) (view_array array.entry) from len) }
     ensures next { result ≡ start + span_of (width_of width) (view_array array.entry) from len }
 {
-    // a number of the code is below 2^64, so that the sum is too
+    // For the proof: the number is below 2^64, so that the sum is too.
     let _slots = array.slots();
     let source = array.offsets();
     let first = offset_at(source, width, from);
@@ -47,7 +47,7 @@ fn put_slot_offsets(
     start + (offset_at(source, width, from + len) - first)
 }
 
-/// Adds the offsets at which the spans of slots begin, the first at `start`; and answers where the last ends.
+/// Appends the offsets at which the spans of slots begin, the first at `start`; returns the end of the last span.
 pub(crate) fn push_slot_offsets(
     offsets: &mut Vec<u8>,
     width: OffsetWidth,
@@ -67,18 +67,18 @@ pub(crate) fn push_slot_offsets(
     if len == 0 {
         return Ok(start);
     }
-    // a number of the code is below 2^64, so that the sum is too
+    // For the proof: the number is below 2^64, so that the sum is too.
     let _slots = array.slots();
     let source = array.offsets();
     let size = offset_size(width);
     let begin = offsets.len();
-    // room for as many, in which each is then written anew
+    // The old offsets make room, and are then overwritten.
     offsets.extend_from_slice(&source[size * from..size * (from + len)])?;
     let next = put_slot_offsets(&mut offsets[begin..], width, array, from, len, start);
     Ok(next)
 }
 
-// How much stands between an offset and the next, if a bit is set. Both are read in any case, which compiles to no jump.
+// Returns the difference of an offset and the next, or 0 if a bit is not set. Both are read in any case, which compiles without a jump.
 fn masked_size(offsets: &[u8], width: OffsetWidth, i: usize, mask: &[u8], at: usize) -> u64
     requires within { (i + 1 + 1) * width_of width ≤ length offsets.now }
     requires counted { i + 1 < 2 ^ 64 }
@@ -90,7 +90,7 @@ fn masked_size(offsets: &[u8], width: OffsetWidth, i: usize, mask: &[u8], at: us
     if get(mask, at) { size } else { 0 }
 }
 
-// Writes the offsets at which the spans of slots begin, by the bits of a mask from one on up to another, over as many; and answers where the last ends.
+// Overwrites offsets with those at which the spans of slots begin, under the mask bits from `at` up to `to`; returns the end of the last span.
 fn put_masked_slot_offsets(
     room: &mut [u8],
     width: OffsetWidth,
@@ -112,7 +112,7 @@ fn put_masked_slot_offsets(
         (masked_sizes (width_of width) (view_array array.entry) from (mask_bits mask.now at (to - at))) }
     ensures next { result ≡ start + total (masked_sizes (width_of width) (view_array array.entry) from (mask_bits mask.now at (to - at))) }
 {
-    // a number of the code is below 2^64, so that each place is too
+    // For the proof: the number is below 2^64, so that each index is too.
     let _slots = array.slots();
     let source = array.offsets();
     let mut next = start;
@@ -123,8 +123,8 @@ fn put_masked_slot_offsets(
     next
 }
 
-/// Adds the offsets at which the spans of slots begin, the first at `start`, by the bits of a mask from one on up to another: a slot whose bit is not set has
-/// nothing. Answers where the last ends.
+/// Appends the offsets at which the spans of slots begin, the first at `start`, under the mask bits from `at` up to `to`: the span of a slot whose bit is
+/// not set is empty. Returns the end of the last span.
 pub(crate) fn push_masked_slot_offsets(
     offsets: &mut Vec<u8>,
     width: OffsetWidth,
@@ -149,12 +149,12 @@ pub(crate) fn push_masked_slot_offsets(
     if at == to {
         return Ok(start);
     }
-    // a number of the code is below 2^64, so that the sum is too
+    // For the proof: the number is below 2^64, so that the sum is too.
     let _slots = array.slots();
     let source = array.offsets();
     let size = offset_size(width);
     let begin = offsets.len();
-    // room for as many, in which each is then written anew
+    // The old offsets make room, and are then overwritten.
     offsets.extend_from_slice(&source[size * from..size * (from + (to - at))])?;
     let next = put_masked_slot_offsets(
         &mut offsets[begin..],

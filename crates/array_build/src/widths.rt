@@ -1,6 +1,6 @@
-// How wide the values or the offsets of a type are.
+// The width of the values or of the offsets of a type.
 ghost use Rattle.std.specs.Prelude.{◌≡◌, ◌/◌, option_map};
-ghost use Rattle.array_build.specs.inner.Runs.{contents_width, fixed_width, offsets_width};
+ghost use Rattle.array_build.specs.inner.Runs.{fixed_width, offsets_width};
 ghost use Rattle.arrow_schema.specs.View.{date_kind, kind_of};
 ghost use Rattle.cells.specs.Fit.{date_bits};
 ghost use Rattle.columns.specs.Offsets.{width_of};
@@ -17,7 +17,7 @@ fn date_width(unit: DateUnit) -> usize
     }
 }
 
-/// The bytes of a value, of a type whose values all have as many.
+/// Returns the number of bytes of a value, for a type whose values all have the same.
 pub(crate) fn value_width(data_type: &DataType) -> Option<usize>
     ensures { result ≡ fixed_width (kind_of data_type.now) }
 {
@@ -30,18 +30,7 @@ pub(crate) fn value_width(data_type: &DataType) -> Option<usize>
     }
 }
 
-/// How wide the offsets of texts or binaries are.
-pub(crate) fn contents_width(data_type: &DataType) -> Option<OffsetWidth>
-    ensures { option_map width_of result ≡ contents_width (kind_of data_type.now) }
-{
-    match data_type {
-        DataType::Utf8 | DataType::Binary => Some(OffsetWidth::Four),
-        DataType::LargeUtf8 | DataType::LargeBinary => Some(OffsetWidth::Eight),
-        _ => None,
-    }
-}
-
-/// How wide the offsets of texts, binaries or lists are.
+/// Returns the width of the offsets of a string, binary or list type.
 pub(crate) fn offsets_width(data_type: &DataType) -> Option<OffsetWidth>
     ensures { option_map width_of result ≡ offsets_width (kind_of data_type.now) }
 {

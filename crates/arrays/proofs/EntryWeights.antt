@@ -11,13 +11,13 @@ use Rattle.cells.specs.Weight.{capped_weight, kind_weight}
 use Rattle.columns.specs.Array.{Array, array_list, arrays_of, slots_in}
 use Rattle.columns.specs.CellAt.{cells_from, is_valid, kind_cell, span_size, unless_null}
 use Rattle.columns.specs.Sound.{is_kind_sound}
-use Rattle.columns.specs.Offsets.{width_of}
+use Rattle.columns.specs.Offsets.{contents_width, width_of}
 use Rattle.columns.specs.View.{view_array}
 use Rattle.arrays.specs.declared.entry_weights.EntryWeights.{EntryWeights}
 use Rattle.arrays.specs.declared.entry_weights.EntryWeights.TheVariants.{Sized}
 use Rattle.arrays.specs.declared.sized_slots.SizedSlots.{SizedSlots}
 use Rattle.arrays.specs.inner.EntryWeights.{content_weights, weights_in}
-use Rattle.arrays.specs.inner.Weights.{AreEntryWeights, contents_width}
+use Rattle.arrays.specs.inner.Weights.{AreEntryWeights}
 use Rattle.arrays.proofs.MaskedWeights.{contents_sound, null_weight, own_weight}
 
 one_case : (w : Cell → ℕ) (cell : Cell) (size : ℕ) (valid : Bool) → w cell ≡ 1 + size → w null ≡ 1 → w (if valid then cell else null) ≡ 1 + (if valid then size else 0)

@@ -19,8 +19,9 @@ use Rattle.columns.specs.View.{placed_arrays}
 use Rattle.columns.specs.laws.Offsets.{spans_fit}
 use Rattle.columns.specs.laws.Rows.{other_placed}
 use Rattle.columns.specs.laws.SoundParts.{sound_buffer, sound_offsets}
+use Rattle.columns.specs.Offsets.{contents_width}
 use Rattle.arrays.specs.inner.Varying.{may_vary_in}
-use Rattle.arrays.specs.inner.Weights.{sum_from, span_weight, plain_weight, masked_cell, masked_weight, masked_parts_weight, masked_sizes, contents_width, sized_width, unit_weight}
+use Rattle.arrays.specs.inner.Weights.{sum_from, span_weight, plain_weight, masked_cell, masked_weight, masked_parts_weight, masked_sizes, sized_width, unit_weight}
 use Rattle.arrays.proofs.SpanWeights.{next, split, each_same, each_both, each_more, each_sized}
 use Rattle.arrays.proofs.KindWeights.{size_taken, sum_listed}
 use Rattle.arrays.proofs.SameWeights.{alike_cells}

@@ -1,59 +1,15 @@
--- The bits of a bitmap that are read as one number, and the runs of those that are set.
+-- Bits that are set in two numbers, and the runs of those that are set.
 use Rattle.std.specs.Prelude.{◌==◌, ◌&&◌, slice_index, min}
 use Rattle.std.specs.Int.{bit_at, trailing_ones, trailing_zeros}
 use Rattle.std.specs.Int.Bits.{bit_and}
 use Rattle.std.proofs.Common.{◌≡◌, ℕ, zero, suc, ◌+◌, ◌-◌, ◌*◌, ◌/◌, ◌%◌, ◌^◌, ◌<◌, ◌≤◌, Bool, true, List, drop, inl, inr, refl, ap, ap₂, subst, sym, length, ◌∙◌, arith, w64}
 use Rattle.std.proofs.Math.Pow.{pow_mono}
 use Rattle.std.proofs.lemmas.Bool.{cases_lt}
-use Rattle.std.proofs.lemmas.List.{get_or-drop}
 use Rattle.std.proofs.lemmas.Nat.{shr-shr, shr_le, shr_split}
 use Rattle.std.proofs.lemmas.Nat.Bits.{bit_at-lt, bit_at-trailing_ones, bit_at-trailing_zeros, bit_at_above, bit_at_and, bit_at_cat_high, bit_at_cat_low}
-use Rattle.byteorder.specs.Endian.{little_from, little_number}
-use Rattle.bitmap.specs.Bits.{bit}
-use Rattle.facts.specs.Bytes.{AreBytes}
-use Rattle.facts.specs.laws.Bytes.{drop-bytes}
-
--- a bit of a number is one of its bytes
-bit_of_little : (n i j : ℕ) (xs : List ℕ) → AreBytes xs → j < 8 * n → bit_at (little_from i n xs) j ≡ bit_at (slice_index xs (i + j / 8)) (j % 8)
-bit_of_little zero i j xs small lt = absurd (omega (arith, lt))
-bit_of_little (suc n) i j xs small lt =
-    let own : ℕ = slice_index xs i in
-    let others : ℕ = little_from (suc i) n xs in
-    let form : own + 256 * others ≡ others * 2 ^ 8 + own = omega arith in
-    elim (cases_lt j 8) [
-      | inl low ↦
-          let byte : i ≡ i + j / 8 = omega (arith, low) in
-          let place : j ≡ j % 8 = omega (arith, low) in
-          ap (λ (x : ℕ). bit_at x j) form ∙ bit_at_cat_low others 8 own j low ∙ ap₂ (λ (k m : ℕ). bit_at (slice_index xs k) m) byte place
-      | inr high ↦
-          let byte : suc i + (j - 8) / 8 ≡ i + j / 8 = omega (arith, high) in
-          let place : (j - 8) % 8 ≡ j % 8 = omega (arith, high) in
-          ap (λ (x : ℕ). bit_at x j) form ∙ bit_at_cat_high others 8 own j (small i) high
-          ∙ bit_of_little n (suc i) (j - 8) xs small (omega (arith, lt, high)) ∙ ap₂ (λ (k m : ℕ). bit_at (slice_index xs k) m) byte place
-    ]
 
 pub moved : (n k j : ℕ) → bit_at (n / 2 ^ k) j ≡ bit_at n (k + j)
 moved n k j = ap (λ (m : ℕ). m % 2) (shr-shr n k j)
-
--- the bits from one on, in a number of so many bytes
-pub next_bit : (bits : List ℕ) (from n word j : ℕ) → AreBytes bits → word ≡ little_number n (drop (from / 8) bits) → from % 8 + j < 8 * n
-    → (bit_at (word / 2 ^ (from % 8)) j == 1) ≡ bit bits (from + j)
-next_bit bits from n word j small is lt =
-    let at : ℕ = from % 8 + j in
-    let byte : from / 8 + (0 + at / 8) ≡ (from + j) / 8 = omega arith in
-    let place : at % 8 ≡ (from + j) % 8 = omega arith in
-    let same : bit_at (word / 2 ^ (from % 8)) j ≡ bit_at (slice_index bits ((from + j) / 8)) ((from + j) % 8) =
-    moved word (from % 8) j
-    ∙ ap (λ (x : ℕ). bit_at x at) is
-    ∙ bit_of_little n 0 at (drop (from / 8) bits) (drop-bytes (from / 8) bits small) lt
-    ∙ ap (λ (x : ℕ). bit_at x (at % 8)) (get_or-drop (from / 8) bits (0 + at / 8) 0)
-    ∙ ap₂ (λ (k m : ℕ). bit_at (slice_index bits k) m) byte place in
-    ap (λ (x : ℕ). x == 1) same
-
--- the same of a number of all bytes that are left, where these are fewer than 8
-pub last_bit : (bits rest : List ℕ) (from n word j : ℕ) → AreBytes bits → word ≡ little_number n rest → rest ≡ drop (from / 8) bits → n ≡ length bits - from / 8 → from + j < 8 * length bits
-    → (bit_at (word / 2 ^ (from % 8)) j == 1) ≡ bit bits (from + j)
-last_bit bits rest from n word j small is same all lt = next_bit bits from n word j small (is ∙ ap (little_number n) same) (omega (arith, all, lt))
 
 -- a power of two that a number of 64 bits holds
 pub power : (n : ℕ) → n ≤ 56 → 1 * 2 ^ n % 2 ^ 64 ≡ 2 ^ n

@@ -2,6 +2,7 @@
 use Rattle.std.specs.Prelude.{◌||◌, ◌/◌, min, nat_le}
 use Rattle.std.specs.List.{list_any}
 use Rattle.std.proofs.Common.{inl, inr, ◌⊎◌, ◌≡◌, ℕ, zero, suc, ◌+◌, ◌-◌, ◌*◌, ◌≤◌, ◌<◌, ◌^◌, Bool, true, false, List, [], ◌∷◌, length, take, drop, refl, arith, sym, ap, ◌∙◌}
+use Rattle.std.proofs.Math.Seq.{take-nil}
 use Rattle.std.proofs.lemmas.List.{drop_all, drop-drop, length-drop}
 use Rattle.std.proofs.lemmas.Bool.{leb-true}
 use Rattle.std.proofs.lemmas.Bool.Decides.{nat_tests}
@@ -123,10 +124,6 @@ no_buffers_left bytes count n is lt = sym (drop_all n (buffers_in bytes) (omega 
 
 -- ---- a buffer in its body
 
-nothing_taken : (n : ℕ) → take {A = ℕ} n [] ≡ []
-nothing_taken zero = refl
-nothing_taken (suc n) = refl
-
 take_taken : (l m : ℕ) (xs : List ℕ) → take l (take m xs) ≡ take (min m l) xs
 take_taken zero m xs = let e : min m 0 ≡ 0 = omega arith in rw e refl
 take_taken (suc l) zero xs = let e : min 0 (suc l) ≡ 0 = omega arith in rw e refl
@@ -136,7 +133,7 @@ take_taken (suc l) (suc m) (x ∷ xs) = let e : min (suc m) (suc l) ≡ suc (min
 drop_taken : (o m : ℕ) (xs : List ℕ) → drop o (take m xs) ≡ take (m - o) (drop o xs)
 drop_taken zero m xs = let e : m - 0 ≡ m = omega arith in rw e refl
 drop_taken (suc o) zero xs = let e : 0 - suc o ≡ 0 = omega arith in rw e refl
-drop_taken (suc o) (suc m) [] = let e : suc m - suc o ≡ m - o = omega arith in rw e (sym (nothing_taken (m - o)))
+drop_taken (suc o) (suc m) [] = let e : suc m - suc o ≡ m - o = omega arith in rw e (sym (take-nil (m - o)))
 drop_taken (suc o) (suc m) (x ∷ xs) = let e : suc m - suc o ≡ m - o = omega arith in rw e (drop_taken o m xs)
 
 in_order : (size offset : ℕ) (b : Bool) → nat_le offset size ≡ b → (offset ≤ size) ⊎ (size < offset)

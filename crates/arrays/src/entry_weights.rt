@@ -9,11 +9,10 @@ ghost use Rattle.columns.specs.View.{view_array};
 ghost use Rattle.arrays.specs.inner.EntryWeights.{content_weights};
 ghost use Rattle.arrays.specs.inner.Weights.{AreEntryWeights};
 
-use crate::masked::contents_width;
 use crate::sized_slots::SizedSlots;
 use arrow_schema::DataType;
 use cells::TOO_HEAVY;
-use columns::ArrayView;
+use columns::{ArrayView, contents_width};
 
 /// The weights of the first entries of a dictionary; or the array that has all of its entries, of texts or binaries, whose offsets tell what each weighs.
 #[derive(Clone, Copy)]

@@ -6,34 +6,23 @@ ghost use Rattle.cells.specs.Cell.{null};
 ghost use Rattle.cells.specs.Weight.{capped_weight, weight};
 ghost use Rattle.columns.specs.Array.{slots_in};
 ghost use Rattle.columns.specs.CellAt.{is_valid};
-ghost use Rattle.columns.specs.Offsets.{width_of};
+ghost use Rattle.columns.specs.Offsets.{contents_width, width_of};
 ghost use Rattle.columns.specs.Tests.{are_few_offsets, are_unordered, has_short_validity};
 ghost use Rattle.columns.specs.View.{view_array};
 ghost use Rattle.arrays.specs.inner.Varying.{may_vary_in};
-ghost use Rattle.arrays.specs.inner.Weights.{chosen_sizes, contents_width, masked_sizes, sized_width, unit_weight};
+ghost use Rattle.arrays.specs.inner.Weights.{chosen_sizes, masked_sizes, sized_width, unit_weight};
 
 use crate::sized_slots::{SLOTS_AT_ONCE, SizedSlots, ValidSlots};
 use crate::varying::may_vary;
 use arrow_schema::{DataType, Field};
 use cells::{Value, add_weights, multiply_weight, weight};
-use columns::{ArrayView, OffsetWidth};
+use columns::{ArrayView, OffsetWidth, contents_width};
 
 /// How much the slots of a type weigh: one each, and so much for each byte or item between their offsets, which are so wide.
 #[derive(Clone, Copy)]
 pub(crate) struct SizedType {
     width: OffsetWidth,
     unit: u64,
-}
-
-/// How wide the offsets of texts or binaries are.
-pub(crate) fn contents_width(data_type: &DataType) -> Option<OffsetWidth>
-    ensures { option_map width_of result ≡ contents_width (kind_of data_type.now) }
-{
-    match data_type {
-        DataType::Utf8 | DataType::Binary => Some(OffsetWidth::Four),
-        DataType::LargeUtf8 | DataType::LargeBinary => Some(OffsetWidth::Eight),
-        _ => None,
-    }
 }
 
 // Lists of items that weigh alike.

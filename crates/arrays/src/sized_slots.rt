@@ -1,17 +1,16 @@
 // Slots of texts or binaries, with the buffers that each slot is read from.
 ghost use Rattle.std.specs.Prelude.{◌≡◌, ◌==◌, ◌<◌, ◌≤◌, ◌+◌, ◌-◌, ◌*◌, ℕ, false, length, if◌then◌else◌};
 ghost use Rattle.std.specs.Int.{bit_at};
-ghost use Rattle.bitmap.specs.Bits.{bit};
 ghost use Rattle.columns.specs.Array.{offsets_in, slots_in, validity_in};
 ghost use Rattle.columns.specs.CellAt.{is_valid, number_at, span_size};
 ghost use Rattle.columns.specs.Offsets.{width_of};
 ghost use Rattle.columns.specs.Tests.{are_few_offsets, has_short_validity};
 ghost use Rattle.columns.specs.View.{view_array};
 
-use byteorder::{ByteOrder, LittleEndian};
+use bitmap::next_bits;
 use columns::{ArrayView, OffsetWidth, offset_at};
 
-/// Of how many slots the validity is looked at in one number: 8 bytes have as many bits from any bit of the first.
+/// How many bits of validity are read as one number.
 pub(crate) const SLOTS_AT_ONCE: usize = 56;
 
 /// Which slots of an array are valid. Its validity bitmap is found once, and not again for each slot.
@@ -47,19 +46,6 @@ impl<'a> ValidSlots<'a> {
         }
         next_bits(self.validity, from)
     }
-}
-
-// Bits from one on, the first the lowest: as many as 8 bytes hold from any bit of the first, and none past the end.
-#[inline]
-fn next_bits(bits: &[u8], from: usize) -> u64
-    requires { from < 8 * length bits.now }
-    ensures { (j : ℕ) → j < 56 → from + j < 8 * length bits.now → bit_at result j == 1 ≡ bit bits.now (from + j) }
-{
-    let rest = &bits[from / 8..];
-    if rest.len() < 8 {
-        return LittleEndian::read_uint(rest, rest.len()) >> (from % 8);
-    }
-    LittleEndian::read_u64(rest) >> (from % 8)
 }
 
 /// The same of an array of texts or binaries, whose offsets are found once too.

@@ -44,7 +44,7 @@ batch_of ts = with_arrays no_batch ts
 
 -- ---- the batch of the code
 
--- the bytes of a buffer, wherever they stand
+-- the bytes of a buffer, made or borrowed
 abbrev pub buffer_bytes : Buffer → List ℕ
 buffer_bytes (Made v) = v.items
 buffer_bytes (Borrowed b) = b.now

@@ -8,7 +8,7 @@ use crate::valid_bits::{unset_bits, validity};
 use std::alloc::{AllocError, Global};
 use values::ValueRef;
 
-/// The bytes of a buffer: made for it, or those that stand in an array already.
+/// The bytes of a buffer: made for it, or borrowed from an array.
 #[derive(Drop)]
 pub enum Buffer<'a> {
     Made(Vec<u8>),
@@ -58,7 +58,7 @@ pub fn empty_batch<'a>(alloc: Global) -> BuiltBatch<'a>
 /// Adds the node of an array: its slots, and how many of them are null (Arrow columnar format, "RecordBatch message").
 ///
 /// # Errors
-/// `AllocError` where memory was refused: the batch is not to be used then.
+/// `AllocError` if memory was refused: the batch must not be used then.
 #[tactic(auto, unfolding(crate::specs::Batch::batch_in, crate::specs::Nodes::with_node))]
 pub fn push_node(
     batch: &mut BuiltBatch<'_>,
@@ -71,10 +71,10 @@ pub fn push_node(
     Ok(())
 }
 
-/// Adds a buffer, wherever its bytes stand.
+/// Adds a buffer, made or borrowed.
 ///
 /// # Errors
-/// `AllocError` where memory was refused: the batch is not to be used then.
+/// `AllocError` if memory was refused: the batch must not be used then.
 #[tactic(auto, unfolding(crate::specs::Batch::batch_in, crate::specs::Nodes::with_buffer))]
 pub fn push_any_buffer<'a>(batch: &mut BuiltBatch<'a>, buffer: Buffer<'a>) -> Result<(), AllocError>
     ensures { OnOk result (batch_in batch.new ≡ with_buffer (batch_in batch.old) (buffer_bytes buffer.entry)) }
@@ -86,18 +86,18 @@ pub fn push_any_buffer<'a>(batch: &mut BuiltBatch<'a>, buffer: Buffer<'a>) -> Re
 /// Adds a buffer that was made.
 ///
 /// # Errors
-/// `AllocError` where memory was refused: the batch is not to be used then.
+/// `AllocError` if memory was refused: the batch must not be used then.
 pub fn push_buffer(batch: &mut BuiltBatch<'_>, buffer: Vec<u8>) -> Result<(), AllocError>
     ensures { OnOk result (batch_in batch.new ≡ with_buffer (batch_in batch.old) buffer.items) }
 {
     push_any_buffer(batch, Buffer::Made(buffer))
 }
 
-/// Adds the node and the validity bitmap of n slots: no byte where none is null, and else a bit for each, set where it is not a null
+/// Adds the node and the validity bitmap of slots: it is empty if none is null, and else has a bit for each slot, which is set if it is not null
 /// (Arrow columnar format, "Validity bitmaps").
 ///
 /// # Errors
-/// `AllocError` where memory was refused: the batch is not to be used then.
+/// `AllocError` if memory was refused: the batch must not be used then.
 pub fn push_validity(
     batch: &mut BuiltBatch<'_>,
     slots: usize,
@@ -111,7 +111,7 @@ pub fn push_validity(
     push_buffer(batch, validity)
 }
 
-/// Adds the node and the validity bitmap of cells of any type but that of nulls.
+/// Adds the node and the validity bitmap of cells of any type except nulls.
 pub(crate) fn push_slots(
     alloc: Global,
     batch: &mut BuiltBatch<'_>,

@@ -17,7 +17,7 @@ fn is_set(cell: &ValueRef<'_>) -> bool
     }
 }
 
-/// A bit for each cell, set where it is the boolean true.
+/// Makes a bit for each cell, which is set if it is the boolean true.
 pub(crate) fn bits(alloc: Global, cells: &[ValueRef<'_>]) -> Result<Vec<u8>, AllocError>
     ensures { IfOk result (λ bytes. bytes.items ≡ packed (map is_set (map borrowed_cell cells.now))) }
 {

@@ -1,4 +1,4 @@
-// Arrays of any type, each before those below it.
+// Arrays of any type, each before its child arrays.
 ghost use Rattle.std.specs.Prelude.{◌≡◌, true, OnOk, IfOk, Some, None, map};
 ghost use Rattle.arrow_schema.specs.Column.{columns_of, fixed_lists, structs};
 ghost use Rattle.arrow_schema.specs.View.{kind_of, column_of, index_of};
@@ -23,7 +23,7 @@ use columns::OffsetWidth;
 use std::alloc::{AllocError, Global};
 use values::{ValueRef, Values, items};
 
-/// Adds the array of a field's cells, and all below it.
+/// Adds the array of a field's cells, and its child arrays.
 #[tactic(auto, using(crate::specs::laws::Fields::plain_field, crate::specs::laws::Fields::dictionary_field))]
 #[cycle(building)]
 pub(crate) fn build_column(
@@ -41,7 +41,7 @@ pub(crate) fn build_column(
     }
 }
 
-// The same of a column of this type without a dictionary, whatever its name.
+// The same, for a column of this type without a dictionary, whatever its name.
 #[cycle(building)]
 fn build_kind(
     alloc: Global,
@@ -128,7 +128,7 @@ fn build_structs(
     build_parts(alloc, batch, fields, cells)
 }
 
-// Adds the arrays of the parts of structs, and all below them; below a null all parts are nulls.
+// Adds the arrays of the parts of structs, and their child arrays; all parts of a null struct are nulls.
 #[cycle(building)]
 fn build_parts(
     alloc: Global,
@@ -147,10 +147,10 @@ fn build_parts(
     Ok(())
 }
 
-/// The batch of a dictionary's values, which are of this type (Arrow columnar format, "DictionaryBatch message").
+/// Makes the batch of a dictionary's values, which are of this type (Arrow columnar format, "DictionaryBatch message").
 ///
 /// # Errors
-/// `AllocError` where memory was refused.
+/// `AllocError` if memory was refused.
 #[cycle(building)]
 pub fn build_values<'a>(
     alloc: Global,
@@ -183,11 +183,11 @@ fn build_dictionary<'a>(
     push_dictionary(batch, values)
 }
 
-/// The nodes and buffers of a batch of rows, and of the dictionaries of its columns: those of the one array that each column is written as
-/// (Arrow columnar format, "RecordBatch message"). Each array stands before those below it.
+/// Makes the nodes and buffers of a batch of rows, and of the dictionaries of its columns: those of the one array that each column is written as
+/// (Arrow columnar format, "RecordBatch message"). Each array is before its child arrays.
 ///
 /// # Errors
-/// `AllocError` where memory was refused.
+/// `AllocError` if memory was refused.
 pub fn build<'a>(
     alloc: Global,
     fields: &[Field],

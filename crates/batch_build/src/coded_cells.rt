@@ -1,4 +1,4 @@
-// The node and the indices of cells of a column with a dictionary, and the batch of its entries.
+// The node and the indices of cells of a dictionary column, and the batch of its entries.
 ghost use Rattle.std.specs.Prelude.{◌≡◌, OnOk, IfOk, map};
 ghost use Rattle.arrow_schema.specs.View.{bits_of};
 ghost use Rattle.batch_build.specs.Batch.{batch_in, dictionary_in};
@@ -12,7 +12,7 @@ use arrow_schema::IntegerType;
 use std::alloc::{AllocError, Global};
 use values::ValueRef;
 
-/// Adds the node, the validity bitmap and the indices of cells, and gives the cells of the entries that they name.
+/// Adds the node, the validity bitmap and the indices of cells, and returns the cells of the entries that they name.
 pub(crate) fn push_indices<'a>(
     alloc: Global,
     batch: &mut BuiltBatch<'_>,
@@ -30,7 +30,7 @@ pub(crate) fn push_indices<'a>(
     Ok(firsts)
 }
 
-/// The batch of n values, as a dictionary.
+/// Makes a dictionary of a batch of values.
 #[tactic(auto, unfolding(crate::specs::Batch::batch_in))]
 pub fn values_of(count: usize, batch: BuiltBatch<'_>) -> BuiltDictionary<'_>
     ensures { dictionary_in result ≡ record { slots = count; nodes = (batch_in batch.entry).nodes; buffers = (batch_in batch.entry).buffers } }
@@ -48,10 +48,10 @@ pub fn values_of(count: usize, batch: BuiltBatch<'_>) -> BuiltDictionary<'_>
     }
 }
 
-/// Adds the batch of a dictionary's values, behind those of the columns before (Arrow columnar format, "DictionaryBatch message").
+/// Adds the batch of a dictionary's values, after those of the columns before (Arrow columnar format, "DictionaryBatch message").
 ///
 /// # Errors
-/// `AllocError` where memory was refused: the batch is not to be used then.
+/// `AllocError` if memory was refused: the batch must not be used then.
 #[tactic(auto, unfolding(crate::specs::Batch::batch_in, crate::specs::Coded::with_dictionary))]
 pub fn push_dictionary<'a>(
     batch: &mut BuiltBatch<'a>,

@@ -1,4 +1,4 @@
-// The bytes of texts and binaries, and where they end.
+// The bytes and offsets of strings and binaries.
 ghost use Rattle.std.specs.Prelude.{◌≡◌, true, IfOk, length, map};
 ghost use Rattle.std.specs.List.{flat_map};
 ghost use Rattle.cells.specs.Dictionary.{item_list};
@@ -13,7 +13,7 @@ use columns::{OffsetWidth, push_offset};
 use std::alloc::{AllocError, Global};
 use values::ValueRef;
 
-// What a text or a binary has: nothing where it is another value.
+// Returns the bytes of a string or binary: none for any other value.
 fn contents_of<'a>(cell: ValueRef<'a>) -> &'a [u8]
     ensures { result.now ≡ contents_of (borrowed_cell cell.entry) }
 {
@@ -24,7 +24,7 @@ fn contents_of<'a>(cell: ValueRef<'a>) -> &'a [u8]
     }
 }
 
-/// The bytes of all texts or binaries, one after another; a null has none.
+/// Makes the bytes of all strings or binaries, one after another; a null has none.
 pub(crate) fn contents(alloc: Global, cells: &[ValueRef<'_>]) -> Result<Vec<u8>, AllocError>
     ensures { IfOk result (λ bytes. bytes.items ≡ flat_map contents_of (map borrowed_cell cells.now)) }
 {
@@ -35,7 +35,7 @@ pub(crate) fn contents(alloc: Global, cells: &[ValueRef<'_>]) -> Result<Vec<u8>,
     Ok(contents)
 }
 
-/// The offsets of texts or binaries: 0, and then where each ends.
+/// Makes the offsets of strings or binaries: 0, and then the end of each.
 pub(crate) fn content_offsets(
     alloc: Global,
     width: OffsetWidth,
@@ -68,7 +68,7 @@ fn item_count(cell: ValueRef<'_>) -> usize
     }
 }
 
-/// The offsets of lists: 0, and then where the items of each end.
+/// Makes the offsets of lists: 0, and then the end of the items of each.
 pub(crate) fn item_offsets(
     alloc: Global,
     width: OffsetWidth,

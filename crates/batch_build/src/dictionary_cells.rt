@@ -14,7 +14,7 @@ use indexmap::IndexSet;
 use std::alloc::{AllocError, Global};
 use values::ValueRef;
 
-// Adds the entry that a cell would be, and keeps the first cell that is it.
+// Adds the entry that a cell would be, and keeps the first cell with that entry.
 fn note_cell<'a>(
     entries: &mut IndexSet<Entry<'a>>,
     firsts: &mut Vec<ValueRef<'a>>,
@@ -31,7 +31,7 @@ fn note_cell<'a>(
     Ok(())
 }
 
-/// The entries of a dictionary that has these cells: the distinct values, in the order in which they are first seen. The first cells that are them are kept.
+/// Returns the entries of a dictionary with these cells: the distinct values, in the order in which they first occur. The first cell with each is kept.
 #[tactic(auto, unfolding(cells::specs::Dictionary::with_entries))]
 pub(crate) fn entry_set<'a>(
     alloc: Global,
@@ -49,7 +49,7 @@ pub(crate) fn entry_set<'a>(
     Ok(entries)
 }
 
-// The index of an entry: 0 where the cell is none.
+// Returns the index of the entry that a cell is: 0 if it is none.
 fn entry_index(entries: &IndexSet<Entry<'_>>, cell: ValueRef<'_>) -> usize
     ensures { result ≡ entry_index (map entry_cell entries.now.keys) (borrowed_cell cell.entry) }
 {
@@ -62,7 +62,7 @@ fn entry_index(entries: &IndexSet<Entry<'_>>, cell: ValueRef<'_>) -> usize
     }
 }
 
-/// The indices of cells in a dictionary, each the place of its entry; 0 stands at nulls.
+/// Makes the indices of cells in a dictionary, each that of its entry; the index of a null is 0.
 pub(crate) fn indices(
     alloc: Global,
     index: IntegerType,

@@ -1,4 +1,4 @@
-// Arrays of types that have no fields below them.
+// Arrays of types without child fields.
 ghost use Rattle.std.specs.Prelude.{◌≡◌, ◌/◌, true, OnOk, None, length, map};
 ghost use Rattle.std.specs.List.{flat_map};
 ghost use Rattle.arrow_schema.specs.Column.{nulls, booleans, integers, dates, timestamps, fixed_binaries};
@@ -19,7 +19,7 @@ use columns::{OffsetWidth, date_integer};
 use std::alloc::{AllocError, Global};
 use values::ValueRef;
 
-// Nulls have a node alone.
+// Nulls have only a node.
 #[tactic(auto, using(crate::specs::laws::Arrays::nulls_are))]
 pub(crate) fn build_nulls(
     batch: &mut BuiltBatch<'_>,
@@ -116,7 +116,7 @@ pub(crate) fn build_fixed_binaries(
     push_buffer(batch, fixed_values(alloc, width, cells)?)
 }
 
-// The node, the validity bitmap, the offsets and the bytes of texts or binaries.
+// Adds the node, the validity bitmap, the offsets and the bytes of strings or binaries.
 fn push_contents(
     alloc: Global,
     batch: &mut BuiltBatch<'_>,

@@ -1,4 +1,4 @@
-// The cells below lists of one size.
+// The cells of the items of fixed-size lists.
 ghost use Rattle.std.specs.Prelude.{◌≡◌, ◌++◌, OnOk, IfOk, map, replicate};
 ghost use Rattle.std.specs.List.{flat_map};
 ghost use Rattle.cells.specs.Cell.{null};
@@ -19,7 +19,7 @@ fn add_nulls(items: &mut Vec<ValueRef<'_>>, count: usize) -> Result<(), AllocErr
     Ok(())
 }
 
-// The items of a list, and as many nulls as a list of this size has below a null.
+// Adds the items of a list; a null list has `size` nulls.
 #[tactic(auto, using(cells::specs::laws::Cells::cells_listed))]
 fn add_fixed_items<'a>(
     items: &mut Vec<ValueRef<'a>>,
@@ -35,7 +35,7 @@ fn add_fixed_items<'a>(
     }
 }
 
-/// The items of lists of one size, one after another; below a null all are nulls.
+/// Makes the items of fixed-size lists, in order; all items of a null list are nulls.
 pub(crate) fn items_of_size<'a>(
     alloc: Global,
     size: usize,

@@ -1,18 +1,18 @@
 //! The nodes and buffers of a batch and of its dictionaries (Arrow columnar format, "RecordBatch message" and "DictionaryBatch message"), and the batch of
 //! borrowed rows.
 //!
-//! It has the nodes and buffers of the one array that the cells of each column are written as (`columns`, `specs/Built.antt`), each array before those
-//! below it. A column with a dictionary has indices; its dictionary has an entry for each distinct value, and is a batch of its own.
+//! It has the nodes and buffers of the one array that the cells of each column are written as (`columns`, `specs/Built.antt`), each array before its
+//! child arrays. A dictionary column has indices; its dictionary has an entry for each distinct value, and is a batch of its own.
 //!
-//! [`build`] makes it of borrowed rows. Arrays that are made otherwise are added to a [`BuiltBatch`] by [`push_node`], [`push_validity`], [`push_buffer`],
+//! [`build`] makes it from borrowed rows. Arrays that are made otherwise are added to a [`BuiltBatch`] by [`push_node`], [`push_validity`], [`push_buffer`],
 //! [`push_any_buffer`] and [`push_dictionary`].
 //!
 //! ```
 //! let batch = build(alloc, &schema.fields, &rows)?;
 //! ```
 //!
-//! gives the nodes, buffers and dictionaries of a batch of these rows, where they have a cell for each field, which fits it, and no more distinct values
-//! than the indices of a dictionary can name.
+//! returns the nodes, buffers and dictionaries of a batch of these rows. Each row must have a cell for each field, which fits it, and there must be no more
+//! distinct values than the indices of a dictionary can name.
 #![tactic(auto)]
 
 mod batch;

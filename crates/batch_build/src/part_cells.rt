@@ -9,7 +9,7 @@ use cells::Value;
 use std::alloc::{AllocError, Global};
 use values::{ValueRef, Values, borrow_value};
 
-// The cell at a place of a row, and a null past its end.
+// Returns the cell at an index of a row, or a null past its end.
 #[tactic(auto, using(crate::proofs::FirstCells::part_found, crate::proofs::FirstCells::part_absent))]
 fn cell_at<'a>(row: &Values<'a>, place: usize) -> ValueRef<'a>
     ensures { borrowed_cell result ≡ first_cell (drop place (borrowed_cells row.now)) }
@@ -20,7 +20,7 @@ fn cell_at<'a>(row: &Values<'a>, place: usize) -> ValueRef<'a>
     }
 }
 
-// Adds the cell at a place of a row that is kept as it stands: borrowed where it goes, since a `ValueRef` is large.
+// Adds the cell at an index of a row that is kept as cells: it is borrowed directly into the list, since a `ValueRef` is large.
 fn push_stored<'a>(out: &mut Vec<ValueRef<'a>>, cells: &'a [Value], place: usize)
     requires room { vec_len out.old < vec_capacity out.old }
     ensures items { map borrowed_cell out.new.items ≡ map borrowed_cell out.old.items ++ first_cell (drop place (map cell cells.now)) ∷ [] }
@@ -33,7 +33,7 @@ fn push_stored<'a>(out: &mut Vec<ValueRef<'a>>, cells: &'a [Value], place: usize
     }
 }
 
-// The same of a row however it is kept.
+// The same, for a row however it is kept.
 fn push_cell<'a>(out: &mut Vec<ValueRef<'a>>, row: &Values<'a>, place: usize)
     requires room { vec_len out.old < vec_capacity out.old }
     ensures items { map borrowed_cell out.new.items ≡ map borrowed_cell out.old.items ++ first_cell (drop place (borrowed_cells row.now)) ∷ [] }
@@ -46,7 +46,7 @@ fn push_cell<'a>(out: &mut Vec<ValueRef<'a>>, row: &Values<'a>, place: usize)
     }
 }
 
-/// The cells of rows at a place.
+/// Makes the cells at an index of the rows.
 pub(crate) fn cells_at<'a>(
     alloc: Global,
     place: usize,
@@ -61,7 +61,7 @@ pub(crate) fn cells_at<'a>(
     Ok(cells)
 }
 
-// The part of a struct at a place: a null where there is none.
+// Returns the part of a struct at an index: a null if there is none.
 #[tactic(auto, using(cells::specs::laws::Cells::cells_listed))]
 fn part_at<'a>(cell: ValueRef<'a>, place: usize) -> ValueRef<'a>
     ensures { borrowed_cell result ≡ first_cell (drop place (part_list (borrowed_cell cell.entry))) }
@@ -72,7 +72,7 @@ fn part_at<'a>(cell: ValueRef<'a>, place: usize) -> ValueRef<'a>
     }
 }
 
-/// The parts of structs at a place; below a null all are nulls.
+/// Makes the parts at an index of structs; those of a null struct are nulls.
 pub(crate) fn parts<'a>(
     alloc: Global,
     place: usize,

@@ -19,7 +19,7 @@ fn is_there(cell: &ValueRef<'_>) -> bool
     }
 }
 
-// Whether there is no null.
+// Returns whether there is no null.
 fn are_all_there(cells: &[ValueRef<'_>]) -> bool
     ensures { result ≡ list_all is_there (map borrowed_cell cells.now) }
 {
@@ -31,7 +31,7 @@ fn are_all_there(cells: &[ValueRef<'_>]) -> bool
     true
 }
 
-/// The validity bitmap of cells: no byte where there is no null, and else a bit for each cell, set where it is not a null.
+/// Makes the validity bitmap of cells: empty if there is no null, and else with a bit for each cell, which is set if it is not null.
 pub(crate) fn validity(alloc: Global, cells: &[ValueRef<'_>]) -> Result<Vec<u8>, AllocError>
     ensures bits { IfOk result (λ bytes. bytes.items ≡ validity_of (map borrowed_cell cells.now)) }
     ensures long { IfOk result (λ bytes. (length bytes.items == 0 || nat_le (length cells.now) (8 * length bytes.items)) ≡ true) }
@@ -46,7 +46,7 @@ pub(crate) fn validity(alloc: Global, cells: &[ValueRef<'_>]) -> Result<Vec<u8>,
     pack(alloc, &bits)
 }
 
-/// How many of the slots a validity bitmap says to be null. It is empty, or has a bit for each slot.
+/// Returns how many slots are null by a validity bitmap, which is empty or has a bit for each slot.
 pub(crate) fn unset_bits(validity: &[u8], slots: usize) -> usize
     requires { (length validity.now == 0 || nat_le slots (8 * length validity.now)) ≡ true }
     ensures { result ≡ unset_bits validity.now slots }

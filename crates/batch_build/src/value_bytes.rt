@@ -25,7 +25,7 @@ fn push_zeros(values: &mut Vec<u8>, count: usize) -> Result<(), AllocError>
     Ok(())
 }
 
-// The bytes of a binary, and zeros for a null.
+// Adds the bytes of a binary, or zeros for a null.
 fn push_fixed(values: &mut Vec<u8>, width: usize, cell: ValueRef<'_>) -> Result<(), AllocError>
     ensures { OnOk result (values.new.items ≡ values.old.items ++ fixed_bytes width (borrowed_cell cell.entry)) }
 {
@@ -35,7 +35,7 @@ fn push_fixed(values: &mut Vec<u8>, width: usize, cell: ValueRef<'_>) -> Result<
     }
 }
 
-/// The values of binaries of one width, with zeros where there is a null.
+/// Makes the values of binaries of one width, with zeros for nulls.
 pub(crate) fn fixed_values(
     alloc: Global,
     width: usize,
@@ -50,7 +50,7 @@ pub(crate) fn fixed_values(
     Ok(values)
 }
 
-// The integer of a cell, and 0 of another value.
+// Returns the integer of a cell, or 0 for another value.
 #[inline]
 fn integer_at(cells: &[ValueRef<'_>], i: usize) -> i128
     requires { i < length cells.now }
@@ -62,7 +62,7 @@ fn integer_at(cells: &[ValueRef<'_>], i: usize) -> i128
     }
 }
 
-// Writes the low bytes of an integer, n of them, over the bytes from a place on.
+// Overwrites `n` bytes from an index on with the low bytes of an integer.
 #[inline]
 fn put_integer<const SIZE: usize>(values: &mut [u8], at: usize, integer: i128)
     requires size { SIZE ≤ 16 }
@@ -72,7 +72,7 @@ fn put_integer<const SIZE: usize>(values: &mut [u8], at: usize, integer: i128)
     values[at..at + SIZE].copy_from_slice(&integer.to_le_bytes()[..SIZE]);
 }
 
-// Writes the integers of cells by n bytes each, where there is room for just as many.
+// Writes the integers of cells, `n` bytes each, into a buffer of exactly that size.
 fn put_integers<const SIZE: usize>(values: &mut [u8], cells: &[ValueRef<'_>])
     requires size { SIZE ≤ 16 }
     requires few { SIZE * length cells.now < 18446744073709551616 }
@@ -100,7 +100,7 @@ fn put_integers_by_width(values: &mut [u8], width: BitWidth, cells: &[ValueRef<'
     }
 }
 
-// The same, in bytes of their own. More bytes than a number holds have no room in memory.
+// The same, into a new buffer. More than 2^64 bytes are refused, since no memory has room for them.
 fn low_values(alloc: Global, width: BitWidth, cells: &[ValueRef<'_>]) -> Result<Vec<u8>, AllocError>
     ensures { IfOk result (λ bytes. bytes.items ≡ flat_map (low_bytes_of (bits_of width / 8)) (map borrowed_cell cells.now)) }
 {
@@ -114,7 +114,7 @@ fn low_values(alloc: Global, width: BitWidth, cells: &[ValueRef<'_>]) -> Result<
     }
 }
 
-/// The values of integers of a type, with zeros where there is a null; dates and timestamps have those of integers with a sign.
+/// Makes the values of integers of a type, with zeros for nulls; those of dates and timestamps are signed integers.
 pub(crate) fn integer_values(
     alloc: Global,
     integer: IntegerType,

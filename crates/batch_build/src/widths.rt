@@ -1,10 +1,10 @@
-// How wide the offsets of a type are.
+// The width of the offsets of a type.
 ghost use Rattle.std.specs.Prelude.{◌≡◌};
 ghost use Rattle.columns.specs.Offsets.{width_of};
 
 use columns::OffsetWidth;
 
-/// The bytes of an offset.
+/// Returns the number of bytes of an offset.
 pub fn offset_size(width: OffsetWidth) -> usize
     ensures { result ≡ width_of width }
 {

@@ -19,7 +19,7 @@ pub(crate) struct ArraySlice<'a> {
     ghost readable: { is_run_readable (column_of field.now) (view_array view) start count ≡ true },
 }
 
-/// One slot of each of several arrays, as values of as many fields.
+/// The values of several fields at one slot of their arrays.
 #[derive(Clone, Copy)]
 pub(crate) struct PartsAt<'a> {
     pub(crate) fields: &'a [Field],

@@ -132,7 +132,7 @@ pub fn dictionaries_are_written_alone()
         → AllByRecursion (λ t. dictionary_arrays (own_column t) (own_array t) ≡ []) (dictionaries_of columns (built_parts columns rows)) }
 {}
 
-/// No visible slot of arrays that are built from fitting rows is refused: each valid index names an entry, each string is UTF-8, and no null stands
+/// No visible slot of arrays that are built from fitting rows is refused: each valid index names an entry, each string is UTF-8, and no null is
 /// in a column that is not nullable.
 pub fn written_slots_pass()
     ensures indices { (columns : Columns) (rows : List (List Cell)) → can_build_rows columns rows ≡ true

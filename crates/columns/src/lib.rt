@@ -41,7 +41,7 @@ pub use laws::{
     written_slots_pass,
 };
 pub use numbers::{
-    OffsetWidth, date_integer, least_negative, offset_at, push_index, push_offset,
+    OffsetWidth, contents_width, date_integer, least_negative, offset_at, push_index, push_offset,
     timestamp_integer,
 };
 pub use read::{row, value};

@@ -1,14 +1,14 @@
 // Little-endian numbers, as the elements of a buffer.
-ghost use Rattle.std.specs.Prelude.{◌≡◌, ◌≤◌, ◌<◌, ◌+◌, ◌-◌, ◌*◌, ◌/◌, ◌^◌, ◌++◌, ℕ, OnOk, OnErr, IfSome, Some, None, min, true, false, length, drop, nat_lt};
+ghost use Rattle.std.specs.Prelude.{◌≡◌, ◌≤◌, ◌<◌, ◌+◌, ◌-◌, ◌*◌, ◌/◌, ◌^◌, ◌++◌, ℕ, OnOk, OnErr, IfSome, Some, None, min, true, false, length, drop, nat_lt, option_map};
 ghost use Rattle.byteorder.specs.Endian.{little_bytes, little_number};
-ghost use Rattle.arrow_schema.specs.View.{bits_of, date_kind};
+ghost use Rattle.arrow_schema.specs.View.{bits_of, date_kind, kind_of};
 ghost use Rattle.arrow_schema.specs.declared.types.BitWidth.{BitWidth};
 ghost use Rattle.cells.specs.Fit.{date_bits};
 ghost use Rattle.cells.specs.Integers.{integer_of};
 ghost use Rattle.columns.specs.CellAt.{number_at, integer_at, named_number};
-ghost use Rattle.columns.specs.Offsets.{width_of};
+ghost use Rattle.columns.specs.Offsets.{contents_width, width_of};
 
-use arrow_schema::{BitWidth, DateUnit, IntegerType};
+use arrow_schema::{BitWidth, DataType, DateUnit, IntegerType};
 use byteorder::{ByteOrder, LittleEndian};
 use std::alloc::AllocError;
 
@@ -29,6 +29,17 @@ impl OffsetWidth {
             OffsetWidth::Four => 4,
             OffsetWidth::Eight => 8,
         }
+    }
+}
+
+/// Returns the width of the offsets of a string or binary type.
+pub fn contents_width(data_type: &DataType) -> Option<OffsetWidth>
+    ensures { option_map width_of result ≡ contents_width (kind_of data_type.now) }
+{
+    match data_type {
+        DataType::Utf8 | DataType::Binary => Some(OffsetWidth::Four),
+        DataType::LargeUtf8 | DataType::LargeBinary => Some(OffsetWidth::Eight),
+        _ => None,
     }
 }
 

@@ -20,7 +20,7 @@ pub struct ArrayView<'a> {
     pub dictionaries: &'a [Dictionary],
 }
 
-/// Returns an array without slots. It stands for children that a layout does not have.
+/// Returns an array without slots. It takes the place of children that a layout does not have.
 pub fn no_array() -> PlacedArray
     ensures { IsNoArray result }
 {

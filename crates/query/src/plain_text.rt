@@ -70,7 +70,7 @@ fn are_all_plain(text: &[u8]) -> bool
     }
 }
 
-/// Returns whether bytes stand in a JSON string as themselves (RFC 8259, section 7).
+/// Returns whether bytes are the same in a JSON string, without an escape (RFC 8259, section 7).
 #[inline]
 pub(crate) fn are_plain(text: &[u8]) -> bool
     ensures { OnTrue result (escape text.now ≡ text.now) }

@@ -1,4 +1,4 @@
-// Which rows a table takes, and how much they weigh.
+// Which rows a table accepts, and what they weigh.
 ghost use Rattle.std.specs.Prelude.{◌≡◌, map, IfOk, IfErr, None};
 ghost use Rattle.arrow_schema.specs.View.{schema_of};
 ghost use Rattle.cells.specs.Weight.{table_weight, capped_weight};
@@ -11,7 +11,7 @@ use arrow_schema::Schema;
 use cells::{Row, accepted_weight, add_weights, has_limits};
 use std::alloc::Global;
 
-// The weight of rows that a table takes, or the first that it does not take.
+// Returns the weight of the rows if a table accepts them, or else the first row that it does not accept.
 pub(crate) fn weigh_rows(schema: &Schema, rows: &[Row], alloc: Global) -> Result<u64, TableError>
     ensures taken { IfOk result (λ _. first_unfit (schema_of schema.now) (map row_of rows.now) ≡ None) }
     ensures weight { IfOk result (λ w. w ≡ capped_weight (table_weight (schema_of schema.now) (map row_of rows.now))) }

@@ -1,4 +1,4 @@
-// The rows of record batches, found by the starts of these.
+// Finds rows of record batches by the starts of the batches.
 ghost use Rattle.std.specs.Prelude.{◌≡◌, ◌<◌, ◌^◌, List, true, map, length, take, sum, slice_get, Some, IfOk, IfErr};
 ghost use Rattle.cells.specs.Cell.{Cell, cells_of};
 ghost use Rattle.columns.specs.Borrowed.{borrowed_cells};
@@ -74,7 +74,7 @@ fn batch_starts(alloc: Global, parts: &[TablePart]) -> Result<Vec<Vec<usize>>, A
 }
 
 impl Batches {
-    // The parts are given back where memory is refused.
+    // The parts are returned if memory is refused.
     pub(crate) fn new(
         alloc: Global,
         parts: Vec<TablePart>,
@@ -98,7 +98,7 @@ impl Batches {
         })
     }
 
-    // Where a part starts.
+    // Returns the start of a part.
     fn part_start(&self, part: usize) -> usize
         requires { part < length self.now.parts.items }
         ensures { result ≡ sum (take part (part_lengths self.now.parts.items)) }
@@ -106,7 +106,7 @@ impl Batches {
         self.part_starts[part]
     }
 
-    // Where the batches of a part start in it.
+    // Returns the starts of the batches of a part, in it.
     fn starts_in(&self, part: usize) -> &[usize]
         requires { part < length self.now.parts.items }
         ensures { result.now ≡ starts_from 0 (batch_lengths_at self.now.parts.items part) }
@@ -114,7 +114,7 @@ impl Batches {
         &self.batch_starts[part]
     }
 
-    // Where a batch starts in its part.
+    // Returns the start of a batch in its part.
     fn batch_start(&self, part: usize, batch: usize) -> usize
         requires in_parts { part < length self.now.parts.items }
         requires in_part { batch < length (batch_lengths_at self.now.parts.items part) }
@@ -123,7 +123,7 @@ impl Batches {
         self.batch_starts[part][batch]
     }
 
-    // The batch of a row: the one that is near, where it has the row, or else found by binary search.
+    // Returns the batch of a row: the given near one if it has the row, or else one that binary search finds.
     pub(crate) fn find(&self, row: usize, near: BatchPlace) -> BatchPlace
         requires { row < sum (part_lengths self.now.parts.items) }
         ensures { IsInBatch self.now.parts.items result.part result.batch row }
@@ -134,7 +134,7 @@ impl Batches {
         BatchPlace { part, batch }
     }
 
-    // A row, of which the batch is known.
+    // Returns a row of a known batch.
     pub(crate) fn row<'a>(
         &'a self,
         fields: &'a [Field],

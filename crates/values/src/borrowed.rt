@@ -1,4 +1,4 @@
-// Values of a table, as they are borrowed.
+// Borrowed values of a table.
 ghost use Rattle.std.specs.Prelude.{◌≡◌};
 ghost use Rattle.cells.specs.View.{cell};
 ghost use Rattle.columns.specs.Borrowed.{borrowed_cell as cell_in_arrays, borrowed_cells as cells_in_arrays};
@@ -6,7 +6,7 @@ ghost use Rattle.values.specs.Borrowed.{borrowed_cell};
 
 use cells::{Entry, Value};
 
-/// A value that is borrowed. Integers, dates and timestamps are `Int`; strings and binaries of either width are `Text` and
+/// A borrowed value. Integers, dates and timestamps are `Int`; strings and binaries of either width are `Text` and
 /// `Bytes`; a null of any type is `Null`.
 #[derive(Clone, Copy)]
 pub enum ValueRef<'a> {
@@ -23,7 +23,7 @@ impl<'a> ValueRef<'a> {
     ghost use Rattle.cells.specs.Dictionary.{entry_in};
     ghost use Rattle.cells.specs.Entry.{entry_cell_of};
 
-    /// The entry of a dictionary that it would be: a null, a list and a struct are none.
+    /// Returns the entry of a dictionary that it would be: a null, a list and a struct are none.
     pub fn as_entry(self) -> Option<Entry<'a>>
         ensures { entry_cell_of result ≡ entry_in (borrowed_cell self.entry) }
     {
@@ -39,14 +39,14 @@ impl<'a> ValueRef<'a> {
     }
 }
 
-/// How the values that are borrowed are kept: as they stand, or in arrays.
+/// How borrowed values are kept: as `Value`s, or in arrays.
 #[derive(Clone, Copy)]
 pub(crate) enum Form<'a> {
     Cells(&'a [Value]),
     Arrays(columns::Values<'a>),
 }
 
-/// Values that are borrowed, in order: the cells of a row, the items of a list or the parts of a struct.
+/// Borrowed values, in order: the cells of a row, the items of a list or the parts of a struct.
 #[derive(Clone, Copy)]
 pub struct Values<'a> {
     pub(crate) form: Form<'a>,
@@ -56,7 +56,7 @@ impl<'a> Values<'a> {
     ghost use Rattle.std.specs.Prelude.{◌==◌, length, slice_get, map, option_map, IfSome};
     ghost use Rattle.values.specs.Borrowed.{borrowed_cells, values_left};
 
-    /// Those of arrays.
+    /// Returns the values of arrays.
     pub fn of_arrays(values: columns::Values<'a>) -> Values<'a>
         ensures { borrowed_cells result ≡ cells_in_arrays values.entry }
     {
@@ -65,7 +65,7 @@ impl<'a> Values<'a> {
         }
     }
 
-    /// How many there are.
+    /// Returns the number of values.
     pub fn len(&self) -> usize
         ensures { result ≡ length (borrowed_cells self.now) }
     {
@@ -75,14 +75,14 @@ impl<'a> Values<'a> {
         }
     }
 
-    /// Whether there are none.
+    /// Returns whether there are none.
     pub fn is_empty(&self) -> bool
         ensures { result ≡ (length (borrowed_cells self.now) == 0) }
     {
         self.len() == 0
     }
 
-    /// The value at a place, counted from 0.
+    /// Returns the value at an index, counted from 0.
     pub fn get(&self, i: usize) -> Option<ValueRef<'a>>
         ensures { option_map borrowed_cell result ≡ slice_get (borrowed_cells self.now) i }
     {
@@ -92,7 +92,7 @@ impl<'a> Values<'a> {
         }
     }
 
-    /// The values themselves, where they are kept as they stand, and not in arrays.
+    /// Returns the `Value`s, if they are kept as such and not in arrays.
     pub fn as_cells(&self) -> Option<&'a [Value]>
         ensures { IfSome result (λ cells. map cell cells.now ≡ borrowed_cells self.now) }
     {
@@ -102,7 +102,7 @@ impl<'a> Values<'a> {
         }
     }
 
-    /// The values, in order.
+    /// Returns the values, in order.
     pub fn iter(&self) -> ValuesIter<'a>
         ensures { values_left result ≡ borrowed_cells self.now }
     {
@@ -131,7 +131,7 @@ impl<'a> Iterator for ValuesIter<'a> {
     ghost remaining = { item_count values_left };
 
     fn next(&mut self) -> Option<ValueRef<'a>> {
-        // a number of the code is below 2^64, so that the next place is too
+        // For the proof: the number of values is below 2^64, so that the next index is too.
         let _len = self.values.len();
         match self.values.get(self.next) {
             None => None,
@@ -143,7 +143,7 @@ impl<'a> Iterator for ValuesIter<'a> {
     }
 }
 
-/// A value, borrowed.
+/// Borrows a value.
 pub fn borrow_value(value: &Value) -> ValueRef<'_>
     ensures { borrowed_cell result ≡ cell value.now }
 {

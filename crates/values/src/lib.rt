@@ -1,6 +1,6 @@
 //! Tables in memory.
 //!
-//! Contracts see of a [`Table`] its schema and its rows alone, however it keeps them. A table's rows fit its schema;
+//! Contracts see only the schema and the rows of a [`Table`], however it keeps them. A table's rows fit its schema;
 //! each row is within the limits of weight and of dictionaries, and all together within that of weight. The first row
 //! that is not, or that does not fit, is reported. Values and rows are those of `cells`.
 //!
@@ -9,7 +9,7 @@
 //! let table = Table::new(alloc, schema, vec![in alloc; row]?)?;
 //! ```
 //!
-//! gives a table of one row, where `schema`, which is within the limits, has one column and 7 is one of its values; else
+//! returns a table of one row, if `schema`, which is within the limits, has one column and 7 is one of its values; else
 //! `Unfit(0)`.
 #![tactic(auto)]
 

@@ -1,4 +1,4 @@
-// The items of lists that are borrowed.
+// The items of borrowed lists.
 ghost use Rattle.std.specs.Prelude.{◌≡◌, ◌++◌, OnOk, OnErr, IfOk, map};
 ghost use Rattle.std.specs.List.{flat_map};
 ghost use Rattle.cells.specs.Dictionary.{item_list};
@@ -7,10 +7,10 @@ ghost use Rattle.values.specs.Borrowed.{borrowed_cell, borrowed_cells};
 use crate::borrowed::{ValueRef, Values};
 use std::alloc::{AllocError, Global};
 
-/// Appends values that are borrowed, in order.
+/// Appends borrowed values, in order.
 ///
 /// # Errors
-/// `AllocError` where memory was refused: nothing is appended.
+/// `AllocError` if memory was refused: nothing is appended.
 pub fn push_all<'a>(cells: &mut Vec<ValueRef<'a>>, values: Values<'a>) -> Result<(), AllocError>
     ensures ok { OnOk result (map borrowed_cell cells.new.items ≡ map borrowed_cell cells.old.items ++ borrowed_cells values.entry) }
     ensures err { OnErr result (cells.new.items ≡ cells.old.items) }
@@ -25,7 +25,7 @@ pub fn push_all<'a>(cells: &mut Vec<ValueRef<'a>>, values: Values<'a>) -> Result
     }
 }
 
-// The items of a list: none of another value.
+// Returns the items of a list: another value has none.
 #[tactic(auto, using(cells::specs::laws::Cells::cells_listed))]
 fn push_items<'a>(items: &mut Vec<ValueRef<'a>>, cell: ValueRef<'a>) -> Result<(), AllocError>
     ensures { OnOk result (map borrowed_cell items.new.items ≡ map borrowed_cell items.old.items ++ item_list (borrowed_cell cell.entry)) }
@@ -36,10 +36,10 @@ fn push_items<'a>(items: &mut Vec<ValueRef<'a>>, cell: ValueRef<'a>) -> Result<(
     }
 }
 
-/// The items of lists, one after another: another value has none.
+/// Makes the items of lists, in order: another value has none.
 ///
 /// # Errors
-/// `AllocError` where memory was refused.
+/// `AllocError` if memory was refused.
 pub fn items<'a>(alloc: Global, cells: &[ValueRef<'a>]) -> Result<Vec<ValueRef<'a>>, AllocError>
     ensures { IfOk result (λ items. map borrowed_cell items.items ≡ flat_map item_list (map borrowed_cell cells.now)) }
 {

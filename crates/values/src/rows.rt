@@ -13,7 +13,7 @@ use cells::{Row, Value};
 pub struct Rows<'a> {
     pub(crate) table: &'a Table,
     pub(crate) next: usize,
-    // the batch of the row before, where the table has record batches
+    // The batch of the row before, if the table has record batches.
     pub(crate) near: BatchPlace,
 }
 
@@ -39,7 +39,7 @@ impl<'a> Iterator for Rows<'a> {
     }
 }
 
-// The cells of the row at a place, of rows that stand by themselves.
+// Returns the cells of the row at an index, of rows that were given one by one.
 pub(crate) fn given_row(rows: &[Row], i: usize) -> &[Value]
     requires { i < length rows.now }
     ensures { Some (map cell result.now) ≡ slice_get (map row_of rows.now) i }

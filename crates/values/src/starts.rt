@@ -1,4 +1,4 @@
-// Where runs of rows that follow one another start.
+// The starts of consecutive runs of rows.
 ghost use Rattle.std.specs.Prelude.{◌≡◌, ◌+◌, ◌<◌, ◌≤◌, ◌^◌, ℕ, List, true, length, sum, slice_index, IfOk};
 ghost use Rattle.values.specs.inner.Starts.{starts_from, IsInRun};
 
@@ -11,7 +11,7 @@ pub(crate) fn total(lengths: &[usize]) -> usize
     lengths.iter().sum()
 }
 
-// Where each run starts.
+// Returns the start of each run.
 pub(crate) fn starts_of(alloc: Global, lengths: &[usize]) -> Result<Vec<usize>, AllocError>
     requires { sum lengths.now < 2 ^ 64 }
     ensures { IfOk result (λ v. v.items ≡ starts_from 0 lengths.now) }
@@ -25,7 +25,7 @@ pub(crate) fn starts_of(alloc: Global, lengths: &[usize]) -> Result<Vec<usize>, 
     Ok(starts)
 }
 
-// The run of a place, found by binary search.
+// Returns the run of a row, found by binary search.
 fn run_by_halves(starts: &[usize], place: usize) -> usize
     ensures { (lengths : List ℕ) → starts.now ≡ starts_from 0 lengths → place < sum lengths → IsInRun lengths result place }
 {
@@ -43,7 +43,7 @@ fn has_place(starts: &[usize], run: usize, place: usize) -> bool
     run + 1 == starts.len() || place < starts[run + 1]
 }
 
-// The run of a place: the one that is near, where it has the place.
+// Returns the run of a row: the given near one, if it has the row.
 pub(crate) fn run_near(starts: &[usize], near: usize, place: usize) -> usize
     ensures { (lengths : List ℕ) → starts.now ≡ starts_from 0 lengths → place < sum lengths → IsInRun lengths result place }
 {

@@ -38,7 +38,7 @@ impl Table {
     ghost use Rattle.cells.specs.Weight.{table_weight};
     ghost use Rattle.values.specs.TableView.{table_of, rows_left, is_in_parts, Reports};
 
-    /// The table of these rows.
+    /// Makes the table of these rows.
     ///
     /// ```
     /// let row = Row { cells: vec![in alloc; Value::Int(7)]? };
@@ -46,8 +46,8 @@ impl Table {
     /// ```
     ///
     /// # Errors
-    /// `Unfit` with the first row, counted from 0, that does not fit, weighs more than `MAX_ROW_WEIGHT` or fills a dictionary; `Weight` where there
-    /// is none, and the rows weigh more than `MAX_TABLE_WEIGHT` together; `OutOfMemory`.
+    /// `Unfit` with the first row, counted from 0, that does not fit, weighs more than `MAX_ROW_WEIGHT` or fills a dictionary; `Weight` if there
+    /// is none, and the rows together weigh more than `MAX_TABLE_WEIGHT`; `OutOfMemory`.
     pub fn new(alloc: Global, schema: Schema, rows: Vec<Row>) -> Result<Table, TableError>
         requires { IsWithinLimits (schema_of schema) }
         ensures made { IfOk result (λ t. table_of t ≡ record { schema = schema_of schema; rows = map row_of rows.items }) }
@@ -86,10 +86,10 @@ impl Table {
         Ok((table, weight))
     }
 
-    /// The table of the rows of some record batches, in order. No cell is copied.
+    /// Makes the table of the rows of some record batches, in order. No cell is copied.
     ///
     /// # Errors
-    /// `AllocError` where memory was refused.
+    /// `AllocError` if memory was refused.
     pub fn from_parts(
         alloc: Global,
         schema: Schema,
@@ -106,10 +106,10 @@ impl Table {
         }
     }
 
-    /// The same, and the parts are given back where memory is refused.
+    /// The same, but the parts are returned if memory is refused.
     ///
     /// # Errors
-    /// The parts, where memory was refused.
+    /// The parts, if memory was refused.
     pub fn from_parts_or_back(
         alloc: Global,
         schema: Schema,
@@ -133,7 +133,7 @@ impl Table {
         })
     }
 
-    /// The record batches, where the table is kept so.
+    /// Returns the record batches, if the table is kept in these.
     pub fn parts(&self) -> Option<&[TablePart]>
         ensures sound { IfSome result (λ parts. are_parts_sound (columns_of (table_of self.now).schema.columns) parts.now ≡ true) }
         ensures rows { IfSome result (λ parts. table_of self.now ≡ parts_table (table_of self.now).schema parts.now) }
@@ -144,7 +144,7 @@ impl Table {
         }
     }
 
-    /// The record batches of a table that is kept so.
+    /// Returns the record batches of a table that is kept in these.
     pub fn into_parts(self) -> Vec<TablePart>
         requires in_parts { is_in_parts self ≡ true }
         ensures sound { are_parts_sound (columns_of (table_of self).schema.columns) result.items ≡ true }
@@ -160,7 +160,7 @@ impl Table {
         }
     }
 
-    /// The schema.
+    /// Returns the schema.
     pub fn schema(&self) -> &Schema
         ensures schema { schema_of result.now ≡ (table_of self.now).schema }
         ensures kept { IsTable (table_of self.now) }
@@ -168,7 +168,7 @@ impl Table {
         &self.schema
     }
 
-    /// How many rows it has.
+    /// Returns the number of rows.
     #[tactic(auto, using(crate::proofs::ContentLemmas::length_content))]
     pub fn len(&self) -> usize
         ensures { result ≡ length (table_of self.now).rows }
@@ -176,14 +176,14 @@ impl Table {
         self.rows
     }
 
-    /// Whether it has no row.
+    /// Returns whether it has no row.
     pub fn is_empty(&self) -> bool
         ensures { result ≡ (length (table_of self.now).rows == 0) }
     {
         self.len() == 0
     }
 
-    /// The row at a place, counted from 0.
+    /// Returns the row at an index, counted from 0.
     pub fn row(&self, i: usize) -> Option<Values<'_>>
         ensures { option_map borrowed_cells result ≡ slice_get (table_of self.now).rows i }
     {
@@ -191,7 +191,7 @@ impl Table {
         self.row_near(i, &mut near)
     }
 
-    // The same, and the batch that the row is in, which is searched near the one given.
+    // Returns the row and its batch, which is searched near the given one.
     pub(crate) fn row_near<'a>(&'a self, i: usize, near: &mut BatchPlace) -> Option<Values<'a>>
         ensures { option_map borrowed_cells result ≡ slice_get (table_of self.now).rows i }
     {
@@ -209,7 +209,7 @@ impl Table {
         Some(Values { form })
     }
 
-    /// The rows, in order.
+    /// Returns the rows, in order.
     pub fn rows(&self) -> Rows<'_>
         ensures { rows_left result ≡ (table_of self.now).rows }
     {

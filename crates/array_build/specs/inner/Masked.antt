@@ -1,4 +1,4 @@
--- Cells under a mask: below a struct or a fixed list that is null each cell is null, whatever stands there.
+-- Cells under a mask: below a struct or a fixed list that is null each cell is null, whatever the array has there.
 use Rattle.std.specs.Prelude.{◌≡◌, ℕ, Bool, true, false, ◌&&◌, List, [], ◌∷◌, replicate, None}
 use Rattle.std.specs.List.{flat_map}
 use Rattle.arrow_schema.specs.Column.{Columns, Kind}
@@ -9,7 +9,7 @@ use Rattle.batch_build.specs.declared.batch.BuiltBatch.{BuiltBatch}
 use Rattle.array_build.specs.inner.RunParts.{parts_behind}
 use Rattle.dictionary_codes.specs.Masks.{runs_bits, masked_by, joined, slots_mask, masked_cells}
 
--- each bit so many times
+-- each bit, size times
 abbrev pub repeated : (size : ℕ) → List Bool → List Bool
 repeated size bits = flat_map (λ b. replicate size b) bits
 

@@ -1,4 +1,4 @@
--- Texts and binaries under a mask: a slot whose bit is not set has no bytes, whatever stands there.
+-- Strings and binaries under a mask: a slot whose bit is not set has no bytes, whatever the array has there.
 use Rattle.std.specs.Prelude.{◌≡◌, ◌≤◌, ℕ, ◌+◌, ◌*◌, Bool, true, List, [], ◌∷◌, ◌++◌, length, sum_by, None, if◌then◌else◌}
 use Rattle.std.specs.List.{flat_map}
 use Rattle.arrow_schema.specs.Column.{Kind}

@@ -1,4 +1,4 @@
--- Lists under a mask: a slot whose bit is not set has no items, whatever stands there.
+-- Lists under a mask: a slot whose bit is not set has no items, whatever the array has there.
 use Rattle.std.specs.Prelude.{◌≡◌, ◌≤◌, ◌<◌, ℕ, ◌+◌, ◌-◌, true, List}
 use Rattle.std.specs.List.{flat_map}
 use Rattle.dictionary_codes.specs.Masks.{mask_bits, masked}

@@ -29,7 +29,7 @@ list_sizes cells = map (λ c. length (item_list c)) cells
 abbrev pub fixed_column : (size : ℕ) → Column → Column
 fixed_column size item = plain_column (fixed_lists size item) None
 
--- the items of a run of them, whatever stands below nulls
+-- the items of a run of them, whatever is below nulls
 abbrev pub fixed_below : (size : ℕ) → (item : Column) → SlotRun → List Cell
 fixed_below size item (Slots view from len) = cells_from (cell_at item (items_in (view_array view))) (from * size) (len * size)
 fixed_below size item (Nulls n) = replicate (n * size) null

@@ -1,8 +1,8 @@
--- The arrays of runs, and what a run has in each buffer, where its slots are valid or stand as they are written.
+-- The arrays of runs, and what a run has in each buffer, if its slots are valid or already as they are written.
 use Rattle.std.specs.Prelude.{◌≡◌, ℕ, ◌+◌, ◌-◌, ◌/◌, Bool, true, false, ◌==◌, ◌||◌, List, [], ◌∷◌, ◌++◌, length, map, take, drop, replicate, Option, Some, None, if◌then◌else◌}
 use Rattle.std.specs.List.{flat_map, list_all, range_with_len}
 use Rattle.byteorder.specs.Endian.{little_bytes}
-use Rattle.arrow_schema.specs.Column.{Kind, Columns, integers, dates, timestamps, texts, large_texts, binaries, large_binaries, fixed_binaries, lists, large_lists, no_column, and_column}
+use Rattle.arrow_schema.specs.Column.{Kind, Columns, integers, dates, timestamps, fixed_binaries, lists, large_lists, no_column, and_column}
 use Rattle.columns.specs.Runs.{runs_cells, are_runs_sound}
 use Rattle.columns.specs.declared.slot_runs.SlotRun.{SlotRun}
 use Rattle.columns.specs.declared.slot_runs.SlotRun.TheVariants.{Slots, Nulls}
@@ -15,6 +15,7 @@ use Rattle.columns.specs.Built.{contents_of, integer_bytes, fixed_bytes, sums_fr
 use Rattle.columns.specs.CellAt.{is_valid, number_at, span_size, value_at}
 use Rattle.columns.specs.Tests.{Typed}
 use Rattle.columns.specs.View.{view_array}
+use Rattle.columns.specs.Offsets.{contents_width}
 use Rattle.batch_build.specs.Batch.{PlainBatch, batch_in, built_at, plain_column, with_arrays}
 use Rattle.batch_build.specs.declared.batch.BuiltBatch.{BuiltBatch}
 use Rattle.batch_build.specs.Nodes.{with_validity}
@@ -36,7 +37,7 @@ AddsRuns kind runs old new = batch_in new ≡ with_arrays (batch_in old) (built_
 
 -- ---- which slots are valid
 
--- the bits of booleans, whatever stands below nulls
+-- the bits of booleans, whatever is below nulls
 abbrev pub run_values : SlotRun → List Bool
 run_values (Slots view from len) = map (bit (bits_in (view_array view))) (range_with_len from len)
 run_values (Nulls n) = replicate n false
@@ -69,21 +70,13 @@ abbrev pub cleared : (width : ℕ) → List Bool → List ℕ → List ℕ
 cleared width [] values = []
 cleared width (b ∷ bits) values = (if b then take width values else replicate width 0) ++ cleared width bits (drop width values)
 
--- ---- texts and binaries
+-- ---- strings and binaries
 
--- how many bytes an offset has
-abbrev pub contents_width : Kind → Option ℕ
-contents_width texts = Some 4
-contents_width large_texts = Some 8
-contents_width binaries = Some 4
-contents_width large_binaries = Some 8
-contents_width _ = None
-
--- the bytes of the texts or binaries of some slots
+-- the bytes of the strings or binaries of some slots
 abbrev pub span_contents : (width : ℕ) → Array → (from len : ℕ) → List ℕ
 span_contents width a from len = take (number_at width (offsets_in a) (from + len) - number_at width (offsets_in a) from) (drop (number_at width (offsets_in a) from) (contents_in a))
 
--- how much stands between the offset of a slot and that of the n-th after it
+-- the difference of the offset of a slot and that of the n-th after it
 abbrev pub span_of : (width : ℕ) → Array → (from len : ℕ) → ℕ
 span_of width a from len = number_at width (offsets_in a) (from + len) - number_at width (offsets_in a) from
 
@@ -99,7 +92,7 @@ abbrev pub AreOffsetsAdded : (width : ℕ) → (old new : List ℕ) → (start n
 AreOffsetsAdded width old new start next sizes =
     (rest : List ℕ) → new ++ flat_map (little_bytes width) (sums_from next rest) ≡ old ++ flat_map (little_bytes width) (sums_from start (sizes ++ rest))
 
--- ---- slots that stand as they are written: those that are valid, and nulls below which there are zeros, or no bytes or items
+-- ---- slots that are already as they are written: those that are valid, and nulls below which there are zeros, or no bytes or items
 
 abbrev pub are_zeros : List ℕ → Bool
 are_zeros bytes = list_all (λ b. b == 0) bytes
@@ -110,7 +103,7 @@ offsets_width (lists item) = Some 4
 offsets_width (large_lists item) = Some 8
 offsets_width kind = contents_width kind
 
--- what stands below a null, by how wide the values or the offsets are; below those of other types more can stand
+-- a null has nothing below it, by the width of the values or of the offsets; below nulls of other types there can be more
 abbrev pub has_nothing_below : (values offsets : Option ℕ) → Array → ℕ → Bool
 has_nothing_below (Some width) offsets a i = are_zeros (value_at width (values_in a) i)
 has_nothing_below None (Some width) a i = span_size width a i == 0
@@ -126,7 +119,7 @@ is_run_as_written kind (Nulls n) = true
 abbrev pub are_runs_as_written : Kind → List SlotRun → Bool
 are_runs_as_written kind runs = list_all (is_run_as_written kind) runs
 
--- the array of such runs can be built by copying what stands in them
+-- the array of such runs can be built by copying what they hold
 pub record AreAsWritten (kind : Kind) (runs : List SlotRun) : Type 0 where
   pub sound : are_runs_sound (plain_column kind None) runs ≡ true
   pub written : are_runs_as_written kind runs ≡ true

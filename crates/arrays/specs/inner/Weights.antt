@@ -11,6 +11,7 @@ use Rattle.columns.specs.Array.{Array, Arrays, dictionary_in, first_array, other
 use Rattle.columns.specs.CellAt.{cell_at, entries_of_kind, indexed_cell, is_valid, kind_cell, span_size, unless_null}
 use Rattle.columns.specs.View.{view_array}
 use Rattle.columns.specs.declared.view.ArrayView.{ArrayView}
+use Rattle.columns.specs.Offsets.{contents_width}
 use Rattle.arrays.specs.Checks.{are_too_heavy}
 use Rattle.arrays.specs.inner.Varying.{may_vary_in}
 
@@ -46,14 +47,6 @@ masked_weight c mask a start n = sum_from (weight c) (masked_cell c mask a) star
 unfoldable pub masked_parts_weight : Columns → (mask : Array) → Arrays → (start n : ℕ) → ℕ
 masked_parts_weight no_column mask arrays start n = 0
 masked_parts_weight (and_column c cs) mask arrays start n = masked_weight c mask (first_array arrays) start n + masked_parts_weight cs mask (other_arrays arrays) start n
-
--- how wide the offsets of texts and binaries are
-abbrev pub contents_width : Kind → Option ℕ
-contents_width texts = Some 4
-contents_width large_texts = Some 8
-contents_width binaries = Some 4
-contents_width large_binaries = Some 8
-contents_width _ = None
 
 -- the same of types whose cells weigh one, and then each byte or item between their offsets so much: also of lists of items that weigh alike
 abbrev pub sized_width : Kind → Option ℕ

@@ -2,6 +2,7 @@
 use Rattle.std.specs.Prelude.{◌&&◌, nat_le}
 use Rattle.std.specs.List.{list_all}
 use Rattle.std.proofs.Common.{◌≡◌, ℕ, zero, suc, ◌+◌, ◌-◌, ◌≤◌, Bool, true, List, [], ◌∷◌, ◌++◌, map, length, take, drop, refl, sym, ap, subst, arith, ◌∙◌}
+use Rattle.std.proofs.Math.Seq.{take-nil}
 use Rattle.std.proofs.lemmas.Bool.{and_parts, leb-true}
 use Rattle.columns.specs.declared.array.PlacedArray.{PlacedArray}
 use Rattle.columns.specs.declared.array.PlacedLayout.{PlacedLayout}
@@ -105,12 +106,8 @@ module _ (bytes more : List ℕ) (stands : DictionaryPart → Bool) (known later
 
 -- ---- with the dictionaries
 
-nothing_taken : (n : ℕ) → take {A = PlacedArray} n [] ≡ []
-nothing_taken zero = refl
-nothing_taken (suc n) = refl
-
 known_in : (bytes : List ℕ) (dictionaries : List Dictionary) (part : DictionaryPart) → arrays_in bytes dictionaries part ≡ map (array_in bytes no_dictionary) (take part.count (arrays_numbered dictionaries part.number))
-known_in bytes [] part = ap (map (array_in bytes no_dictionary)) (sym (ap (take part.count) (none part.number) ∙ nothing_taken part.count))
+known_in bytes [] part = ap (map (array_in bytes no_dictionary)) (sym (ap (take part.count) (none part.number) ∙ take-nil part.count))
   where
     none : (n : ℕ) → arrays_numbered [] n ≡ []
     none zero = refl

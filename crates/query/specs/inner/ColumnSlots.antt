@@ -50,7 +50,7 @@ AreColumns p b place [] (s ∷ ss) = ⊥
 AreColumns p b place (f ∷ fs) [] = ⊥
 AreColumns p b place (f ∷ fs) (s ∷ ss) = IsColumn f (array_of place p b) s × AreColumns p b (suc place) fs ss
 
--- the string of a slot, which stands in a JSON string as itself
+-- the string of a slot, which is the same in a JSON string
 pub record IsPlainText (b : TextBuffers) (slot : ℕ) (t : List ℕ) : Type 0 where
   pub valid : is_valid_in b.validity.now slot ≡ true
   pub contents : t ≡ span_in (bits_of b.width / 8) b.offsets.now b.contents.now slot

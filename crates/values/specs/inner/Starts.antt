@@ -7,7 +7,7 @@ abbrev pub starts_from : (start : ℕ) → (lengths : List ℕ) → List ℕ
 starts_from start [] = []
 starts_from start (n ∷ ns) = start ∷ starts_from (start + n) ns
 
--- a place stands in this run
+-- a row is in this run
 pub record IsInRun (lengths : List ℕ) (run place : ℕ) : Type 0 where
   pub there : run < length lengths
   pub low : sum (take run lengths) ≤ place

@@ -15,7 +15,7 @@ use Rattle.dictionary_codes.specs.Masks.{IsMask, bitmap_bits, masked_cells, slot
 use Rattle.array_build.specs.inner.Masked.{masked_kind}
 use Rattle.batch_build.specs.Nodes.{list_kind}
 use Rattle.array_build.specs.inner.RunItems.{fixed_column}
-use Rattle.array_build.specs.inner.Runs.{AreAsWritten, contents_width, kind_cells}
+use Rattle.array_build.specs.inner.Runs.{AreAsWritten, kind_cells}
 use Rattle.columns.specs.Runs.{are_runs_sound, runs_cells}
 use Rattle.columns.specs.declared.slot_runs.SlotRun.{SlotRun}
 use Rattle.arrow_schema.specs.Column.{Column, Columns, Kind, columns_of, fixed_lists, structs}
@@ -24,6 +24,7 @@ use Rattle.arrow_schema.specs.declared.types.Field.{Field, the_lemmas as field_l
 use Rattle.cells.specs.Cell.{Cell}
 use Rattle.cells.specs.Dictionary.{item_list}
 use Rattle.columns.specs.Buildable.{can_build}
+use Rattle.columns.specs.Offsets.{contents_width}
 use Rattle.facts.specs.laws.Lists.{drop-item}
 
 -- ---- structs

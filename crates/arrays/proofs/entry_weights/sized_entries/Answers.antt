@@ -4,12 +4,12 @@ use Rattle.std.proofs.Common.{◌≡◌, [], ◌∷◌, List, ℕ, true, map, ap
 use Rattle.arrow_schema.specs.Column.{Kind}
 use Rattle.arrow_schema.specs.View.{kind_of}
 use Rattle.columns.specs.Array.{Array, Arrays, array_list, arrays_of, dictionary_in}
-use Rattle.columns.specs.Offsets.{width_of}
+use Rattle.columns.specs.Offsets.{contents_width, width_of}
 use Rattle.columns.specs.Sound.{is_kind_sound}
 use Rattle.columns.specs.View.{array_in, no_dictionary, view_array}
 use Rattle.columns.specs.declared.array.PlacedArray.{PlacedArray}
 use Rattle.arrays.specs.inner.EntryWeights.{content_weights}
-use Rattle.arrays.specs.inner.Weights.{AreEntryWeights, contents_width}
+use Rattle.arrays.specs.inner.Weights.{AreEntryWeights}
 use Rattle.arrays.proofs.EntryWeights.{only_item, only_sound, only_weights}
 use Rattle.arrays.proofs.entry_weights.sized_entries.Goals as goal
 
