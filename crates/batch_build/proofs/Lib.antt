@@ -1,7 +1,6 @@
 mod Entries
 mod Equals
 mod FirstCells
-mod FirstsSeen
 mod Low
 mod PartColumns
 mod Sized

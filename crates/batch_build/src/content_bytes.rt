@@ -8,7 +8,6 @@ ghost use Rattle.columns.specs.Offsets.{width_of};
 ghost use Rattle.values.specs.Borrowed.{borrowed_cell};
 
 use crate::widths::offset_size;
-use byteorder::{ByteOrder, LittleEndian};
 use columns::{OffsetWidth, push_offset};
 use std::alloc::{AllocError, Global};
 use values::ValueRef;
