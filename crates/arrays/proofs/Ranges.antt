@@ -2,6 +2,7 @@
 use Rattle.std.specs.Prelude.{◌||◌, not, nat_lt}
 use Rattle.std.specs.List.{list_any, flat_map, range_with_len}
 use Rattle.std.proofs.Common.{◌≡◌, ℕ, zero, suc, ◌+◌, ◌-◌, ◌≤◌, ◌<◌, Bool, true, false, List, [], ◌∷◌, ◌++◌, length, count_by, cond, refl, arith, ap, sym, ◌∙◌}
+use Rattle.std.proofs.lemmas.Bool.{or_parts}
 use Rattle.std.proofs.lemmas.Bool.Decides.{nat_tests}
 use Rattle.std.proofs.lemmas.List.Folds.{list_any-append}
 use Rattle.std.proofs.lemmas.List.Concat.{flat_map-append}
@@ -110,3 +111,18 @@ any-later p at to below here = let e : to - at ≡ suc (to - (at + 1)) = omega a
 
 pub any-end : (p : ℕ → Bool) (at to : ℕ) → to ≤ at → list_any p (range_with_len at (to - at)) ≡ false
 any-end p at to past = let e : to - at ≡ 0 = omega arith in rw e refl
+
+-- none of some numbers passes: none of a part of them
+pub any-part : (p : ℕ → Bool) (from n at m : ℕ) → list_any p (range_with_len from n) ≡ false → from ≤ at → at + m ≤ from + n → list_any p (range_with_len at m) ≡ false
+any-part p from n at m none low high =
+    let before : ℕ = at - from in
+    let after : ℕ = from + n - (at + m) in
+    let all : n ≡ before + (m + after) = omega (arith, low, high) in
+    let here : from + before ≡ at = omega (arith, low) in
+    let split : (list_any p (range_with_len from before) || list_any p (range_with_len (from + before) (m + after))) ≡ false =
+    sym (ap (λ (k : ℕ). list_any p (range_with_len from k)) all ∙ ap (list_any p) (range-append from before (m + after))
+    ∙ list_any-append p (range_with_len from before) (range_with_len (from + before) (m + after))) ∙ none in
+    let rest : list_any p (range_with_len at (m + after)) ≡ false = ap (λ (k : ℕ). list_any p (range_with_len k (m + after))) (sym here) ∙ (or_parts _ _ split).1 in
+    let parts : (list_any p (range_with_len at m) || list_any p (range_with_len (at + m) after)) ≡ false =
+    sym (ap (list_any p) (range-append at m after) ∙ list_any-append p (range_with_len at m) (range_with_len (at + m) after)) ∙ rest in
+    (or_parts _ _ parts).0

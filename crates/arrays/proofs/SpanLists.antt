@@ -17,15 +17,16 @@ use Rattle.columns.specs.CellAt.{is_valid, number_at, span_start}
 use Rattle.columns.specs.Sound.{are_sound}
 use Rattle.columns.specs.Tests.{are_unordered}
 use Rattle.columns.specs.View.{placed_arrays, fields_of}
-use Rattle.columns.specs.Visible.{Slot, visible_in}
+use Rattle.columns.specs.Visible.{Slot, slot, visible_in}
 use Rattle.columns.specs.laws.Offsets.{spans_fit}
 use Rattle.columns.specs.laws.Rows.{fewer_sound}
 use Rattle.arrays.specs.declared.visible.slot_test.SlotTest.{SlotTest}
 use Rattle.arrays.specs.declared.visible.span_list.SlotSpan.{SlotSpan}
 use Rattle.arrays.specs.inner.MayFind.{may_find_own, may_find_below}
-use Rattle.arrays.specs.inner.SpanLists.{any_slot_of, any_visible_of, any_below_of, any_below_runs, any_part_of, is_within, are_within, is_run, are_runs, are_long_for, item_span, fixed_item_span}
+use Rattle.arrays.specs.inner.SpanLists.{any_slot_of, any_visible_of, any_below_of, any_below_runs, any_part_of, is_within, are_within, is_inside, are_inside, is_run, are_runs, are_long_for, item_span, fixed_item_span}
 use Rattle.arrays.specs.inner.VisibleSpans.{any_slot, any_visible, any_below, any_valid_below, any_part, finds, has_below}
 use Rattle.arrays.proofs.MayFind.{own_none, none_in_span}
+use Rattle.arrays.proofs.Ranges.{any-part}
 use Rattle.arrays.proofs.SpanWeights.{sound_next}
 use Rattle.arrays.proofs.VisibleSpans.{own_and_below, nothing_below, null_run, valid_run, run_joined, no_run_left, items_below, fixed_items_below, fixed_within, fields_below, all_visible, others}
 
@@ -93,6 +94,27 @@ pub none_below_of : (test : SlotTest) (field : Field) (a : Array) (spans : List 
     → any_below_of (finds test) (column_of field) a spans ≡ false
 none_below_of test field a spans h =
     any_false (λ (s : SlotSpan). any_below (finds test) (column_of field) a s.from s.count) (λ (s : SlotSpan). none_in_span test field a s.from s.count h) spans
+
+-- ---- spans that are tested as one
+
+-- the next span of a loop
+pub inside_next : (whole : SlotSpan) (spans : List SlotSpan) (i : ℕ) → i < length spans → whole.from ≤ (span_at spans i).from
+    → (span_at spans i).from + (span_at spans i).count ≤ whole.from + whole.count → are_inside whole (take i spans) ≡ true → are_inside whole (take (i + 1) spans) ≡ true
+inside_next whole spans i lt low high h =
+    let s : SlotSpan = span_at spans i in
+    ap (are_inside whole) (take_more spans i no_span lt)
+    ∙ all_pushed (is_inside whole) (take i spans) s h (and_from _ _ (le-leb whole.from s.from low) (le-leb (s.from + s.count) (whole.from + whole.count) high))
+
+-- what is found nowhere in a span is found in no part of it
+pub none_inside : (f : Slot → Bool) (c : Column) (a : Array) (whole : SlotSpan) (spans : List SlotSpan) → any_slot f c a whole.from whole.count ≡ false → are_inside whole spans ≡ true
+    → any_slot_of f c a spans ≡ false
+none_inside f c a whole [] none h = refl
+none_inside f c a whole (s ∷ spans) none h =
+    let both = and_parts (is_inside whole s) (are_inside whole spans) h in
+    let ends = and_parts (nat_le whole.from s.from) (nat_le (s.from + s.count) (whole.from + whole.count)) both.0 in
+    let here : any_slot f c a s.from s.count ≡ false =
+    any-part (λ i. f (slot c a i)) whole.from whole.count s.from s.count none (leb-true _ _ ends.0) (leb-true _ _ ends.1) in
+    rw here (none_inside f c a whole spans none both.1)
 
 -- ---- the items of runs of lists
 

@@ -1,11 +1,11 @@
 -- Slots whose bytes are one text.
 use Rattle.std.specs.Prelude.{◌&&◌, not}
 use Rattle.std.specs.List.{list_any, range_with_len}
-use Rattle.std.specs.Str.{IsCharBoundary, IsUtf8, is_utf8}
+use Rattle.std.specs.Str.{IsAscii, IsCharBoundary, IsUtf8, is_utf8}
 use Rattle.std.proofs.Common.{◌≡◌, ℕ, ◌+◌, ◌-◌, ◌≤◌, ◌<◌, true, false, List, [], length, take, drop, inl, inr, ap, subst, ◌∙◌, arith, length-drop}
 use Rattle.std.proofs.lemmas.Bool.{cases_lt, and_right, not_from_true}
 use Rattle.std.proofs.lemmas.List.{drop-drop, drop-take, length-take-le, take-take}
-use Rattle.std.proofs.lemmas.Str.{IsCharBoundary-end, IsUtf8-between, IsUtf8-nil, is_utf8-from_IsUtf8}
+use Rattle.std.proofs.lemmas.Str.{IsCharBoundary-end, IsCharBoundary-from_ascii, IsUtf8-between, IsUtf8-from_ascii, IsUtf8-nil, is_utf8-from_IsUtf8}
 use Rattle.facts.specs.laws.Lists.{none_in_range}
 use Rattle.columns.specs.Array.{Array, contents_in, offsets_in, slots_in}
 use Rattle.columns.specs.CellAt.{contents_at, is_valid, number_at}
@@ -53,6 +53,22 @@ module _ (w : ℕ) (a : Array) (few : are_few_offsets w a ≡ false) (up : are_u
       ∙ part_of_part (contents_in a) (f from) (f (from + count) - f from) (f i - f from) (f (i + 1) - f i) (omega (arith, first, own, last))
       ∙ ap (λ (k : ℕ). take (f (i + 1) - f i) (drop k (contents_in a))) place in
       is_utf8-from_IsUtf8 (contents_at w a i) (subst IsUtf8 same between)
+
+  -- ASCII may be cut anywhere
+  pub each_is_ascii : (from count : ℕ) (bs : List ℕ) → 0 < count → from + count ≤ slots_in a
+      → bs ≡ take (number_at w (offsets_in a) (from + count) - number_at w (offsets_in a) from) (drop (number_at w (offsets_in a) from) (contents_in a)) → IsAscii bs
+      → (i : ℕ) → from ≤ i → i < from + count → is_utf8 (contents_at w a i) ≡ true
+  each_is_ascii from count bs some within is ascii =
+      let f : ℕ → ℕ = number_at w (offsets_in a) in
+      let filled : 0 < slots_in a = omega arith in
+      let fits = spans_fit w (length (contents_in a)) a from count up filled within in
+      let left = length-drop (f from) (contents_in a) in
+      let size : length bs ≡ f (from + count) - f from = ap length is ∙ length-take-le (f (from + count) - f from) (drop (f from) (contents_in a)) (omega (arith, fits, left)) in
+      let begins : (k : ℕ) → from ≤ k → k < from + count → IsCharBoundary bs (f k - f from) = λ k low high.
+      let behind : k + (from + count - k) ≡ from + count = omega arith in
+      let last : f k ≤ f (from + count) = rw behind at (offsets_ascend w (length (contents_in a)) a k (from + count - k) up filled (omega arith)) in
+      IsCharBoundary-from_ascii bs (f k - f from) ascii (omega (arith, size, last)) in
+      each_is_text from count bs some within is (IsUtf8-from_ascii bs ascii) begins
 
   -- where all of them have no byte, each is the empty text
   pub each_is_empty : (from count : ℕ) → from + count ≤ slots_in a → number_at w (offsets_in a) (from + count) - number_at w (offsets_in a) from ≡ 0

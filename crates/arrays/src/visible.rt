@@ -8,6 +8,7 @@ ghost use Rattle.columns.specs.Visible.{visible_in, names_no_entry, is_no_text, 
 ghost use Rattle.arrays.specs.Entries.{has_bad_entry};
 
 mod indices;
+mod joined_spans;
 mod may_find;
 mod nulls;
 mod slot_test;

@@ -36,6 +36,13 @@ is_within slots s = nat_le (s.from + s.count) slots
 abbrev pub are_within : (slots : ℕ) → List SlotSpan → Bool
 are_within slots spans = list_all (is_within slots) spans
 
+-- spans that are parts of another one
+abbrev pub is_inside : (whole : SlotSpan) → SlotSpan → Bool
+is_inside whole s = nat_le whole.from s.from && nat_le (s.from + s.count) (whole.from + whole.count)
+
+abbrev pub are_inside : (whole : SlotSpan) → List SlotSpan → Bool
+are_inside whole spans = list_all (is_inside whole) spans
+
 -- a run has a slot
 abbrev pub is_run : (slots : ℕ) → SlotSpan → Bool
 is_run slots s = nat_lt 0 s.count && is_within slots s

@@ -14,13 +14,14 @@ ghost use Rattle.arrays.specs.inner.VisibleSpans.{any_slot, any_below, finds, ha
 
 use crate::runs::run_to;
 use crate::visible::indices::any_past_entry;
+use crate::visible::joined_spans::joined_span;
 use crate::visible::may_find::{may_find_below, may_find_own};
 use crate::visible::nulls::any_forbidden;
 use crate::visible::slot_test::SlotTest;
 use crate::visible::span_list::{
     MOST_SPANS, SlotSpan, SpanList, fixed_item_spans, item_spans, no_spans,
 };
-use crate::visible::texts::any_bad_text;
+use crate::visible::texts::{any_bad_text, are_short_texts};
 use arrow_schema::{DataType, Field};
 use columns::{ArrayView, Dictionary, OffsetWidth, PlacedArray, array_or};
 
@@ -37,6 +38,19 @@ fn any_slot(test: SlotTest, field: &Field, view: ArrayView<'_>, from: usize, cou
     }
 }
 
+// Whether a test finds nothing in a span, hidden slots included, as far as that costs no more than a few visible slots do.
+fn finds_none(test: SlotTest, field: &Field, view: ArrayView<'_>, from: usize, count: usize) -> bool
+    requires sound { is_sound (column_of field.now) (view_array view) ≡ true }
+    requires within { from + count ≤ slots_in (view_array view) }
+    ensures { result ≡ true → any_slot (finds test) (column_of field.now) (view_array view.entry) from count ≡ false }
+{
+    match test {
+        SlotTest::NoEntry => !any_past_entry(field, view, from, count),
+        SlotTest::NotUtf8 => are_short_texts(field, view, from, count),
+        SlotTest::Forbidden => !any_forbidden(field, view, from, count),
+    }
+}
+
 // The same of several spans.
 fn any_slot_of(test: SlotTest, field: &Field, view: ArrayView<'_>, spans: &[SlotSpan]) -> bool
     requires sound { is_sound (column_of field.now) (view_array view) ≡ true }
@@ -46,6 +60,11 @@ fn any_slot_of(test: SlotTest, field: &Field, view: ArrayView<'_>, spans: &[Slot
     // by the type alone, so that no span is gone through in vain
     if !may_find_own(test, field) {
         return false;
+    }
+    if let Some(whole) = joined_span(view, spans) {
+        if finds_none(test, field, view, whole.from, whole.count) {
+            return false;
+        }
     }
     for span in spans {
         if any_slot(test, field, view, span.from, span.count) {

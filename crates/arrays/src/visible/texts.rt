@@ -15,6 +15,9 @@ use arrow_schema::{DataType, Field};
 use columns::{ArrayView, OffsetWidth, bytes_at, offset_at};
 use ipc_message::is_utf8;
 
+// How many bytes a slot has on average where hidden slots are tested too.
+const MOST_BYTES_EACH: usize = 32;
+
 fn is_text_at(width: OffsetWidth, view: ArrayView<'_>, i: usize) -> bool
     requires long { are_few_offsets (width_of width) (view_array view) ≡ false }
     requires within { i < slots_in (view_array view) }
@@ -53,7 +56,7 @@ fn are_boundaries(
     true
 }
 
-// The bytes of some slots are none, or one text that is cut between characters, so that those of each are a text. The test reads all bytes at once.
+// The bytes of some slots are none, ASCII, or one text in which each slot begins at a character, so that each slot is a text. All bytes are read at once.
 fn is_one_text(width: OffsetWidth, view: ArrayView<'_>, from: usize, count: usize) -> bool
     requires long { are_few_offsets (width_of width) (view_array view) ≡ false }
     requires ordered { are_unordered (width_of width) (length (contents_in (view_array view))) (view_array view) ≡ false }
@@ -67,7 +70,12 @@ fn is_one_text(width: OffsetWidth, view: ArrayView<'_>, from: usize, count: usiz
     if span.len == 0 {
         return true;
     }
-    match simdutf8::basic::from_utf8(bytes_at(view.contents(), span)) {
+    let bytes = bytes_at(view.contents(), span);
+    // ASCII has no offset within a character, so that none is tested
+    if bytes.is_ascii() {
+        return true;
+    }
+    match simdutf8::basic::from_utf8(bytes) {
         Ok(text) => are_boundaries(text, view.offsets(), width, span.start, from, from + count),
         Err(_) => false,
     }
@@ -126,6 +134,32 @@ pub(crate) fn any_bad_text(field: &Field, view: ArrayView<'_>, from: usize, coun
 {
     match (&field.dictionary, text_width(&field.data_type)) {
         (None, Some(width)) => any_not_utf8(width, view, from, count),
+        _ => false,
+    }
+}
+
+// The bytes of some slots are few for so many, and a text for each.
+fn is_one_short_text(width: OffsetWidth, view: ArrayView<'_>, from: usize, count: usize) -> bool
+    requires long { are_few_offsets (width_of width) (view_array view) ≡ false }
+    requires ordered { are_unordered (width_of width) (length (contents_in (view_array view))) (view_array view) ≡ false }
+    requires within { from + count ≤ slots_in (view_array view) }
+    ensures { let a = view_array view.entry in
+        result ≡ true → list_any (λ i. is_valid a i && not (is_utf8 (contents_at (width_of width) a i))) (range_with_len from count) ≡ false }
+{
+    count > 0
+        && view.spanned(width, from, count).len / MOST_BYTES_EACH <= count
+        && is_one_text(width, view, from, count)
+}
+
+/// Whether the slots of a span, hidden ones included, are short texts in a column without a dictionary.
+#[tactic(auto, unfolding(columns::specs::Sound::is_sound))]
+pub(crate) fn are_short_texts(field: &Field, view: ArrayView<'_>, from: usize, count: usize) -> bool
+    requires sound { is_sound (column_of field.now) (view_array view) ≡ true }
+    requires within { from + count ≤ slots_in (view_array view) }
+    ensures { result ≡ true → any_slot is_no_plain_text (column_of field.now) (view_array view.entry) from count ≡ false }
+{
+    match (&field.dictionary, text_width(&field.data_type)) {
+        (None, Some(width)) => is_one_short_text(width, view, from, count),
         _ => false,
     }
 }
