@@ -1,11 +1,9 @@
 use Rattle.std.specs.List.{flat_map, list_all}
 use Rattle.std.proofs.Common.{◌≡◌, ◌++◌, ◌+◌, ℕ, true, List, ap, append_assoc, arith, drop, length, sym, subst, take, ◌∙◌}
-use Rattle.std.proofs.lemmas.List.{take_all}
 use Rattle.arrow_schema.specs.Column.{Column}
 use Rattle.arrow_schema.specs.View.{column_of}
 use Rattle.cells.specs.Cell.{Cell}
 use Rattle.cells.specs.Dictionary.{entries_of, with_entries}
-use Rattle.columns.specs.Runs.{run_cells}
 use Rattle.dictionary_codes.specs.CodedCells.{is_coded}
 use Rattle.dictionary_codes.specs.Named.{named_cells}
 use Rattle.dictionary_codes.specs.Room.{IsRoomFor}
