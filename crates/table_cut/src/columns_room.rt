@@ -71,7 +71,7 @@ fn piece_entries<'a>(
     Ok(entries)
 }
 
-// For how many rows of a run, which follows a piece, the dictionary of the column at a place has room. Of few rows nothing is asked: they have no more values than that.
+// For how many rows of a run, which follows a piece, the dictionary of the column at a place has room: for all of few rows, which have no more values.
 fn coded_column_room<'a>(
     alloc: Global,
     field: &'a Field,
