@@ -207,7 +207,7 @@ all_coded start all es codes h = record {
   places = λ more. sym (append-nil codes) ∙ h.codes more ∙ ap (λ (xs : List Cell). map (code_in (with_entries xs more)) all) (sym h.entries);
 }
 
-nulls_add_nothing : (es : List Cell) (n : ℕ) → with_entries es (replicate n null) ≡ es
+pub nulls_add_nothing : (es : List Cell) (n : ℕ) → with_entries es (replicate n null) ≡ es
 unfolding with_entries
 nulls_add_nothing es zero = refl
 nulls_add_nothing es (suc n) = nulls_add_nothing es n

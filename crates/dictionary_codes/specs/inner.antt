@@ -2,7 +2,6 @@ pub mod ArrayCells
 pub mod Codes
 pub mod Known
 pub mod MaskParts
-pub mod Named
 pub mod Same
 pub mod Seen
 pub mod Stamped

@@ -1,15 +1,13 @@
-// The codes of runs of slots of a column with a dictionary, and how many entries they name.
-ghost use Rattle.std.specs.Prelude.{◌≡◌, ◌*◌, ◌/◌, ◌&&◌, true, IfOk, Some, [], length, map};
+// The codes of runs of slots of a column with a dictionary.
+ghost use Rattle.std.specs.Prelude.{◌≡◌, ◌*◌, ◌/◌, true, IfOk, Some, [], length, map};
 ghost use Rattle.std.specs.List.{flat_map, list_all};
 ghost use Rattle.arrow_schema.specs.View.{bits_of, column_of, index_of};
 ghost use Rattle.dictionary_codes.specs.Masks.{IsMask, masked_cells, runs_bits};
 ghost use Rattle.dictionary_codes.specs.CodedCells.{is_coded};
-ghost use Rattle.columns.specs.Runs.{are_runs_sound, runs_cells};
+ghost use Rattle.columns.specs.Runs.{are_runs_sound};
 ghost use Rattle.cells.specs.Dictionary.{entries_of};
 ghost use Rattle.cells.specs.Entry.{entry_cell};
-ghost use Rattle.columns.specs.Buildable.{is_null_or_entry};
 ghost use Rattle.columns.specs.Built.{index_bytes};
-ghost use Rattle.columns.specs.Texts.{has_utf8_texts};
 ghost use Rattle.cells.specs.Nulls.{is_there};
 
 use crate::known_entries::KnownEntries;
@@ -109,36 +107,4 @@ pub fn codes_of_runs<'a>(
     let codes = new_codes(alloc, entries, slots, field, spec, runs, mask)?;
     entries.end();
     Ok(codes)
-}
-
-/// How many distinct values the cells of runs of a column with a dictionary have. An entry of an array's own dictionary is looked up once.
-///
-/// # Errors
-/// `AllocError` where memory was refused.
-pub fn count_entries<'a>(
-    alloc: Global,
-    field: &'a Field,
-    spec: DictSpec,
-    runs: &[SlotRun<'a>],
-) -> Result<usize, AllocError>
-    requires spec { field.now.dictionary ≡ Some spec }
-    requires sound { are_runs_sound (column_of field.now) runs.now ≡ true }
-    requires coded { list_all (λ c. is_null_or_entry c && has_utf8_texts c) (runs_cells (column_of field.now) runs.now) ≡ true }
-    ensures { IfOk result (λ count. count ≡ length (entries_of (runs_cells (column_of field.now) runs.now))) }
-{
-    let slots = count_slots(runs)?;
-    let mut entries = KnownEntries::none(alloc);
-    let mut indices = room_for(alloc, spec.index.width, slots)?;
-    let mut valid = vec![in alloc; false; slots]?;
-    put_codes(
-        alloc,
-        &mut entries,
-        indices.as_mut_slice(),
-        valid.as_mut_slice(),
-        field,
-        spec,
-        runs,
-        &[],
-    )?;
-    Ok(entries.count())
 }

@@ -174,12 +174,12 @@ fn seen_entry<'a>(seen: &IndexSet<Entry<'a>>, number: usize) -> Entry<'a>
 }
 
 impl<'a> KnownEntries<'a> {
-    ghost use Rattle.dictionary_codes.specs.inner.Named.{named_cells, seen_cells};
+    ghost use Rattle.dictionary_codes.specs.Named.{named_cells, seen_cells};
     ghost use Rattle.dictionary_codes.specs.declared.known_dictionary.KnownDictionary.{KnownDictionary};
 
     /// Nothing.
     pub fn none(alloc: Global) -> KnownEntries<'a>
-        ensures { result.named.items ≡ [] }
+        ensures { named_cells result ≡ [] }
     {
         KnownEntries {
             seen: IndexSet::new(alloc),

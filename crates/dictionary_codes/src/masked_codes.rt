@@ -5,7 +5,7 @@ ghost use Rattle.arrow_schema.specs.View.{bits_of, column_of};
 ghost use Rattle.dictionary_codes.specs.inner.Codes.{AreCodedSlots, AreKnown, IsWritten, coded_cell, own_entries};
 ghost use Rattle.dictionary_codes.specs.Masks.{masked};
 ghost use Rattle.dictionary_codes.specs.inner.MaskParts.{part_bit, part_bits};
-ghost use Rattle.dictionary_codes.specs.inner.Named.{named_cells, seen_cells};
+ghost use Rattle.dictionary_codes.specs.Named.{named_cells, seen_cells};
 ghost use Rattle.dictionary_codes.specs.CodedCells.{is_coded};
 ghost use Rattle.columns.specs.Array.{slots_in};
 ghost use Rattle.columns.specs.CellAt.{cells_from};

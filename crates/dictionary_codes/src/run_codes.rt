@@ -4,7 +4,7 @@ ghost use Rattle.std.specs.Prelude.{◌≡◌, ◌≢◌, ◌≤◌, ◌<◌, �
 ghost use Rattle.std.specs.List.{list_all};
 ghost use Rattle.arrow_schema.specs.View.{bits_of, column_of, index_of};
 ghost use Rattle.dictionary_codes.specs.inner.Codes.{AreCodedSlots, AreKnown, AreSetFrom, HasPlace, IsCodedSlot, IsNumber, IsPartWritten, IsPut, IsWritten, code_in, coded_cell, known_at, noted, own_entries, sized_code};
-ghost use Rattle.dictionary_codes.specs.inner.Named.{named_cells, seen_cells};
+ghost use Rattle.dictionary_codes.specs.Named.{named_cells, seen_cells};
 ghost use Rattle.dictionary_codes.specs.Masks.{IsMask, masked, masked_cells, run_bits, runs_bits};
 ghost use Rattle.dictionary_codes.specs.inner.MaskParts.{part_bits};
 ghost use Rattle.dictionary_codes.specs.CodedCells.{is_coded};
@@ -32,7 +32,7 @@ const FEW_NAMED: usize = 16;
 const SLOTS_AT_ONCE: usize = 64;
 
 #[inline]
-fn known_code(known: &StampedNumbers, number: Option<u64>) -> Option<usize>
+pub(crate) fn known_code(known: &StampedNumbers, number: Option<u64>) -> Option<usize>
     ensures { result ≡ known_at known.now number }
 {
     match number {
@@ -89,7 +89,7 @@ fn code_at(
 }
 
 // The code of a slot that is valid, and whose entry is not known.
-fn new_code<'a>(
+pub(crate) fn new_code<'a>(
     entries: &mut KnownEntries<'a>,
     known: &mut StampedNumbers,
     field: &'a Field,

@@ -1,10 +1,12 @@
 -- The columns of rows of runs, and whether the dictionary of each has room for its cells.
-use Rattle.std.specs.Prelude.{◌&&◌, not, slice_get, option_to_list, option_map, Option, Some, None}
+use Rattle.std.specs.Prelude.{◌&&◌, nat_le, not, slice_get, option_to_list, option_map, Option, Some, None}
 use Rattle.std.specs.List.{flat_map, list_all, range_with_len}
-use Rattle.std.proofs.Common.{◌≡◌, ℕ, zero, suc, ◌+◌, ◌<◌, ◌≤◌, Bool, true, false, List, [], ◌∷◌, ◌++◌, map, length, drop, take, get_or, length-append, refl, sym, ap, subst, ◌∙◌, arith}
-use Rattle.std.proofs.lemmas.Bool.{and_parts, and_from, le-leb, not-true}
+use Rattle.std.proofs.Common.{◌≡◌, ℕ, zero, suc, ◌+◌, ◌<◌, ◌≤◌, Bool, true, false, List, [], ◌∷◌, ◌++◌, map, length, drop, take, get_or, length-append, inl, inr, refl, sym, ap, subst, ◌∙◌, arith}
+use Rattle.std.proofs.lemmas.Bool.{and_parts, and_from, cases_lt, le-leb, lt-leb, not-true}
+use Rattle.std.proofs.lemmas.List.{map-append, take-append-drop, take-map}
 use Rattle.std.proofs.lemmas.List.Folds.{list_all-append}
 use Rattle.std.proofs.lemmas.List.FromFn.{length-map-range_with_len}
+use Rattle.std.proofs.lemmas.List.Concat.{flat_map-append}
 use Rattle.facts.specs.laws.Lists.{flat_map-item}
 use Rattle.arrow_schema.specs.Column.{Index, Pair, Kind, Column, Columns, PlainSchema, columns_of, column, no_column, and_column, nulls, booleans, integers, dates, timestamps, texts, large_texts, binaries, large_binaries, fixed_binaries, lists, large_lists, fixed_lists, structs}
 use Rattle.arrow_schema.specs.Limits.{is_nested}
@@ -14,10 +16,10 @@ use Rattle.arrow_schema.specs.declared.types.DictSpec.{DictSpec}
 use Rattle.arrow_schema.specs.declared.types.Field.{Field}
 use Rattle.arrow_schema.specs.laws.Parts.{field_parts}
 use Rattle.cells.specs.Cell.{Cell, Cells, null, boolean, number, text, bytes, items, parts, no_cell, and_cell, cells_of}
-use Rattle.cells.specs.Dictionary.{cells_at, holdings, holdings_from, entry_limit, entries_of, is_within, has_few_entries, dictionaries_fit}
+use Rattle.cells.specs.Dictionary.{cells_at, holdings, holdings_from, entry_limit, entries_of, is_within, has_few_entries, dictionaries_fit, with_entries}
 use Rattle.cells.specs.Fit.{each_fits, fits, fits_kind, null_or}
 use Rattle.cells.specs.Row.{is_row, row_fits}
-use Rattle.cells.specs.laws.Entries.{entries_few, none_below}
+use Rattle.cells.specs.laws.Entries.{entries_append, entries_few, entries_grow, none_below}
 use Rattle.columns.specs.Array.{Arrays}
 use Rattle.columns.specs.Buildable.{is_null_or_entry}
 use Rattle.columns.specs.Built.{first_cell, other_cells}
@@ -25,16 +27,19 @@ use Rattle.columns.specs.CellAt.{cell_at, part_cells, row_at}
 use Rattle.columns.specs.Texts.{has_utf8_texts, have_utf8_texts}
 use Rattle.columns.specs.View.{fields_of}
 use Rattle.columns.specs.laws.FitTexts.{row_texts}
-use Rattle.table_cut.specs.Rows.{runs_rows}
+use Rattle.columns.specs.laws.Rows.{first_cells, other_rows}
+use Rattle.dictionary_codes.specs.Room.{IsRoomFor}
+use Rattle.table_cut.specs.Rows.{run_rows, runs_rows}
 use Rattle.table_cut.specs.declared.row_run.RowRun.{RowRun}
 use Rattle.table_cut.specs.inner.Columns.{arrays_behind, array_at, rows_behind, cells_behind}
-use Rattle.table_cut.specs.inner.Fit.{is_flat, are_flat, column_fits, fit_behind, is_column_coded, IsCounted, AreCounted}
+use Rattle.table_cut.specs.inner.Fit.{is_flat, are_flat, column_fits, entries_fit, fit_with, is_column_coded, HasRoomFor, IsCounted, AreCounted}
 use Rattle.table_cut.specs.inner.Room.{AreRunsOf}
-use Rattle.table_cut.proofs.ColumnLemmas.{rows_first, rows_others, is_sound_behind, sound_own}
+use Rattle.table_cut.proofs.ColumnLemmas.{arrays_next, rows_first, rows_others, is_sound_behind, sound_own}
+use Rattle.table_cut.proofs.RoomLemmas.{front_of_front}
 
 -- ---- one column
 
-and_none : (b : Bool) → (b && true) ≡ b
+pub and_none : (b : Bool) → (b && true) ≡ b
 and_none true = refl
 and_none false = refl
 
@@ -199,21 +204,54 @@ have_cells j c cs (r ∷ runs) =
     list_all-append has_cell (rows_behind j (and_column c cs) r) (flat_map (rows_behind j (and_column c cs)) runs)
     ∙ and_from _ _ (span_cells c cs (arrays_behind j r) r.from r.len) (have_cells j c cs runs)
 
+-- the rows from a place on of a piece and of the first rows of a run
+abbrev rows_with : ℕ → Columns → List RowRun → RowRun → ℕ → List (List Cell)
+rows_with j cs piece run k = flat_map (rows_behind j cs) piece ++ take k (rows_behind j cs run)
+
+first_with : (j : ℕ) (c : Column) (cs : Columns) (piece : List RowRun) (run : RowRun) (k : ℕ)
+    → map first_cell (rows_with j (and_column c cs) piece run k) ≡ flat_map (cells_behind j c) piece ++ take k (cells_behind j c run)
+first_with j c cs piece run k =
+    let rows : List (List Cell) = rows_behind j (and_column c cs) run in
+    let own : map first_cell (take k rows) ≡ take k (cells_behind j c run) =
+    sym (take-map first_cell k rows) ∙ ap (take k) (first_cells c cs (arrays_behind j run) (range_with_len run.from run.len)) in
+    map-append first_cell (flat_map (rows_behind j (and_column c cs)) piece) (take k rows)
+    ∙ λ i. rows_first j c cs piece i ++ own i
+
+others_with : (j : ℕ) (c : Column) (cs : Columns) (piece : List RowRun) (run : RowRun) (k : ℕ) → map other_cells (rows_with j (and_column c cs) piece run k) ≡ rows_with (j + 1) cs piece run k
+others_with j c cs piece run k =
+    let rows : List (List Cell) = rows_behind j (and_column c cs) run in
+    let next : map other_cells rows ≡ rows_behind (j + 1) cs run =
+    other_rows c cs (arrays_behind j run) (range_with_len run.from run.len) ∙ ap (λ (arrays : Arrays). map (row_at cs arrays) (range_with_len run.from run.len)) (arrays_next j run) in
+    let own : map other_cells (take k rows) ≡ take k (rows_behind (j + 1) cs run) = sym (take-map other_cells k rows) ∙ ap (take k) next in
+    map-append other_cells (flat_map (rows_behind j (and_column c cs)) piece) (take k rows)
+    ∙ λ i. rows_others j c cs piece i ++ own i
+
+have_with : (j : ℕ) (c : Column) (cs : Columns) (piece : List RowRun) (run : RowRun) (k : ℕ) → list_all has_cell (rows_with j (and_column c cs) piece run k) ≡ true
+have_with j c cs piece run k =
+    let rows : List (List Cell) = rows_behind j (and_column c cs) run in
+    let whole : list_all has_cell (take k rows ++ drop k rows) ≡ true = ap (list_all has_cell) (take-append-drop k rows) ∙ span_cells c cs (arrays_behind j run) run.from run.len in
+    let own = and_parts (list_all has_cell (take k rows)) (list_all has_cell (drop k rows)) (sym (list_all-append has_cell (take k rows) (drop k rows)) ∙ whole) in
+    list_all-append has_cell (flat_map (rows_behind j (and_column c cs)) piece) (take k rows)
+    ∙ and_from _ _ (have_cells j c cs piece) own.0
+
 -- the columns of the rows from a place on have room just where their cells have
-fits_from : (j : ℕ) (cs : Columns) (runs : List RowRun) (rows : List (List Cell)) → map (drop j) rows ≡ flat_map (rows_behind j cs) runs
-    → list_all has_few_entries (holdings_from j cs rows) ≡ fit_behind j cs runs
-unfolding holdings_from fit_behind
-fits_from j no_column runs rows are = refl
-fits_from j (and_column c cs) runs rows are =
-    let have : list_all has_cell (map (drop j) rows) ≡ true = ap (list_all has_cell) are ∙ have_cells j c cs runs in
-    let own : cells_at j rows ≡ flat_map (cells_behind j c) runs = cells_first j rows have ∙ ap (map first_cell) are ∙ rows_first j c cs runs in
-    let others : map (drop (j + 1)) rows ≡ flat_map (rows_behind (j + 1) cs) runs = sym (rows_next j rows) ∙ ap (map other_cells) are ∙ rows_others j c cs runs in
-    let rest : list_all has_few_entries (holdings_from (j + 1) cs rows) ≡ fit_behind (j + 1) cs runs = fits_from (j + 1) cs runs rows others in
+fits_from : (j : ℕ) (cs : Columns) (piece : List RowRun) (run : RowRun) (k : ℕ) (rows : List (List Cell)) → map (drop j) rows ≡ rows_with j cs piece run k
+    → list_all has_few_entries (holdings_from j cs rows) ≡ fit_with j cs piece run k
+unfolding holdings_from fit_with
+fits_from j no_column piece run k rows are = refl
+fits_from j (and_column c cs) piece run k rows are =
+    let have : list_all has_cell (map (drop j) rows) ≡ true = ap (list_all has_cell) are ∙ have_with j c cs piece run k in
+    let own : cells_at j rows ≡ flat_map (cells_behind j c) piece ++ take k (cells_behind j c run) = cells_first j rows have ∙ ap (map first_cell) are ∙ first_with j c cs piece run k in
+    let others : map (drop (j + 1)) rows ≡ rows_with (j + 1) cs piece run k = sym (rows_next j rows) ∙ ap (map other_cells) are ∙ others_with j c cs piece run k in
+    let rest : list_all has_few_entries (holdings_from (j + 1) cs rows) ≡ fit_with (j + 1) cs piece run k = fits_from (j + 1) cs piece run k rows others in
     list_all-append has_few_entries (holdings c (cells_at j rows)) (holdings_from (j + 1) cs rows)
     ∙ λ i. column_fits c (own i) && rest i
 
-pub all_fit : (s : PlainSchema) (runs : List RowRun) → fit_behind 0 (columns_of s.columns) runs ≡ dictionaries_fit s (runs_rows (columns_of s.columns) runs)
-all_fit s runs = sym (fits_from 0 (columns_of s.columns) runs (runs_rows (columns_of s.columns) runs) (all_drop (runs_rows (columns_of s.columns) runs)))
+pub all_fit : (s : PlainSchema) (piece : List RowRun) (run : RowRun) (k : ℕ)
+    → fit_with 0 (columns_of s.columns) piece run k ≡ dictionaries_fit s (runs_rows (columns_of s.columns) piece ++ take k (run_rows (columns_of s.columns) run))
+all_fit s piece run k =
+    let rows : List (List Cell) = runs_rows (columns_of s.columns) piece ++ take k (run_rows (columns_of s.columns) run) in
+    sym (fits_from 0 (columns_of s.columns) piece run k rows (all_drop rows))
 
 -- ---- field by field
 
@@ -222,13 +260,11 @@ pub first_counted : (fields : List Field) (i : ℕ) (f : Field) (runs : List Row
 unfolding AreCounted
 first_counted fields i f runs item are = subst (λ (fs : List Field). AreCounted i (fields_of fs) runs) item are
 
-pub next_fits : (fields : List Field) (i : ℕ) (f : Field) (runs : List RowRun) → drop i fields ≡ f ∷ drop (i + 1) fields
-    → (b : Bool) → column_fits (column_of f) (flat_map (cells_behind i (column_of f)) runs) ≡ b
-    → fit_behind i (fields_of (drop i fields)) runs ≡ (b && fit_behind (i + 1) (fields_of (drop (i + 1) fields)) runs)
-unfolding fit_behind
-next_fits fields i f runs item b own =
-    ap (λ (fs : List Field). fit_behind i (fields_of fs) runs) item
-    ∙ ap (λ (x : Bool). x && fit_behind (i + 1) (fields_of (drop (i + 1) fields)) runs) own
+pub next_fits : (fields : List Field) (i : ℕ) (f : Field) (piece : List RowRun) (run : RowRun) (k : ℕ) → drop i fields ≡ f ∷ drop (i + 1) fields
+    → fit_with i (fields_of (drop i fields)) piece run k
+    ≡ (column_fits (column_of f) (flat_map (cells_behind i (column_of f)) piece ++ take k (cells_behind i (column_of f) run)) && fit_with (i + 1) (fields_of (drop (i + 1) fields)) piece run k)
+unfolding fit_with
+next_fits fields i f piece run k item = ap (λ (fs : List Field). fit_with i (fields_of fs) piece run k) item
 
 coded_by : (c : Column) (index : Index) (cells : List Cell) → index_of_column c ≡ Some index → is_column_coded c cells ≡ true → list_all (λ x. is_null_or_entry x && has_utf8_texts x) cells ≡ true
 coded_by (column name nullable kind None pairs) index cells is h = cc
@@ -247,6 +283,99 @@ cells_more j c runs i run lt is =
     let long = length-append (flat_map (cells_behind j c) (take i runs)) (cells_behind j c run) in
     let joined = ap length (flat_map-item (cells_behind j c) runs i run lt is) in
     omega (arith, size, long, joined)
+
+-- ---- for how many cells there is room
+
+-- more cells have no fewer entries
+grown : (old xs : List Cell) (a b : ℕ) → a ≤ b → length (with_entries old (take a xs)) ≤ length (with_entries old (take b xs))
+grown old xs a b le =
+    let more = ap (with_entries old) (take-append-drop a (take b xs)) in
+    let split = entries_append old (take a (take b xs)) (drop a (take b xs)) in
+    let grow = entries_grow (with_entries old (take a (take b xs))) (drop a (take b xs)) in
+    let front = ap (λ (ys : List Cell). length (with_entries old ys)) (front_of_front a b xs le) in
+    omega (arith, ap length more, ap length split, grow, front)
+
+-- what fits at a number fits below it, and what does not fit does not fit above
+below_room : (most : ℕ) (start new own : List Cell) (n k : ℕ) → IsRoomFor most start new own n → k ≤ length own → nat_le (length (with_entries start (take k own))) most ≡ nat_le k n
+below_room most start new own n k is le = elim (cases_lt n k) [
+  | inl past ↦
+      let more = is.full (omega (arith, past, le)) in
+      let grow = grown start own (n + 1) k (omega (arith, past)) in
+      lt-leb (length (with_entries start (take k own))) most (omega (arith, more, grow)) ∙ sym (lt-leb k n past)
+  | inr low ↦
+      let grow = grown start own k n low in
+      le-leb (length (with_entries start (take k own))) most (omega (arith, is.fits, grow)) ∙ sym (le-leb k n low)
+]
+
+pub named_room : (index : Index) (most : ℕ) (before start new own : List Cell) (n : ℕ) → entry_limit index ≡ Some most → start ≡ entries_of before
+    → IsRoomFor most start new own n → HasRoomFor (entries_fit index) before own n
+named_room index most before start new own n limit is room = record {
+  within = room.within;
+  room = λ k le.
+      let all : entries_of (before ++ take k own) ≡ with_entries start (take k own) = entries_append [] before (take k own) ∙ ap (λ (xs : List Cell). with_entries xs (take k own)) (sym is) in
+      ap (λ (o : Option ℕ). is_within o (length (entries_of (before ++ take k own)))) limit
+      ∙ ap (λ (xs : List Cell). nat_le (length xs) most) all ∙ below_room most start new own n k room le;
+}
+
+-- where all fits that there can be, there is room for all
+pub all_room_for : (fits : List Cell → Bool) (before own : List Cell) (n : ℕ) → n ≡ length own → ((k : ℕ) → k ≤ length own → fits (before ++ take k own) ≡ true) → HasRoomFor fits before own n
+all_room_for fits before own n whole all = record {
+  within = omega (arith, whole);
+  room = λ k le. all k le ∙ sym (le-leb k n (omega (arith, le, whole)));
+}
+
+pub same_room : (f g : List Cell → Bool) (before own : List Cell) (n : ℕ) → ((cells : List Cell) → f cells ≡ g cells) → HasRoomFor f before own n → HasRoomFor g before own n
+same_room f g before own n same room = record { within = room.within; room = λ k le. sym (same (before ++ take k own)) ∙ room.room k le }
+
+-- how many cells the column at a place has in a run
+pub run_counted : (j : ℕ) (c : Column) (run : RowRun) → length (cells_behind j c run) ≡ run.len
+run_counted j c run = length-map-range_with_len (cell_at c (array_at j run)) run.from run.len
+
+-- there is room for a number where there is room for it in a column and in those before it
+pub least_room : (k m n r : ℕ) (rest : Bool) → r ≤ m → r ≤ n → (k ≤ m → k ≤ n → k ≤ r) → (nat_le k m && (nat_le k n && rest)) ≡ (nat_le k r && rest)
+least_room k m n r rest low other least = elim (cases_lt m k) [
+  | inl lt ↦ rw (lt-leb k m lt, lt-leb k r (omega (arith, lt, low))) refl
+  | inr le ↦ elim (cases_lt n k) [
+    | inl lt ↦ rw (le-leb k m le, lt-leb k n lt, lt-leb k r (omega (arith, lt, other))) refl
+    | inr also ↦ rw (le-leb k m le, le-leb k n also, le-leb k r (least le also)) refl
+  ]
+]
+
+-- the cells of a piece before a run, in it, and after it
+pub piece_at : (j : ℕ) (c : Column) (piece : List RowRun) (i : ℕ) (run : RowRun) → i < length piece → run ≡ get_or piece i run
+    → flat_map (cells_behind j c) piece ≡ (flat_map (cells_behind j c) (take i piece) ++ cells_behind j c run) ++ flat_map (cells_behind j c) (drop (i + 1) piece)
+piece_at j c piece i run lt is =
+    ap (flat_map (cells_behind j c)) (sym (take-append-drop (i + 1) piece))
+    ∙ flat_map-append (cells_behind j c) (take (i + 1) piece) (drop (i + 1) piece)
+    ∙ ap (λ (cells : List Cell). cells ++ flat_map (cells_behind j c) (drop (i + 1) piece)) (flat_map-item (cells_behind j c) piece i run lt is)
+
+pub all_of_part : (test : Cell → Bool) (all xs ys zs : List Cell) → all ≡ (xs ++ ys) ++ zs → list_all test all ≡ true → list_all test ys ≡ true
+all_of_part test all xs ys zs is h =
+    let whole = and_parts (list_all test (xs ++ ys)) (list_all test zs) (sym (ap (list_all test) is ∙ list_all-append test (xs ++ ys) zs) ∙ h) in
+    (and_parts (list_all test xs) (list_all test ys) (sym (list_all-append test xs ys) ∙ whole.0)).1
+
+-- the first of some cells have no more entries than all
+pub first_few : (most : ℕ) (all xs ys : List Cell) → all ≡ xs ++ ys → length (entries_of all) ≤ most → length (entries_of xs) ≤ most
+first_few most all xs ys is few =
+    let more = ap entries_of is ∙ entries_append [] xs ys in
+    let grow = entries_grow (entries_of xs) ys in
+    omega (arith, ap length more, grow, few)
+
+-- where there is room for the entries of all cells, none of a part is left out
+pub part_named : (most : ℕ) (all before own rest start new : List Cell) (n : ℕ) → all ≡ (before ++ own) ++ rest → length (entries_of all) ≤ most → start ≡ entries_of before
+    → IsRoomFor most start new own n → new ≡ entries_of (before ++ own)
+part_named most all before own rest start new n is few begun room =
+    let joined : entries_of (before ++ own) ≡ with_entries start own = entries_append [] before own ∙ ap (λ (xs : List Cell). with_entries xs own) (sym begun) in
+    elim (cases_lt n (length own)) [
+      | inl lt ↦
+          let past = room.full lt in
+          let split = ap (with_entries start) (take-append-drop (n + 1) own) in
+          let more = entries_append start (take (n + 1) own) (drop (n + 1) own) in
+          let grow = entries_grow (with_entries start (take (n + 1) own)) (drop (n + 1) own) in
+          let whole = first_few most all (before ++ own) rest is few in
+          absurd (omega (arith, past, ap length split, ap length more, grow, whole, ap length joined))
+      | inr ge ↦ room.named (omega (arith, room.within, ge)) ∙ sym joined
+    ]
 
 -- no more distinct cells than cells
 pub few_fit : (index : Index) (most : ℕ) (cells : List Cell) → entry_limit index ≡ Some most → length cells ≤ most → is_within (entry_limit index) (length (entries_of cells)) ≡ true

@@ -1,8 +1,8 @@
 -- Rows of a piece, and those of the run that it is at.
 use Rattle.std.specs.List.{list_all, range_with_len}
-use Rattle.std.proofs.Common.{◌≡◌, ℕ, zero, suc, ◌+◌, ◌<◌, ◌≤◌, Bool, true, false, List, [], ◌∷◌, ◌++◌, map, length, take, drop, get_or, inl, inr, refl, sym, ap, ◌∙◌, arith, append_assoc}
-use Rattle.std.proofs.lemmas.Bool.{and_parts, and_from, cases_lt, lt-ltb}
-use Rattle.std.proofs.lemmas.List.{append-nil, take-append-drop, take_all}
+use Rattle.std.proofs.Common.{◌≡◌, ℕ, zero, suc, ◌+◌, ◌<◌, ◌≤◌, Bool, true, false, List, [], ◌∷◌, ◌++◌, map, length, take, drop, get_or, refl, sym, ap, ◌∙◌, arith, append_assoc}
+use Rattle.std.proofs.lemmas.Bool.{and_parts, and_from, lt-ltb}
+use Rattle.std.proofs.lemmas.List.{take-append-drop, take_all}
 use Rattle.std.proofs.lemmas.List.Folds.{list_all-append}
 use Rattle.std.proofs.lemmas.List.Sums.{sum_by-append}
 use Rattle.arrays.specs.Bytes.{are_bytes, have_bytes}
@@ -154,23 +154,3 @@ all_room s rows run fits = record {
   fits = ap (λ (xs : List (List Cell)). dictionaries_fit s (rows ++ xs)) (all_of_run (columns_of s.columns) run run.len (omega arith)) ∙ fits;
   full = λ lt. absurd (omega (arith, lt));
 }
-
--- the first rows of a run of rows that a table takes
-pub front_of_run : (s : PlainSchema) (run : RowRun) (k : ℕ) → list_all (is_row s) (run_rows (columns_of s.columns) run) ≡ true
-    → list_all (is_row s) (take k (run_rows (columns_of s.columns) run)) ≡ true
-front_of_run s run k are =
-    let rows : List (List Cell) = run_rows (columns_of s.columns) run in
-    (rows_of_parts s rows (take k rows) (drop k rows) (sym (take-append-drop k rows)) are).0
-
--- a run that there is no room for has a row
-pub some_past : (s : PlainSchema) (before : List (List Cell)) (run : RowRun) → dictionaries_fit s before ≡ true
-    → dictionaries_fit s (before ++ run_rows (columns_of s.columns) run) ≡ false → 0 < run.len
-some_past s before run fits past = elim (cases_lt 0 run.len) [
-  | inl some ↦ some
-  | inr none ↦
-      let all : [] ≡ run_rows (columns_of s.columns) run = all_of_run (columns_of s.columns) run 0 none in
-      let same : dictionaries_fit s before ≡ dictionaries_fit s (before ++ run_rows (columns_of s.columns) run) =
-      sym (ap (dictionaries_fit s) (append-nil before)) ∙ ap (λ (rows : List (List Cell)). dictionaries_fit s (before ++ rows)) all in
-      let wrong : true ≡ false = sym fits ∙ same ∙ past in
-      absurd cc
-]

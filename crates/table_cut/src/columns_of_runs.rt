@@ -11,8 +11,8 @@ use arrow_schema::Field;
 use columns::{ArrayView, SlotRun};
 use std::alloc::{AllocError, Global};
 
-// The slots that the column at a place has in a run of rows: a batch without an array for it has no row.
-fn slots_at<'a>(run: RowRun<'a>, place: usize) -> SlotRun<'a>
+/// The slots that the column at a place has in a run of rows: a batch without an array for it has no row.
+pub(crate) fn slots_at<'a>(run: RowRun<'a>, place: usize) -> SlotRun<'a>
     ensures cells { (c : Column) → has_sound_array place c run.entry ≡ true → run_cells c result ≡ cells_behind place c run.entry }
     ensures sound { (c : Column) → has_sound_array place c run.entry ≡ true → is_run_sound c result ≡ true }
 {

@@ -12,8 +12,8 @@
 //!
 //! [`RowsLeft`] cuts a table that is kept in record batches into the same pieces, as runs of its rows, and [`column_runs`] gives what each column has of
 //! them. Where a piece ends is found from the weights of spans of rows ([`arrays::row_span_weight`]). Where a piece has rows under several dictionaries
-//! of 8 or 16 bit indices, its columns are gone through, and the entries of each are counted ([`dictionary_codes::count_entries`]). Rows are borrowed only
-//! where there are lists or structs besides, or many such dictionaries in one piece.
+//! of 8 or 16 bit indices, the end is the least row over its columns for whose entry a dictionary has no room ([`dictionary_codes::name_slots`]). Rows are
+//! borrowed only where there are lists or structs besides, or many such dictionaries in one piece.
 //!
 //! ```ignore
 //! let mut left = RowsLeft::new(alloc, parts)?;
@@ -22,8 +22,8 @@
 //! ```
 #![tactic(auto)]
 
-mod columns_fit;
 mod columns_of_runs;
+mod columns_room;
 mod filling;
 mod fitting;
 mod holding;

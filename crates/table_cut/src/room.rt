@@ -1,5 +1,5 @@
 // How many rows of a run the dictionaries of a piece have room for.
-ghost use Rattle.std.specs.Prelude.{◌≡◌, ◌<◌, ◌+◌, ◌++◌, [], true, take, List, IfOk, OnOk};
+ghost use Rattle.std.specs.Prelude.{◌≡◌, ◌<◌, ◌+◌, ◌++◌, [], true, List, IfOk, OnOk};
 ghost use Rattle.arrays.specs.Shared.{ShareEntries, AreRowsSharing};
 ghost use Rattle.arrow_schema.specs.Column.{columns_of};
 ghost use Rattle.arrow_schema.specs.Limits.{IsWithinLimits};
@@ -14,7 +14,7 @@ ghost use Rattle.table_cut.specs.inner.Room.{IsRunOf, AreRunsOf, IsRunBehind, Is
 ghost use Rattle.table_cut.specs.SeenRows.{HaveSeen};
 ghost use Rattle.values.specs.Borrowed.{borrowed_cells};
 
-use crate::columns_fit::{are_flat, runs_fit};
+use crate::columns_room::{are_flat, columns_room};
 use crate::row_run::RowRun;
 use crate::seen_rows::SeenRows;
 use crate::shared::runs_share_entries;
@@ -171,25 +171,7 @@ fn room_alone<'a>(schema: &Schema, run: RowRun<'a>) -> Room<'a>
     room_sharing(schema, run, run)
 }
 
-// Whether the dictionaries have room for the rows of a piece and of a run after it.
-fn fits_behind<'a>(
-    alloc: Global,
-    schema: &'a Schema,
-    piece: &[RowRun<'a>],
-    run: RowRun<'a>,
-) -> Result<bool, AllocError>
-    requires flat { are_flat (columns_of (schema_of schema.now).columns) ≡ true }
-    requires before { AreRunsOf (schema_of schema.now) piece.now }
-    requires own { IsRunOf (schema_of schema.now) run }
-    ensures { IfOk result (λ fit. let columns = columns_of (schema_of schema.now).columns in
-        fit ≡ dictionaries_fit (schema_of schema.now) (runs_rows columns piece.now ++ run_rows columns run.entry)) }
-{
-    let mut runs = Vec::from_slice(alloc, piece)?;
-    runs.push(run)?;
-    runs_fit(alloc, schema, &runs)
-}
-
-// How many rows of a run there is room for after a piece: where not for all, by halves.
+// How many rows of a run there is room for after a piece, where no column is a list or a struct.
 fn rows_behind<'a>(
     alloc: Global,
     schema: &'a Schema,
@@ -200,20 +182,7 @@ fn rows_behind<'a>(
     requires behind { IsRunBehind (schema_of schema.now) piece.now run }
     ensures { IfOk result (λ n. HasRoom (schema_of schema.now) (runs_rows (columns_of (schema_of schema.now).columns) piece.now) run.entry n) }
 {
-    if fits_behind(alloc, schema, piece, run)? {
-        return Ok(run.len);
-    }
-    let mut fitting = 0;
-    let mut past = run.len;
-    while fitting + 1 < past {
-        let half = fitting + (past - fitting) / 2;
-        if fits_behind(alloc, schema, piece, run.front(half))? {
-            fitting = half;
-        } else {
-            past = half;
-        }
-    }
-    Ok(fitting)
+    columns_room(alloc, &schema.fields, piece, run)
 }
 
 // The same after a piece of which that is found by columns, unless it was for many of its runs; else its rows are gone through.

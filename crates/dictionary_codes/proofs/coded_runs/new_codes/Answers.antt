@@ -5,7 +5,7 @@ use Rattle.arrow_schema.specs.View.{column_of, index_of}
 use Rattle.cells.specs.Cell.{Cell}
 use Rattle.dictionary_codes.specs.Masks.{masked_cells}
 use Rattle.dictionary_codes.specs.inner.Codes.{IsWritten}
-use Rattle.dictionary_codes.specs.inner.Named.{named_cells, seen_cells}
+use Rattle.dictionary_codes.specs.Named.{named_cells, seen_cells}
 use Rattle.dictionary_codes.specs.inner.Seen.{cells_numbered}
 use Rattle.dictionary_codes.proofs.Codes.{indices_are, valid_are}
 use Rattle.dictionary_codes.proofs.coded_runs.new_codes.Goals as goal

@@ -7,7 +7,7 @@ use Rattle.dictionary_codes.proofs.Written.{nulls_written}
 use Rattle.dictionary_codes.proofs.masked_codes.put_alike_codes.Goals as goal
 use Rattle.dictionary_codes.specs.inner.Codes.{IsWritten, coded_cell}
 use Rattle.dictionary_codes.specs.Masks.{masked}
-use Rattle.dictionary_codes.specs.inner.Named.{named_cells}
+use Rattle.dictionary_codes.specs.Named.{named_cells}
 use Rattle.cells.specs.Cell.{Cell}
 use Rattle.columns.specs.CellAt.{cells_from}
 

@@ -10,7 +10,7 @@ use Rattle.dictionary_codes.proofs.masked_codes.put_part_codes.Goals as goal
 use Rattle.dictionary_codes.specs.inner.Codes.{IsPartWritten, coded_cell}
 use Rattle.dictionary_codes.specs.inner.MaskParts.{part_bits}
 use Rattle.dictionary_codes.specs.Masks.{masked}
-use Rattle.dictionary_codes.specs.inner.Named.{named_cells}
+use Rattle.dictionary_codes.specs.Named.{named_cells}
 use Rattle.dictionary_codes.specs.CodedCells.{is_coded}
 use Rattle.cells.specs.Cell.{Cell}
 use Rattle.columns.specs.CellAt.{cells_from}

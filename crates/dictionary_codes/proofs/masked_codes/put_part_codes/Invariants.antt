@@ -4,7 +4,7 @@ use Rattle.arrow_schema.specs.View.{bits_of}
 use Rattle.dictionary_codes.specs.inner.Codes.{AreKnown, IsPartWritten, coded_cell, own_entries}
 use Rattle.dictionary_codes.specs.inner.MaskParts.{part_bits}
 use Rattle.dictionary_codes.specs.Masks.{masked}
-use Rattle.dictionary_codes.specs.inner.Named.{named_cells, seen_cells}
+use Rattle.dictionary_codes.specs.Named.{named_cells, seen_cells}
 use Rattle.dictionary_codes.specs.CodedCells.{is_coded}
 use Rattle.columns.specs.CellAt.{cells_from}
 use Rattle.dictionary_codes.proofs.masked_codes.put_part_codes.Given as goal

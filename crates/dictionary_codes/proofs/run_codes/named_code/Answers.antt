@@ -7,7 +7,7 @@ use Rattle.dictionary_codes.proofs.Codes.{is_known, known_named}
 use Rattle.dictionary_codes.proofs.Known.{is_within}
 use Rattle.dictionary_codes.proofs.run_codes.named_code.Goals as goal
 use Rattle.dictionary_codes.specs.inner.Codes.{own_entries}
-use Rattle.dictionary_codes.specs.inner.Named.{seen_cells}
+use Rattle.dictionary_codes.specs.Named.{seen_cells}
 use Rattle.cells.specs.Cell.{Cell, null}
 use Rattle.cells.specs.Dictionary.{is_entry}
 use Rattle.columns.specs.CellAt.{entry_at, index_at, named_number}

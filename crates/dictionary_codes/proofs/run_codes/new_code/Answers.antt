@@ -6,7 +6,7 @@ use Rattle.dictionary_codes.proofs.CodedRuns.{valid_cell}
 use Rattle.dictionary_codes.proofs.Codes.{noted_known, small_number}
 use Rattle.dictionary_codes.proofs.run_codes.new_code.Goals as goal
 use Rattle.dictionary_codes.specs.inner.Codes.{AreKnown, IsNumber, noted, own_entries}
-use Rattle.dictionary_codes.specs.inner.Named.{seen_cells}
+use Rattle.dictionary_codes.specs.Named.{seen_cells}
 use Rattle.cells.specs.Cell.{Cell}
 use Rattle.cells.specs.Dictionary.{with_entry}
 use Rattle.columns.specs.CellAt.{entry_at, index_at}

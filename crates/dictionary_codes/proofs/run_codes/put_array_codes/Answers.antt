@@ -6,7 +6,7 @@ use Rattle.std.proofs.lemmas.Result.{on_ok_weaker}
 use Rattle.arrow_schema.specs.Column.{Column}
 use Rattle.arrow_schema.specs.View.{bits_of, column_of}
 use Rattle.arrow_schema.specs.declared.types.DictSpec.{DictSpec}
-use Rattle.dictionary_codes.specs.inner.Named.{named_cells, seen_cells}
+use Rattle.dictionary_codes.specs.Named.{named_cells, seen_cells}
 use Rattle.dictionary_codes.proofs.CodedRuns.{long_buffers}
 use Rattle.dictionary_codes.proofs.run_codes.put_array_codes.Goals as goal
 use Rattle.dictionary_codes.specs.inner.Codes.{IsWritten, own_entries}

@@ -5,7 +5,7 @@ use Rattle.std.proofs.lemmas.Bool.{and_parts}
 use Rattle.std.proofs.lemmas.List.{drop_all}
 use Rattle.arrow_schema.specs.Column.{Column}
 use Rattle.arrow_schema.specs.View.{bits_of, column_of}
-use Rattle.dictionary_codes.specs.inner.Named.{named_cells}
+use Rattle.dictionary_codes.specs.Named.{named_cells}
 use Rattle.dictionary_codes.specs.laws.AllCells.{all_front}
 use Rattle.dictionary_codes.proofs.MaskedCodes.{all_behind, cells_behind, run_first}
 use Rattle.dictionary_codes.specs.laws.MaskedItems.{alike_kept}

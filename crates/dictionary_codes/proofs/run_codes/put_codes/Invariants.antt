@@ -1,7 +1,7 @@
 use Rattle.std.proofs.Common.{◌≡◌, ◌+◌, ◌/◌, true, drop, length}
 use Rattle.std.specs.List.{list_all}
 use Rattle.arrow_schema.specs.View.{bits_of, column_of}
-use Rattle.dictionary_codes.specs.inner.Named.{named_cells}
+use Rattle.dictionary_codes.specs.Named.{named_cells}
 use Rattle.dictionary_codes.specs.inner.Codes.{IsPartWritten}
 use Rattle.dictionary_codes.specs.CodedCells.{is_coded}
 use Rattle.dictionary_codes.specs.Masks.{runs_bits, masked_cells}

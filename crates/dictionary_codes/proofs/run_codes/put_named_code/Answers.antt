@@ -5,7 +5,7 @@ use Rattle.dictionary_codes.proofs.CodedRuns.{hidden_cell}
 use Rattle.dictionary_codes.proofs.Codes.{null_code}
 use Rattle.dictionary_codes.proofs.Written.{put_is, set_already}
 use Rattle.dictionary_codes.proofs.run_codes.put_named_code.Goals as goal
-use Rattle.dictionary_codes.specs.inner.Named.{named_cells}
+use Rattle.dictionary_codes.specs.Named.{named_cells}
 use Rattle.cells.specs.Cell.{Cell, null}
 use Rattle.columns.specs.CellAt.{cell_at}
 use Rattle.columns.specs.View.{view_array}

@@ -3,7 +3,7 @@ use Rattle.std.specs.List.{list_all}
 use Rattle.std.proofs.Common.{◌≡◌, ◌≤◌, ◌<◌, ◌+◌, ◌-◌, ◌*◌, ◌∙◌, ℕ, Bool, List, arith, ap, length, refl, subst, sym, true}
 use Rattle.std.proofs.Math.Nat.{mul-le-mul_left}
 use Rattle.arrow_schema.specs.View.{column_of}
-use Rattle.dictionary_codes.specs.inner.Named.{named_cells}
+use Rattle.dictionary_codes.specs.Named.{named_cells}
 use Rattle.dictionary_codes.proofs.CodedRuns.{coded_here, first_cell}
 use Rattle.dictionary_codes.proofs.Written.{later_set, one_written}
 use Rattle.dictionary_codes.proofs.run_codes.put_named_codes.Goals as goal

@@ -1,7 +1,7 @@
 use Rattle.std.proofs.Common.{◌≡◌, ◌-◌, List, true}
 use Rattle.std.specs.List.{list_all}
 use Rattle.arrow_schema.specs.View.{column_of}
-use Rattle.dictionary_codes.specs.inner.Named.{named_cells}
+use Rattle.dictionary_codes.specs.Named.{named_cells}
 use Rattle.dictionary_codes.specs.inner.Codes.{AreSetFrom, IsPartWritten}
 use Rattle.dictionary_codes.specs.CodedCells.{is_coded}
 use Rattle.cells.specs.Cell.{Cell}

@@ -1,5 +1,5 @@
 use Rattle.arrow_schema.specs.View.{column_of}
-use Rattle.dictionary_codes.specs.inner.Named.{named_cells}
+use Rattle.dictionary_codes.specs.Named.{named_cells}
 use Rattle.dictionary_codes.proofs.Written.{put_is}
 use Rattle.dictionary_codes.proofs.run_codes.put_new_code.Goals as goal
 use Rattle.columns.specs.CellAt.{cell_at}

@@ -11,7 +11,7 @@ use Rattle.dictionary_codes.specs.CodedCells.{is_coded}
 use Rattle.columns.specs.declared.slot_runs.SlotRun.TheVariants.{Slots}
 use Rattle.columns.specs.declared.view.ArrayView.{ArrayView}
 use Rattle.arrow_schema.specs.View.{bits_of, column_of}
-use Rattle.dictionary_codes.specs.inner.Named.{named_cells}
+use Rattle.dictionary_codes.specs.Named.{named_cells}
 use Rattle.dictionary_codes.specs.laws.SlotCounts.{slots_counted}
 use Rattle.dictionary_codes.proofs.Written.{nulls_written}
 use Rattle.dictionary_codes.proofs.run_codes.put_run_codes.Goals as goal

@@ -2,7 +2,7 @@ use Rattle.std.specs.Prelude.{get_or}
 use Rattle.std.proofs.Common.{◌≡◌, ◌≤◌, ◌-◌, ◌*◌, ◌∙◌, ℕ, Bool, List, ap, arith, length, subst, true}
 use Rattle.std.proofs.Math.Nat.{mul-le-mul_left}
 use Rattle.arrow_schema.specs.View.{column_of}
-use Rattle.dictionary_codes.specs.inner.Named.{named_cells}
+use Rattle.dictionary_codes.specs.Named.{named_cells}
 use Rattle.dictionary_codes.proofs.CodedRuns.{cells_split, coded_split}
 use Rattle.dictionary_codes.proofs.Written.{all_set, all_written, none_written}
 use Rattle.dictionary_codes.proofs.run_codes.put_sized_codes.Goals as goal

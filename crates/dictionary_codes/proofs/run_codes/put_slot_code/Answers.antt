@@ -7,7 +7,7 @@ use Rattle.dictionary_codes.proofs.Known.{is_within}
 use Rattle.dictionary_codes.proofs.Codes.{is_known, known_named, null_code}
 use Rattle.dictionary_codes.proofs.run_codes.put_slot_code.Goals as goal
 use Rattle.dictionary_codes.specs.inner.Codes.{own_entries}
-use Rattle.dictionary_codes.specs.inner.Named.{named_cells, seen_cells}
+use Rattle.dictionary_codes.specs.Named.{named_cells, seen_cells}
 use Rattle.cells.specs.Cell.{Cell, null}
 use Rattle.cells.specs.Dictionary.{is_entry}
 use Rattle.columns.specs.CellAt.{cell_at, entry_at, index_at, named_number}

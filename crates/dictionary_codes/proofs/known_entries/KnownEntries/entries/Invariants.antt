@@ -1,6 +1,6 @@
 use Rattle.std.proofs.Common.{◌≡◌, ◌≤◌, ◌+◌, ◌++◌, drop, length, map, vec_len, vec_capacity}
 use Rattle.cells.specs.Entry.{entry_cell}
-use Rattle.dictionary_codes.specs.inner.Named.{named_cells, seen_cells}
+use Rattle.dictionary_codes.specs.Named.{named_cells, seen_cells}
 use Rattle.dictionary_codes.specs.inner.Seen.{cells_numbered}
 use Rattle.dictionary_codes.proofs.known_entries.KnownEntries.entries.Given as goal
 

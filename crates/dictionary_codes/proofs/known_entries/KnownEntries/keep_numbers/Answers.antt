@@ -5,7 +5,7 @@ use Rattle.dictionary_codes.proofs.known_entries.KnownEntries.keep_numbers.Goals
 use Rattle.dictionary_codes.specs.declared.known_dictionary.KnownDictionary.{KnownDictionary}
 use Rattle.dictionary_codes.specs.inner.Codes.{AreKnown, own_entries}
 use Rattle.dictionary_codes.specs.inner.Known.{dictionary_entries}
-use Rattle.dictionary_codes.specs.inner.Named.{seen_cells}
+use Rattle.dictionary_codes.specs.Named.{seen_cells}
 use Rattle.cells.specs.Cell.{Cell}
 use Rattle.columns.specs.Array.{Arrays}
 use Rattle.columns.specs.CellAt.{entries_of_kind}

@@ -3,7 +3,7 @@ use Rattle.std.proofs.lemmas.List.{length-map}
 use Rattle.std.proofs.lemmas.Result.{on_ok_weaker}
 use Rattle.dictionary_codes.proofs.Known.{cells_stay, is_within}
 use Rattle.dictionary_codes.proofs.known_entries.KnownEntries.look_up.Goals as goal
-use Rattle.dictionary_codes.specs.inner.Named.{seen_cells}
+use Rattle.dictionary_codes.specs.Named.{seen_cells}
 use Rattle.cells.specs.Dictionary.{is_entry}
 use Rattle.cells.specs.Entry.{entry_cell}
 

@@ -3,7 +3,7 @@ use Rattle.std.proofs.lemmas.List.{length-map}
 use Rattle.std.proofs.lemmas.Option.{IfSome_then}
 use Rattle.dictionary_codes.proofs.Known.{AreNumbered, place_is_named}
 use Rattle.dictionary_codes.proofs.known_entries.KnownEntries.named_place.Goals as goal
-use Rattle.dictionary_codes.specs.inner.Named.{seen_cells}
+use Rattle.dictionary_codes.specs.Named.{seen_cells}
 use Rattle.cells.specs.Entry.{entry_cell}
 
 pub returns : goal.returns

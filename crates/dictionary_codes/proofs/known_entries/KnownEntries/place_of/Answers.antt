@@ -3,7 +3,7 @@ use Rattle.std.proofs.Common.{◌≡◌, ◌∙◌, ℕ, List, ap, sym}
 use Rattle.std.proofs.lemmas.Result.{IfOk-weaker, on_ok_weaker}
 use Rattle.dictionary_codes.proofs.Known.{AreNumbered, named_already, named_now}
 use Rattle.dictionary_codes.proofs.known_entries.KnownEntries.place_of.Goals as goal
-use Rattle.dictionary_codes.specs.inner.Named.{seen_cells}
+use Rattle.dictionary_codes.specs.Named.{seen_cells}
 use Rattle.dictionary_codes.specs.inner.Seen.{cells_numbered}
 use Rattle.cells.specs.Cell.{Cell}
 

@@ -2,7 +2,7 @@ use Rattle.std.specs.List.{flat_map}
 use Rattle.std.proofs.Common.{◌≡◌, ◌+◌, ℕ, length, take}
 use Rattle.arrow_schema.specs.Column.{Column}
 use Rattle.table_cut.specs.inner.Columns.{cells_behind}
-use Rattle.table_cut.proofs.columns_fit.are_few.Given as goal
+use Rattle.table_cut.proofs.columns_room.are_few.Given as goal
 
 -- the rows so far, and how many more there may be
 abbrev pub invariant-loop-run : goal.invariant-loop-run

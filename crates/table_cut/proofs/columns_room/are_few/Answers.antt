@@ -4,7 +4,7 @@ use Rattle.std.proofs.lemmas.List.{take_all}
 use Rattle.table_cut.specs.declared.row_run.RowRun.{RowRun}
 use Rattle.table_cut.specs.inner.Columns.{cells_behind}
 use Rattle.table_cut.proofs.FitLemmas.{cells_more}
-use Rattle.table_cut.proofs.columns_fit.are_few.Goals as goal
+use Rattle.table_cut.proofs.columns_room.are_few.Goals as goal
 
 pub loop-run-preserved : goal.loop-run-preserved
 loop-run-preserved c = λ place column.

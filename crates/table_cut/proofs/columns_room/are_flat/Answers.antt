@@ -6,7 +6,7 @@ use Rattle.columns.specs.View.{fields_of}
 use Rattle.facts.specs.laws.Lists.{drop-item}
 use Rattle.table_cut.specs.inner.Fit.{is_flat, are_flat}
 use Rattle.table_cut.proofs.FitLemmas.{flat_field}
-use Rattle.table_cut.proofs.columns_fit.are_flat.Goals as goal
+use Rattle.table_cut.proofs.columns_room.are_flat.Goals as goal
 
 pub loop-field-preserved : goal.loop-field-preserved
 unfolding are_flat
