@@ -1,4 +1,4 @@
-// The record batches of a text. One ends where a dictionary is full, so that the indices of the next one name entries of their own.
+// The record batches of a text. Each has dictionaries of its own, so a batch that ends when a dictionary is full leaves room for the next one.
 ghost use Rattle.std.specs.Prelude.{◌≡◌, [], ℕ, List, length, true, IfOk, IfSome, OnOk};
 ghost use Rattle.std.specs.List.{list_all};
 ghost use Rattle.arrow_schema.specs.Column.{PlainSchema};
@@ -27,7 +27,7 @@ pub(crate) struct Batches {
     pub(crate) rows: usize,
 }
 
-// The one record batch that the buffers of columns are, with `rows` rows.
+// Makes the record batch of the buffers of columns, with `rows` rows.
 fn build_part(
     alloc: Global,
     columns: Vec<ColumnBuilder>,
@@ -56,7 +56,7 @@ fn build_part(
     })
 }
 
-/// The parts of all record batches, once the last one ends.
+/// Ends the last record batch, and returns the parts of all.
 pub(crate) fn end_batches(alloc: Global, batches: Batches) -> Result<Vec<TablePart>, AllocError>
     ensures { IfOk result (λ parts. (s : PlainSchema) (rows : List (List Cell)) → HoldRows s rows batches → ArePartsOf s rows parts.items) }
 {
@@ -70,7 +70,7 @@ pub(crate) fn end_batches(alloc: Global, batches: Batches) -> Result<Vec<TablePa
     Ok(parts)
 }
 
-/// No record batch that has ended, and columns without rows.
+/// Begins the first record batch; `None` if no columns can be begun for the schema.
 pub(crate) fn no_batches(alloc: Global, schema: &Schema) -> Result<Option<Batches>, AllocError>
     ensures { IfOk result (λ started. IfSome started (HoldRows (schema_of schema.now) [])) }
 {
@@ -84,7 +84,7 @@ pub(crate) fn no_batches(alloc: Global, schema: &Schema) -> Result<Option<Batche
     }))
 }
 
-// Ends the record batch that is being read, and begins another.
+// Ends the record batch that is being read, and begins the next one.
 fn next_batch(
     alloc: Global,
     schema: &Schema,
@@ -103,7 +103,7 @@ fn next_batch(
     }))
 }
 
-// Whether the dictionaries of all columns have room for one more entry.
+// Returns whether the dictionary of each column has room for one more entry.
 fn have_room(builders: &[ColumnBuilder]) -> bool
     ensures { result ≡ list_all has_room builders.now }
 {
@@ -116,14 +116,14 @@ fn have_room(builders: &[ColumnBuilder]) -> bool
 }
 
 impl Batches {
-    /// Whether each dictionary of a column without parts has room for one more entry.
+    /// Returns whether each dictionary of a column without parts has room for one more entry.
     pub(crate) fn has_room(&self) -> bool
         ensures { result ≡ list_all has_room self.now.builders.items }
     {
         have_room(&self.builders)
     }
 
-    /// Ends the record batch, if asked to, where a dictionary has no room for an entry of one more row; false where columns cannot be begun.
+    /// If `ends`, and a dictionary has no room for one more entry, ends the record batch and begins the next one. Returns false if no columns can be begun.
     pub(crate) fn make_room(
         &mut self,
         alloc: Global,
@@ -148,7 +148,7 @@ impl Batches {
         Ok(true)
     }
 
-    /// Counts one more row of the columns.
+    /// Counts one more row of the record batch that is being read.
     pub(crate) fn count_row(&mut self) -> Result<(), AllocError>
         ensures adds { OnOk result (AddsRow self.old self.new) }
         ensures builders { self.new.builders ≡ self.old.builders }

@@ -120,7 +120,7 @@ fn push_row(
 }
 
 /// Appends the rows of lines, of which those that are blank are skipped; none where a line is no object of members, each of the name of a column, and no
-/// array of an item for each column, or where the rows are too heavy for a table. `ends` says whether a record batch ends where a dictionary is full.
+/// array of an item for each column, or where the rows are too heavy for a table. `ends` is whether a record batch ends if a dictionary is full.
 pub(crate) fn push_lines(
     alloc: Global,
     schema: &Schema,

@@ -215,7 +215,7 @@ fn push_plain_rows(
 }
 
 /// Appends the rows of a text whose header was tested; none where a record does not go in, or a quote begins a field, or where the rows
-/// are too heavy for a table. `ends` says whether a record batch ends where a dictionary is full.
+/// are too heavy for a table. `ends` is whether a record batch ends if a dictionary is full.
 pub(crate) fn push_plain_text(
     alloc: Global,
     schema: &Schema,

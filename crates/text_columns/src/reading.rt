@@ -1,4 +1,4 @@
-// A text into columns. Of CSV: where its records stand, or else by the reader of the kit.
+// Reads a text into columns: CSV in place, or else by the reader of the kit; JSON Lines line by line.
 ghost use Rattle.std.specs.Prelude.{◌≡◌, not, false, IfOk, IfSome};
 ghost use Rattle.std.specs.List.{filter};
 ghost use Rattle.arrow_schema.specs.Column.{columns_of};
@@ -28,8 +28,7 @@ pub(crate) struct Columns {
     pub(crate) weight: u64,
 }
 
-// The columns of a text all of whose records go in where they stand, once its header was tested. The text is read again, in record batches that end where
-// a dictionary is full, if that was the case.
+// Reads records in place, once the header was tested. If a dictionary is full, the text is read again, and record batches end where one is full.
 fn read_plain(
     alloc: Global,
     schema: &Schema,
@@ -58,7 +57,7 @@ fn read_plain(
     }
 }
 
-// The columns of any text, or why it is refused. The text is read again as above.
+// Reads records with the reader of the kit, or reports why the text is refused. The text is read again as above.
 fn read_records(
     alloc: Global,
     schema: &Schema,
@@ -106,7 +105,7 @@ pub(crate) fn read_columns(
     }
 }
 
-// The columns of lines. They are read again as above.
+// Reads the lines of a text. They are read again as above.
 fn read_split_lines(
     alloc: Global,
     schema: &Schema,

@@ -123,7 +123,7 @@ fn push_records(
     Ok(Some(weight))
 }
 
-/// Appends the rows of a text; none where they are too heavy for a table. `ends` says whether a record batch ends where a dictionary is full.
+/// Appends the rows of a text; none where they are too heavy for a table. `ends` is whether a record batch ends if a dictionary is full.
 ///
 /// # Errors
 ///
