@@ -5,6 +5,7 @@ pub mod Coded
 pub mod FewEntries
 pub mod BuiltArrays
 pub mod Rows
+pub mod Held
 pub mod PlacedBuffers
 pub mod Tables
 pub mod PlainText

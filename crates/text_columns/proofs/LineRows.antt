@@ -29,7 +29,7 @@ use Rattle.std.proofs.lemmas.List.{map-append, take_more}
 use Rattle.text_import.specs.declared.refusal.Refusal.{Refusal}
 use Rattle.cells.specs.Cell.{Cell, Cells, null, cells_of}
 use Rattle.cells.specs.Dictionary.{dictionaries_fit}
-use Rattle.cells.specs.Weight.{parts_weight, row_weight, table_weight, weight}
+use Rattle.cells.specs.Weight.{parts_weight, row_weight, table_weight}
 use Rattle.cells.specs.laws.Cells.{cells_listed}
 use Rattle.facts.specs.Texts.{text_list}
 use Rattle.text_import.specs.Objects.{cells_by_name, cells_in, has_name, has_unknown, is_blank, keys_of, line_row, line_value, names_of, repeats}
@@ -40,8 +40,10 @@ use Rattle.text_import.specs.laws.Behind.{behind, behind_none, row_more, rows_en
 use Rattle.text_import.proofs.ObjectLemmas.{name_more, names_end}
 use Rattle.text_import.proofs.RowLemmas.{cells_behind}
 use Rattle.text_columns.specs.declared.builder.ColumnBuilder.{ColumnBuilder}
-use Rattle.text_columns.specs.declared.records.RowsRead.{RowsRead}
-use Rattle.text_columns.specs.inner.Kept.{HasRows, KeepAll, Keeps, column_at, key_list}
+use Rattle.text_columns.specs.declared.batches.Batches.{Batches}
+use Rattle.text_columns.specs.inner.Batches.{AddsRow, HasRows, HoldRows, HoldsSame}
+use Rattle.text_columns.proofs.Held.{held_more}
+use Rattle.text_columns.specs.inner.Kept.{KeepAll, Keeps, column_at, key_list}
 use Rattle.text_columns.specs.inner.Lines.{Completes, CompletesRow, HasKeptValue, HasNamedRow, HoldMembers, HoldsMember, KeepsFields, KeepsLine, KeepsTokens, PushesMember, PushesMembers, token_data}
 use Rattle.text_columns.proofs.MemberGrammar.{member_read, members_over, object_read, text_read, value_shorter}
 use Rattle.text_columns.proofs.FewEntries.{row_fits}
@@ -332,15 +334,19 @@ abbrev pub filled : List (Bor (List ℕ)) → List (List ℕ)
 filled lines = filter (λ line. not (is_blank line)) (text_list lines)
 
 -- some lines have come as rows, and the others are left
-pub record LinesRead (s : PlainSchema) (lines left : List (Bor (List ℕ))) (i heavy : ℕ) (bs : List ColumnBuilder) : Type 0 where
+pub record LinesRead (s : PlainSchema) (lines left : List (Bor (List ℕ))) (heavy : ℕ) (b : Batches) : Type 0 where
+  pub number : ℕ
   pub rows : List (List Cell)
-  pub read : behind rows (rows_from (line_row s) (i + 1) (filled left)) ≡ rows_from (line_row s) 1 (filled lines)
-  pub count : length rows ≡ i
+  pub read : behind rows (rows_from (line_row s) (number + 1) (filled left)) ≡ rows_from (line_row s) 1 (filled lines)
   pub weighs : table_weight s rows ≡ heavy
-  pub keeps : KeepAll s.columns rows bs
+  pub holds : HoldRows s rows b
 
-pub lines_none : (s : PlainSchema) (lines : List (Bor (List ℕ))) (bs : List ColumnBuilder) → KeepAll s.columns [] bs → LinesRead s lines lines 0 0 bs
-lines_none s lines bs k = record { rows = []; read = behind_none _; count = refl; weighs = refl; keeps = k }
+pub lines_none : (s : PlainSchema) (lines : List (Bor (List ℕ))) (b : Batches) → HoldRows s [] b → LinesRead s lines lines 0 b
+lines_none s lines b k = record { number = 0; rows = []; read = behind_none _; weighs = refl; holds = k }
+
+-- the same rows in other batches
+pub lines_same : (s : PlainSchema) (lines left : List (Bor (List ℕ))) (heavy : ℕ) (old new : Batches) → HoldsSame s old new → LinesRead s lines left heavy old → LinesRead s lines left heavy new
+lines_same s lines left heavy old new same h = record { number = h.number; rows = h.rows; read = h.read; weighs = h.weighs; holds = same h.rows h.holds }
 
 filled_at : (line : Bor (List ℕ)) (lines : List (Bor (List ℕ))) → is_blank line.now ≡ false → filled (line ∷ lines) ≡ line.now ∷ filled lines
 filled_at line lines e = rw e refl
@@ -348,14 +354,14 @@ filled_at line lines e = rw e refl
 skipped_at : (line : Bor (List ℕ)) (lines : List (Bor (List ℕ))) → is_blank line.now ≡ true → filled (line ∷ lines) ≡ filled lines
 skipped_at line lines e = rw e refl
 
-pub lines_skipped : (s : PlainSchema) (lines : List (Bor (List ℕ))) (n i heavy : ℕ) (line : Bor (List ℕ)) (bs : List ColumnBuilder) → drop n lines ≡ line ∷ drop (n + 1) lines → is_blank line.now ≡ true
-    → LinesRead s lines (drop n lines) i heavy bs → LinesRead s lines (drop (n + 1) lines) i heavy bs
-lines_skipped s lines n i heavy line bs here blank h = record {
+pub lines_skipped : (s : PlainSchema) (lines : List (Bor (List ℕ))) (n heavy : ℕ) (line : Bor (List ℕ)) (b : Batches) → drop n lines ≡ line ∷ drop (n + 1) lines → is_blank line.now ≡ true
+    → LinesRead s lines (drop n lines) heavy b → LinesRead s lines (drop (n + 1) lines) heavy b
+lines_skipped s lines n heavy line b here blank h = record {
+  number = h.number;
   rows = h.rows;
-  read = ap (λ (xs : List (List ℕ)). behind h.rows (rows_from (line_row s) (i + 1) xs)) (sym (ap filled here ∙ skipped_at line (drop (n + 1) lines) blank)) ∙ h.read;
-  count = h.count;
+  read = ap (λ (xs : List (List ℕ)). behind h.rows (rows_from (line_row s) (h.number + 1) xs)) (sym (ap filled here ∙ skipped_at line (drop (n + 1) lines) blank)) ∙ h.read;
   weighs = h.weighs;
-  keeps = h.keeps;
+  holds = h.holds;
 }
 
 -- a row that is not too heavy is accepted
@@ -365,34 +371,35 @@ line_accepted s line d row heavy value cells weighs few full =
     let light : nat_lt 16777216 (row_weight s row) ≡ false = le-ltb _ _ (omega (arith, weighs, few)) in
     rw (value, cells, cells_listed row, light, full) refl
 
-pub lines_more : (s : PlainSchema) (names : List (List ℕ)) (lines : List (Bor (List ℕ))) (n i heavy more : ℕ) (line : Bor (List ℕ)) (bs bs2 : List ColumnBuilder) → drop n lines ≡ line ∷ drop (n + 1) lines
-    → is_blank line.now ≡ false → names_of (columns_of s.columns) ≡ names → repeats names ≡ false → more ≤ 16777216 → KeepsLine names line.now more bs bs2
-    → LinesRead s lines (drop n lines) i heavy bs → LinesRead s lines (drop (n + 1) lines) (i + 1) (heavy + more) bs2
-lines_more s names lines n i heavy more line bs bs2 here blank named distinct few keeps h =
-    let v = keeps.keeps s.columns h.rows named distinct h.keeps in
-    let full = row_fits s h.rows bs v.row h.keeps in
+pub lines_more : (s : PlainSchema) (names : List (List ℕ)) (lines : List (Bor (List ℕ))) (n heavy more : ℕ) (line : Bor (List ℕ)) (b b2 : Batches) → drop n lines ≡ line ∷ drop (n + 1) lines
+    → is_blank line.now ≡ false → names_of (columns_of s.columns) ≡ names → repeats names ≡ false → more ≤ 16777216 → KeepsLine names line.now more b.builders.items b2.builders.items → AddsRow b b2
+    → LinesRead s lines (drop n lines) heavy b → LinesRead s lines (drop (n + 1) lines) (heavy + more) b2
+lines_more s names lines n heavy more line b b2 here blank named distinct few keeps adds h =
+    let held = h.holds in
+    let v = keeps.keeps s.columns held.last named distinct held.keeps in
+    let full = row_fits s held.last b.builders.items v.row held.keeps in
     let row = line_accepted s line.now keeps.data_is v.row more keeps.read v.read v.weighs few full in
+    let i = h.number in
     let given : numbered (i + 1) (line_row s line.now) ≡ Ok v.row = rw row refl in
     let left = ap filled here ∙ filled_at line (drop (n + 1) lines) blank in
     let joined = sum_by-append (row_weight s) h.rows (v.row ∷ []) in
     record {
+      number = i + 1;
       rows = h.rows ++ v.row ∷ [];
       read = sym (row_more (line_row s) (i + 1) h.rows line.now (filled (drop (n + 1) lines)) v.row given)
           ∙ ap (λ (xs : List (List ℕ)). behind h.rows (rows_from (line_row s) (i + 1) xs)) (sym left) ∙ h.read;
-      count = length-append h.rows (v.row ∷ []) ∙ ap (λ (m : ℕ). m + 1) h.count;
       weighs = omega (arith, joined, h.weighs, v.weighs);
-      keeps = v.keeps;
+      holds = held_more s h.rows v.row b b2 held adds v.keeps;
     }
 
-pub lines_all : (s : PlainSchema) (lines : List (Bor (List ℕ))) (n i heavy : ℕ) (bs : List ColumnBuilder) (read : RowsRead) → drop n lines ≡ [] → heavy ≤ 268435456 → read.rows ≡ i → read.weight ≡ heavy
-    → LinesRead s lines (drop n lines) i heavy bs → HasRows s (rows_from (line_row s) 1 (filled lines)) read bs
-lines_all s lines n i heavy bs read none few rows weight h = record {
+pub lines_all : (s : PlainSchema) (lines : List (Bor (List ℕ))) (n heavy : ℕ) (b : Batches) → drop n lines ≡ [] → heavy ≤ 268435456
+    → LinesRead s lines (drop n lines) heavy b → HasRows s (rows_from (line_row s) 1 (filled lines)) heavy b
+lines_all s lines n heavy b none few h = record {
   rows = h.rows;
-  are_read = sym (rw none at h.read) ∙ rows_end (line_row s) (i + 1) h.rows;
-  count = h.count ∙ sym rows;
-  weighs = h.weighs ∙ sym weight;
-  few = rw weight few;
-  keeps = h.keeps;
+  are_read = sym (rw none at h.read) ∙ rows_end (line_row s) (h.number + 1) h.rows;
+  weighs = h.weighs;
+  few = few;
+  holds = h.holds;
 }
 
 -- ---- names as the code keeps them

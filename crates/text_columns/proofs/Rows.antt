@@ -20,9 +20,11 @@ use Rattle.text_import.specs.declared.refusal.Refused.{Refused}
 use Rattle.text_import.specs.declared.refusal.TextError.{TextError}
 use Rattle.text_import.specs.laws.Behind.{behind, behind_none, field_more, fields_end, row_more, row_refused, rows_end, told}
 use Rattle.text_columns.specs.declared.builder.ColumnBuilder.{ColumnBuilder}
-use Rattle.text_columns.specs.declared.records.RowsRead.{RowsRead}
+use Rattle.text_columns.specs.declared.batches.Batches.{Batches}
 use Rattle.text_columns.proofs.FewEntries.{row_fits}
-use Rattle.text_columns.specs.inner.Kept.{HasRow, HasRows, KeepAll, Keeps, KeepsField, KeepsRecord, ReadsRows, column_at}
+use Rattle.text_columns.proofs.Held.{held_more}
+use Rattle.text_columns.specs.inner.Batches.{AddsRow, HasRows, HoldRows, HoldsSame, ReadsRows}
+use Rattle.text_columns.specs.inner.Kept.{HasRow, KeepAll, Keeps, KeepsField, KeepsRecord, column_at}
 
 -- ---- the item at a place
 
@@ -207,18 +209,24 @@ keep_more cs bs c b k kept = record {
 -- ---- the records of a text
 
 -- some records have come as rows, and the others are left, which are read by a reader or stand in the text
-pub record Read (IsLeft : List (List (List ℕ)) → Type 0) (s : PlainSchema) (null_text : List ℕ) (records : List (List (List ℕ))) (i heavy : ℕ) (bs : List ColumnBuilder) : Type 0 where
+pub record Read (IsLeft : List (List (List ℕ)) → Type 0) (s : PlainSchema) (null_text : List ℕ) (records : List (List (List ℕ))) (i heavy : ℕ) (b : Batches) : Type 0 where
   pub rows : List (List Cell)
   pub left : List (List (List ℕ))
   pub stands : IsLeft left
   pub read : behind rows (rows_from (record_row s null_text) (i + 1) left) ≡ rows_from (record_row s null_text) 1 records
   pub count : length rows ≡ i
   pub weighs : table_weight s rows ≡ heavy
-  pub keeps : KeepAll s.columns rows bs
+  pub holds : HoldRows s rows b
 
-pub read_none : (IsLeft : List (List (List ℕ)) → Type 0) (s : PlainSchema) (null_text : List ℕ) (records : List (List (List ℕ))) (bs : List ColumnBuilder) → IsLeft records → KeepAll s.columns [] bs
-    → Read IsLeft s null_text records 0 0 bs
-read_none IsLeft s null_text records bs has k = record { rows = []; left = records; stands = has; read = behind_none _; count = refl; weighs = refl; keeps = k }
+pub read_none : (IsLeft : List (List (List ℕ)) → Type 0) (s : PlainSchema) (null_text : List ℕ) (records : List (List (List ℕ))) (b : Batches) → IsLeft records → HoldRows s [] b
+    → Read IsLeft s null_text records 0 0 b
+read_none IsLeft s null_text records b has k = record { rows = []; left = records; stands = has; read = behind_none _; count = refl; weighs = refl; holds = k }
+
+-- the same rows in other batches
+pub read_same : (IsLeft : List (List (List ℕ)) → Type 0) (s : PlainSchema) (null_text : List ℕ) (records : List (List (List ℕ))) (i heavy : ℕ) (old new : Batches) → HoldsSame s old new
+    → Read IsLeft s null_text records i heavy old → Read IsLeft s null_text records i heavy new
+read_same IsLeft s null_text records i heavy old new same h =
+    record { rows = h.rows; left = h.left; stands = h.stands; read = h.read; count = h.count; weighs = h.weighs; holds = same h.rows h.holds }
 
 -- a row that is not too heavy is accepted
 accepted_row : (s : PlainSchema) (null_text : List ℕ) (ts : List (List ℕ)) (rows : List (List Cell)) (heavy : ℕ) (old new : List ColumnBuilder) (h : HasRow s.columns null_text ts heavy rows new)
@@ -228,13 +236,14 @@ accepted_row s null_text ts rows heavy old new h count few full =
     let light : nat_lt 16777216 (row_weight s h.row) ≡ false = le-ltb _ _ (omega (arith, h.weighs, few)) in
     rw (width, h.read, light, full) refl
 
-pub read_more : (IsLeft WillBeLeft : List (List (List ℕ)) → Type 0) (s : PlainSchema) (null_text : List ℕ) (records others : List (List (List ℕ))) (i heavy more : ℕ) (old new : List ColumnBuilder)
-    (fields : List (List ℕ)) → (h : Read IsLeft s null_text records i heavy old) → h.left ≡ fields ∷ others → WillBeLeft others → more ≤ 16777216 → KeepsRecord null_text fields more old new
+pub read_more : (IsLeft WillBeLeft : List (List (List ℕ)) → Type 0) (s : PlainSchema) (null_text : List ℕ) (records others : List (List (List ℕ))) (i heavy more : ℕ) (old new : Batches)
+    (fields : List (List ℕ)) → (h : Read IsLeft s null_text records i heavy old) → h.left ≡ fields ∷ others → WillBeLeft others → more ≤ 16777216 → KeepsRecord null_text fields more old.builders.items new.builders.items → AddsRow old new
     → Read WillBeLeft s null_text records (i + 1) (heavy + more) new
-read_more IsLeft WillBeLeft s null_text records others i heavy more old new fields h whole has few keeps =
-    let row = keeps.1 s.columns h.rows h.keeps in
-    let full = row_fits s h.rows old row.row h.keeps in
-    let accepted = accepted_row s null_text fields h.rows more old new row (keeps.0 ∙ h.keeps.count) few full in
+read_more IsLeft WillBeLeft s null_text records others i heavy more old new fields h whole has few keeps adds =
+    let held = h.holds in
+    let row = keeps.1 s.columns held.last held.keeps in
+    let full = row_fits s held.last old.builders.items row.row held.keeps in
+    let accepted = accepted_row s null_text fields held.last more old.builders.items new.builders.items row (keeps.0 ∙ held.keeps.count) few full in
     let joined = sum_by-append (row_weight s) h.rows (row.row ∷ []) in
     let given : numbered (i + 1) (record_row s null_text fields) ≡ Ok row.row = rw accepted refl in
     record {
@@ -244,18 +253,17 @@ read_more IsLeft WillBeLeft s null_text records others i heavy more old new fiel
       read = sym (row_more (record_row s null_text) (i + 1) h.rows fields others row.row given) ∙ rw whole at h.read;
       count = length-append h.rows (row.row ∷ []) ∙ ap (λ (n : ℕ). n + 1) h.count;
       weighs = omega (arith, joined, h.weighs, row.weighs);
-      keeps = row.keeps;
+      holds = held_more s h.rows row.row old new held adds row.keeps;
     }
 
-pub read_rows : (IsLeft : List (List (List ℕ)) → Type 0) (s : PlainSchema) (null_text : List ℕ) (records : List (List (List ℕ))) (i heavy : ℕ) (bs : List ColumnBuilder) (read : RowsRead)
-    → (h : Read IsLeft s null_text records i heavy bs) → h.left ≡ [] → heavy ≤ 268435456 → read.rows ≡ i → read.weight ≡ heavy → HasRows s (rows_from (record_row s null_text) 1 records) read bs
-read_rows IsLeft s null_text records i heavy bs read h none few rows weight = record {
+pub read_rows : (IsLeft : List (List (List ℕ)) → Type 0) (s : PlainSchema) (null_text : List ℕ) (records : List (List (List ℕ))) (i heavy : ℕ) (b : Batches)
+    → (h : Read IsLeft s null_text records i heavy b) → h.left ≡ [] → heavy ≤ 268435456 → HasRows s (rows_from (record_row s null_text) 1 records) heavy b
+read_rows IsLeft s null_text records i heavy b h none few = record {
   rows = h.rows;
   are_read = sym (rw none at h.read) ∙ rows_end (record_row s null_text) (i + 1) h.rows;
-  count = h.count ∙ sym rows;
-  weighs = h.weighs ∙ sym weight;
-  few = rw weight few;
-  keeps = h.keeps;
+  weighs = h.weighs;
+  few = few;
+  holds = h.holds;
 }
 
 -- a reader that has no more records left than turns
@@ -269,15 +277,15 @@ none_left (x ∷ xs) h = absurd (omega arith)
 pub left_behind : (left others : List (List (List ℕ))) (fields : List (List ℕ)) (i most : ℕ) → left ≡ fields ∷ others → length left ≤ most - i → length others ≤ most - (i + 1)
 left_behind left others fields i most whole few = let len = ap length whole in omega (arith, len, few)
 
-pub read_refused : (IsLeft : List (List (List ℕ)) → Type 0) (s : PlainSchema) (null_text : List ℕ) (records others : List (List (List ℕ))) (i heavy : ℕ) (bs : List ColumnBuilder) (fields : List (List ℕ))
-    (o : Option Refused) → (h : Read IsLeft s null_text records i heavy bs) → h.left ≡ fields ∷ others → Reports o (numbered (i + 1) (record_row s null_text fields))
+pub read_refused : (IsLeft : List (List (List ℕ)) → Type 0) (s : PlainSchema) (null_text : List ℕ) (records others : List (List (List ℕ))) (i heavy : ℕ) (b : Batches) (fields : List (List ℕ))
+    (o : Option Refused) → (h : Read IsLeft s null_text records i heavy b) → h.left ≡ fields ∷ others → Reports o (numbered (i + 1) (record_row s null_text fields))
     → Reports o (rows_from (record_row s null_text) 1 records)
-read_refused IsLeft s null_text records others i heavy bs fields o h whole refused =
+read_refused IsLeft s null_text records others i heavy b fields o h whole refused =
     told o (numbered (i + 1) (record_row s null_text fields)) (rows_from (record_row s null_text) 1 records) refused
     (λ f e. sym (rw whole at h.read) ∙ row_refused (record_row s null_text) (i + 1) h.rows fields others f e)
 
 -- a record that is refused by itself, or by none, and what that says of all
-pub refused_step : {A : Type 0} (s : PlainSchema) (own : Result A Refused) (stated : Result (List (List Cell)) Refused) (r : Result (Option RowsRead) TextError) (new : List ColumnBuilder)
+pub refused_step : {A : Type 0} (s : PlainSchema) (own : Result A Refused) (stated : Result (List (List Cell)) Refused) (r : Result (Option ℕ) TextError) (new : Batches)
     → MatchResult r (λ read. read ≡ None) (λ e. Reports (refused_by e) own) → ((o : Option Refused) → Reports o own → Reports o stated) → ReadsRows s stated r new
 refused_step s own stated (Err e) new h more = more (refused_by e) h
 refused_step s own stated (Ok None) new h more = tt

@@ -27,8 +27,9 @@ use Rattle.values.specs.Table.{IsTable}
 use Rattle.values.specs.declared.table_part.Batch.{Batch}
 use Rattle.values.specs.declared.table_part.TablePart.{TablePart}
 use Rattle.text_columns.specs.declared.builder.ColumnBuilder.{ColumnBuilder}
-use Rattle.text_columns.specs.declared.records.RowsRead.{RowsRead}
-use Rattle.text_columns.specs.inner.Kept.{HasRows, KeepAll}
+use Rattle.text_columns.specs.declared.batches.Batches.{Batches}
+use Rattle.text_columns.specs.inner.Batches.{HasRows}
+use Rattle.text_columns.specs.inner.Kept.{KeepAll}
 use Rattle.text_columns.specs.inner.Tables.{HasTable, MakesRows}
 use Rattle.text_columns.specs.inner.Placed.{ArePlaced}
 
@@ -104,13 +105,13 @@ part_made s rows bs n part batch k count law lists can entries one size placed =
 
 -- ---- the table
 
-rows_are_table : (s : PlainSchema) (stated : Result (List (List Cell)) Refused) (read : RowsRead) (columns : List ColumnBuilder) → IsWithinLimits s
-    → ((rows : List (List Cell)) → stated ≡ Ok rows → AllPass (is_row s) rows) → (h : HasRows s stated read columns) → IsTable (record { schema = s; rows = h.rows })
-rows_are_table s stated read columns limits pass h = record { schema = limits; rows = pass h.rows h.are_read; weight = omega (arith, h.weighs, h.few) }
+rows_are_table : (s : PlainSchema) (stated : Result (List (List Cell)) Refused) (heavy : ℕ) (b : Batches) → IsWithinLimits s
+    → ((rows : List (List Cell)) → stated ≡ Ok rows → AllPass (is_row s) rows) → (h : HasRows s stated heavy b) → IsTable (record { schema = s; rows = h.rows })
+rows_are_table s stated heavy b limits pass h = record { schema = limits; rows = pass h.rows h.are_read; weight = omega (arith, h.weighs, h.few) }
 
-pub makes_rows : (s : PlainSchema) (stated : Result (List (List Cell)) Refused) (read : RowsRead) (columns : List ColumnBuilder) → IsWithinLimits s
-    → ((rows : List (List Cell)) → stated ≡ Ok rows → AllPass (is_row s) rows) → HasRows s stated read columns → MakesRows s columns read.rows
-makes_rows s stated read columns limits pass h = record { rows = h.rows; keeps = h.keeps; count = h.count; table = rows_are_table s stated read columns limits pass h }
+pub makes_rows : (s : PlainSchema) (stated : Result (List (List Cell)) Refused) (heavy : ℕ) (b : Batches) → IsWithinLimits s
+    → ((rows : List (List Cell)) → stated ≡ Ok rows → AllPass (is_row s) rows) → HasRows s stated heavy b → MakesRows s b
+makes_rows s stated heavy b limits pass h = record { rows = h.rows; holds = h.holds; table = rows_are_table s stated heavy b limits pass h }
 
 -- what a call tells of the table that it made
 pub record IsTold (s : PlainSchema) (stated : Result (List (List Cell)) Refused) (heavy : ℕ) (t : PlainTable) : Type 0 where
@@ -118,9 +119,9 @@ pub record IsTold (s : PlainSchema) (stated : Result (List (List Cell)) Refused)
   pub schema : t.schema ≡ s
   pub weight : heavy ≡ table_weight s t.rows
 
-pub table_told : (s : PlainSchema) (stated : Result (List (List Cell)) Refused) (read : RowsRead) (columns : List ColumnBuilder) (t : PlainTable) → IsWithinLimits s
-    → ((rows : List (List Cell)) → stated ≡ Ok rows → AllPass (is_row s) rows) → HasRows s stated read columns → HasTable s columns read.rows t → IsTold s stated read.weight t
-table_told s stated read columns t limits pass h has =
-    let same : t ≡ record { schema = s; rows = h.rows } = has h.rows h.keeps h.count (rows_are_table s stated read columns limits pass h) in
+pub table_told : (s : PlainSchema) (stated : Result (List (List Cell)) Refused) (heavy : ℕ) (b : Batches) (t : PlainTable) → IsWithinLimits s
+    → ((rows : List (List Cell)) → stated ≡ Ok rows → AllPass (is_row s) rows) → HasRows s stated heavy b → HasTable s b t → IsTold s stated heavy t
+table_told s stated heavy b t limits pass h has =
+    let same : t ≡ record { schema = s; rows = h.rows } = has h.rows h.holds (rows_are_table s stated heavy b limits pass h) in
     let rows : t.rows ≡ h.rows = ap (λ (u : PlainTable). u.rows) same in
     record { read = h.are_read ∙ ap Ok (sym rows); schema = ap (λ (u : PlainTable). u.schema) same; weight = sym h.weighs ∙ ap (table_weight s) (sym rows) }

@@ -4,3 +4,4 @@ pub mod Tables
 pub mod Plain
 pub mod Columns
 pub mod Lines
+pub mod Batches

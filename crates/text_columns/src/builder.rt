@@ -3,6 +3,7 @@ ghost use Rattle.std.specs.Prelude.{◌≡◌, ◌+◌, ◌*◌, ◌++◌, ◌�
 ghost use Rattle.byteorder.specs.Endian.{little_bytes};
 ghost use Rattle.columns.specs.Offsets.{width_of};
 ghost use Rattle.text_columns.specs.inner.Kept.{AllAppendNulls, AppendsNulls, KeepsField, PushesEmpty, PushesEnd, PushesThere, is_nullable, null_heavy_of};
+ghost use Rattle.text_columns.specs.inner.Batches.{has_room};
 ghost use Rattle.text_columns.specs.inner.Lines.{KeepsNull};
 
 use crate::flat::FlatBuilder;
@@ -128,6 +129,19 @@ impl ColumnBuilder {
             ColumnBuilder::List(slots, _, _) => slots.nullable,
             ColumnBuilder::FixedList(slots, _, _) => slots.nullable,
             ColumnBuilder::Struct(slots, _, _) => slots.nullable,
+        }
+    }
+
+    /// Whether the dictionary of the column has room for one more entry; true where it has none, or parts.
+    pub(crate) fn has_room(&self) -> bool
+        ensures { result ≡ has_room self.now }
+    {
+        match self {
+            ColumnBuilder::Flat(flat) => match &flat.coding {
+                Some(coding) => coding.has_room(),
+                None => true,
+            },
+            _ => true,
         }
     }
 

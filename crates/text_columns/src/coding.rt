@@ -71,6 +71,15 @@ fn place_of(
 }
 
 impl Coding {
+    ghost use Rattle.std.specs.Prelude.{length};
+
+    /// Whether an index can name one more entry.
+    pub(crate) fn has_room(&self) -> bool
+        ensures { result ≡ is_within (entry_limit (index_type self.now.index)) (length self.now.keys.keys + 1) }
+    {
+        has_room(self.index, self.keys.len())
+    }
+
     ghost use Rattle.text_columns.specs.inner.Kept.{TakesCodedText};
 
     // Appends the index of the one value, which is an entry then; false where no index can name it.

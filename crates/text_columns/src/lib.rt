@@ -1,13 +1,15 @@
-//! A text as the arrays of one record batch, under a schema of columns of any type, with dictionaries or without.
+//! Reads a text into the arrays of record batches, under a schema of columns of any type, with dictionaries or without.
 //!
-//! [`csv_table`] answers the table of just the rows that `text_import::csv_rows` gives of the same text, and what they weigh, or the same
-//! refusal. No value is made of a cell and no row is: each field goes into the buffers of its column where it is read. For some schemas with lists or
-//! structs, which `csv_rows` refuses, for rows that are too heavy for a table, and for more entries than the indices of a dictionary name, it answers
-//! none, and the rows are those of `csv_rows`.
+//! [`csv_table`] returns the table of exactly the rows that `text_import::csv_rows` returns for the same text, and their weight, or the same refusal. It
+//! makes no value for a cell and no row: each field goes into the buffers of its column as it is read. It returns `None` for some schemas with lists or
+//! structs, which `csv_rows` refuses, and if the rows are too heavy for a table.
 //!
-//! [`jsonl_table`] does the same of JSON Lines, token by token: no tree is made of a line, and the items of a list and the members of a struct go into
-//! buffers of their own. It answers none also for a text that is refused, that has an object with a name twice, or where a dictionary below lists or
-//! structs has indices of fewer than 32 bits.
+//! [`jsonl_table`] does the same for JSON Lines, token by token: no tree is made of a line, and the items of a list and the members of a struct go into
+//! buffers of their own. It also returns `None` if the text is refused, if an object has a name twice, or if a dictionary below a list or a struct has
+//! indices of fewer than 32 bits.
+//!
+//! The rows are one record batch. Only if a column gets more entries than its indices can name, the text is read again, and a record batch ends before
+//! each row for which a dictionary might have no room. Each record batch has dictionaries of its own.
 //!
 //! ```
 //! let fields = field_texts::parse_fields(alloc, &["a:int32?", "s:utf8"])?;
@@ -15,9 +17,10 @@
 //! let read = text_columns::csv_table(alloc, &schema, b"a,s\n1,x\n,\n", "")?;
 //! ```
 //!
-//! gives a table of two rows in one record batch, 1 and "x", and a null and "", which weighs 7.
+//! gives a table of two rows in one record batch, 1 and "x", and a null and "", with weight 7.
 #![tactic(auto)]
 
+mod batches;
 mod builder;
 mod bytes;
 mod coding;

@@ -1,17 +1,20 @@
 // Lines of JSON, member by member into the buffers of their columns.
 ghost use Rattle.std.specs.Prelude.{◌≡◌, ◌≤◌, ℕ, List, not, [], ◌∷◌, false, IfOk, IfSome};
 ghost use Rattle.std.specs.List.{filter};
-ghost use Rattle.arrow_schema.specs.Column.{PlainSchema, columns_of};
+ghost use Rattle.arrow_schema.specs.Column.{columns_of};
+ghost use Rattle.arrow_schema.specs.View.{schema_of};
 ghost use Rattle.facts.specs.Texts.{text_list};
 ghost use Rattle.json.specs.Token as tokens;
 ghost use Rattle.text_import.specs.Objects.{is_blank, line_row, names_of, repeats};
 ghost use Rattle.text_import.specs.Rows.{rows_from};
-ghost use Rattle.text_columns.specs.inner.Kept.{HasRows, KeepAll, key_list};
+ghost use Rattle.text_columns.specs.inner.Batches.{AddsRow, HasRows, HoldRows};
+ghost use Rattle.text_columns.specs.inner.Kept.{key_list};
 ghost use Rattle.text_columns.specs.inner.Lines.{KeepsLine, KeepsTokens};
 
+use crate::batches::Batches;
 use crate::builder::ColumnBuilder;
 use crate::next::{push_fields, push_items};
-use crate::records::RowsRead;
+use arrow_schema::Schema;
 use cells::{MAX_ROW_WEIGHT, MAX_TABLE_WEIGHT};
 use indexmap::IndexSet;
 use json::{Reader, Scratch, Token};
@@ -97,32 +100,55 @@ fn push_line(
     push_value(names, order, builders, heavies, &mut reader)
 }
 
+// The same, into the columns of the record batch that is being read.
+fn push_row(
+    names: &IndexSet<Vec<u8>>,
+    order: &mut [usize],
+    batches: &mut Batches,
+    heavies: &mut [Option<u64>],
+    scratch: &mut Scratch,
+    line: &[u8],
+) -> Result<Option<u64>, AllocError>
+    ensures few { IfOk result (λ taken. IfSome taken (λ heavy. heavy ≤ MAX_ROW_WEIGHT)) }
+    ensures kept { IfOk result (λ taken. IfSome taken (λ heavy.
+        KeepsLine (key_list names.now.keys) line.now heavy batches.old.builders.items batches.new.builders.items)) }
+    ensures adds { IfOk result (λ taken. IfSome taken (λ heavy. AddsRow batches.old batches.new)) }
+{
+    batches.count_row()?;
+    let builders = batches.builders.as_mut_slice();
+    push_line(names, order, builders, heavies, scratch, line)
+}
+
 /// Appends the rows of lines, of which those that are blank are skipped; none where a line is no object of members, each of the name of a column, and no
-/// array of an item for each column, or where the rows are too heavy for a table.
+/// array of an item for each column, or where the rows are too heavy for a table. `ends` is whether a record batch ends if a dictionary is full.
 pub(crate) fn push_lines(
     alloc: Global,
+    schema: &Schema,
     names: &IndexSet<Vec<u8>>,
     lines: &[&[u8]],
-    builders: &mut [ColumnBuilder],
-) -> Result<Option<RowsRead>, AllocError>
+    batches: &mut Batches,
+    ends: bool,
+) -> Result<Option<u64>, AllocError>
     requires { repeats (key_list names.now.keys) ≡ false }
-    ensures { (s : PlainSchema) → names_of (columns_of s.columns) ≡ key_list names.now.keys → KeepAll s.columns [] builders.old
-        → IfOk result (λ read. IfSome read (λ r.
-        HasRows s (rows_from (line_row s) 1 (filter (λ line. not (is_blank line)) (text_list lines.now))) r builders.new)) }
+    ensures { names_of (columns_of (schema_of schema.now).columns) ≡ key_list names.now.keys → HoldRows (schema_of schema.now) [] batches.old
+        → IfOk result (λ read. IfSome read (λ heavy.
+        HasRows (schema_of schema.now) (rows_from (line_row (schema_of schema.now)) 1 (filter (λ line. not (is_blank line)) (text_list lines.now))) heavy batches.new)) }
 {
     let mut scratch = Scratch::new(alloc);
-    let mut heavies = vec![in alloc; None; builders.len()]?;
-    let mut order = vec![in alloc; 0; builders.len()]?;
-    let mut rows = 0;
+    let mut heavies = vec![in alloc; None; schema.fields.len()]?;
+    let mut order = vec![in alloc; 0; schema.fields.len()]?;
     let mut weight = 0;
     for line in lines {
         if is_blank(line) {
             continue;
         }
-        let Some(heavy) = push_line(
+        if !batches.make_room(alloc, schema, ends)? {
+            return Ok(None);
+        }
+        let Some(heavy) = push_row(
             names,
             order.as_mut_slice(),
-            builders,
+            batches,
             heavies.as_mut_slice(),
             &mut scratch,
             line,
@@ -134,7 +160,6 @@ pub(crate) fn push_lines(
             return Ok(None);
         }
         weight += heavy;
-        rows += 1;
     }
-    Ok(Some(RowsRead { rows, weight }))
+    Ok(Some(weight))
 }

@@ -2,17 +2,18 @@
 ghost use Rattle.std.specs.Prelude.{◌≡◌, ◌<◌, ◌≤◌, [], ◌∷◌, ℕ, List, length, drop, IfOk, IfSome};
 ghost use Rattle.csv.specs.Reading.{is_bom, strip_bom};
 ghost use Rattle.csv.specs.declared.parser.State.TheVariants as st;
-ghost use Rattle.arrow_schema.specs.Column.{PlainSchema};
+ghost use Rattle.arrow_schema.specs.View.{schema_of};
 ghost use Rattle.text_import.specs.Records.{record_row, records_of};
 ghost use Rattle.text_import.specs.Rows.{rows_from};
 ghost use Rattle.text_import.specs.Stands.{Left};
-ghost use Rattle.text_columns.specs.inner.Kept.{HasRows, KeepAll};
+ghost use Rattle.text_columns.specs.inner.Batches.{AddsRow, HasRows, HoldRows};
 ghost use Rattle.text_columns.specs.inner.Plain.{IsFieldAt, PushesPlain, SkipsEnds, SkipsRecord, begins_quoted, begins_with, ends_field, ends_line};
 
+use crate::batches::Batches;
 use crate::builder::ColumnBuilder;
-use crate::records::RowsRead;
+use arrow_schema::Schema;
 use cells::{MAX_ROW_WEIGHT, MAX_TABLE_WEIGHT};
-use std::alloc::AllocError;
+use std::alloc::{AllocError, Global};
 
 /// Where a record ends, with its line end, and what its row weighs.
 #[derive(Clone, Copy)]
@@ -159,26 +160,49 @@ fn push_plain(
     Ok(None)
 }
 
-// Appends the rows of the records from a place on; none where one of them does not go in, or they are too heavy for a table.
-fn push_plain_rows(
-    builders: &mut [ColumnBuilder],
+// The same, into the columns of the record batch that is being read.
+fn push_plain_row(
+    batches: &mut Batches,
     null_text: &[u8],
     text: &[u8],
     from: usize,
-) -> Result<Option<RowsRead>, AllocError>
+) -> Result<Option<PlainRow>, AllocError>
     requires { from ≤ length text.now }
-    ensures { IfOk result (λ read. IfSome read (λ r. (s : PlainSchema) (records : List (List (List ℕ)))
-        → Left records st.StartRecord (drop from text.now) → KeepAll s.columns [] builders.old
-        → HasRows s (rows_from (record_row s null_text.now) 1 records) r builders.new)) }
+    ensures few { IfOk result (λ taken. IfSome taken (λ row. row.weight ≤ MAX_ROW_WEIGHT)) }
+    ensures pushed { IfOk result (λ taken. IfSome taken (λ row.
+        PushesPlain text.now null_text.now from row batches.old.builders.items batches.new.builders.items)) }
+    ensures adds { IfOk result (λ taken. IfSome taken (λ row. AddsRow batches.old batches.new)) }
+{
+    batches.count_row()?;
+    push_plain(batches.builders.as_mut_slice(), null_text, text, from)
+}
+
+// Appends the rows of the records from a place on; none where one of them does not go in, or they are too heavy for a table.
+fn push_plain_rows(
+    alloc: Global,
+    schema: &Schema,
+    batches: &mut Batches,
+    ends: bool,
+    null_text: &[u8],
+    text: &[u8],
+    from: usize,
+) -> Result<Option<u64>, AllocError>
+    requires { from ≤ length text.now }
+    ensures { IfOk result (λ read. IfSome read (λ heavy. (records : List (List (List ℕ)))
+        → Left records st.StartRecord (drop from text.now) → HoldRows (schema_of schema.now) [] batches.old
+        → HasRows (schema_of schema.now) (rows_from (record_row (schema_of schema.now) null_text.now) 1 records) heavy batches.new)) }
 {
     let mut at = from;
     let mut weight = 0;
     for rows in 0..usize::MAX {
         let start = skip_ends(text, at);
         if start == text.len() {
-            return Ok(Some(RowsRead { rows, weight }));
+            return Ok(Some(weight));
         }
-        let Some(row) = push_plain(builders, null_text, text, start)? else {
+        if !batches.make_room(alloc, schema, ends)? {
+            return Ok(None);
+        }
+        let Some(row) = push_plain_row(batches, null_text, text, start)? else {
             return Ok(None);
         };
         if row.weight > MAX_TABLE_WEIGHT - weight {
@@ -191,20 +215,23 @@ fn push_plain_rows(
 }
 
 /// Appends the rows of a text whose header was tested; none where a record does not go in, or a quote begins a field, or where the rows
-/// are too heavy for a table.
+/// are too heavy for a table. `ends` is whether a record batch ends if a dictionary is full.
 pub(crate) fn push_plain_text(
-    builders: &mut [ColumnBuilder],
+    alloc: Global,
+    schema: &Schema,
+    batches: &mut Batches,
+    ends: bool,
     null_text: &[u8],
     text: &[u8],
-) -> Result<Option<RowsRead>, AllocError>
-    ensures { IfOk result (λ read. IfSome read (λ r. (s : PlainSchema) (header : List (List ℕ)) (records : List (List (List ℕ)))
-        → records_of text.now ≡ header ∷ records → KeepAll s.columns [] builders.old
-        → HasRows s (rows_from (record_row s null_text.now) 1 records) r builders.new)) }
+) -> Result<Option<u64>, AllocError>
+    ensures { IfOk result (λ read. IfSome read (λ heavy. (header : List (List ℕ)) (records : List (List (List ℕ)))
+        → records_of text.now ≡ header ∷ records → HoldRows (schema_of schema.now) [] batches.old
+        → HasRows (schema_of schema.now) (rows_from (record_row (schema_of schema.now) null_text.now) 1 records) heavy batches.new)) }
 {
     let header = skip_ends(text, behind_mark(text));
     let Some(from) = skip_record(text, header) else {
         return Ok(None);
     };
-    let read = push_plain_rows(builders, null_text, text, from)?;
+    let read = push_plain_rows(alloc, schema, batches, ends, null_text, text, from)?;
     Ok(read)
 }

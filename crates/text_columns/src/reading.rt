@@ -1,29 +1,34 @@
-// A text into columns. Of CSV: where its records stand, or else by the reader of the kit.
-ghost use Rattle.std.specs.Prelude.{IfOk, IfSome};
+// Reads a text into columns: CSV in place, or else by the reader of the kit; JSON Lines line by line.
+ghost use Rattle.std.specs.Prelude.{◌≡◌, not, false, IfOk, IfSome};
+ghost use Rattle.std.specs.List.{filter};
+ghost use Rattle.arrow_schema.specs.Column.{columns_of};
 ghost use Rattle.arrow_schema.specs.View.{schema_of};
 ghost use Rattle.text_import.specs.Records.{csv_rows_of};
-ghost use Rattle.text_import.specs.Objects.{jsonl_rows_of};
+ghost use Rattle.facts.specs.Texts.{text_list};
+ghost use Rattle.text_import.specs.Objects.{is_blank, jsonl_rows_of, line_row, names_of, repeats};
+ghost use Rattle.text_import.specs.Rows.{rows_from};
 ghost use Rattle.text_columns.specs.inner.Columns.{ReadsColumns};
-ghost use Rattle.text_columns.specs.inner.Kept.{HasRows};
+ghost use Rattle.text_columns.specs.inner.Batches.{HasRows};
+ghost use Rattle.text_columns.specs.inner.Kept.{key_list};
 
-use crate::builder::ColumnBuilder;
+use crate::batches::{Batches, no_batches};
 use crate::lines::push_lines;
 use crate::members::names_of;
 use crate::plain::push_plain_text;
-use crate::records::{RowsRead, push_rows};
-use crate::starting::no_rows;
+use crate::records::push_rows;
 use arrow_schema::Schema;
+use indexmap::IndexSet;
 use std::alloc::{AllocError, Global};
 use text_import::{TextError, csv_records, split_lines};
 
-/// The columns of a text, and how many rows were read into them.
+/// The record batches of a text, and what their rows weigh.
 #[derive(Drop)]
 pub(crate) struct Columns {
-    pub(crate) builders: Vec<ColumnBuilder>,
-    pub(crate) read: RowsRead,
+    pub(crate) batches: Batches,
+    pub(crate) weight: u64,
 }
 
-// The columns of a text all of whose records go in where they stand, once its header was tested.
+// Reads records in place, once the header was tested. If a dictionary is full, the text is read again, and record batches end where one is full.
 fn read_plain(
     alloc: Global,
     schema: &Schema,
@@ -32,17 +37,27 @@ fn read_plain(
 ) -> Result<Option<Columns>, TextError>
     ensures { ReadsColumns (schema_of schema.now) (csv_rows_of (schema_of schema.now) null_text.now text.now) result }
 {
-    let Some(mut builders) = no_rows(alloc, &schema.fields)? else {
+    let Some(mut batches) = no_batches(alloc, schema)? else {
         return Ok(None);
     };
     drop(csv_records(alloc, schema, text)?);
-    match push_plain_text(builders.as_mut_slice(), null_text, text)? {
-        Some(read) => Ok(Some(Columns { builders, read })),
+    if let Some(weight) = push_plain_text(alloc, schema, &mut batches, false, null_text, text)? {
+        return Ok(Some(Columns { batches, weight }));
+    }
+    if batches.has_room() {
+        return Ok(None);
+    }
+    drop(batches);
+    let Some(mut batches) = no_batches(alloc, schema)? else {
+        return Ok(None);
+    };
+    match push_plain_text(alloc, schema, &mut batches, true, null_text, text)? {
+        Some(weight) => Ok(Some(Columns { batches, weight })),
         None => Ok(None),
     }
 }
 
-// The columns of any text, or why it is refused.
+// Reads records with the reader of the kit, or reports why the text is refused. The text is read again as above.
 fn read_records(
     alloc: Global,
     schema: &Schema,
@@ -51,16 +66,26 @@ fn read_records(
 ) -> Result<Option<Columns>, TextError>
     ensures { ReadsColumns (schema_of schema.now) (csv_rows_of (schema_of schema.now) null_text.now text.now) result }
 {
-    let Some(mut builders) = no_rows(alloc, &schema.fields)? else {
+    let Some(mut batches) = no_batches(alloc, schema)? else {
         return Ok(None);
     };
-    match push_rows(alloc, schema, text, null_text, builders.as_mut_slice())? {
-        Some(read) => Ok(Some(Columns { builders, read })),
+    if let Some(weight) = push_rows(alloc, schema, text, null_text, &mut batches, false)? {
+        return Ok(Some(Columns { batches, weight }));
+    }
+    if batches.has_room() {
+        return Ok(None);
+    }
+    drop(batches);
+    let Some(mut batches) = no_batches(alloc, schema)? else {
+        return Ok(None);
+    };
+    match push_rows(alloc, schema, text, null_text, &mut batches, true)? {
+        Some(weight) => Ok(Some(Columns { batches, weight })),
         None => Ok(None),
     }
 }
 
-/// The columns of a text; none for a dictionary with a limit below lists or structs, where a column has more entries than its indices name, or where the
+/// The columns of a text, in one record batch unless a dictionary is full; none for a dictionary with a limit below lists or structs, or where the
 /// rows are too heavy for a table.
 ///
 /// # Errors
@@ -80,25 +105,50 @@ pub(crate) fn read_columns(
     }
 }
 
-/// The columns of a text of JSON Lines; none for a dictionary with a limit below lists or structs, where a column has more entries than its indices name,
-/// where two columns have one name, where a line is neither an object nor an array, or where the rows are too heavy for a table.
+// Reads the lines of a text. They are read again as above.
+fn read_split_lines(
+    alloc: Global,
+    schema: &Schema,
+    names: &IndexSet<Vec<u8>>,
+    lines: &[&[u8]],
+) -> Result<Option<Columns>, AllocError>
+    requires { repeats (key_list names.now.keys) ≡ false }
+    ensures { names_of (columns_of (schema_of schema.now).columns) ≡ key_list names.now.keys → IfOk result (λ found. IfSome found (λ c.
+        HasRows (schema_of schema.now) (rows_from (line_row (schema_of schema.now)) 1 (filter (λ line. not (is_blank line)) (text_list lines.now))) c.weight c.batches)) }
+{
+    let Some(mut batches) = no_batches(alloc, schema)? else {
+        return Ok(None);
+    };
+    if let Some(weight) = push_lines(alloc, schema, names, lines, &mut batches, false)? {
+        return Ok(Some(Columns { batches, weight }));
+    }
+    if batches.has_room() {
+        return Ok(None);
+    }
+    drop(batches);
+    let Some(mut batches) = no_batches(alloc, schema)? else {
+        return Ok(None);
+    };
+    match push_lines(alloc, schema, names, lines, &mut batches, true)? {
+        Some(weight) => Ok(Some(Columns { batches, weight })),
+        None => Ok(None),
+    }
+}
+
+/// The columns of a text of JSON Lines, in one record batch unless a dictionary is full; none for a dictionary with a limit below lists or structs, where
+/// two columns have one name, where a line is neither an object nor an array, or where the rows are too heavy for a table.
 pub(crate) fn read_lines(
     alloc: Global,
     schema: &Schema,
     text: &[u8],
 ) -> Result<Option<Columns>, AllocError>
     ensures { IfOk result (λ found. IfSome found (λ c.
-        HasRows (schema_of schema.now) (jsonl_rows_of (schema_of schema.now) text.now) c.read c.builders.items)) }
+        HasRows (schema_of schema.now) (jsonl_rows_of (schema_of schema.now) text.now) c.weight c.batches)) }
 {
-    let Some(mut builders) = no_rows(alloc, &schema.fields)? else {
-        return Ok(None);
-    };
     let Some(names) = names_of(alloc, &schema.fields)? else {
         return Ok(None);
     };
     let lines = split_lines(alloc, text)?;
-    match push_lines(alloc, &names, &lines, builders.as_mut_slice())? {
-        Some(read) => Ok(Some(Columns { builders, read })),
-        None => Ok(None),
-    }
+    let found = read_split_lines(alloc, schema, &names, &lines)?;
+    Ok(found)
 }

@@ -7,21 +7,16 @@ ghost use Rattle.text_import.specs.Records.{csv_rows_of, record_row};
 ghost use Rattle.text_import.specs.Refusals.{numbered, refused_by};
 ghost use Rattle.text_import.specs.Rows.{rows_from};
 ghost use Rattle.text_import.specs.Stands.{HasLeft};
-ghost use Rattle.text_columns.specs.inner.Kept.{KeepAll, KeepsFields, KeepsRecord, ReadsRows};
+ghost use Rattle.text_columns.specs.inner.Batches.{AddsRow, HoldRows, ReadsRows};
+ghost use Rattle.text_columns.specs.inner.Kept.{KeepsFields, KeepsRecord};
 
+use crate::batches::Batches;
 use crate::builder::ColumnBuilder;
 use arrow_schema::Schema;
 use cells::{MAX_ROW_WEIGHT, MAX_TABLE_WEIGHT, has_limits};
 use csv::{ByteRecord, Reader};
 use std::alloc::{AllocError, Global};
 use text_import::{TextError, csv_records, field_text, numbered_row, read_next};
-
-/// How many rows were read, and what they weigh.
-#[derive(Clone, Copy)]
-pub(crate) struct RowsRead {
-    pub(crate) rows: usize,
-    pub(crate) weight: u64,
-}
 
 // Appends the cells of as many fields as columns, and answers what their row weighs; none where a field is no cell of its column, or the
 // row is too heavy.
@@ -63,6 +58,21 @@ fn push_record(
     push_fields(builders, null_text, row)
 }
 
+// The same, into the columns of the record batch that is being read.
+fn push_row(
+    batches: &mut Batches,
+    null_text: &[u8],
+    row: &ByteRecord,
+) -> Result<Option<u64>, AllocError>
+    ensures few { IfOk result (λ taken. IfSome taken (λ heavy. heavy ≤ MAX_ROW_WEIGHT)) }
+    ensures kept { IfOk result (λ taken. IfSome taken (λ heavy.
+        KeepsRecord null_text.now (fields_of row.now) heavy batches.old.builders.items batches.new.builders.items)) }
+    ensures adds { IfOk result (λ taken. IfSome taken (λ heavy. AddsRow batches.old batches.new)) }
+{
+    batches.count_row()?;
+    push_record(batches.builders.as_mut_slice(), null_text, row)
+}
+
 // Why a record is refused; none where it is not.
 fn refuse(
     alloc: Global,
@@ -70,7 +80,7 @@ fn refuse(
     null_text: &[u8],
     row: &ByteRecord,
     number: u64,
-) -> Result<Option<RowsRead>, TextError>
+) -> Result<Option<u64>, TextError>
     ensures { MatchResult result (λ read. read ≡ None)
         (λ e. Reports (refused_by e) (numbered number (record_row (schema_of schema.now) null_text.now (fields_of row.now)))) }
 {
@@ -86,22 +96,23 @@ fn push_records(
     null_text: &[u8],
     reader: &mut Reader<&[u8]>,
     row: &mut ByteRecord,
-    builders: &mut [ColumnBuilder],
+    batches: &mut Batches,
+    ends: bool,
     most: usize,
-) -> Result<Option<RowsRead>, TextError>
+) -> Result<Option<u64>, TextError>
     ensures { (records : List (List (List ℕ))) → HasLeft reader.old records → length records ≤ most
-        → KeepAll (schema_of schema.now).columns [] builders.old
-        → ReadsRows (schema_of schema.now) (rows_from (record_row (schema_of schema.now) null_text.now) 1 records) result builders.new }
+        → HoldRows (schema_of schema.now) [] batches.old
+        → ReadsRows (schema_of schema.now) (rows_from (record_row (schema_of schema.now) null_text.now) 1 records) result batches.new }
 {
     let mut weight = 0;
     for index in 0..most {
         if !read_next(reader, row)? {
-            return Ok(Some(RowsRead {
-                rows: index,
-                weight,
-            }));
+            return Ok(Some(weight));
         }
-        let Some(heavy) = push_record(builders, null_text, row)? else {
+        if !batches.make_room(alloc, schema, ends)? {
+            return Ok(None);
+        }
+        let Some(heavy) = push_row(batches, null_text, row)? else {
             return refuse(alloc, schema, null_text, row, index as u64 + 1);
         };
         if heavy > MAX_TABLE_WEIGHT - weight {
@@ -109,10 +120,10 @@ fn push_records(
         }
         weight += heavy;
     }
-    Ok(Some(RowsRead { rows: most, weight }))
+    Ok(Some(weight))
 }
 
-/// Appends the rows of a text; none where they are too heavy for a table.
+/// Appends the rows of a text; none where they are too heavy for a table. `ends` is whether a record batch ends if a dictionary is full.
 ///
 /// # Errors
 ///
@@ -122,10 +133,11 @@ pub(crate) fn push_rows(
     schema: &Schema,
     text: &[u8],
     null_text: &[u8],
-    builders: &mut [ColumnBuilder],
-) -> Result<Option<RowsRead>, TextError>
-    ensures { KeepAll (schema_of schema.now).columns [] builders.old
-        → ReadsRows (schema_of schema.now) (csv_rows_of (schema_of schema.now) null_text.now text.now) result builders.new }
+    batches: &mut Batches,
+    ends: bool,
+) -> Result<Option<u64>, TextError>
+    ensures { HoldRows (schema_of schema.now) [] batches.old
+        → ReadsRows (schema_of schema.now) (csv_rows_of (schema_of schema.now) null_text.now text.now) result batches.new }
 {
     match csv_records(alloc, schema, text) {
         Ok(mut reader) => {
@@ -136,7 +148,8 @@ pub(crate) fn push_rows(
                 null_text,
                 &mut reader,
                 &mut row,
-                builders,
+                batches,
+                ends,
                 text.len(),
             )
         }

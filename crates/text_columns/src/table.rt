@@ -11,70 +11,29 @@ ghost use Rattle.text_import.specs.Records.{csv_rows_of};
 ghost use Rattle.text_import.specs.Refusals.{refused_by};
 ghost use Rattle.values.specs.Parts.{part_rows};
 ghost use Rattle.values.specs.TableView.{table_of, is_in_parts};
-ghost use Rattle.text_columns.specs.inner.Tables.{HasTable, IsPartOf, MakesRows};
+ghost use Rattle.text_columns.specs.inner.Tables.{HasTable, MakesRows};
 
-use crate::builder::ColumnBuilder;
-use crate::placing::{Placed, place_all};
+use crate::batches::{Batches, end_batches};
 use crate::reading::{Columns, read_columns, read_lines};
 use arrow_schema::Schema;
-use columns::{
-    built_reads_back, dictionaries_are_written_alone, listed_reads_back, rows_can_be_built,
-    written_arrays_have_their_shape, written_arrays_pass,
-};
 use std::alloc::{AllocError, Global};
 use text_import::{TextError, rows_of_texts_are_rows};
-use values::{Batch, Table, TablePart, WeighedTable};
+use values::{Table, WeighedTable};
 
-// The one record batch that the buffers of columns are, with `rows` rows.
-fn build_part(
-    alloc: Global,
-    columns: Vec<ColumnBuilder>,
-    rows: usize,
-) -> Result<TablePart, AllocError>
-    ensures { IfOk result (λ part. IsPartOf columns.items rows part) }
-{
-    built_reads_back();
-    listed_reads_back();
-    rows_can_be_built();
-    written_arrays_pass();
-    written_arrays_have_their_shape();
-    dictionaries_are_written_alone();
-    let placed = place_all(alloc, columns)?;
-    let Placed {
-        bytes,
-        dictionaries,
-        arrays,
-    } = placed;
-    let mut batches = Vec::with_capacity(alloc, 1)?;
-    batches.push_reserved(Batch { arrays, rows });
-    Ok(TablePart {
-        bytes,
-        dictionaries,
-        batches,
-    })
-}
-
-// The table of the rows that the buffers of columns hold.
-fn build_table(
-    alloc: Global,
-    schema: &Schema,
-    columns: Vec<ColumnBuilder>,
-    rows: usize,
-) -> Result<Table, AllocError>
-    requires { MakesRows (schema_of schema.now) columns.items rows }
-    ensures rows { IfOk result (λ table. HasTable (schema_of schema.now) columns.items rows (table_of table)) }
+// Returns the table of the rows of record batches.
+fn build_table(alloc: Global, schema: &Schema, batches: Batches) -> Result<Table, AllocError>
+    requires { MakesRows (schema_of schema.now) batches }
+    ensures rows { IfOk result (λ table. HasTable (schema_of schema.now) batches (table_of table)) }
     ensures in_parts { IfOk result (λ table. is_in_parts table ≡ true) }
 {
-    let part = build_part(alloc, columns, rows)?;
-    let mut parts = Vec::with_capacity(alloc, 1)?;
-    parts.push_reserved(part);
+    let parts = end_batches(alloc, batches)?;
     let table = Table::from_parts(alloc, schema.copy(alloc)?, parts)?;
     Ok(table)
 }
 
-/// The table of the rows of a CSV text, kept in one record batch, and what its rows weigh; none for some schemas with lists or structs, where a column
-/// has more entries than its indices name, or where the rows are too heavy for a table: the rows are then those of `text_import::csv_rows`, or its
-/// refusal.
+/// Returns the table of the rows of a CSV text, and their weight. It is kept in one record batch, or in several if a column has more entries than its
+/// indices can name. `None` for some schemas with lists or structs, or if the rows are too heavy for a table: the rows are then those of
+/// `text_import::csv_rows`, or its refusal.
 ///
 /// # Errors
 ///
@@ -96,20 +55,17 @@ pub fn csv_table(
     let Some(columns) = read_columns(alloc, schema, text, null_text.as_bytes())? else {
         return Ok(None);
     };
-    let Columns { builders, read } = columns;
-    let table = build_table(alloc, schema, builders, read.rows)?;
-    Ok(Some(WeighedTable {
-        table,
-        weight: read.weight,
-    }))
+    let Columns { batches, weight } = columns;
+    let table = build_table(alloc, schema, batches)?;
+    Ok(Some(WeighedTable { table, weight }))
 }
 
-/// The table of the rows of a text of JSON Lines, kept in one record batch, and what its rows weigh; none where a line is refused, or has a member twice,
-/// where a dictionary below lists or structs has indices of fewer than 32 bits, or one has more entries than its indices name, or where the rows are too
-/// heavy for a table: the rows are then those of `text_import::jsonl_rows`, or its refusal.
+/// Returns the table of the rows of a text of JSON Lines, and their weight. It is kept in one record batch, or in several if a column has more entries
+/// than its indices can name. `None` if a line is refused or has a member twice, if a dictionary below a list or a struct has indices of fewer than 32
+/// bits, or if the rows are too heavy for a table: the rows are then those of `text_import::jsonl_rows`, or its refusal.
 ///
 /// # Errors
-/// `AllocError` where memory was refused. A text that is refused is answered as none.
+/// `AllocError` if memory was refused. For a text that is refused, `None` is returned.
 pub fn jsonl_table(
     alloc: Global,
     schema: &Schema,
@@ -125,10 +81,7 @@ pub fn jsonl_table(
     let Some(columns) = read_lines(alloc, schema, text)? else {
         return Ok(None);
     };
-    let Columns { builders, read } = columns;
-    let table = build_table(alloc, schema, builders, read.rows)?;
-    Ok(Some(WeighedTable {
-        table,
-        weight: read.weight,
-    }))
+    let Columns { batches, weight } = columns;
+    let table = build_table(alloc, schema, batches)?;
+    Ok(Some(WeighedTable { table, weight }))
 }

@@ -1,32 +1,27 @@
 -- What the buffers of columns hold once some rows were read.
-use Rattle.std.specs.Prelude.{zero, suc, sum_by, ◌≡◌, ◌⊎◌, ◌≤◌, ◌+◌, ◌*◌, ◌/◌, ◌++◌, ℕ, ℤ, true, false, Bool, bytes_eq, List, [], ◌∷◌, length, map, get_or, Option, Some, None, IfSome, position, replicate, Result, Ok, Err, slice_get}
+use Rattle.std.specs.Prelude.{zero, suc, sum_by, ◌≡◌, ◌⊎◌, ◌+◌, ◌*◌, ◌/◌, ◌++◌, ℕ, ℤ, true, false, Bool, bytes_eq, List, [], ◌∷◌, length, map, get_or, Option, Some, None, position, replicate, Result, Ok, slice_get}
 use Rattle.std.specs.Global.{Vec}
 use Rattle.byteorder.specs.Endian.{little_bytes}
 use Rattle.hex.specs.Hex.{decode_of}
 use Rattle.std.specs.List.{flat_map, list_all}
-use Rattle.arrow_schema.specs.Column.{Index, Kind, Column, booleans, integers, dates, timestamps, nulls, texts, large_texts, binaries, large_binaries, fixed_binaries, lists, large_lists, fixed_lists, structs, Columns, no_column, and_column, column, columns_of, PlainSchema}
+use Rattle.arrow_schema.specs.Column.{Index, Kind, Column, booleans, integers, dates, timestamps, nulls, texts, large_texts, binaries, large_binaries, fixed_binaries, lists, large_lists, fixed_lists, structs, Columns, no_column, and_column, column, columns_of}
 use Rattle.arrow_schema.specs.Parts.{index_of_column}
 use Rattle.arrow_schema.specs.View.{bits_of}
 use Rattle.arrow_schema.specs.declared.types.IntegerType.{IntegerType}
-use Rattle.cells.specs.declared.limits.TheConstants.{MAX_TABLE_WEIGHT}
 use Rattle.cells.specs.Cell.{Cell, null, number, cells_of}
 use Rattle.cells.specs.Dictionary.{entries_of, entry_limit, has_limit, is_within, item_list, part_list}
 use Rattle.cells.specs.Fit.{date_bits, fits_kind, in_range}
 use Rattle.cells.specs.Nulls.{is_there}
 use Rattle.cells.specs.Typed.{typed_boolean, typed_integer}
-use Rattle.cells.specs.Weight.{kind_weight, parts_weight, table_weight, weight}
+use Rattle.cells.specs.Weight.{kind_weight, parts_weight, weight}
 use Rattle.columns.specs.Built.{contents_of, fixed_bytes, fixed_items, index_bytes, integer_bytes, is_set, list_offsets, offsets_of}
 use Rattle.columns.specs.Offsets.{width_of}
 use Rattle.columns.specs.declared.numbers.OffsetWidth.{OffsetWidth}
 use Rattle.columns.specs.declared.numbers.OffsetWidth.TheVariants.{Four, Eight}
-use Rattle.facts.specs.Outcomes.{Reports}
 use Rattle.text_import.specs.Objects.{names_of, repeats}
 use Rattle.text_import.specs.Flat.{cell_of_text, field_cell, number_cell}
 use Rattle.text_import.specs.Records.{field_cells}
-use Rattle.text_import.specs.Refusals.{refused_by}
 use Rattle.text_import.specs.declared.refusal.Refusal.{Refusal}
-use Rattle.text_import.specs.declared.refusal.Refused.{Refused}
-use Rattle.text_import.specs.declared.refusal.TextError.{TextError}
 use Rattle.text_columns.specs.declared.coding.Coding.{Coding}
 use Rattle.text_columns.specs.declared.column_values.Values.{Values}
 use Rattle.text_columns.specs.declared.column_values.Values.TheVariants.{Nulls, Booleans, Integers, Texts, Binaries, FixedBinaries}
@@ -35,7 +30,6 @@ use Rattle.text_columns.specs.declared.builder.ColumnBuilder.TheOpen as builders
 use Rattle.text_columns.specs.declared.builder.Names.{Names}
 use Rattle.text_columns.specs.declared.builder.ListOffsets.{ListOffsets}
 use Rattle.text_columns.specs.declared.builder.Slots.{Slots}
-use Rattle.text_columns.specs.declared.records.RowsRead.{RowsRead}
 
 -- the bytes of an integer that a type of n bits holds come after others
 abbrev pub AppendsInteger : (bits : ℕ) → (signed : Bool) → ℤ → List ℕ → List ℕ → Type 0
@@ -445,17 +439,3 @@ KeepsFields null_text ts heavy old new = (cs : List Column) (rows : List (List C
 -- there are as many fields as columns
 abbrev pub KeepsRecord : (null_text : List ℕ) → List (List ℕ) → ℕ → List ColumnBuilder → List ColumnBuilder → Type 0
 KeepsRecord null_text ts heavy old new = (length ts ≡ length old) × KeepsFields null_text ts heavy old new
-
--- all rows that are stated, no heavier than a table may be
-pub record HasRows (s : PlainSchema) (stated : Result (List (List Cell)) Refused) (read : RowsRead) (new : List ColumnBuilder) : Type 0 where
-  pub rows : List (List Cell)
-  pub are_read : stated ≡ Ok rows
-  pub count : length rows ≡ read.rows
-  pub weighs : table_weight s rows ≡ read.weight
-  pub few : read.weight ≤ MAX_TABLE_WEIGHT
-  pub keeps : KeepAll s.columns rows new
-
--- what a call reads of stated rows: all of them, or their refusal
-abbrev pub ReadsRows : PlainSchema → Result (List (List Cell)) Refused → Result (Option RowsRead) TextError → List ColumnBuilder → Type 0
-ReadsRows s stated (Ok read) new = IfSome read (λ r. HasRows s stated r new)
-ReadsRows s stated (Err e) new = Reports (refused_by e) stated

@@ -1,7 +1,7 @@
 use Rattle.std.proofs.Common.{◌≤◌, ℕ, List, [], length}
 use Rattle.arrow_schema.specs.View.{schema_of}
 use Rattle.text_import.specs.Stands.{HasLeft}
-use Rattle.text_columns.specs.inner.Kept.{KeepAll}
+use Rattle.text_columns.specs.inner.Batches.{HoldRows}
 use Rattle.text_columns.proofs.Rows.{ByReader, Read}
 use Rattle.text_columns.proofs.records.push_records.Given as goal
 
@@ -11,6 +11,6 @@ invariant-loop-index l = record {
   read : (records : List (List (List ℕ)))
       → HasLeft l.fn.reader records
       → length records ≤ l.most
-      → KeepAll (schema_of l.schema).columns [] l.initial.builders
-      → Read (ByReader l.reader l.index l.most) (schema_of l.schema) l.null_text records l.index l.weight l.builders;
+      → HoldRows (schema_of l.schema) [] l.initial.batches
+      → Read (ByReader l.reader l.index l.most) (schema_of l.schema) l.null_text records l.index l.weight l.batches;
 }

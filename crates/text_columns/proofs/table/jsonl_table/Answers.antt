@@ -12,7 +12,7 @@ build_table-requires c =
     let s = schema_of c.args.schema.now in
     let stated = jsonl_rows_of s c.args.text.now in
     let read = rw c.in-Some.is at c.in_ok-columns.ensures in
-    makes_rows s stated c.in-Some.columns.read c.in-Some.columns.builders.items c.requires (c.rows_of_texts_are_rows.ensures.jsonl s c.args.text.now) read
+    makes_rows s stated c.in-Some.columns.weight c.in-Some.columns.batches c.requires (c.rows_of_texts_are_rows.ensures.jsonl s c.args.text.now) read
 
 pub returns : goal.returns
 returns c =
@@ -20,7 +20,7 @@ returns c =
     let stated = jsonl_rows_of s c.args.text.now in
     let read = rw c.in-Some.is at c.in_ok-columns.ensures in
     let told =
-    table_told s stated c.in-Some.columns.read c.in-Some.columns.builders.items (table_of c.in_ok-table.table) c.requires (c.rows_of_texts_are_rows.ensures.jsonl s c.args.text.now) read
+    table_told s stated c.in-Some.columns.weight c.in-Some.columns.batches (table_of c.in_ok-table.table) c.requires (c.rows_of_texts_are_rows.ensures.jsonl s c.args.text.now) read
     c.in_ok-table.ensures.rows in
     record { read = told.read; schema = told.schema; weight = told.weight; in_parts = c.in_ok-table.ensures.in_parts }
 
@@ -30,6 +30,6 @@ invariant_of-result c =
     let stated = jsonl_rows_of s c.args.text.now in
     let read = rw c.in-Some.is at c.in_ok-columns.ensures in
     let told =
-    table_told s stated c.in-Some.columns.read c.in-Some.columns.builders.items (table_of c.in_ok-table.table) c.requires (c.rows_of_texts_are_rows.ensures.jsonl s c.args.text.now) read
+    table_told s stated c.in-Some.columns.weight c.in-Some.columns.batches (table_of c.in_ok-table.table) c.requires (c.rows_of_texts_are_rows.ensures.jsonl s c.args.text.now) read
     c.in_ok-table.ensures.rows in
     record { weighs = told.weight ∙ sym (ap (λ (t : PlainSchema). table_weight t (table_of c.in_ok-table.table).rows) told.schema) }

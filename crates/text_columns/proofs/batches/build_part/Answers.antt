@@ -2,7 +2,7 @@ use Rattle.std.proofs.Common.{arith, refl}
 use Rattle.arrow_schema.specs.Column.{columns_of}
 use Rattle.text_columns.proofs.FewEntries.{rows_fit}
 use Rattle.text_columns.proofs.Tables.{part_made}
-use Rattle.text_columns.proofs.table.build_part.Goals as goal
+use Rattle.text_columns.proofs.batches.build_part.Goals as goal
 
 pub returns : goal.returns
 returns c =
