@@ -23,7 +23,7 @@ use catalogue::{Segment, TableEntry};
 use export_book::OpenExport;
 use ipc_canonical::joined_parts_mean_their_table;
 use ipc_encode::encode_messages;
-use ipc_write::{write_end, write_schema};
+use ipc_write::{encode_schema, write_end};
 use sector_dev::SectorDevice;
 use segments::{FreeMap, Run};
 use std::alloc::{AllocError, Global};
@@ -37,9 +37,8 @@ fn first_piece(alloc: Global, schema: &Schema) -> Result<Option<Vec<u8>>, Refusa
     ensures message { IfOk result (λ piece. option_map (λ v. v.items) piece ≡ Some (schema_message (schema_of schema.now))) }
     ensures memory { IfErr result (λ e. e ≡ Refusal.OutOfMemory) }
 {
-    let mut piece = Vec::new(alloc);
-    match write_schema(alloc, &mut piece, schema) {
-        Ok(()) => Ok(Some(piece)),
+    match encode_schema(alloc, schema) {
+        Ok(piece) => Ok(Some(piece)),
         Err(_) => Err(Refusal::OutOfMemory),
     }
 }
@@ -71,7 +70,7 @@ fn rows_piece(alloc: Global, table: &Table) -> Result<Option<Vec<u8>>, Refusal>
 }
 
 // The messages of the rows of the segment at a place, if it begins with the message of its schema.
-fn read_piece<D: SectorDevice>(
+pub(crate) fn read_piece<D: SectorDevice>(
     alloc: Global,
     device: &mut D,
     front: &[u8],
@@ -94,7 +93,7 @@ fn read_piece<D: SectorDevice>(
 }
 
 // The piece of the segment at a place.
-pub(crate) fn segment_piece<D: SectorDevice>(
+fn segment_piece<D: SectorDevice>(
     alloc: Global,
     device: &mut D,
     schema: &Schema,
@@ -110,9 +109,8 @@ pub(crate) fn segment_piece<D: SectorDevice>(
         (option_map (λ v. v.items) piece)) }
     ensures told { IfErr result (LacksRows D.tells (shown_image (now (D.story device.old))) (schema_of schema.now) segment place) }
 {
-    let mut front = Vec::new(alloc);
-    match write_schema(alloc, &mut front, schema) {
-        Ok(()) => read_piece(alloc, device, &front, place, segment),
+    match encode_schema(alloc, schema) {
+        Ok(front) => read_piece(alloc, device, &front, place, segment),
         Err(_) => Err(Refusal::OutOfMemory),
     }
 }

@@ -24,7 +24,7 @@ use arrow_schema::Schema;
 use catalogue::{Catalogue, MAX_SEGMENT_ROWS, Segment, TableEntry, put_runs};
 use cells::MAX_PIECE_ROWS;
 use commit::FormatVersion;
-use ipc_write::write_schema;
+use ipc_write::encode_schema;
 use sector_dev::SECTOR_BYTES;
 use segments::{Extent, Piece, PiecePart, Run, byte_count};
 use sha2::{Digest, Sha256};
@@ -39,10 +39,8 @@ fn have_one_message(alloc: Global, a: &Schema, b: &Schema) -> Result<bool, Alloc
     requires second { IsWithinLimits (schema_of b.now) }
     ensures { IfOk result (λ same. same ≡ bytes_eq (schema_message (schema_of a.now)) (schema_message (schema_of b.now))) }
 {
-    let mut one = Vec::new(alloc);
-    write_schema(alloc, &mut one, a)?;
-    let mut other = Vec::new(alloc);
-    write_schema(alloc, &mut other, b)?;
+    let one = encode_schema(alloc, a)?;
+    let other = encode_schema(alloc, b)?;
     Ok(one.as_slice() == other.as_slice())
 }
 

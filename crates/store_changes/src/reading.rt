@@ -25,7 +25,7 @@ use catalogue::{Segment, TableEntry};
 use cells::MAX_TABLE_WEIGHT;
 use ipc_message::ImportError;
 use ipc_stream::decode_weighed;
-use ipc_write::{schema_message_is_read_again, write_schema};
+use ipc_write::{encode_schema, schema_message_is_read_again};
 use sector_dev::SectorDevice;
 use segments::{ReadError, read_run};
 use sha2::{Digest, Sha256};
@@ -230,8 +230,7 @@ fn start_table(alloc: Global, schema: &Schema) -> Result<(Vec<u8>, TableBuilder)
     ensures message { IfOk result (λ r. r.0.items ≡ schema_message (schema_of schema.now)) }
     ensures empty { IfOk result (λ r. table_so_far r.1 ≡ record { schema = schema_of schema.now; rows = [] }) }
 {
-    let mut front = Vec::new(alloc);
-    write_schema(alloc, &mut front, schema)?;
+    let front = encode_schema(alloc, schema)?;
     let empty = TableBuilder::empty(alloc, schema.copy(alloc)?);
     Ok((front, empty))
 }
