@@ -1,4 +1,4 @@
-// The rows of a table of which some segments may be lost.
+// Writes the rows of a table that may have lost some segments.
 ghost use Rattle.std.specs.Prelude.{◌≡◌, ◌++◌, true, IfOk, IfErr, OnOk, option_map};
 ghost use Rattle.std.specs.List.{list_all};
 ghost use Rattle.std.specs.Io.KnownBytes.{Appends};
@@ -25,16 +25,16 @@ use std::alloc::Global;
 use std::io::Write;
 use tables::Refusal;
 
-/// A segment of a table whose rows are left out.
+/// A segment whose rows are left out.
 #[derive(Clone, Copy)]
 pub struct LeftOut {
-    /// Its place among those of the table, counted from 0.
+    /// Its place among the segments of the table, counted from 0.
     pub place: u64,
-    /// How many rows the catalogue says it has.
+    /// Its number of rows in the catalogue.
     pub rows: u64,
 }
 
-// Whether it is reported of one segment alone: the others may be read all the same.
+// Returns whether the refusal is about a single segment, so that the others may still be read.
 fn is_of_segment(refusal: Refusal) -> bool
     ensures { result ≡ is_of_segment refusal }
 {
@@ -44,7 +44,7 @@ fn is_of_segment(refusal: Refusal) -> bool
     )
 }
 
-// The messages of the rows of the segment at a place, or none where it doesn't hold them.
+// Returns the messages of the rows of the segment at this place, or `None` if it does not hold them.
 fn messages_of<D: SectorDevice>(
     alloc: Global,
     device: &mut D,
@@ -79,7 +79,7 @@ fn write_bytes<W: Write>(writer: &mut W, bytes: &[u8]) -> Result<(), Refusal>
     writer.write_all(bytes).map_err(|_| Refusal::Write)
 }
 
-// Writes the rows of the segment at a place, or counts it among those that are left out. One segment is in memory at a time.
+// Writes the rows of the segment at this place, or adds it to those that are left out. One segment is in memory at a time.
 fn salvage_segment<D: SectorDevice, W: Write>(
     alloc: Global,
     device: &mut D,
@@ -111,7 +111,7 @@ fn salvage_segment<D: SectorDevice, W: Write>(
     }
 }
 
-// Each segment, in order.
+// Writes the rows of each segment, in order.
 fn salvage_segments<D: SectorDevice, W: Write>(
     alloc: Global,
     device: &mut D,
@@ -154,7 +154,7 @@ fn write_front<W: Write>(alloc: Global, schema: &Schema, writer: &mut W) -> Resu
     }
 }
 
-// The end of stream. All is flushed then.
+// Writes the end of stream, and flushes.
 fn write_last<W: Write>(alloc: Global, writer: &mut W) -> Result<(), Refusal>
     ensures written { OnOk result (Appends (W.contents writer.old) (W.contents writer.new) end_of_stream) }
     ensures fails { IfErr result FailsWriting }
@@ -169,7 +169,7 @@ fn write_last<W: Write>(alloc: Global, writer: &mut W) -> Result<(), Refusal>
     }
 }
 
-// The table of an entry.
+// Writes the stream of the table of this entry.
 fn salvage_entry<D: SectorDevice, W: Write>(
     alloc: Global,
     device: &mut D,
@@ -204,19 +204,19 @@ impl<D: SectorDevice> Store<D> {
     ghost use Rattle.store.specs.Reading.{OnlyReadsStore};
     ghost use Rattle.store.specs.Salvaging.{SalvagesAt, RefusesSalvage};
 
-    /// Writes the stream of all rows of a table that can be read, flushes, and gives the segments that are left out. It is for a table that is damaged: it
-    /// only reads, and holds one segment at a time. The stream of a table without damage means that table.
+    /// Writes a stream of all rows that can be read of a damaged table, flushes, and returns the segments that are left out. Only reads the store, and keeps
+    /// one segment in memory at a time. If the table is not damaged, the stream means that table.
     ///
     /// # Errors
-    /// `Halted` after a failure of the device; `NoTable` where no table has the name; `Device`, after which the store is halted; `OutOfMemory`; `Write` where
-    /// the writer fails. After the last three some of the stream may be written.
+    /// `Halted` after a failure of the device; `NoTable` if no table has the name; `Device`, after which the store is halted; `OutOfMemory`; `Write` if the
+    /// writer fails. After the last three a part of the stream may be written.
     pub fn salvage<W: Write>(
         &mut self,
         alloc: Global,
         name: &str,
         writer: &mut W,
     ) -> Result<Vec<LeftOut>, Refusal>
-        // What is written are the rows of each segment that holds its own, as reads show them, and no others; each refusal has its one reason.
+        // Written are the rows of each segment that holds its rows, as reads show them, and no others. Each refusal has one reason.
         ensures salvaged { IfOk result (λ left. SalvagesAt (is_halted self.old) D.tells (shown_image (now (D.story (device_of self.old))))
             (entry_of (listed_in self.old) name.now) (W.contents writer.old) (W.contents writer.new) (plain_left left.items)) }
         ensures told { IfErr result (RefusesSalvage (is_halted self.old) (entry_of (listed_in self.old) name.now)) }
