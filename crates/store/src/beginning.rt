@@ -1,4 +1,4 @@
-// Devices with which a run may begin. The functions without code are laws: their contracts are proved.
+// Devices with which a run may begin. The contracts of the functions that do nothing are laws.
 ghost use Rattle.std.specs.Prelude.{◌≡◌, true, Some, [], ◌∷◌, IfOk};
 ghost use Rattle.sector_dev.specs.Disk.{now};
 ghost use Rattle.sector_dev.specs.Time.{LeavesOnly};

@@ -1,4 +1,4 @@
-// Laws of decisions and changes. The functions without code are laws: their contracts are proved.
+// Laws of decisions and changes. The functions do nothing: their contracts are the laws.
 ghost use Rattle.std.specs.Prelude.{slice_get, Option, ◌≡◌, ◌⊎◌, ◌≤◌, ◌+◌, ◌*◌, ℕ, Bool, true, Some, List, ◌∷◌, length, Result};
 ghost use Rattle.sector_dev.specs.Disk.{Disk, Image, synced_image};
 ghost use Rattle.segments.specs.declared.entries.UsageEntry.{UsageEntry};

@@ -1,4 +1,4 @@
-// Laws of runs. The functions without code are laws: their contracts are proved.
+// Laws of runs. The functions do nothing: their contracts are the laws.
 ghost use Rattle.std.specs.Prelude.{◌≡◌, ◌≢◌, ◌<◌, ◌-◌, ◌^◌, ◌+◌, ◌||◌, ℕ, Bool, true, false, None, List, [], ◌∷◌, ◌++◌, take, drop};
 ghost use Rattle.std.specs.List.{list_any};
 ghost use Rattle.sector_dev.specs.Disk.{Story, Image, now, moment, LeftSince};
