@@ -1,5 +1,5 @@
 -- The message of a schema is the one that is read as that schema.
-use Rattle.std.proofs.Common.{◌≡◌, ◌≤◌, ◌<◌, ◌+◌, ◌^◌, ◌++◌, ℕ, true, List, [], length, Ok, refl, sym, ap, ◌∙◌, arith, append-nil}
+use Rattle.std.proofs.Common.{◌≡◌, ◌≤◌, ◌+◌, ◌++◌, ℕ, true, List, [], length, Ok, refl, sym, ap, ◌∙◌, arith, append-nil}
 use Rattle.std.specs.Str.{bytes_eq}
 use Rattle.std.proofs.lemmas.List.{length-append}
 use Rattle.std.proofs.lemmas.Slice.Eq.{bytes_eq-Decides}
@@ -33,6 +33,3 @@ message_again s next head checked small =
       read = rw (alone, head, checked, same) refl;
       short = omega (arith, small, message_size s);
     }
-
-pub message_short : (s : PlainSchema) → length (schema_envelope s).metadata ≤ MAX_BUFFER_BYTES → length (schema_message s) < 2 ^ 32
-message_short s small = omega (arith, small, message_size s)

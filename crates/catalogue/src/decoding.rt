@@ -6,13 +6,13 @@ ghost use Rattle.arrow_schema.specs.View.{schema_of};
 ghost use Rattle.ipc_message.specs.View.{raw_schema_of};
 ghost use Rattle.catalogue.specs.View.{catalogue_of};
 
-use crate::encoding::message_of;
 use crate::entry::{are_sound, is_within_limits};
 use crate::names::is_name;
 use crate::{Catalogue, Segment, SegmentForm, TableEntry};
 use arrow_schema::Schema;
 use byteorder::{ByteOrder, LittleEndian};
 use ipc_message::{Header, ImportError, NextMessage, RawSchema, read_message, read_schema};
+use ipc_write::encode_schema;
 use segments::{Extent, Run};
 use std::alloc::{AllocError, AllocFailed, Global};
 use thiserror::Error;
@@ -153,7 +153,7 @@ fn schema_in(alloc: Global, bytes: &[u8]) -> Result<Schema, DecodeError>
 {
     let raw = raw_schema_in(alloc, bytes)?;
     let schema = read_schema(alloc, &raw)?;
-    let message = message_of(alloc, &schema)?;
+    let message = encode_schema(alloc, &schema)?;
     if message.as_slice() == bytes {
         Ok(schema)
     } else {

@@ -2,16 +2,12 @@
 ghost use Rattle.std.specs.Prelude.{◌≡◌, ◌≤◌, ◌<◌, ◌*◌, ◌^◌, ◌++◌, true, length, sum_by, OnOk, IfOk};
 ghost use Rattle.std.specs.List.{list_all};
 ghost use Rattle.byteorder.specs.Endian.{little_bytes};
-ghost use Rattle.arrow_schema.specs.Limits.{IsWithinLimits};
-ghost use Rattle.arrow_schema.specs.View.{schema_of};
-ghost use Rattle.ipc_write.specs.Written.{schema_message};
 ghost use Rattle.catalogue.specs.Entries.{plain_entry, is_segment, is_entry};
 ghost use Rattle.catalogue.specs.Text.{sized, counted, extent_text, digest_text, segment_text, segment_size, table_text, table_size, entry_text, list_text};
 ghost use Rattle.catalogue.specs.View.{catalogue_of};
 
 use crate::{Catalogue, Segment, TableEntry};
-use arrow_schema::Schema;
-use ipc_write::{metadata_is_within_its_limit, write_schema};
+use ipc_write::encode_schema;
 use segments::Extent;
 use std::alloc::{AllocError, Global};
 
@@ -72,18 +68,6 @@ fn put_segments(out: &mut Vec<u8>, segments: &[Segment]) -> Result<(), AllocErro
     Ok(())
 }
 
-// Returns the message of a schema.
-pub(crate) fn message_of(alloc: Global, schema: &Schema) -> Result<Vec<u8>, AllocError>
-    requires { IsWithinLimits (schema_of schema.now) }
-    ensures message { IfOk result (λ bytes. bytes.items ≡ schema_message (schema_of schema.now)) }
-    ensures short { IfOk result (λ bytes. length bytes.items < 2 ^ 32) }
-{
-    metadata_is_within_its_limit();
-    let mut message = Vec::new(alloc);
-    write_schema(alloc, &mut message, schema)?;
-    Ok(message)
-}
-
 // Appends the text of a table without its name.
 #[tactic(auto, unfolding(crate::specs::Text::table_text))]
 fn put_table(alloc: Global, out: &mut Vec<u8>, entry: &TableEntry) -> Result<(), AllocError>
@@ -91,7 +75,7 @@ fn put_table(alloc: Global, out: &mut Vec<u8>, entry: &TableEntry) -> Result<(),
     requires segments { length (plain_entry entry.now).segments < 2 ^ 32 }
     ensures { OnOk result (out.new.items ≡ out.old.items ++ table_text (plain_entry entry.now)) }
 {
-    let message = message_of(alloc, entry.schema())?;
+    let message = encode_schema(alloc, entry.schema())?;
     put_sized(out, &message)?;
     put_segments(out, entry.segments())
 }
@@ -169,6 +153,6 @@ pub fn page_size(alloc: Global, entry: &TableEntry) -> Result<u64, AllocError>
     ensures size { IfOk result (λ size. size ≡ table_size (plain_entry entry.now)) }
     ensures short { IfOk result (λ size. size < 2 ^ 40) }
 {
-    let message = message_of(alloc, entry.schema())?;
+    let message = encode_schema(alloc, entry.schema())?;
     Ok(8 + message.len() as u64 + segments_size(entry.segments()))
 }

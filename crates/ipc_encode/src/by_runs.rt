@@ -19,11 +19,12 @@ ghost use Rattle.values.specs.Table.{IsTable};
 use crate::encoder::{EncodedPieces, no_pieces, push_stream};
 use crate::front::BatchFront;
 use crate::messages::write_run_piece;
-use crate::stream::{Stream, begin_stream, end_stream, into_bytes, into_parts, schema_bytes};
+use crate::stream::{Stream, begin_stream, end_stream, into_bytes, into_parts};
 use arrow_schema::Schema;
 use batch_build::Buffer;
 use dictionary_codes::KnownEntries;
 use ipc_canonical::pieces_can_be_built;
+use ipc_write::encode_schema;
 use std::alloc::{AllocError, Global};
 use table_cut::{RowRun, RowsLeft, RunPiece};
 use values::TablePart;
@@ -68,7 +69,7 @@ fn encode_left<'a>(
     ensures { IfOk result (λ stream. stream_in stream ≡ canonical (runs_table (schema_of schema.now) (runs_left all.entry))) }
 {
     let mut left = all;
-    let first = schema_bytes(alloc, schema)?;
+    let first = encode_schema(alloc, schema)?;
     let mut stream = begin_stream(alloc, first);
     write_runs(
         alloc,

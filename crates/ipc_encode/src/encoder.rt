@@ -18,10 +18,11 @@ ghost use Rattle.values.specs.TableView.{table_of};
 use crate::by_runs::{encode_parts, encode_parts_pieces, messages_of_parts};
 use crate::front::BatchFront;
 use crate::messages::write_piece;
-use crate::stream::{Stream, begin_stream, end_stream, into_bytes, into_parts, schema_bytes};
+use crate::stream::{Stream, begin_stream, end_stream, into_bytes, into_parts};
 use arrow_schema::{Field, Schema};
 use batch_build::Buffer;
 use ipc_canonical::pieces_can_be_built;
+use ipc_write::encode_schema;
 use std::alloc::{AllocError, Global};
 use table_cut::next_piece;
 use values::{Table, Values};
@@ -43,7 +44,7 @@ pub(crate) fn no_pieces<'a>(alloc: Global, schema: &Schema) -> Result<EncodedPie
     ensures uncounted { IfOk result (λ pieces. pieces.rows.items ≡ []) }
 {
     Ok(EncodedPieces {
-        schema_message: schema_bytes(alloc, schema)?,
+        schema_message: encode_schema(alloc, schema)?,
         parts: Vec::new(alloc),
         rows: Vec::new(alloc),
     })
@@ -75,7 +76,7 @@ fn encode_rows<'a>(alloc: Global, schema: &Schema, table: &Table) -> Result<Stre
     requires { IsTable (with_schema (schema_of schema.now) (table_of table.now)) }
     ensures { IfOk result (λ stream. stream_in stream ≡ canonical (with_schema (schema_of schema.now) (table_of table.now))) }
 {
-    let first = schema_bytes(alloc, schema)?;
+    let first = encode_schema(alloc, schema)?;
     let mut stream = begin_stream(alloc, first);
     write_rows(alloc, schema, table, &mut None, &mut stream)?;
     end_stream(&mut stream)?;

@@ -3,13 +3,10 @@ ghost use Rattle.std.specs.Prelude.{◌≡◌, ◌+◌, ◌++◌, ◌<◌, ◌^�
 ghost use Rattle.batch_build.specs.Batch.{buffer_bytes, buffers_in};
 ghost use Rattle.ipc_encode.specs.View.{joined_parts};
 ghost use Rattle.ipc_encode.specs.inner.Stream.{stream_in};
-ghost use Rattle.arrow_schema.specs.Limits.{IsWithinLimits};
-ghost use Rattle.arrow_schema.specs.View.{schema_of};
-ghost use Rattle.ipc_write.specs.Written.{body, end_of_stream, padded, schema_message};
+ghost use Rattle.ipc_write.specs.Written.{body, end_of_stream, padded};
 
-use arrow_schema::Schema;
 use batch_build::Buffer;
-use ipc_write::{write_end, write_padding, write_schema};
+use ipc_write::{write_end, write_padding};
 use std::alloc::{AllocError, Global};
 use std::mem;
 
@@ -21,16 +18,6 @@ const LEAST_PART: usize = 4096;
 pub(crate) struct Stream<'a> {
     pub(crate) parts: Vec<Buffer<'a>>,
     pub(crate) last: Vec<u8>,
-}
-
-/// Returns the message of a schema.
-pub(crate) fn schema_bytes(alloc: Global, schema: &Schema) -> Result<Vec<u8>, AllocError>
-    requires { IsWithinLimits (schema_of schema.now) }
-    ensures { IfOk result (λ bytes. bytes.items ≡ schema_message (schema_of schema.now)) }
-{
-    let mut bytes = Vec::new(alloc);
-    write_schema(alloc, &mut bytes, schema)?;
-    Ok(bytes)
 }
 
 /// Begins a stream with these bytes.

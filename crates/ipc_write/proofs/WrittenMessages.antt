@@ -77,6 +77,10 @@ schema_written s = refl
 schema_readable : (s : PlainSchema) → IsWithinLimits s → length (schema_envelope s).metadata ≤ 16777216 → IsReadable SCHEMA (schema_tree s) []
 schema_readable s limits small = record { fits = schema_fits s limits; small = small; short = omega arith }
 
+pub schema_short : (s : PlainSchema) → length (schema_envelope s).metadata ≤ 16777216 → length (schema_message s) < 2 ^ 32
+unfolding schema_message
+schema_short s small = omega (arith, small, length_framed (schema_envelope s).metadata [])
+
 pub schema_next_message : Roots → NextMessages → (s : PlainSchema) (rest : List ℕ) → IsWithinLimits s → length (schema_envelope s).metadata ≤ 16777216 → next_message (schema_message s ++ rest) ≡ Ok (message (schema_envelope s))
 schema_next_message roots next_messages s rest limits small =
     ap (λ (bytes : List ℕ). next_message (bytes ++ rest)) (schema_written s)

@@ -122,6 +122,21 @@ pub fn write_schema(alloc: Global, out: &mut Vec<u8>, schema: &Schema) -> Result
     write_front(alloc, out, SCHEMA, header, 0)
 }
 
+/// Returns the message of a schema, as [`write_schema`] appends it.
+///
+/// # Errors
+/// `AllocError` if memory was refused.
+pub fn encode_schema(alloc: Global, schema: &Schema) -> Result<Vec<u8>, AllocError>
+    requires { IsWithinLimits (schema_of schema.now) }
+    ensures message { IfOk result (λ bytes. bytes.items ≡ schema_message (schema_of schema.now)) }
+    ensures short { IfOk result (λ bytes. length bytes.items < 2 ^ 32) }
+{
+    metadata_is_within_its_limit();
+    let mut message = Vec::new(alloc);
+    write_schema(alloc, &mut message, schema)?;
+    Ok(message)
+}
+
 /// Returns the offset and length of each buffer in the body, and the length of the body.
 #[tactic(auto, using(crate::proofs::BatchNode::fits_more))]
 fn ranges_of(alloc: Global, buffers: &[&[u8]]) -> Result<(Vec<(u64, u64)>, u64), AllocError>

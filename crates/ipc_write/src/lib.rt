@@ -21,8 +21,8 @@ mod trees;
 
 pub use contents::{BatchContents, MAX_BATCH_BUFFERS, MAX_BATCH_NODES};
 pub use framing::{
-    write_batch, write_batch_front, write_dictionary, write_dictionary_front, write_end,
-    write_padding, write_schema,
+    encode_schema, write_batch, write_batch_front, write_dictionary, write_dictionary_front,
+    write_end, write_padding, write_schema,
 };
 pub use laws::{
     batch_is_read_again, batch_message_is_read_again, buffers_stand_in_their_body,

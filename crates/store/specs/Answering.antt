@@ -1,4 +1,4 @@
--- What each call of a place answers and leaves, on any device and any place: also where it stands for no machine, as one whose store is damaged.
+-- The reply to each call and the place after it, on any device and any place, even one that stands for no machine, such as one with a damaged store.
 use Rattle.std.specs.Prelude.{◌≡◌, ◌≢◌, ◌⊎◌, ◌↔◌, ℕ, Bool, true, false, List, [], ◌∷◌, Option, Some, None, option_map, Result, Ok, Err, IfSome, IfOk, IfErr, OnOk}
 use Rattle.sector_dev.specs.Disk.{Story, Image, now, shown_image}
 use Rattle.sector_dev.specs.Time.{Grows, OnlyReads}
@@ -45,7 +45,7 @@ use Rattle.export_book.specs.Book.{open_at}
 use Rattle.store.specs.Exporting.{RefusesExport, OpensAt, GivesPiece, after_giving, RefusesPiece, ReadsForExport, RefusesClosing, ClosesAt}
 use Rattle.store.specs.Places.{IsCallOf, AreCallsOf, device_in, PlaceFits, PlaceGoes, PlaceRuns}
 
--- ---- where a call leaves the place
+-- ---- the place after a call
 
 abbrev pub IsOpenWith : {D : Type 0} {g : Ghosts D} → (Store D g → Type 0) → StoreOrDevice D g → Type 0
 IsOpenWith P (places.Open store) = P store
@@ -61,7 +61,7 @@ IsShutWith P (places.Shut device) = P device
 abbrev pub RefusesSize : {D : Type 0} → (size : D → ℕ) → (story : D → Story) → D → OpeningRefusal → D → Type 0
 RefusesSize size story device refusal back = is_size (size device) ≡ false → (refusal ≡ openings.Damaged DeviceSize) × (story back ≡ story device)
 
--- a device that was not opened: what is reported of it is so, and no moment has a write
+-- a device that was not opened: what is reported about it is true, and no moment has a write
 pub record LeavesUnopened {D : Type 0} (size : D → ℕ) (story : D → Story) (tells : Bool) (device : D) (refusal : OpeningRefusal) (back : D) : Type 0 where
   pub told : tells ≡ true → TellsOpening refusal (standing_shown stored_reading (size device) (story device))
   pub not_already : refusal ≢ openings.AlreadyAStore
@@ -93,7 +93,7 @@ AnswersFormatting size story tells device _ new = ⊥
 
 -- ---- calls of an open store
 
--- a command: what it does or why it is refused, and what each moment and the end of it leave
+-- a command: its effect or its refusal, and the state at each moment and at the end
 pub record Applies {D : Type 0} {g : Ghosts D} (size : D → ℕ) (story : D → Story) (tells : Bool) (old : Store D g) (command : PlainCommand) (result : Result (Unit {0}) Refusal) (new : Store D g) : Type 0 where
   pub applied : is_halted old ≡ false → IsApplied size story tells old command result new
   pub refused : IfErr result (λ e. IsKept old new)
@@ -119,7 +119,7 @@ AnswersStream size story tells old command done new = TakesStream size story tel
 AnswersStream size story tells old command (refused r) new = TakesStream size story tells old command (Err r) new
 AnswersStream size story tells old command _ new = ⊥
 
--- one that has all that a reader had left, where that is known: what it does on a store that stands for a machine, and on any store
+-- a command with all that a reader had left, if that is known: its effect on a store that stands for a machine, and on any store
 pub record TakesInput {D : Type 0} {g : Ghosts D} (size : D → ℕ) (story : D → Story) (failed : D → ℕ) (tells : Bool) (input : Option (List ℕ)) (command : List ℕ → PlainCommand) (old : Store D g)
     (result : Result (Unit {0}) Refusal) (new : Store D g) : Type 0 where
   pub bytes : List ℕ
@@ -176,7 +176,7 @@ AnswersCloseExport size story failed tells old id (refused r) new =
     RefusesClosing (is_halted old) (open_at (book_of old) id) r × OnlyReadsStore size story failed tells (refused r) old new × (device_of new ≡ device_of old)
 AnswersCloseExport size story failed tells old id _ new = ⊥
 
--- a step of a compaction: what it does or why it is refused, and what it leaves
+-- a step of a compaction: its effect or its refusal, and the state after it
 pub record Compacts {D : Type 0} {g : Ghosts D} (size : D → ℕ) (story : D → Story) (failed : D → ℕ) (tells : Bool) (old : Store D g) (result : Result Compaction Refusal) (new : Store D g) : Type 0 where
   pub step : IfOk result (λ done. HasStepped size story tells old done new)
   pub told : IfErr result (λ e. RefusesStep size story tells (is_halted old) old e new)
@@ -229,7 +229,7 @@ AnswersOpen size story failed tells old upgrade_call reply new = IsOpenWith (λ 
 
 -- ---- calls of a place
 
--- where no store is open, what needs one is refused, and nothing happens
+-- if no store is open, a call that needs one is refused, and nothing happens
 abbrev pub AnswersShut : {D : Type 0} {g : Ghosts D} → (size : D → ℕ) → (story : D → Story) → (tells : Bool) → D → PlainCall → PlainReply → StoreOrDevice D g → Type 0
 AnswersShut size story tells device format_call reply new = AnswersFormatting size story tells device reply new
 AnswersShut size story tells device open_call reply new = AnswersOpening size story tells device reply new
@@ -239,13 +239,13 @@ abbrev pub AnswersPlace : {D : Type 0} {g : Ghosts D} → (size : D → ℕ) →
 AnswersPlace size story failed tells (places.Open store) call reply new = AnswersOpen size story failed tells store call reply new
 AnswersPlace size story failed tells (places.Shut device) call reply new = AnswersShut size story tells device call reply new
 
--- one call: its device has the size that it had, and counts a failure where the reply reports one
+-- one call: its device keeps its size, and counts a failure if the reply reports one
 pub record Answers {D : Type 0} {g : Ghosts D} (size : D → ℕ) (story : D → Story) (failed : D → ℕ) (tells : Bool) (old : StoreOrDevice D g) (call : PlainCall) (reply : PlainReply) (new : StoreOrDevice D g) : Type 0 where
   pub answers : AnswersPlace size story failed tells old call reply new
   pub same : size (device_in new) ≡ size (device_in old)
   pub count : failed (device_in new) ≡ counted reply (failed (device_in old))
 
--- a call, and then what P says of the place after it
+-- a call, and then P of the place after it
 pub record AnswersThen {D : Type 0} {g : Ghosts D} (size : D → ℕ) (story : D → Story) (failed : D → ℕ) (tells : Bool) (old : StoreOrDevice D g) (call : PlainCall) (reply : PlainReply) (P : StoreOrDevice D g → Type 0) : Type 0 where
   pub next : StoreOrDevice D g
   pub one : Answers size story failed tells old call reply next
@@ -261,7 +261,7 @@ AnswersEach size story failed tells old (call ∷ calls) [] new = ⊥
 
 -- ---- calls of the code
 
--- one call, of which this holds as plain data: what it does to a place that stands for a machine, and to any place
+-- one call, as plain data: its effect on a place that stands for a machine, and on any place
 pub record AnswersAs {D : Type 0} {g : Ghosts D} (size : D → ℕ) (story : D → Story) (failed : D → ℕ) (tells : Bool) (Is : PlainCall → Type 0) (old : StoreOrDevice D g) (reply : PlainReply) (new : StoreOrDevice D g) : Type 0 where
   pub plain : PlainCall
   pub is : Is plain

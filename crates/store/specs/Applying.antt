@@ -1,4 +1,4 @@
--- How commands are decided and carried out, and what each call of an open store leaves.
+-- How commands are decided and carried out, and the state after each call of an open store.
 use Rattle.std.specs.Prelude.{◌≡◌, ◌<◌, ℕ, Bool, Result, Ok, Err}
 use Rattle.sector_dev.specs.Disk.{Story, now, shown_image, synced_image}
 use Rattle.sector_dev.specs.Time.{Grows}
@@ -23,13 +23,13 @@ EndsAs size old (Ok change) result new =
     IsCarried (size (device_of old)) (IsUsedIn old.opened.map.entries) (commit_of old) (listed_in old) change result (commit_of new) (listed_in new)
 EndsAs size old (Err r) result new = result ≡ Err r
 
--- a command of a store that is not halted: what is decided by its catalogue and what reads show, and how that ends
+-- a command of a store that is not halted: the decision by its catalogue and by what reads show, and how it ends
 pub record IsApplied {D : Type 0} {g : Ghosts D} (size : D → ℕ) (story : D → Story) (tells : Bool) (old : Store D g) (command : PlainCommand) (result : Result (Unit {0}) Refusal) (new : Store D g) : Type 0 where
   pub decision : Result PlainChange Refusal
   pub decides : IsAnswered tells (shown_image (now (story (device_of old)))) (listed_in old) command decision
   pub ends : EndsAs size old decision result new
 
--- what a refusal leaves as it was: the commit, the catalogue and what each run is in use for
+-- a refusal leaves the commit, the catalogue and the use of each run as they were
 abbrev pub IsKept : {D : Type 0} {g : Ghosts D} → (old new : Store D g) → Type 0
 IsKept old new = (commit_of new ≡ commit_of old) × (listed_in new ≡ listed_in old) × SameUsages old.opened.map.entries new.opened.map.entries
 
@@ -41,7 +41,7 @@ IsCarryingAtEachMoment size story old change new =
     Grows (IsCarrying (size (device_of old)) (IsUsedIn old.opened.map.entries) (commit_of old) (listed_in old) (now (story (device_of old))) change)
     (story (device_of old)) (story (device_of new))
 
--- and after one that was done
+-- after a successful one
 pub record IsCarriedOnDisk {D : Type 0} {g : Ghosts D} (size : D → ℕ) (story : D → Story) (old : Store D g) (change : PlainChange) (new : Store D g) : Type 0 where
   pub stands : IsOnDisk size story new
   pub begun : (now (story (device_of old))).writes < (now (story (device_of new))).writes
@@ -55,15 +55,15 @@ IsApplyingAtEachMoment size story old command new =
     Grows (IsApplying (size (device_of old)) (IsUsedIn old.opened.map.entries) (commit_of old) (listed_in old) (now (story (device_of old))) command)
     (story (device_of old)) (story (device_of new))
 
--- and after one that was done
+-- after a successful one
 pub record IsDoneOnDisk {D : Type 0} {g : Ghosts D} (size : D → ℕ) (story : D → Story) (old : Store D g) (command : PlainCommand)
     (new : Store D g) : Type 0 where
   pub stands : IsOnDisk size story new
   pub holds : HasDone (size (device_of old)) (IsUsedIn old.opened.map.entries) (commit_of old) (listed_in old) (now (story (device_of old))) command (synced_image (now (story (device_of new))))
 
--- ---- what a call leaves
+-- ---- after a call
 
--- a call of an open store: some machine goes on, and the store stands for it
+-- a call of an open store: the machine continues as another one, and the store stands for that one
 pub record GoesOn {D : Type 0} {g : Ghosts D} (size : D → ℕ) (story : D → Story) (failed : D → ℕ) (base : Tables) (m : Machine) (call : PlainCall) (reply : PlainReply) (old new : Store D g) : Type 0 where
   pub next : Machine
   pub same : size new.device ≡ size old.device

@@ -7,14 +7,14 @@ use Rattle.tables.specs.Verdict.{after}
 use Rattle.store_runs.specs.Machine.{Machine, with_doubt}
 use Rattle.store.specs.Fits.{DeviceFits, fresh, resumed}
 
--- a device after a stop: it holds one of the images that the stop may leave of it, all synced, and has its size
+-- a device after a stop: it holds one of the images that the stop may leave, everything synced, and has the same size
 pub record IsLeftOf {D : Type 0} (size : D → ℕ) (story : D → Story) (before device : D) : Type 0 where
   pub same : size device ≡ size before
   pub synced : story device ≡ all_synced (shown_image (now (story device))) ∷ []
   pub allowed : MayLeave (now (story before)) (shown_image (now (story device)))
 
--- a run may begin anew with what stands on a device: the tables of the settled commands, those with the one in doubt as well, or no store where
--- there was none before
+-- a new run may begin with the device: with the tables of the settled commands, with the command in doubt as well, or without a store if there was none
+-- before
 abbrev pub BeginsAnew : {D : Type 0} → (size : D → ℕ) → (story : D → Story) → Tables → Machine → D → Type 0
 BeginsAnew size story base m device =
     DeviceFits size story (after base m.settled) resumed device

@@ -1,4 +1,4 @@
--- A step of a compaction of a store: what it leaves, and why it is refused.
+-- A step of a compaction of a store: the store after it, and its refusals.
 use Rattle.std.specs.Prelude.{◌≡◌, ◌⊎◌, ℕ, Bool, true, false, Option, Some, None, Result, Ok, Err}
 use Rattle.sector_dev.specs.Disk.{Story, now, shown_image}
 use Rattle.sector_dev.specs.declared.device.SectorDevice.{Ghosts}
@@ -24,25 +24,25 @@ abbrev pub step_reply : Result Compaction Refusal → PlainReply
 step_reply (Ok done) = reply_of done
 step_reply (Err r) = refused r
 
--- what a step leaves of a store: its change carried out, or all as it was
+-- the store after a step: its change is carried out, or everything is as it was
 abbrev pub EndsStep : {D : Type 0} {g : Ghosts D} → (size : D → ℕ) → (old : Store D g) → Option PlainChange → (new : Store D g) → Type 0
 EndsStep size old None new = new.opened ≡ old.opened
 EndsStep size old (Some change) new = EndsAs size old (Ok change) (Ok tt) new
 
--- a step that was made of a store
+-- a successful step
 pub record HasStepped {D : Type 0} {g : Ghosts D} (size : D → ℕ) (story : D → Story) (tells : Bool) (old : Store D g) (done : Compaction) (new : Store D g) : Type 0 where
   pub change : Option PlainChange
   pub step : IsStep tells (shown_image (now (story (device_of old)))) (size (device_of old)) (IsUsedIn old.opened.map.entries) (listed_in old) done change
   pub ends : EndsStep size old change new
 
--- a change that was decided, and is refused for want of an epoch, of room or of memory, or by the device
+-- a change that was decided, and is refused for lack of an epoch, of room or of memory, or by the device
 pub record StepRefused {D : Type 0} {g : Ghosts D} (size : D → ℕ) (story : D → Story) (tells : Bool) (old : Store D g) (r : Refusal) (new : Store D g) : Type 0 where
   pub done : Compaction
   pub change : PlainChange
   pub step : IsStep tells (shown_image (now (story (device_of old)))) (size (device_of old)) (IsUsedIn old.opened.map.entries) (listed_in old) done (Some change)
   pub ends : EndsAs size old (Ok change) (Err r) new
 
--- why a step is refused
+-- the refusals of a step
 abbrev pub RefusesStep : {D : Type 0} {g : Ghosts D} → (size : D → ℕ) → (story : D → Story) → (tells halted : Bool) → (old : Store D g) → Refusal → (new : Store D g) → Type 0
 RefusesStep size story tells true old r new = r ≡ refusals.Halted
 RefusesStep size story tells false old r new =

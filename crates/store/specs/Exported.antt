@@ -1,4 +1,4 @@
--- What the exports that are open keep: segments that can be read, on the device.
+-- What open exports keep: segments on the device that can be read.
 use Rattle.std.specs.Prelude.{◌≡◌, ℕ, true, List}
 use Rattle.std.specs.List.{list_all, AllByRecursion, AllByRecursion-prop}
 use Rattle.std.proofs.Props.{props}
@@ -19,6 +19,6 @@ AreExportable size bs = AllByRecursion (IsExportable size) bs
 one_prop : (size : ℕ) (b : PlainExport) → IsProp (IsExportable size b)
 one_prop size b = hlevel props
 
--- there is one proof of it at most
+-- it is a proposition: it has at most one proof
 pub exportable_prop : (size : ℕ) (bs : List PlainExport) → IsProp (AreExportable size bs)
 exportable_prop size bs = AllByRecursion-prop (IsExportable size) (one_prop size) bs

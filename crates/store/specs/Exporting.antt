@@ -1,4 +1,4 @@
--- What is answered of exports that give their pieces one after another, on any store, and what it leaves.
+-- Exports that give their pieces one after another, on any store: the answers, and the store after each call.
 use Rattle.std.specs.Prelude.{◌≡◌, ◌==◌, ◌||◌, ℕ, Bool, true, false, zero, suc, if◌then◌else◌, List, length, slice_get, Option, Some, None}
 use Rattle.sector_dev.specs.Disk.{Image, Story}
 use Rattle.sector_dev.specs.declared.device.SectorDevice.{Ghosts}
@@ -17,7 +17,7 @@ use Rattle.store_runs.specs.Reading.{LacksRows, OnlyReadsDevice, HasRows}
 
 -- ---- opening
 
--- why no export of the table of a name is opened
+-- the refusals of the opening of an export of the table with this name
 abbrev pub RefusesRoom : (full : Bool) → Refusal → Type 0
 RefusesRoom true r = r ≡ refusals.TooMany limits.Exports
 RefusesRoom false r = r ≡ refusals.OutOfMemory
@@ -27,7 +27,7 @@ RefusesExport true found book r = r ≡ refusals.Halted
 RefusesExport false None book r = r ≡ refusals.NoTable
 RefusesExport false (Some e) book r = RefusesRoom (is_full book) r
 
--- an export of a table: what its entry has goes into the book under the next id, and the runs of its segments are pinned once more. Nothing else changes
+-- an export of a table: its entry goes into the book under the next id, and the run of each of its segments gets one pin. Nothing else changes
 pub record OpensExport {D : Type 0} {g : Ghosts D} (old : Store D g) (e : PlainEntry) (id : ℕ) (new : Store D g) : Type 0 where
   pub room : is_full (book_of old) ≡ false
   pub next : id ≡ (book_of old).next
@@ -60,12 +60,12 @@ GivesPiece true tells image found piece = ⊥
 GivesPiece false tells image None piece = ⊥
 GivesPiece false tells image (Some e) piece = PieceIs tells image e e.given piece
 
--- it counts; that there is none does not
+-- a piece is counted; `None` is not
 abbrev pub after_giving : Option (List ℕ) → ℕ → PlainBook → PlainBook
 after_giving None id b = b
 after_giving (Some piece) id b = with_given id b
 
--- why a piece is not given: the device is read for a segment alone
+-- the refusals of the next piece: the device is read only for a segment
 abbrev pub RefusesSegment : (tells : Bool) → Image → PlainExport → Option Segment → (place : ℕ) → Refusal → Type 0
 RefusesSegment tells image e (Some g) place r = LacksRows tells image e.schema g place r
 RefusesSegment tells image e None place r = (place ≡ length e.segments) × (r ≡ refusals.OutOfMemory)
@@ -79,7 +79,7 @@ RefusesPiece true tells image found r = r ≡ refusals.Halted
 RefusesPiece false tells image None r = r ≡ refusals.NoExport
 RefusesPiece false tells image (Some e) r = RefusesNumber tells image e e.given r
 
--- a call that reads for an export: the store stays as it is but for the book, unless its device failed
+-- a call that reads for an export: the store stays as it is except for the book, unless its device failed
 pub record ReadsForExport {D : Type 0} {g : Ghosts D} (size : D → ℕ) (story : D → Story) (failed : D → ℕ) (tells : Bool) (reply : PlainReply) (old new : Store D g) : Type 0 where
   pub device : OnlyReadsDevice size story failed tells reply old.device new.device
   pub kept : new.opened ≡ old.opened
@@ -92,7 +92,7 @@ RefusesClosing true found r = r ≡ refusals.Halted
 RefusesClosing false None r = r ≡ refusals.NoExport
 RefusesClosing false (Some e) r = ⊥
 
--- an export is closed: its runs are pinned once less. Nothing else changes
+-- an export is closed: each of its runs loses one pin. Nothing else changes
 pub record ClosesExport {D : Type 0} {g : Ghosts D} (old : Store D g) (id : ℕ) (e : PlainExport) (new : Store D g) : Type 0 where
   pub closed : book_of new ≡ without id (book_of old)
   pub pins : UnpinsAll old.opened.map new.opened.map (runs_in_segments e.segments)

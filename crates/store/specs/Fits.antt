@@ -36,7 +36,7 @@ pub record IsFresh (base : Tables) (m : Machine) : Type 0 where
   pub doubt : m.doubt ≡ None
   pub began : base ≡ no_tables
 
--- what stands on a device is what the machine allows
+-- each image that a stop may leave of the device is one that the machine allows
 pub record DeviceFits {D : Type 0} (size : D → ℕ) (story : D → Story) (base : Tables) (m : Machine) (device : D) : Type 0 where
   pub in_limits : is_size (size device) ≡ true
   pub allows : LeavesOnly (Allows (setting_of (size device) base) m) (now (story device))
@@ -54,7 +54,7 @@ commit_of store = store.opened.commit
 abbrev pub listed_in : {D : Type 0} {g : Ghosts D} → Store D g → PlainCatalogue
 listed_in store = catalogue_of store.opened.catalogue.list
 
--- all of a store lies on its disk: its commit and its catalogue are found, and all is synced
+-- a store lies on its disk: its commit and its catalogue are found there, and everything is synced
 abbrev pub IsOnDisk : {D : Type 0} {g : Ghosts D} → (size : D → ℕ) → (story : D → Story) → Store D g → Type 0
 IsOnDisk size story store = Stands stored_reading (size (device_of store)) (now (story (device_of store))) (commit_of store) (listed_in store)
 
@@ -62,25 +62,25 @@ IsOnDisk size story store = Stands stored_reading (size (device_of store)) (now 
 abbrev pub book_of : {D : Type 0} {g : Ghosts D} → Store D g → PlainBook
 book_of store = books.book_of store.book
 
--- its device failed, so it has to be closed
+-- its device failed, so it must be closed
 abbrev pub is_halted : {D : Type 0} {g : Ghosts D} → Store D g → Bool
 is_halted store = store.halted
 
--- an export of the book stands for one of the machine: it keeps the runs of its segments, and what lies in them are the pieces
+-- an export of the book stands for one of the machine: it keeps the runs of its segments, and these hold the pieces
 pub record ExportFits (image : Image) (b : PlainExport) (e : Export) : Type 0 where
   pub id : e.id ≡ b.id
   pub runs : e.runs ≡ runs_in_segments b.segments
   pub pieces : pieces_held b.schema b.segments image ≡ Some e.pieces
   pub given : e.given ≡ b.given
 
--- one by one, as many
+-- the same for two lists of equal length, element by element
 abbrev pub ExportsFit : Image → List PlainExport → List Export → Type 0
 ExportsFit image [] [] = Unit {0}
 ExportsFit image (b ∷ bs) (e ∷ es) = ExportFits image b e × ExportsFit image bs es
 ExportsFit image [] (e ∷ es) = ⊥
 ExportsFit image (b ∷ bs) [] = ⊥
 
--- an open store: all is on the disk, its tables are those of the settled commands, and its exports those of the machine
+-- an open store: everything is on the disk, its tables are those of the settled commands, and its exports are those of the machine
 pub record IsSound {D : Type 0} {g : Ghosts D} (size : D → ℕ) (story : D → Story) (base : Tables) (m : Machine) (store : Store D g) : Type 0 where
   pub stands : IsOnDisk size story store
   pub tables : tables_held (synced_image (now (story store.device))) (listed_in store) ≡ Some (after base m.settled)
@@ -95,8 +95,8 @@ pub record StoreFits {D : Type 0} {g : Ghosts D} (size : D → ℕ) (story : D �
   pub device : DeviceFits size story base m store.device
   pub sound : m.phase ≡ running → IsSound size story base m store
 
--- an opening of any device that was done: it found what stood there, by what reads gave, and has synced it, with no write, so that the store lies on
--- its disk; and the store is not halted
+-- a successful opening of any device: it found what reads showed, and synced it without a write, so the store lies on its disk; and the store is not
+-- halted
 pub record FindsStore {D : Type 0} {g : Ghosts D} (size : D → ℕ) (story : D → Story) (device : D) (store : Store D g) : Type 0 where
   pub found : standing_shown stored_reading (size device) (story device) ≡ rules store.opened.commit (listed_in store)
   pub moments : Grows (IsOpening (now (story device))) (story device) (story (device_of store))
@@ -106,8 +106,8 @@ pub record FindsStore {D : Type 0} {g : Ghosts D} (size : D → ℕ) (story : D 
   pub none_open : book_of store ≡ no_exports
   pub on : store.halted ≡ false
 
--- a formatting of any device that was done: reads showed no store there; the empty store is synced, and no stop during it left anything
--- but what was there, no store or the empty one
+-- a successful formatting of any device: reads showed no store; the empty store is synced, and a stop during the formatting leaves the old content, no
+-- store or the empty store
 pub record FormatsStore {D : Type 0} {g : Ghosts D} (size : D → ℕ) (story : D → Story) (version : FormatVersion) (device : D) (store : Store D g) : Type 0 where
   pub none_before : ruling (shown_image (now (story device))) ≡ None
   pub moments : Grows (IsFormatting (size device) version (now (story device))) (story device) (story (device_of store))
@@ -123,14 +123,14 @@ pub record IsNewStore {D : Type 0} {g : Ghosts D} (size : ℕ) (version : Format
   pub none_open : book_of store ≡ no_exports
   pub on : store.halted ≡ false
 
--- an opening or a formatting of a device that was done: some machine goes on, and the store stands for it
+-- a successful opening or formatting of a device: the machine continues as another one, and the store stands for that one
 pub record Opens {D : Type 0} {g : Ghosts D} (size : D → ℕ) (story : D → Story) (failed : D → ℕ) (base : Tables) (m : Machine) (call : PlainCall) (device : D) (store : Store D g) : Type 0 where
   pub next : Machine
   pub same : size (device_of store) ≡ size device
   pub goes : Goes (setting_of (size device) base) m call done (story device) (story (device_of store)) (failed device) (failed (device_of store)) next
   pub fits : StoreFits size story base next store
 
--- one that was refused: the place is shut, and the device stands for the machine
+-- a refused one: the place is shut, and the device stands for the machine
 pub record Shuts {D : Type 0} (size : D → ℕ) (story : D → Story) (failed : D → ℕ) (base : Tables) (m : Machine) (call : PlainCall) (device : D) (refusal : OpeningRefusal) (back : D) : Type 0 where
   pub same : size back ≡ size device
   pub goes : Goes (setting_of (size device) base) m call (shut_by refusal) (story device) (story back) (failed device) (failed back) (shut_down m)
@@ -143,7 +143,7 @@ fresh = record { started = false; phase = shut; settled = []; doubt = None; expo
 abbrev pub resumed : Machine
 resumed = record { started = true; phase = shut; settled = []; doubt = None; exports = []; next_id = 0 }
 
--- one that begins after a command had begun to write and its device failed: it may be done
+-- one that begins after a command whose device failed once it had begun to write: the command may have been applied
 abbrev pub doubting : PlainCommand → Machine
 doubting c = record { started = true; phase = shut; settled = []; doubt = Some c; exports = []; next_id = 0 }
 
@@ -151,6 +151,6 @@ doubting c = record { started = true; phase = shut; settled = []; doubt = Some c
 abbrev pub HoldsNoneOrEmpty : ℕ → Image → Type 0
 HoldsNoneOrEmpty size image = (held_by size image ≡ no_store) ⊎ (held_by size image ≡ holds no_tables)
 
--- and after a command whose device failed: these tables, or what it makes of them
+-- and after a command whose device failed: these tables, or those after the command
 abbrev pub HoldsWithOrWithout : ℕ → Tables → PlainCommand → Image → Type 0
 HoldsWithOrWithout size t c image = (held_by size image ≡ holds t) ⊎ (held_by size image ≡ holds (after t (c ∷ [])))

@@ -1,4 +1,4 @@
--- What is asked of the catalogue in memory: why it is not answered, beside what the store is. No other refusal comes.
+-- The refusals of queries of the catalogue in memory, by the state of the store. There are no others.
 use Rattle.std.specs.Prelude.{◌≡◌, Bool, true, false, Option, None, IsSome}
 use Rattle.catalogue.specs.Entries.{PlainEntry}
 use Rattle.tables.specs.declared.refusal.Refusal.{Refusal}

@@ -24,7 +24,7 @@ use Rattle.store_runs.specs.Reached.{IsReplied, GivesSnapshot}
 use Rattle.store_runs.specs.Halting.{phase_where, tells_halt_while_open}
 use Rattle.store.specs.Fits.{setting_of, DeviceFits, StoreFits}
 
--- a command with all the bytes that a reader had left, where that is known
+-- a command with all bytes that a reader had left, if these are known
 abbrev pub IsStreamOf : Option (List ℕ) → (List ℕ → PlainCommand) → PlainCall → Type 0
 IsStreamOf input command plain = (bytes : List ℕ) × IfSome input (λ all. bytes ≡ all) × (plain ≡ stream_call (command bytes))
 
@@ -46,7 +46,7 @@ IsCallOf remaining (calls.CloseExport id) plain = plain ≡ close_export_call id
 IsCallOf remaining calls.Compact plain = plain ≡ compact_call
 IsCallOf remaining calls.Upgrade plain = plain ≡ upgrade_call
 
--- one by one
+-- element by element
 abbrev pub AreCallsOf : {R : Type 0} → (remaining : R → Option (List ℕ)) → List (Call R) → List PlainCall → Type 0
 AreCallsOf remaining [] plains = plains ≡ []
 AreCallsOf remaining (call ∷ calls) [] = ⊥
@@ -87,7 +87,7 @@ abbrev pub PlaceFits : {D : Type 0} {g : Ghosts D} → (size : D → ℕ) → (s
 PlaceFits size story base m (places.Open store) = StoreFits size story base m store
 PlaceFits size story base m (places.Shut device) = ShutFits size story base m device
 
--- one call of a place that has this device: some machine goes on, and the place after it stands for that
+-- one call of a place with this device: the machine continues as another one, and the place after the call stands for that one
 pub record PlaceGoes {D : Type 0} {g : Ghosts D} (size : D → ℕ) (story : D → Story) (failed : D → ℕ) (base : Tables) (m : Machine) (call : PlainCall) (reply : PlainReply) (old : D) (new : StoreOrDevice D g) : Type 0 where
   pub next : Machine
   pub same : size (device_in new) ≡ size old
@@ -104,18 +104,18 @@ pub record PlaceRuns {D : Type 0} {g : Ghosts D} (size : D → ℕ) (story : D �
 abbrev pub replies_of : List Reply → List PlainReply
 replies_of replies = map reply_in replies
 
--- what follows of calls one after another: what each stop leaves, what each reply follows from, and what is so where no device call failed
+-- what holds for calls one after another: what each stop leaves, what each reply follows from, and what holds if no call of the device failed
 pub record PlaceLives {D : Type 0} {g : Ghosts D} (size : D → ℕ) (story : D → Story) (failed : D → ℕ) (base : Tables) (m : Machine) (calls : List PlainCall) (replies : List PlainReply) (old : D) (new : StoreOrDevice D g) : Type 0 where
   pub runs : PlaceRuns size story failed base m calls replies old new
-  -- an image that a stop may have left since the call of this number began is what the machine of that moment allows, and has the tables of what was acknowledged before the call
+  -- an image that a stop may have left since the call with this number began is allowed by the machine of that moment, and has the tables of the commands that were acknowledged before the call
   pub stops : (i : ℕ) (image : Image)
       → LeftSince (story (device_in new)) (moment (story_at (setting_of (size old) base) calls replies m (story old) (failed old) runs.next (story (device_in new)) (failed (device_in new)) runs.run i)) image
       → IsLeftFrom (setting_of (size old) base) calls replies m (story old) (failed old) runs.next (story (device_in new)) (failed (device_in new)) runs.run i image
       × Keeps (setting_of (size old) base) m (any_change (take i calls) (take i replies)) (acknowledged (take i calls) (take i replies)) (begun calls replies) image
-  -- the reply to the call after i others is that of a machine that settled what was acknowledged by those
+  -- the reply to the call after i others is that of a machine that has settled the commands that these acknowledged
   pub replied : (i : ℕ) (call : PlainCall) (more : List PlainCall) (reply : PlainReply) (others : List PlainReply) → drop i calls ≡ call ∷ more → drop i replies ≡ reply ∷ others
       → IsReplied (setting_of (size old) base) m (take i calls) (take i replies) call reply
-  -- an export that is opened there, and comes to its end within k calls while it stays open, gives the table that it found
+  -- an export that is opened there, and reaches its end within k calls while it is open, gives the table as it was then
   pub snapshots : (i k : ℕ) (name : List ℕ) (id : ℕ) (more : List PlainCall) (others : List PlainReply) → drop i calls ≡ open_export_call name ∷ more → drop i replies ≡ export_is id ∷ others
       → stays_open id (take k more) (take k others) ≡ true → has_ended id (take k more) (take k others) ≡ true
       → GivesSnapshot (setting_of (size old) base) m (take i calls) (take i replies) name (given id (take k more) (take k others))
@@ -124,5 +124,5 @@ pub record PlaceLives {D : Type 0} {g : Ghosts D} (size : D → ℕ) (story : D 
   pub settles : Settles m.settled runs.next.settled m.doubt runs.next.doubt (acknowledged calls replies) (begun calls replies)
   pub undisturbed : failed old < 2 ^ 64 - 1 → failed (device_in new) ≡ failed old → list_any is_device_reply replies ≡ false
   pub all_settled : m.doubt ≡ None → m.phase ≢ halted → list_any is_device_reply replies ≡ false → SettlesAll m runs.next (acknowledged calls replies)
-  -- where no store is halted at first, whether one is open or none is: no call is refused as halted while a store is open
+  -- if no store is halted at first, whether one is open or not, no call is refused as halted while a store is open
   pub unhalted : (is_open : Bool) → m.phase ≡ phase_where is_open → list_any is_device_reply replies ≡ false → tells_halt_while_open is_open calls replies ≡ false

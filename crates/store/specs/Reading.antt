@@ -1,4 +1,4 @@
--- What a call that only reads leaves of a store.
+-- The store after a call that only reads.
 use Rattle.std.specs.Prelude.{◌≡◌, ◌||◌, ℕ, Bool}
 use Rattle.sector_dev.specs.Disk.{Story}
 use Rattle.sector_dev.specs.declared.device.SectorDevice.{Ghosts}

@@ -1,4 +1,4 @@
--- What a salvage of a table gives and leaves out, on any store.
+-- What a salvage of a table writes and leaves out, on any store.
 use Rattle.std.specs.Prelude.{◌≡◌, ◌+◌, ℕ, Bool, true, false, List, [], ◌∷◌, map, Option, Some, None}
 use Rattle.std.specs.Io.KnownBytes.{Appends}
 use Rattle.sector_dev.specs.Disk.{Image}
@@ -20,13 +20,13 @@ AreFound tells image schema (g ∷ gs) (f ∷ fs) = (tells ≡ true → segment_
 AreFound tells image schema [] (f ∷ fs) = ⊥
 AreFound tells image schema (g ∷ gs) [] = ⊥
 
--- the rows of the segments that hold theirs, in order
+-- the rows of the segments that hold their rows, in order
 abbrev pub rows_found : List (Option (List (List Cell))) → List (List (List Cell))
 rows_found [] = []
 rows_found (None ∷ found) = rows_found found
 rows_found (Some rows ∷ found) = rows ∷ rows_found found
 
--- the other segments: the place of each, counted from this one on, and how many rows the catalogue says it has
+-- the other segments: the place of each, counted from this one on, and its number of rows in the catalogue
 abbrev pub left_out : (place : ℕ) → List Segment → List (Option (List (List Cell))) → List (ℕ × ℕ)
 left_out place (g ∷ gs) (None ∷ found) = (place, g.rows) ∷ left_out (place + 1) gs found
 left_out place (g ∷ gs) (Some rows ∷ found) = left_out (place + 1) gs found
@@ -36,7 +36,7 @@ left_out place _ _ = []
 abbrev pub plain_left : List LeftOut → List (ℕ × ℕ)
 plain_left segments = map (λ (l : LeftOut). (l.place, l.rows)) segments
 
--- a salvage of a table that was done: a writer has been given the stream of all rows that are found, and nothing else; the other segments are left out
+-- a successful salvage of a table: the stream of all rows that are found was written, and nothing else; the other segments are left out
 pub record Salvages (tells : Bool) (image : Image) (e : PlainEntry) (written written' : Option (List ℕ)) (left : List (ℕ × ℕ)) : Type 0 where
   pub found : List (Option (List (List Cell)))
   pub shown : AreFound tells image e.schema e.segments found
@@ -49,14 +49,14 @@ SalvagesAt true tells image found written written' left = ⊥
 SalvagesAt false tells image None written written' left = ⊥
 SalvagesAt false tells image (Some e) written written' left = Salvages tells image e written written' left
 
--- why the salvage of a table that is there is broken off: no segment is the reason
+-- why the salvage of an existing table ends early: a segment is never the reason
 abbrev pub BreaksOff : Refusal → Type 0
 BreaksOff refusals.Device = Unit {0}
 BreaksOff refusals.OutOfMemory = Unit {0}
 BreaksOff refusals.Write = Unit {0}
 BreaksOff _ = ⊥
 
--- why the table of a name, with this entry if there is one, is not salvaged
+-- the refusals of a salvage of the table of a name, with this entry if there is one
 abbrev pub RefusesSalvage : (halted : Bool) → Option PlainEntry → Refusal → Type 0
 RefusesSalvage true found r = r ≡ refusals.Halted
 RefusesSalvage false None r = r ≡ refusals.NoTable

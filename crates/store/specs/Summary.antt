@@ -1,4 +1,4 @@
--- A store in numbers.
+-- The numbers of a store.
 use Rattle.std.specs.Prelude.{◌≡◌, ◌≤◌, ◌+◌, ◌&&◌, ◌++◌, ℕ, true, not, List, length, sum_by}
 use Rattle.sector_dev.specs.declared.device.SectorDevice.{Ghosts}
 use Rattle.segments.specs.declared.run.Run.{Run}
@@ -13,19 +13,19 @@ use Rattle.store.specs.declared.store.Store.{Store}
 use Rattle.store.specs.declared.summary.Summary.{Summary}
 use Rattle.store.specs.Fits.{book_of, commit_of, listed_in}
 
--- the largest free run has n sectors; 0 where no sector is free
+-- the largest free run has n sectors; 0 if no sector is free
 pub record IsLargest (size : ℕ) (used : Run → Type 0) (count : ℕ) : Type 0 where
   pub none_larger : (run : Run) → IsFree size used run → run.count ≤ count
   pub some : 1 ≤ count → (run : Run) × (run.count ≡ count) × IsFree size used run
 
--- n sectors have the runs that are kept and are not in use, each once; and no run of these and of those in use shares a sector with another
+-- the runs that are kept but not in use have n sectors, each run counted once; and none of these and of those in use shares a sector with another
 pub record CountsKept (used kept : List Run) (count : ℕ) : Type 0 where
   pub runs : List Run
   pub each : (run : Run) → is_among runs run ≡ (is_among kept run && not (is_among used run))
   pub apart : are_apart (used ++ runs) ≡ true
   pub counts : count ≡ sum_by (λ r. r.count) runs
 
--- the sectors of the two commits, and of the runs in use: that of the catalogue's text, and those that the catalogue names
+-- the sectors of the two commits and of the runs in use: the run of the catalogue's text, and those that the catalogue names
 abbrev pub used_sectors : {D : Type 0} {g : Ghosts D} → Store D g → ℕ
 used_sectors store = 2 + sum_by (λ r. r.count) (used_runs stored_reading (commit_of store) (listed_in store))
 

@@ -1,4 +1,4 @@
--- An upgrade of a store: what it leaves, and why it is refused.
+-- An upgrade of a store: the store after it, and its refusals.
 use Rattle.std.specs.Prelude.{◌≡◌, ◌⊎◌, ℕ, Bool, true, false, Result, Ok, Err}
 use Rattle.sector_dev.specs.Disk.{Story, now, shown_image}
 use Rattle.sector_dev.specs.declared.device.SectorDevice.{Ghosts}
@@ -23,20 +23,20 @@ abbrev pub upgrade_ended : Result Upgraded Refusal → PlainReply
 upgrade_ended (Ok upgraded) = upgrade_reply upgraded
 upgrade_ended (Err r) = refused r
 
--- one that was made of a store of version 1, or had nothing to do in version 2
+-- a successful upgrade: of a store of version 1, or with nothing to do in version 2
 abbrev pub HasUpgraded : {D : Type 0} {g : Ghosts D} → (size : D → ℕ) → (story : D → Story) → (tells : Bool) → (old : Store D g) → Upgraded → (new : Store D g) → Type 0
 HasUpgraded size story tells old upgradeds.Done new =
     ((commit_of old).version ≡ One)
     × ((change : PlainChange) × IsUpgrade tells (shown_image (now (story (device_of old)))) (listed_in old) change × EndsAs size old (Ok change) (Ok tt) new)
 HasUpgraded size story tells old upgradeds.Already new = ((commit_of old).version ≡ Two) × (new ≡ old)
 
--- the digests were taken, and it is refused for want of an epoch, of room or of memory, or by the device
+-- the digests were computed, and the upgrade is refused for lack of an epoch, of room or of memory, or by the device
 pub record UpgradeRefused {D : Type 0} {g : Ghosts D} (size : D → ℕ) (story : D → Story) (tells : Bool) (old : Store D g) (r : Refusal) (new : Store D g) : Type 0 where
   pub change : PlainChange
   pub upgrade : IsUpgrade tells (shown_image (now (story (device_of old)))) (listed_in old) change
   pub ends : EndsAs size old (Ok change) (Err r) new
 
--- why an upgrade is refused: only a store of version 1 is upgraded
+-- the refusals of an upgrade: only a store of version 1 is upgraded
 abbrev pub RefusesUpgrade : {D : Type 0} {g : Ghosts D} → (size : D → ℕ) → (story : D → Story) → (tells halted : Bool) → (old : Store D g) → Refusal → (new : Store D g) → Type 0
 RefusesUpgrade size story tells true old r new = r ≡ refusals.Halted
 RefusesUpgrade size story tells false old r new =

@@ -1,4 +1,4 @@
-// The commit sectors of an open store are looked at.
+// Tests the commit sectors of an open store.
 ghost use Rattle.std.specs.Prelude.{◌≡◌, true, IfOk, IfErr};
 ghost use Rattle.sector_dev.specs.Disk.{now, shown_image};
 ghost use Rattle.commit.specs.Standing.{is_size};
@@ -10,7 +10,7 @@ use crate::reading::halts;
 use sector_dev::SectorDevice;
 use tables::Refusal;
 
-// Whether the commit sectors of a device agree.
+// Returns whether the commit sectors of a device agree.
 fn agreement_on<D: SectorDevice>(device: &mut D) -> Result<bool, Refusal>
     requires { is_size (D.size device.old) ≡ true }
     ensures reads { OnlyReadsDevice D.size D.story D.failed D.tells (ended result) device.old device.new }
@@ -28,9 +28,8 @@ impl<D: SectorDevice> Store<D> {
     ghost use Rattle.store.specs.Agreeing.{SaysAgreement, RefusesAgreement};
     ghost use Rattle.store.specs.Reading.{OnlyReadsStore};
 
-    /// Whether the two commit sectors hold what commits leave there, whatever stopped them ([`commit::commits_agree`]). If not, something else has changed one
-    /// of them, and the last commands that were acknowledged may be undone. It only reads. The next change writes over one of the two, so it is to be asked
-    /// before that.
+    /// Returns whether the two commit sectors hold what commits leave there, also after a crash ([`commit::commits_agree`]). If not, something else has
+    /// changed one of them, and the last acknowledged commands may be lost. Only reads. Call it before the next change, which overwrites one of the two.
     ///
     /// # Errors
     /// `Halted` after a failure of the device; `Device`, after which the store is halted.

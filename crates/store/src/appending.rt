@@ -1,4 +1,4 @@
-// Rows are appended: the table that stands is read for its weight.
+// Appends rows. The existing table is read for its weight.
 ghost use Rattle.std.specs.Prelude.{◌≡◌, ◌≢◌, Some, Err, IfOk, IfErr, false, string_bytes};
 ghost use Rattle.sector_dev.specs.Disk.{now, shown_image};
 ghost use Rattle.store_changes.specs.Change.{change_of};
@@ -19,7 +19,7 @@ impl<D: SectorDevice> Store<D> {
     ghost use Rattle.store.specs.Fits.{device_of, listed_in};
     ghost use Rattle.store.specs.Reading.{OnlyReadsStore};
 
-    // What new rows change, after those of a table.
+    // Returns the change that appends rows to a table.
     pub(crate) fn decide_append(
         &mut self,
         alloc: Global,
@@ -41,7 +41,7 @@ impl<D: SectorDevice> Store<D> {
                 change
             }
             None => {
-                // By a call: the drop of each kind, written out, is long.
+                // Dropped by a call, since the drop of each variant would be inlined here.
                 drop(new);
                 Err(Refusal::NoTable)
             }

@@ -1,4 +1,4 @@
-// A command of an open store.
+// Applies a command to an open store.
 ghost use Rattle.std.specs.Prelude.{◌≡◌, ◌≢◌, false, IfOk, IfErr};
 ghost use Rattle.sector_dev.specs.Disk.{now, shown_image};
 ghost use Rattle.sector_dev.specs.Time.{OnlyReads};
@@ -28,7 +28,7 @@ impl<D: SectorDevice> Store<D> {
     ghost use Rattle.store.specs.Fits.{StoreFits, device_of, is_halted, book_of, IsOnDisk};
     ghost use Rattle.store.specs.Applying.{GoesOn, IsApplied, IsKept, IsApplyingAtEachMoment, IsDoneOnDisk};
 
-    // What a command changes. Only an append and a query that is saved read the device.
+    // Returns the change that a command makes. Only an append and a saved query read the device.
     fn decide(&mut self, alloc: Global, command: Command) -> Result<Change, Refusal>
         requires on { is_halted self.old ≡ false }
         ensures reads { OnlyReadsStore D.size D.story D.failed D.tells (ended result) self.old self.new }
@@ -57,19 +57,19 @@ impl<D: SectorDevice> Store<D> {
         }
     }
 
-    /// Does what a command asks for, or refuses it. After Ok it is safe: each later stop leaves it.
+    /// Applies a command, or refuses it. After `Ok` the change is safe: no later stop undoes it.
     ///
     /// # Errors
-    /// Those of the command, in the order of its tests, where an append reads the table for the last one, and a query that is saved reads its table after
-    /// all of them: `SegmentUnread` and `SegmentDamaged` as [`Store::read`], and `Device`; then `TooMany(Epochs)`, `TooMany(Segments)`, `NoRoom` and
-    /// `Device`. After `Device` the store is halted, and whether the command is done is known once the device was opened again; `Halted` before all else
-    /// where it is halted; `OutOfMemory`. After any but `Device` nothing has changed.
+    /// `Halted` if the store is halted, before any other test. Then the refusals of the command, in the order of its tests. An append reads its table for
+    /// the last test, and a saved query reads its table after all tests: `SegmentUnread` and `SegmentDamaged` as in [`Store::read`], and `Device`. Then
+    /// `TooMany(Epochs)`, `TooMany(Segments)`, `NoRoom` and `Device`. `OutOfMemory` at any time. After `Device` the store is halted, and only opening the
+    /// device again shows whether the command was applied. After any other error nothing has changed.
     pub fn apply(&mut self, alloc: Global, command: Command) -> Result<(), Refusal>
-        // On a store that stands for a machine: it does what the command does to the tables of the settled commands, or is refused as they say.
+        // On a store that stands for a machine, it does what the command does to the tables of the settled commands, or gives the refusal that they require.
         ensures goes { D.tells ≡ true → (base : Tables) (m : Machine) → StoreFits D.size D.story base m self.old
             → GoesOn D.size D.story D.failed base m (apply_call (command_of command)) (ended result) self.old self.new }
-        // On any store and any device: what its catalogue decides of the command, and for an append or a query that is saved the table that was
-        // read, is carried out or reported; each refusal has its one reason.
+        // On any store and any device, the catalogue decides on the command, and so does the table that an append or a saved query reads. The decision
+        // is carried out or reported. Each refusal has one reason.
         ensures applied { is_halted self.old ≡ false → IsApplied D.size D.story D.tells self.old (command_of command) result self.new }
         ensures refused { IfErr result (λ e. IsKept self.old self.new) }
         ensures quiet { IfErr result (λ e. e ≢ Refusal.Device → reads_device (command_of command) ≡ false
@@ -79,8 +79,8 @@ impl<D: SectorDevice> Store<D> {
         ensures halted { (result ≡ Err Refusal.Halted) ↔ (is_halted self.old ≡ true) }
         ensures still { is_halted self.old ≡ true → self.new ≡ self.old }
         ensures halts { is_halted self.old ≡ false → (is_halted self.new ≡ true) ↔ (result ≡ Err Refusal.Device) }
-        // On a store that lies on its disk, whatever its segments hold: at each moment a stop leaves what stood, or the command done, and no sector
-        // was touched outside the runs that it takes, but the one of the next commit.
+        // On a store that lies on its disk, whatever its segments hold, a stop at any moment leaves the old state or the command applied. Outside the runs
+        // that the command takes, only the sector of the next commit is written.
         ensures writes { is_halted self.old ≡ false → D.tells ≡ true → IsOnDisk D.size D.story self.old
             → IsApplyingAtEachMoment D.size D.story self.old (command_of command) self.new }
         ensures written { OnOk result (D.tells ≡ true → IsOnDisk D.size D.story self.old
@@ -90,7 +90,7 @@ impl<D: SectorDevice> Store<D> {
         // No command opens or closes an export.
         ensures book { book_of self.new ≡ book_of self.old }
     {
-        // What is owned goes by a call: its drop written out would be most of the function.
+        // Dropped by calls, since inlined drops would be most of the function.
         if self.halted {
             drop(command);
             return Err(Refusal::Halted);

@@ -1,4 +1,4 @@
-// Devices with which a run may begin. Of the functions that do nothing, the contracts are laws.
+// Devices with which a run may begin. The contracts of the functions that do nothing are laws.
 ghost use Rattle.std.specs.Prelude.{◌≡◌, true, Some, [], ◌∷◌, IfOk};
 ghost use Rattle.sector_dev.specs.Disk.{now};
 ghost use Rattle.sector_dev.specs.Time.{LeavesOnly};
@@ -17,9 +17,9 @@ ghost use Rattle.store.specs.Places.{ShutFits};
 use sector_dev::{CrashChoice, ModelDevice, SectorDevice};
 use std::alloc::{AllocError, Global};
 
-/// A run may begin with a device on which no stop leaves a commit: there are no tables. Such is one of zeros. And it may
-/// begin with one on which each stop leaves a store with the same tables, as a device has after a stop. And, where its device failed and the process
-/// ended without a stop, after a formatting, and after a command that is in doubt then.
+/// A run may begin with a device on which no stop leaves a commit, such as one of zeros: it has no tables. It may also begin with a device on which each
+/// stop leaves a store with the same tables, as after a stop. If the device failed and the process ended without a stop, it may begin after a formatting,
+/// and after a command that is in doubt.
 pub fn devices_fit<D: SectorDevice>(device: &D)
     ensures new { is_size (D.size device.now) ≡ true → LeavesOnly HoldsNoCommit (now (D.story device.now))
         → DeviceFits D.size D.story no_tables fresh device.now }
@@ -35,8 +35,8 @@ pub fn devices_fit<D: SectorDevice>(device: &D)
     let _ = device;
 }
 
-/// What a stop leaves of a device goes on as the shut place of the same machine. And a run may begin anew with it: with the tables of the settled commands,
-/// or with the one in doubt as well, or, where nothing had started, without a store.
+/// The device that a stop leaves continues as the shut place of the same machine. A new run may begin with it: with the tables of the settled commands, or
+/// with the command in doubt as well, or, if nothing had started, without a store.
 pub fn left_devices_fit<D: SectorDevice>(before: &D, device: &D)
     ensures goes_on { (base : Tables) (m : Machine) → DeviceFits D.size D.story base m before.now → IsLeftOf D.size D.story before.now device.now
         → ShutFits D.size D.story base (shut_down m) device.now }
@@ -50,17 +50,17 @@ pub fn left_devices_fit<D: SectorDevice>(before: &D, device: &D)
 /// A run may begin with a new device in memory.
 ///
 /// # Errors
-/// `AllocError` where memory was refused.
+/// `AllocError` if memory was refused.
 pub fn new_devices_fit(alloc: Global, sectors: u64) -> Result<ModelDevice, AllocError>
     ensures { is_size sectors ≡ true → IfOk result (λ device. DeviceFits size_of history_of no_tables fresh device) }
 {
     ModelDevice::new(alloc, sectors)
 }
 
-/// What a crash makes of a device in memory is left of it by a stop.
+/// A device in memory after a crash is one that a stop may leave.
 ///
 /// # Errors
-/// `AllocError` where memory was refused.
+/// `AllocError` if memory was refused.
 pub fn crashed_devices_are_left(
     device: &ModelDevice,
     choice: CrashChoice,

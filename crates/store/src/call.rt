@@ -1,4 +1,4 @@
-// Calls of a place and their replies, as values.
+// Calls of a place, and their replies, as values.
 use crate::{OpeningRefusal, Store};
 use arrow_schema::Schema;
 use sector_dev::SectorDevice;
@@ -6,47 +6,47 @@ use std::io::Empty;
 use tables::{Command, Refusal};
 use values::Table;
 
-/// What is asked of a place. `R` is the reader of the commands whose bytes come from one; a list without such commands is of `Call`.
+/// A call of a place. `R` is the reader of the commands whose bytes come from a reader. Without such commands the type is `Call`.
 #[derive(Drop)]
 pub enum Call<R = Empty> {
-    /// A command on the tables.
+    /// Applies a command to the tables.
     Apply(Command),
-    /// The table that all of a reader's bytes mean as a stream, at this name.
+    /// Imports the table of a stream, which is all that the reader has left, under this name.
     ImportFrom { name: String, reader: R },
-    /// The rows that they mean, after those of this table.
+    /// Appends the rows of a stream, which is all that the reader has left, to this table.
     AppendFrom { name: String, reader: R },
-    /// A new store, in version 2 of the format, on a device that holds none.
+    /// Makes a new store, in version 2 of the format, on a device without a store.
     Format,
-    /// The store that stands on the device.
+    /// Opens the store on the device.
     Open,
-    /// The store is closed; its device stays.
+    /// Closes the store. The device remains.
     Close,
-    /// The name of each table, and how many rows it has.
+    /// Returns the name and the number of rows of each table.
     Tables,
-    /// The schema of the table of this name.
+    /// Returns the schema of the table with this name.
     Schema(String),
-    /// The table of this name.
+    /// Returns the table with this name.
     Read(String),
-    /// The canonical stream of a table.
+    /// Returns the canonical stream of the table with this name.
     Export(String),
-    /// An export of a table that gives its pieces one after another.
+    /// Opens an export of the table with this name, which gives its pieces one after another.
     OpenExport(String),
-    /// The next piece of the export of this id.
+    /// Returns the next piece of the export with this id.
     ExportNext(u64),
-    /// The export of this id gives no more, and the sectors that it alone kept are free.
+    /// Closes the export with this id. The sectors that only it kept become free.
     CloseExport(u64),
-    /// One step of a compaction.
+    /// Takes one step of a compaction.
     Compact,
-    /// Digests for all segments.
+    /// Gives all segments digests.
     Upgrade,
 }
 
-/// What is answered.
+/// The reply to a call.
 #[derive(Drop)]
 pub enum Reply {
-    /// A command, a formatting, an opening or a closing was done, of a store or of an export.
+    /// A command was applied, a store was formatted, or a store or an export was opened or closed.
     Done,
-    /// The name of each table, and how many rows it has.
+    /// The name and the number of rows of each table.
     Tables(Vec<(String, u64)>),
     Schema(Schema),
     Table(Table),
@@ -54,22 +54,22 @@ pub enum Reply {
     Bytes(Vec<u8>),
     /// The id of an export.
     Export(u64),
-    /// Its next piece; `None` after the last one.
+    /// The next piece of an export; `None` after the last one.
     Piece(Option<Vec<u8>>),
-    /// Two neighbouring segments became one.
+    /// Two neighbouring segments were joined.
     Merged,
-    /// The segment that started last lies elsewhere, further in front.
+    /// The segment with the greatest start was moved to a lower start.
     Moved,
-    /// A step of a compaction had nothing to do.
+    /// A step of a compaction found nothing to do.
     Nothing,
-    /// The store has digests.
+    /// The store already had digests.
     Already,
     Refused(Refusal),
     /// The device was not opened or formatted.
     NotOpened(OpeningRefusal),
 }
 
-/// A device, with a store open on it or without.
+/// A device with or without an open store.
 #[derive(Drop)]
 pub enum StoreOrDevice<D: SectorDevice> {
     Open(Store<D>),

@@ -1,4 +1,4 @@
-// A change is carried out: the one place where a command writes.
+// Carries out a change. Only here does a command write.
 ghost use Rattle.std.specs.Prelude.{◌≡◌, ◌≢◌, Ok, Err, IfErr, true};
 ghost use Rattle.store_changes.specs.Change.{change_of};
 ghost use Rattle.store_runs.specs.Changes.{CanChange};
@@ -17,10 +17,10 @@ impl<D: SectorDevice> Store<D> {
     ghost use Rattle.store_runs.specs.Reading.{ended};
     ghost use Rattle.store.specs.Applying.{EndsAs, IsKept, IsCarryingAtEachMoment, IsCarriedOnDisk};
 
-    /// Carries out a change of the catalogue: makes the streams of the new segments, takes runs, writes these and the new catalogue, and publishes them.
+    /// Carries out a change of the catalogue: makes the streams of the new segments, takes runs, writes the streams and the new catalogue, and publishes them.
     ///
     /// # Errors
-    /// `TooMany(Epochs)`, `TooMany(Segments)`, `NoRoom` and `OutOfMemory`: nothing has changed. `Device`: the store is halted.
+    /// `TooMany(Epochs)`, `TooMany(Segments)`, `NoRoom` and `OutOfMemory`; then nothing has changed. `Device`; then the store is halted.
     pub(crate) fn carry_out(&mut self, alloc: Global, change: &Change) -> Result<(), Refusal>
         requires sound { CanChange (listed_in self.old) (change_of change.now) }
         requires on { self.old.halted ≡ false }
@@ -32,8 +32,8 @@ impl<D: SectorDevice> Store<D> {
         ensures kept { IfErr result (λ e. IsKept self.old self.new) }
         ensures book { book_of self.new ≡ book_of self.old }
         ensures quiet { IfErr result (λ e. e ≢ Refusal.Device → D.story (device_of self.new) ≡ D.story (device_of self.old)) }
-        // On a store that lies on its disk, whatever asks for the change: at each moment a stop leaves what stood, or the change carried out, and no sector
-        // was touched outside the runs that it takes, but the one of the next commit.
+        // On a store that lies on its disk, a stop at any moment leaves the old state or the change carried out. Outside the runs that the change takes,
+        // only the sector of the next commit is written.
         ensures carries { D.tells ≡ true → IsOnDisk D.size D.story self.old
             → IsCarryingAtEachMoment D.size D.story self.old (change_of change.now) self.new }
         ensures done { OnOk result (D.tells ≡ true → IsOnDisk D.size D.story self.old

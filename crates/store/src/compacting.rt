@@ -1,4 +1,4 @@
-// A compaction, step by step: two neighbouring segments become one, or the last segment moves forward.
+// Compaction in steps: two neighbouring segments are joined, or the last segment is moved to a lower start.
 ghost use Rattle.std.specs.Prelude.{◌≡◌, ◌≢◌, ◌↔◌, true, false, map, Ok, Err, IfOk, IfErr};
 ghost use Rattle.sector_dev.specs.Disk.{now, shown_image};
 ghost use Rattle.sector_dev.specs.Time.{OnlyReads};
@@ -25,7 +25,7 @@ impl<D: SectorDevice> Store<D> {
     ghost use Rattle.store.specs.Applying.{GoesOn, IsKept};
     ghost use Rattle.store.specs.Compacting.{reply_of, step_reply, HasStepped, RefusesStep};
 
-    // What a step does. It only reads.
+    // Returns what the next step does. Only reads.
     fn find_step(&mut self, alloc: Global) -> Result<Option<Step>, Refusal>
         requires on { self.old.halted ≡ false }
         ensures reads { OnlyReadsStore D.size D.story D.failed D.tells (ended result) self.old self.new }
@@ -40,22 +40,23 @@ impl<D: SectorDevice> Store<D> {
         step
     }
 
-    /// One step of a compaction. The first two neighbouring segments, tables in byte order of their names, whose rows the cut keeps in one piece become one
-    /// segment. Where there are none, the segment of greatest start moves to the lowest free run that fits it, if this one starts before it. Else there
-    /// is nothing to do. The tables stay as they are, at each moment. After some steps there is nothing more to do ([`crate::compactions_end`]).
+    /// Takes one step of a compaction. Tables are searched in the byte order of their names for the first two neighbouring segments whose rows fit into one
+    /// piece; these are joined. If there are none, the segment with the greatest start is moved to the lowest free run that fits it, if that run has a lower
+    /// start. Otherwise there is nothing to do. The tables stay the same at each moment. After some steps there is nothing more to do
+    /// ([`crate::compactions_end`]).
     ///
     /// # Errors
-    /// `Halted` after a failure of the device; `SegmentUnread` and `SegmentDamaged`, as [`Store::read`], of a pair that is read, or of the segment that is
-    /// to move where one of its sectors can't be read, or its bytes have another digest; `Device`, after which the store is halted; `TooMany(Epochs)`;
-    /// `NoRoom` where the new segment or the catalogue finds no free run, and then nothing is moved in its stead; `OutOfMemory`. After any but `Device`
-    /// nothing has changed.
+    /// `Halted` after a failure of the device; `SegmentUnread` and `SegmentDamaged`, as in [`Store::read`], for a pair that is read, or for the segment to
+    /// be moved if one of its sectors can't be read or its bytes have another digest; `Device`, after which the store is halted; `TooMany(Epochs)`; `NoRoom`
+    /// if there is no free run for the new segment or the catalogue, and then no other segment is moved instead; `OutOfMemory`. After any error but
+    /// `Device` nothing has changed.
     pub fn compact_step(&mut self, alloc: Global) -> Result<Compaction, Refusal>
-        // On a store that stands for a machine: the tables stay those of the settled commands, at each moment.
+        // On a store that stands for a machine, the tables stay those of the settled commands at each moment.
         ensures goes { IfOk result (λ done. D.tells ≡ true → (base : Tables) (m : Machine) → StoreFits D.size D.story base m self.old
             → GoesOn D.size D.story D.failed base m compact_call (reply_of done) self.old self.new) }
         ensures refused { IfErr result (λ e. D.tells ≡ true → (base : Tables) (m : Machine) → StoreFits D.size D.story base m self.old
             → GoesOn D.size D.story D.failed base m compact_call (refused e) self.old self.new) }
-        // On any store and any device: what is merged or moved is so by its catalogue, its free runs and what reads show; each refusal has its one reason.
+        // On any store and any device, its catalogue, its free runs and what reads show decide what is joined or moved. Each refusal has one reason.
         ensures step { IfOk result (λ done. HasStepped D.size D.story D.tells self.old done self.new) }
         ensures told { IfErr result (λ e. RefusesStep D.size D.story D.tells (is_halted self.old) self.old e self.new) }
         ensures shrinks { IfOk result (λ done. done ≢ Compaction.Nothing → Shrinks (listed_in self.old) (listed_in self.new)) }

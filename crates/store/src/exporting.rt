@@ -1,4 +1,4 @@
-// A table is exported: as the bytes of a stream that means it, or in parts to a writer.
+// Exports a table, as the bytes of its canonical stream or to a writer.
 ghost use Rattle.std.specs.Prelude.{◌≡◌, ◌≢◌, ℕ, List, true, IfOk, IfErr, OnOk};
 ghost use Rattle.std.specs.Io.KnownBytes.{Appends};
 ghost use Rattle.sector_dev.specs.Disk.{now, shown_image};
@@ -25,11 +25,11 @@ use tables::Refusal;
 use values::Table;
 
 impl<D: SectorDevice> Store<D> {
-    // The table of a name, whose canonical stream is to be given.
+    // Reads the table with this name for an export.
     fn read_to_export(&mut self, alloc: Global, name: &str) -> Result<Table, Refusal>
         ensures goes { IfOk result (λ table. D.tells ≡ true → (base : Tables) (m : Machine) → StoreFits D.size D.story base m self.old
             → GoesOn D.size D.story D.failed base m (export_call name.now) (bytes_are (canonical (table_of table))) self.old self.new) }
-        // Its stream may find no memory.
+        // Memory may be refused for its stream.
         ensures without_memory { IfOk result (λ table. D.tells ≡ true → (base : Tables) (m : Machine) → StoreFits D.size D.story base m self.old
             → GoesOn D.size D.story D.failed base m (export_call name.now) (refused Refusal.OutOfMemory) self.old self.new) }
         ensures refused { IfErr result (λ e. D.tells ≡ true → (base : Tables) (m : Machine) → StoreFits D.size D.story base m self.old
@@ -48,17 +48,17 @@ impl<D: SectorDevice> Store<D> {
         }
     }
 
-    /// The canonical stream of the table of a name: it means the table. It only reads, and all of the stream is in memory.
+    /// Returns the canonical stream of the table with this name. Only reads. The whole stream is in memory.
     ///
     /// # Errors
-    /// Those of [`Store::read`], `OutOfMemory` also where the stream finds no memory.
+    /// Those of [`Store::read`]; `OutOfMemory` also if memory is refused for the stream.
     pub fn export_bytes(&mut self, alloc: Global, name: &str) -> Result<Vec<u8>, Refusal>
-        // Of a store that stands for a machine it is a stream of the table of the settled commands.
+        // On a store that stands for a machine, it is a stream of the table of the settled commands.
         ensures goes { IfOk result (λ bytes. D.tells ≡ true → (base : Tables) (m : Machine) → StoreFits D.size D.story base m self.old
             → GoesOn D.size D.story D.failed base m (export_call name.now) (bytes_are bytes.items) self.old self.new) }
         ensures refused { IfErr result (λ e. D.tells ≡ true → (base : Tables) (m : Machine) → StoreFits D.size D.story base m self.old
             → GoesOn D.size D.story D.failed base m (export_call name.now) (refused e) self.old self.new) }
-        // Of any store it is that of what reads show of its catalogue's entry.
+        // On any store, it is the stream of what reads show of the entry in the catalogue.
         ensures found { IfOk result (λ bytes. (t : PlainTable) × ReadsTable (is_halted self.old) D.tells (shown_image (now (D.story (device_of self.old))))
             (entry_of (listed_in self.old) name.now) t × (bytes.items ≡ canonical t)) }
         ensures told { IfErr result (RefusesRead (is_halted self.old) D.tells (shown_image (now (D.story (device_of self.old))))
@@ -74,35 +74,35 @@ impl<D: SectorDevice> Store<D> {
         }
     }
 
-    /// Writes the canonical stream of the table of a name, and flushes. Its parts are made before the first byte is written, but for those that stand in
-    /// the table's bytes.
+    /// Writes the canonical stream of the table with this name, and flushes. All parts are made before the first byte is written, except those that are
+    /// borrowed from the table's bytes.
     ///
     /// # Errors
-    /// Those of [`Store::export_bytes`], and then nothing is written; `Write` where the writer fails, also a `Vec` that finds no memory, and then
-    /// some of it may be written.
+    /// Those of [`Store::export_bytes`], and then nothing is written; `Write` if the writer fails, as a `Vec` does if memory is refused, and then a part of
+    /// the stream may be written.
     pub fn export<W: Write>(
         &mut self,
         alloc: Global,
         name: &str,
         writer: &mut W,
     ) -> Result<(), Refusal>
-        // Of a store that stands for a machine it is a stream of the table of the settled commands.
+        // On a store that stands for a machine, it is a stream of the table of the settled commands.
         ensures goes { OnOk result (D.tells ≡ true → (base : Tables) (m : Machine) → StoreFits D.size D.story base m self.old → (bytes : List ℕ)
             × Appends (W.contents writer.old) (W.contents writer.new) bytes
             × GoesOn D.size D.story D.failed base m (export_call name.now) (bytes_are bytes) self.old self.new) }
         ensures refused { IfErr result (λ e. e ≢ Refusal.Write → D.tells ≡ true → (base : Tables) (m : Machine)
             → StoreFits D.size D.story base m self.old
             → GoesOn D.size D.story D.failed base m (export_call name.now) (refused e) self.old self.new) }
-        // A writer that fails is no failure of the store: it has given such a stream all the same.
+        // A failure of the writer is not one of the store, which has made the stream nevertheless.
         ensures unwritten { IfErr result (λ e. e ≡ Refusal.Write → D.tells ≡ true → (base : Tables) (m : Machine)
             → StoreFits D.size D.story base m self.old
             → (bytes : List ℕ) × GoesOn D.size D.story D.failed base m (export_call name.now) (bytes_are bytes) self.old self.new) }
-        // Of any store it is that of what reads show of its catalogue's entry.
+        // On any store, it is the stream of what reads show of the entry in the catalogue.
         ensures written { OnOk result ((t : PlainTable) × ReadsTable (is_halted self.old) D.tells (shown_image (now (D.story (device_of self.old))))
             (entry_of (listed_in self.old) name.now) t × Appends (W.contents writer.old) (W.contents writer.new) (canonical t)) }
         ensures told { IfErr result (λ e. e ≢ Refusal.Write → RefusesRead (is_halted self.old) D.tells
             (shown_image (now (D.story (device_of self.old)))) (entry_of (listed_in self.old) name.now) e) }
-        // A writer fails only where there is something to write.
+        // The writer fails only if there is something to write.
         ensures failed { IfErr result (λ e. e ≡ Refusal.Write → (t : PlainTable) × ReadsTable (is_halted self.old) D.tells
             (shown_image (now (D.story (device_of self.old)))) (entry_of (listed_in self.old) name.now) t) }
         ensures silent { IfErr result (λ e. e ≢ Refusal.Write → writer.new ≡ writer.old) }

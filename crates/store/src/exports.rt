@@ -1,4 +1,4 @@
-// Exports that give their pieces one after another: of the table as it was when they were opened.
+// Exports that give the pieces of a table one after another, as the table was when the export was opened.
 ghost use Rattle.std.specs.Prelude.{◌≡◌, true, Some, None, if◌then◌else◌, option_map, IfOk, IfErr};
 ghost use Rattle.sector_dev.specs.Disk.{now, shown_image};
 ghost use Rattle.arrow_schema.specs.Column.{PlainSchema};
@@ -23,7 +23,7 @@ use catalogue::{Segment, TableEntry};
 use export_book::OpenExport;
 use ipc_canonical::joined_parts_mean_their_table;
 use ipc_encode::encode_messages;
-use ipc_write::{write_end, write_schema};
+use ipc_write::{encode_schema, write_end};
 use sector_dev::SectorDevice;
 use segments::{FreeMap, Run};
 use std::alloc::{AllocError, Global};
@@ -31,20 +31,19 @@ use store_changes::{read_segment, table_laws};
 use tables::{Limit, Refusal};
 use values::Table;
 
-// The first piece: the message of the schema.
+// Returns the first piece: the message of the schema.
 fn first_piece(alloc: Global, schema: &Schema) -> Result<Option<Vec<u8>>, Refusal>
     requires { IsWithinLimits (schema_of schema.now) }
     ensures message { IfOk result (λ piece. option_map (λ v. v.items) piece ≡ Some (schema_message (schema_of schema.now))) }
     ensures memory { IfErr result (λ e. e ≡ Refusal.OutOfMemory) }
 {
-    let mut piece = Vec::new(alloc);
-    match write_schema(alloc, &mut piece, schema) {
-        Ok(()) => Ok(Some(piece)),
+    match encode_schema(alloc, schema) {
+        Ok(piece) => Ok(Some(piece)),
         Err(_) => Err(Refusal::OutOfMemory),
     }
 }
 
-// After the pieces of the segments: the end of stream, and then none.
+// Returns the piece after those of the segments: the end of stream, and then none.
 fn last_piece(alloc: Global, ends: bool) -> Result<Option<Vec<u8>>, Refusal>
     ensures end { IfOk result (λ piece. option_map (λ v. v.items) piece ≡ (if ends then Some end_of_stream else None)) }
     ensures memory { IfErr result (λ e. (ends ≡ true) × (e ≡ Refusal.OutOfMemory)) }
@@ -59,7 +58,7 @@ fn last_piece(alloc: Global, ends: bool) -> Result<Option<Vec<u8>>, Refusal>
     }
 }
 
-// The messages of a table's rows.
+// Returns the messages of a table's rows.
 fn rows_piece(alloc: Global, table: &Table) -> Result<Option<Vec<u8>>, Refusal>
     ensures messages { IfOk result (λ piece. option_map (λ v. v.items) piece ≡ Some (rows_messages (table_of table.now).schema (table_of table.now).rows)) }
     ensures memory { IfErr result (λ e. e ≡ Refusal.OutOfMemory) }
@@ -70,8 +69,8 @@ fn rows_piece(alloc: Global, table: &Table) -> Result<Option<Vec<u8>>, Refusal>
     }
 }
 
-// The messages of the rows of the segment at a place, if it begins with the message of its schema.
-fn read_piece<D: SectorDevice>(
+// Returns the messages of the rows of the segment at this place, if it begins with `front`, the message of its schema.
+pub(crate) fn read_piece<D: SectorDevice>(
     alloc: Global,
     device: &mut D,
     front: &[u8],
@@ -93,8 +92,8 @@ fn read_piece<D: SectorDevice>(
     }
 }
 
-// The piece of the segment at a place.
-pub(crate) fn segment_piece<D: SectorDevice>(
+// Returns the piece of the segment at this place.
+fn segment_piece<D: SectorDevice>(
     alloc: Global,
     device: &mut D,
     schema: &Schema,
@@ -110,14 +109,13 @@ pub(crate) fn segment_piece<D: SectorDevice>(
         (option_map (λ v. v.items) piece)) }
     ensures told { IfErr result (LacksRows D.tells (shown_image (now (D.story device.old))) (schema_of schema.now) segment place) }
 {
-    let mut front = Vec::new(alloc);
-    match write_schema(alloc, &mut front, schema) {
-        Ok(()) => read_piece(alloc, device, &front, place, segment),
+    match encode_schema(alloc, schema) {
+        Ok(front) => read_piece(alloc, device, &front, place, segment),
         Err(_) => Err(Refusal::OutOfMemory),
     }
 }
 
-// The piece of an export after those that were given. One segment at the most is read.
+// Returns the next piece of an export. At most one segment is read.
 fn next_piece<D: SectorDevice>(
     alloc: Global,
     device: &mut D,
@@ -140,14 +138,14 @@ fn next_piece<D: SectorDevice>(
     }
 }
 
-// What an export of a table has.
+// What an export keeps of a table: a copy of its entry, and its runs.
 #[derive(Drop)]
 struct Snapshot {
     entry: TableEntry,
     runs: Vec<Run>,
 }
 
-// What an export of the table of an entry has.
+// Returns what an export keeps of the table of this entry.
 fn copy_entry(alloc: Global, entry: &TableEntry) -> Result<Snapshot, AllocError>
     ensures { IfOk result (IsSnapshot (plain_entry entry.now)) }
 {
@@ -157,7 +155,7 @@ fn copy_entry(alloc: Global, entry: &TableEntry) -> Result<Snapshot, AllocError>
     })
 }
 
-// Takes one pin from the run of each of these segments.
+// Removes one pin from the run of each of these segments.
 fn unpin_segments(map: &mut FreeMap, segments: &[Segment])
     ensures { UnpinsAll map.old map.new (runs_in_segments segments.now) }
 {
@@ -179,7 +177,7 @@ impl<D: SectorDevice> Store<D> {
     ghost use Rattle.store.specs.Reading.{OnlyReadsStore};
     ghost use Rattle.store.specs.inner.Exporting.{FindsSnapshot};
 
-    // What an export of the table of a name has, if one can be opened.
+    // Returns what an export keeps of the table with this name, if one can be opened.
     fn find_snapshot(&self, alloc: Global, name: &str) -> Result<Snapshot, Refusal>
         ensures found { IfOk result (FindsSnapshot (is_halted self.now) (entry_of (listed_in self.now) name.now) (book_of self.now)) }
         ensures told { IfErr result (RefusesExport (is_halted self.now) (entry_of (listed_in self.now) name.now) (book_of self.now)) }
@@ -202,7 +200,7 @@ impl<D: SectorDevice> Store<D> {
         }
     }
 
-    // Opens an export of the table of a name, on any store.
+    // Opens an export of the table with this name, on any store.
     fn open_named(&mut self, alloc: Global, name: &str) -> Result<u64, Refusal>
         ensures opened { IfOk result (λ id. OpensAt (is_halted self.old) (entry_of (listed_in self.old) name.now) self.old id self.new) }
         ensures told { IfErr result (RefusesExport (is_halted self.old) (entry_of (listed_in self.old) name.now) (book_of self.old)) }
@@ -224,19 +222,19 @@ impl<D: SectorDevice> Store<D> {
         }
     }
 
-    /// Opens an export of the table of a name: what it gives is the table as it is now, whatever is done to it until the export is closed. It keeps the
-    /// sectors of the table from being written. Ids count from 0 since the store was opened, and none is given twice.
+    /// Opens an export of the table with this name, and returns its id. The export gives the table as it is now, whatever changes the table until the
+    /// export is closed. Until then the sectors of the table are not written. Ids count from 0 since the store was opened, and none is used twice.
     ///
     /// # Errors
-    /// `Halted` after a failure of the device; `NoTable` where no table has the name; `TooMany(Exports)` where 64 exports are open, or the last id was
-    /// given; `OutOfMemory`. After any nothing has changed.
+    /// `Halted` after a failure of the device; `NoTable` if no table has the name; `TooMany(Exports)` if 64 exports are open, or the last id is used;
+    /// `OutOfMemory`. After any error nothing has changed.
     pub fn open_export(&mut self, alloc: Global, name: &str) -> Result<u64, Refusal>
-        // Of a store that stands for a machine: its pieces are a stream of the table of the settled commands, and none was given.
+        // On a store that stands for a machine, its pieces are a stream of the table of the settled commands, and none was given yet.
         ensures goes { IfOk result (λ id. D.tells ≡ true → (base : Tables) (m : Machine) → StoreFits D.size D.story base m self.old
             → GoesOn D.size D.story D.failed base m (open_export_call name.now) (export_is id) self.old self.new) }
         ensures refused { IfErr result (λ e. D.tells ≡ true → (base : Tables) (m : Machine) → StoreFits D.size D.story base m self.old
             → GoesOn D.size D.story D.failed base m (open_export_call name.now) (refused e) self.old self.new) }
-        // Of any store: what the catalogue's entry has goes into the book, and its runs are pinned; each refusal has its one reason.
+        // On any store, the entry of the catalogue goes into the book, and its runs are pinned. Each refusal has one reason.
         ensures opened { IfOk result (λ id. OpensAt (is_halted self.old) (entry_of (listed_in self.old) name.now) self.old id self.new) }
         ensures told { IfErr result (RefusesExport (is_halted self.old) (entry_of (listed_in self.old) name.now) (book_of self.old)) }
         ensures kept { IfErr result (λ e. OnlyReadsStore D.size D.story D.failed D.tells (refused e) self.old self.new) }
@@ -278,21 +276,21 @@ impl<D: SectorDevice> Store<D> {
         }
     }
 
-    /// The next piece of an export: the message of the schema, the messages of the rows of each segment, the end of stream, and then none for good. Joined they
-    /// are a stream of the table. One segment at a time is read and held in memory.
+    /// Returns the next piece of an export: the message of the schema, the messages of the rows of each segment, the end of stream, and `None` from then on.
+    /// Joined, the pieces are a stream of the table. One segment at a time is read and kept in memory.
     ///
     /// # Errors
-    /// `Halted` after a failure of the device; `NoExport` where no export has the id; of the piece of a segment `Device`, after which the store is halted,
-    /// `SegmentUnread` with its place, counted from 0, where it can't be read or is no stream of the schema and the number of rows, and `SegmentDamaged`
-    /// with it where its bytes have another digest than the catalogue had of them when the export was opened; `OutOfMemory`. After any the same piece is
-    /// the next one.
+    /// `Halted` after a failure of the device; `NoExport` if no export has the id; `OutOfMemory`. For the piece of a segment, `Device`, after which the
+    /// store is halted; `SegmentUnread` with its place, counted from 0, if it can't be read or is not a stream of the schema and the number of rows;
+    /// `SegmentDamaged` with its place if its bytes have another digest than the one in the catalogue when the export was opened. After any error the same
+    /// piece is still the next one.
     pub fn export_next(&mut self, alloc: Global, id: u64) -> Result<Option<Vec<u8>>, Refusal>
-        // Of a store that stands for a machine: the piece after those that were given.
+        // On a store that stands for a machine, it is the piece after those that were given.
         ensures goes { IfOk result (λ piece. D.tells ≡ true → (base : Tables) (m : Machine) → StoreFits D.size D.story base m self.old
             → GoesOn D.size D.story D.failed base m (export_next_call id) (piece_is (option_map (λ v. v.items) piece)) self.old self.new) }
         ensures refused { IfErr result (λ e. D.tells ≡ true → (base : Tables) (m : Machine) → StoreFits D.size D.story base m self.old
             → GoesOn D.size D.story D.failed base m (export_next_call id) (refused e) self.old self.new) }
-        // Of any store: the piece of this number, of what the book has, as reads show it; each refusal has its one reason.
+        // On any store, it is the piece with this number of what the book keeps, as reads show it. Each refusal has one reason.
         ensures given { IfOk result (λ piece. GivesPiece (is_halted self.old) D.tells (shown_image (now (D.story (device_of self.old))))
             (open_at (book_of self.old) id) (option_map (λ v. v.items) piece)) }
         ensures counted { IfOk result (λ piece. book_of self.new ≡ after_giving (option_map (λ v. v.items) piece) id (book_of self.old)) }
@@ -326,17 +324,17 @@ impl<D: SectorDevice> Store<D> {
         }
     }
 
-    /// Closes an export: sectors that it alone kept are free again. It takes no memory, and makes no call of the device.
+    /// Closes an export. The sectors that only it kept become free. Allocates nothing, and makes no call of the device.
     ///
     /// # Errors
-    /// `Halted` after a failure of the device; `NoExport` where no export has the id. After any nothing has changed.
+    /// `Halted` after a failure of the device; `NoExport` if no export has the id. After any error nothing has changed.
     pub fn close_export(&mut self, id: u64) -> Result<(), Refusal>
-        // Of a store that stands for a machine.
+        // On a store that stands for a machine.
         ensures goes { OnOk result (D.tells ≡ true → (base : Tables) (m : Machine) → StoreFits D.size D.story base m self.old
             → GoesOn D.size D.story D.failed base m (close_export_call id) done self.old self.new) }
         ensures refused { IfErr result (λ e. D.tells ≡ true → (base : Tables) (m : Machine) → StoreFits D.size D.story base m self.old
             → GoesOn D.size D.story D.failed base m (close_export_call id) (refused e) self.old self.new) }
-        // Of any store: the book is without it, and its runs are pinned once less; each refusal has its one reason.
+        // On any store, the book loses the export, and each of its runs loses one pin. Each refusal has one reason.
         ensures closed { OnOk result (ClosesAt (is_halted self.old) (open_at (book_of self.old) id) self.old id self.new) }
         ensures told { IfErr result (RefusesClosing (is_halted self.old) (open_at (book_of self.old) id)) }
         ensures kept { IfErr result (λ e. OnlyReadsStore D.size D.story D.failed D.tells (refused e) self.old self.new) }

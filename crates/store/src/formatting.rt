@@ -1,4 +1,4 @@
-// A device becomes a store without tables.
+// Makes an empty store of a device.
 ghost use Rattle.std.specs.Prelude.{◌≡◌, [], Some};
 ghost use Rattle.commit.specs.Formatting.{empty_text};
 ghost use Rattle.catalogue.specs.declared.entry.SegmentForm.{SegmentForm};
@@ -13,7 +13,7 @@ use pages::StoredCatalogue;
 use sector_dev::SectorDevice;
 use std::alloc::Global;
 
-// Why a device is not formatted, as it is reported.
+// Returns the refusal that is reported if a device is not formatted.
 fn formatting_refusal(error: FormatError) -> OpeningRefusal
     ensures { result ≡ formatting_of error }
 {
@@ -25,7 +25,7 @@ fn formatting_refusal(error: FormatError) -> OpeningRefusal
     }
 }
 
-// The text that a formatting writes is that of no tables, in either form.
+// A law: the text that a formatting writes is that of no tables, in either form.
 fn empty_text_has_no_tables()
     ensures { (form : SegmentForm) → catalogue_at form empty_text ≡ Some [] }
 {
@@ -50,14 +50,14 @@ impl<D: SectorDevice> Store<D> {
     /// Makes an empty store of version 2 ([`Store::format_version`]).
     ///
     /// # Errors
-    /// As there.
+    /// Those of [`Store::format_version`].
     pub fn format(alloc: Global, device: D) -> Result<Store<D>, (OpeningRefusal, D)>
-        // On a device whose images the machine allows, none of them had a store, and the store has no tables.
+        // On a device whose images the machine allows, none of them had a store, and the new store has no tables.
         ensures opened { IfOk result (λ store. D.tells ≡ true → (base : Tables) (m : Machine) → DeviceFits D.size D.story base m device
             → Opens D.size D.story D.failed base m format_call device store) }
         ensures refused { IfErr result (λ e. D.tells ≡ true → (base : Tables) (m : Machine) → DeviceFits D.size D.story base m device
             → Shuts D.size D.story D.failed base m format_call device e.0 e.1) }
-        // On any device: what is reported is so, and no moment has anything but what was there, no store or the empty one.
+        // On any device, what is reported is true, and each moment has the old content, no store, or the empty store.
         ensures formatted { IfOk result (λ store. D.tells ≡ true → FormatsStore D.size D.story Two device store) }
         ensures told { IfErr result (λ e. D.tells ≡ true → TellsFormatting e.0 (D.size device) (ruling (shown_image (now (D.story device))))) }
         ensures untouched { IfErr result (λ e. D.tells ≡ true → ruling (shown_image (now (D.story device))) ≢ None
@@ -65,7 +65,7 @@ impl<D: SectorDevice> Store<D> {
         ensures quiet { IfErr result (λ e. e.0 ≢ OpeningRefusal.Device → D.tells ≡ true → now (D.story e.1) ≡ now (D.story device)) }
         ensures moments { IfErr result (λ e. D.tells ≡ true
             → Grows (IsFormatting (D.size device) Two (now (D.story device))) (D.story device) (D.story e.1)) }
-        // Also of a device that doesn't tell its story.
+        // These also hold for a device that does not tell its story.
         ensures empty { IfOk result (λ store. IsNewStore (D.size device) Two store) }
         ensures in_limits { OnOk result (is_size (D.size device) ≡ true) }
         ensures reason { IfErr result (λ e. IsOfFormatting (D.size device) e.0) }
@@ -79,23 +79,23 @@ impl<D: SectorDevice> Store<D> {
         Store::format_version(alloc, device, FormatVersion::Two)
     }
 
-    /// Makes an empty store of a device on which none is, in a version of the format, and opens it. Each change keeps the version. Where it is refused the
-    /// device is given back.
+    /// Makes an empty store in this version of the format on a device without a store, and opens it. Each change keeps the version. On an error the device
+    /// is returned.
     ///
     /// # Errors
-    /// `AlreadyAStore` where a commit rules, and then nothing is written; `Damaged(DeviceSize)` of a device of a size that no
-    /// store has; `Device` where the device failed; `OutOfMemory`. After any but `Device` nothing has changed.
+    /// `AlreadyAStore` if a commit rules, and then nothing is written; `Damaged(DeviceSize)` if no store can have the size of the device; `Device` if the
+    /// device failed; `OutOfMemory`. After any error but `Device` nothing has changed.
     pub fn format_version(
         alloc: Global,
         device: D,
         version: FormatVersion,
     ) -> Result<Store<D>, (OpeningRefusal, D)>
-        // On a device whose images the machine allows, none of them had a store, and the store has no tables.
+        // On a device whose images the machine allows, none of them had a store, and the new store has no tables.
         ensures opened { IfOk result (λ store. D.tells ≡ true → (base : Tables) (m : Machine) → DeviceFits D.size D.story base m device
             → Opens D.size D.story D.failed base m format_call device store) }
         ensures refused { IfErr result (λ e. D.tells ≡ true → (base : Tables) (m : Machine) → DeviceFits D.size D.story base m device
             → Shuts D.size D.story D.failed base m format_call device e.0 e.1) }
-        // On any device: what is reported is so, and no moment has anything but what was there, no store or the empty one.
+        // On any device, what is reported is true, and each moment has the old content, no store, or the empty store.
         ensures formatted { IfOk result (λ store. D.tells ≡ true → FormatsStore D.size D.story version device store) }
         ensures told { IfErr result (λ e. D.tells ≡ true → TellsFormatting e.0 (D.size device) (ruling (shown_image (now (D.story device))))) }
         ensures untouched { IfErr result (λ e. D.tells ≡ true → ruling (shown_image (now (D.story device))) ≢ None
@@ -103,7 +103,7 @@ impl<D: SectorDevice> Store<D> {
         ensures quiet { IfErr result (λ e. e.0 ≢ OpeningRefusal.Device → D.tells ≡ true → now (D.story e.1) ≡ now (D.story device)) }
         ensures moments { IfErr result (λ e. D.tells ≡ true
             → Grows (IsFormatting (D.size device) version (now (D.story device))) (D.story device) (D.story e.1)) }
-        // Also of a device that doesn't tell its story.
+        // These also hold for a device that does not tell its story.
         ensures empty { IfOk result (λ store. IsNewStore (D.size device) version store) }
         ensures in_limits { OnOk result (is_size (D.size device) ≡ true) }
         ensures reason { IfErr result (λ e. IsOfFormatting (D.size device) e.0) }

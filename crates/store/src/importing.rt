@@ -19,11 +19,11 @@ impl<D: SectorDevice> Store<D> {
     ghost use Rattle.store.specs.Input.{ReadsFrom};
     ghost use Rattle.store.specs.Answering.{TakesInput};
 
-    /// Makes the table that all a reader has left means as a stream, in place of one of this name: `apply` of `ImportStream` with these bytes.
+    /// Imports the stream that a reader has left, as [`Store::apply`] does with `ImportStream` and these bytes. It replaces a table with this name.
     ///
     /// # Errors
-    /// `Halted` and then `BadName`, and nothing is read; `Read` where a read fails, `TooMany(Bytes)` once a byte too many was read, and nothing has
-    /// changed; and else those of the command.
+    /// `Halted`, then `BadName`, before anything is read; `Read` if a read fails; `TooMany(Bytes)` if the input is longer than
+    /// [`tables::MAX_IMPORT_BYTES`]. After these nothing has changed. Otherwise those of the command.
     pub fn import_from<R: Read>(
         &mut self,
         alloc: Global,
@@ -48,11 +48,11 @@ impl<D: SectorDevice> Store<D> {
         }
     }
 
-    /// Appends the rows that all a reader has left means as a stream to a table: `apply` of `AppendStream` with these bytes.
+    /// Appends the rows of the stream that a reader has left to a table, as [`Store::apply`] does with `AppendStream` and these bytes.
     ///
     /// # Errors
-    /// `Halted` and then `NoTable`, and nothing is read; `Read` where a read fails, `TooMany(Bytes)` once a byte too many was read, and nothing has
-    /// changed; and else those of the command.
+    /// `Halted`, then `NoTable`, before anything is read; `Read` if a read fails; `TooMany(Bytes)` if the input is longer than
+    /// [`tables::MAX_IMPORT_BYTES`]. After these nothing has changed. Otherwise those of the command.
     pub fn append_from<R: Read>(
         &mut self,
         alloc: Global,

@@ -1,4 +1,4 @@
-// Reading all of an input, which may be too long.
+// Reads a whole input, which may be too long.
 ghost use Rattle.std.specs.Prelude.{◌≡◌, ℕ, List, ◌+◌, ◌++◌, ◌≤◌, ◌<◌, length, take, IfSome, IfOk, IfErr, OnErr, OnOk, string_bytes, vec_len};
 ghost use Rattle.std.specs.Io.KnownBytes.{Consumes, IsAtEnd, Keeps};
 ghost use Rattle.tables.specs.declared.limits.TheConstants.{MAX_IMPORT_BYTES};
@@ -8,13 +8,13 @@ use std::alloc::{AllocError, Global};
 use std::io::{ErrorKind, Read};
 use tables::{Limit, MAX_IMPORT_BYTES, Refusal};
 
-// How many bytes one read asks for: what a pipe of Linux holds.
+// The number of bytes that one read asks for: the capacity of a pipe on Linux.
 const CHUNK: usize = 64 * 1024;
 
-/// Reads to the end, at most `largest` bytes and one more.
+/// Reads all bytes up to the end. The input may have at most `largest` bytes; at most one more is read.
 ///
 /// # Errors
-/// `TooMany(Bytes)` where there is that one, `Read` where a read fails, `OutOfMemory` where a growth was refused.
+/// `TooMany(Bytes)` if the input is longer; `Read` if a read fails; `OutOfMemory`.
 pub fn read_at_most<R: Read>(
     alloc: Global,
     reader: &mut R,
@@ -25,7 +25,7 @@ pub fn read_at_most<R: Read>(
     ensures end { OnOk result (IsAtEnd (R.remaining reader.new)) }
     ensures within { IfOk result (λ bytes. vec_len bytes ≤ largest) }
     ensures few { OnOk result (HasGivenAtMost (R.remaining reader.old) (R.remaining reader.new) largest) }
-    // What was read of an input that is refused: the byte that is one too many, or less.
+    // Of an input that is refused, at most `largest` + 1 bytes were read.
     ensures told { IfErr result (RefusesInput (R.remaining reader.old) (R.remaining reader.new) largest) }
 {
     let mut chunk = zeros(alloc, CHUNK)?;
@@ -38,7 +38,7 @@ pub fn read_at_most<R: Read>(
     }
 }
 
-// All that a reader has left, and a name, as a command wants them.
+// Reads all that a reader has left, and copies a name, for a command.
 pub(crate) fn named_input<R: Read>(
     alloc: Global,
     name: &str,
@@ -66,7 +66,7 @@ fn zeros(alloc: Global, count: usize) -> Result<Vec<u8>, AllocError>
     vec![in alloc; 0u8; count]
 }
 
-// One read into the chunk, and from there to the end of `bytes`, which has room for `room` more. Returns how many.
+// Reads once into the chunk and appends what was read to `bytes`, which may get `room` more bytes. Returns the number of bytes.
 fn append_some<R: Read>(
     reader: &mut R,
     chunk: &mut [u8],
@@ -90,7 +90,7 @@ fn append_some<R: Read>(
     Ok(count)
 }
 
-// One read, again where a signal interrupted it. None only at the end, if there is room.
+// Reads once, and again after an interrupt by a signal. Returns 0 only at the end of the input, if `buf` is not empty.
 fn read_some<R: Read>(reader: &mut R, buf: &mut [u8]) -> Result<usize, Refusal>
     ensures bound { IfOk result (λ n. n ≤ length buf.new) }
     ensures some { IfOk result (λ n. Consumes (R.remaining reader.old) (R.remaining reader.new) (take n buf.new)) }

@@ -1,4 +1,4 @@
-// The device that a store stands on, to look at.
+// Borrows the device of a store.
 ghost use Rattle.std.specs.Prelude.{◌≡◌};
 ghost use Rattle.store.specs.Fits.{device_of};
 ghost use Rattle.store.specs.Places.{device_in};
@@ -7,7 +7,7 @@ use crate::{Store, StoreOrDevice};
 use sector_dev::SectorDevice;
 
 impl<D: SectorDevice> Store<D> {
-    /// The device that it stands on.
+    /// Borrows the device of the store.
     pub fn device(&self) -> &D
         ensures { result.now ≡ device_of self.now }
     {
@@ -16,7 +16,7 @@ impl<D: SectorDevice> Store<D> {
 }
 
 impl<D: SectorDevice> StoreOrDevice<D> {
-    /// Its device.
+    /// Borrows the device.
     pub fn device(&self) -> &D
         ensures { result.now ≡ device_in self.now }
     {

@@ -1,12 +1,12 @@
 //! The store: named tables on a device, through commands, failures and stops.
 //!
 //! [`run`] answers any list of calls as the model of runs says (`store_runs`: how a reply follows from the tables, and what a stop at any moment may
-//! leave), and each stop meanwhile leaves the tables of all that was acknowledged.
+//! leave). A stop at any moment leaves the tables of all acknowledged commands.
 //!
 //! ```
 //! match Store::open(alloc, device) {
-//!     Ok(store) => store.close(), // the tables of all acknowledged commands were there
-//!     Err((refusal, device)) => device, // and `refusal` says why, as `C1 NotAStore`
+//!     Ok(store) => store.close(), // it had the tables of all acknowledged commands
+//!     Err((refusal, device)) => device, // `refusal` says why, as `C1 NotAStore`
 //! }
 //! ```
 #![tactic(auto)]

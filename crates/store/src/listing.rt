@@ -1,4 +1,4 @@
-// What is asked of the catalogue in memory: no call of the device is made.
+// Queries of the catalogue in memory, without a call of the device.
 use crate::Store;
 use arrow_schema::Schema;
 use catalogue::Catalogue;
@@ -18,7 +18,7 @@ impl<D: SectorDevice> Store<D> {
     ghost use Rattle.store.specs.Applying.{GoesOn};
     ghost use Rattle.store.specs.Listing.{RefusesTables, RefusesSchema};
 
-    // The catalogue, unless the device failed.
+    // Returns the catalogue, unless the store is halted.
     fn listed(&self) -> Result<&Catalogue, Refusal>
         ensures { MatchResult result
             (λ list. (list.now ≡ self.now.opened.catalogue.list) × (self.now.halted ≡ false))
@@ -31,17 +31,17 @@ impl<D: SectorDevice> Store<D> {
         }
     }
 
-    /// The names of the tables, in byte order, and how many rows each has.
+    /// Returns the name and the number of rows of each table, in the byte order of the names.
     ///
     /// # Errors
     /// `Halted` after a failure of the device; `OutOfMemory`.
     pub fn tables(&self, alloc: Global) -> Result<Vec<(String, u64)>, Refusal>
-        // Of a store that stands for a machine they are those of the settled commands.
+        // On a store that stands for a machine, they are those of the settled commands.
         ensures goes { IfOk result (λ found. D.tells ≡ true → (base : Tables) (m : Machine) → StoreFits D.size D.story base m self.now
             → GoesOn D.size D.story D.failed base m tables_call (counts (map (λ t. (string_bytes t.0, t.1)) found.items)) self.now self.now) }
         ensures refused { IfErr result (λ e. D.tells ≡ true → (base : Tables) (m : Machine) → StoreFits D.size D.story base m self.now
             → GoesOn D.size D.story D.failed base m tables_call (refused e) self.now self.now) }
-        // Of any store they are those of its catalogue.
+        // On any store, they are those of its catalogue.
         ensures listed { MatchResult result
             (λ found. (is_halted self.now ≡ false) × (map (λ t. (string_bytes t.0, t.1)) found.items ≡ tables_of (listed_in self.now)))
             (λ e. RefusesTables (is_halted self.now) e) }
@@ -50,10 +50,10 @@ impl<D: SectorDevice> Store<D> {
         Ok(list.tables(alloc)?)
     }
 
-    /// The schema of a table.
+    /// Returns the schema of the table with this name.
     ///
     /// # Errors
-    /// `Halted` after a failure of the device; `NoTable` where no table has the name; `OutOfMemory`.
+    /// `Halted` after a failure of the device; `NoTable` if no table has the name; `OutOfMemory`.
     pub fn schema(&self, alloc: Global, name: &str) -> Result<Schema, Refusal>
         ensures goes { IfOk result (λ found. D.tells ≡ true → (base : Tables) (m : Machine) → StoreFits D.size D.story base m self.now
             → GoesOn D.size D.story D.failed base m (schema_call name.now) (schema_is (schema_of found)) self.now self.now) }

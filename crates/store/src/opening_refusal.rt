@@ -1,10 +1,10 @@
-// Why a store is not opened, in the words of the store.
+// The refusal of an opening.
 ghost use Rattle.std.specs.Prelude.{◌≡◌};
 ghost use Rattle.store.specs.Opening.{opening_of};
 
 use commit::{OpenError, OpeningRefusal};
 
-// Why a store is not opened, as it is reported.
+// Returns the refusal that is reported if a store is not opened.
 pub(crate) fn opening_refusal(error: OpenError) -> OpeningRefusal
     ensures { result ≡ opening_of error }
 {

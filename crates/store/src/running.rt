@@ -1,4 +1,4 @@
-// Calls of a place are answered in order.
+// Answers the calls of a place in order.
 ghost use Rattle.std.specs.Prelude.{◌≡◌, true, List, length, IfOk, IfErr};
 ghost use Rattle.tables.specs.Tables.{Tables};
 ghost use Rattle.tables.specs.View.{command_of};
@@ -17,7 +17,7 @@ use std::alloc::Global;
 use std::io::Read;
 use tables::{Command, Refusal};
 
-// Opens the store of a device.
+// Opens the store on a device.
 fn open_place<D: SectorDevice>(alloc: Global, device: D) -> (StoreOrDevice<D>, Reply)
     ensures goes { D.tells ≡ true → (base : Tables) (m : Machine) → DeviceFits D.size D.story base m device
         → PlaceGoes D.size D.story D.failed base m open_call (reply_in result.1) device result.0 }
@@ -31,7 +31,7 @@ fn open_place<D: SectorDevice>(alloc: Global, device: D) -> (StoreOrDevice<D>, R
     }
 }
 
-// Makes an empty store of a device.
+// Makes an empty store on a device.
 fn format_place<D: SectorDevice>(alloc: Global, device: D) -> (StoreOrDevice<D>, Reply)
     ensures goes { D.tells ≡ true → (base : Tables) (m : Machine) → DeviceFits D.size D.story base m device
         → PlaceGoes D.size D.story D.failed base m format_call (reply_in result.1) device result.0 }
@@ -45,17 +45,17 @@ fn format_place<D: SectorDevice>(alloc: Global, device: D) -> (StoreOrDevice<D>,
     }
 }
 
-// A call that needs an open store, where none is open.
+// Refuses a call that needs an open store.
 fn refuse<D: SectorDevice, R: Read + Drop>(device: D, call: Call<R>) -> (StoreOrDevice<D>, Reply)
     requires { asks_store call ≡ true }
     ensures { AnswersCall D.size D.story D.failed D.tells R.remaining (StoreOrDevice.Shut device) call (reply_in result.1) result.0 }
 {
-    // By a call: the drop of each kind of command, written out, would be most of the function.
+    // Dropped by a call, since the inlined drop of each variant would be most of the function.
     drop(call);
     (StoreOrDevice::Shut(device), Reply::Refused(Refusal::Halted))
 }
 
-// A call of a device on which no store is open.
+// Answers a call of a device without an open store.
 fn answer_shut<D: SectorDevice, R: Read + Drop>(
     alloc: Global,
     device: D,
@@ -70,7 +70,7 @@ fn answer_shut<D: SectorDevice, R: Read + Drop>(
     }
 }
 
-// A command.
+// Applies a command.
 fn apply_in<D: SectorDevice>(
     alloc: Global,
     store: Store<D>,
@@ -87,7 +87,7 @@ fn apply_in<D: SectorDevice>(
     }
 }
 
-// A table that a reader gives.
+// Imports a table from a reader.
 fn import_in<D: SectorDevice, R: Read + Drop>(
     alloc: Global,
     store: Store<D>,
@@ -105,7 +105,7 @@ fn import_in<D: SectorDevice, R: Read + Drop>(
     }
 }
 
-// Rows that a reader gives.
+// Appends rows from a reader.
 fn append_in<D: SectorDevice, R: Read + Drop>(
     alloc: Global,
     store: Store<D>,
@@ -123,7 +123,7 @@ fn append_in<D: SectorDevice, R: Read + Drop>(
     }
 }
 
-// The schema of a table.
+// Returns the schema of a table.
 fn schema_in<D: SectorDevice>(
     alloc: Global,
     store: Store<D>,
@@ -140,7 +140,7 @@ fn schema_in<D: SectorDevice>(
     }
 }
 
-// The names of the tables.
+// Lists the tables.
 fn list_in<D: SectorDevice>(alloc: Global, store: Store<D>) -> (StoreOrDevice<D>, Reply)
     ensures goes { D.tells ≡ true → (base : Tables) (m : Machine) → StoreFits D.size D.story base m store
         → PlaceGoes D.size D.story D.failed base m tables_call (reply_in result.1) (device_of store) result.0 }
@@ -152,7 +152,7 @@ fn list_in<D: SectorDevice>(alloc: Global, store: Store<D>) -> (StoreOrDevice<D>
     }
 }
 
-// A table.
+// Reads a table.
 fn read_in<D: SectorDevice>(alloc: Global, store: Store<D>, name: &str) -> (StoreOrDevice<D>, Reply)
     ensures goes { D.tells ≡ true → (base : Tables) (m : Machine) → StoreFits D.size D.story base m store
         → PlaceGoes D.size D.story D.failed base m (read_call name.now) (reply_in result.1) (device_of store) result.0 }
@@ -165,7 +165,7 @@ fn read_in<D: SectorDevice>(alloc: Global, store: Store<D>, name: &str) -> (Stor
     }
 }
 
-// The stream of a table.
+// Exports a table.
 fn export_in<D: SectorDevice>(
     alloc: Global,
     store: Store<D>,
@@ -182,7 +182,7 @@ fn export_in<D: SectorDevice>(
     }
 }
 
-// An export is opened.
+// Opens an export.
 fn open_export_in<D: SectorDevice>(
     alloc: Global,
     store: Store<D>,
@@ -199,7 +199,7 @@ fn open_export_in<D: SectorDevice>(
     }
 }
 
-// Its next piece.
+// Gives the next piece of an export.
 fn export_next_in<D: SectorDevice>(
     alloc: Global,
     store: Store<D>,
@@ -216,7 +216,7 @@ fn export_next_in<D: SectorDevice>(
     }
 }
 
-// An export is closed.
+// Closes an export.
 fn close_export_in<D: SectorDevice>(store: Store<D>, id: u64) -> (StoreOrDevice<D>, Reply)
     ensures goes { D.tells ≡ true → (base : Tables) (m : Machine) → StoreFits D.size D.story base m store
         → PlaceGoes D.size D.story D.failed base m (close_export_call id) (reply_in result.1) (device_of store) result.0 }
@@ -239,7 +239,7 @@ fn step_reply(done: Compaction) -> Reply
     }
 }
 
-// A step of a compaction.
+// Takes one step of a compaction.
 fn compact_in<D: SectorDevice>(alloc: Global, store: Store<D>) -> (StoreOrDevice<D>, Reply)
     ensures goes { D.tells ≡ true → (base : Tables) (m : Machine) → StoreFits D.size D.story base m store
         → PlaceGoes D.size D.story D.failed base m compact_call (reply_in result.1) (device_of store) result.0 }
@@ -261,7 +261,7 @@ fn upgrade_reply(upgraded: Upgraded) -> Reply
     }
 }
 
-// An upgrade.
+// Upgrades the store.
 fn upgrade_in<D: SectorDevice>(alloc: Global, store: Store<D>) -> (StoreOrDevice<D>, Reply)
     ensures goes { D.tells ≡ true → (base : Tables) (m : Machine) → StoreFits D.size D.story base m store
         → PlaceGoes D.size D.story D.failed base m upgrade_call (reply_in result.1) (device_of store) result.0 }
@@ -274,7 +274,7 @@ fn upgrade_in<D: SectorDevice>(alloc: Global, store: Store<D>) -> (StoreOrDevice
     }
 }
 
-// A call of an open store.
+// Answers a call of an open store.
 fn answer_open<D: SectorDevice, R: Read + Drop>(
     alloc: Global,
     store: Store<D>,
@@ -301,7 +301,7 @@ fn answer_open<D: SectorDevice, R: Read + Drop>(
     }
 }
 
-/// Answers one call, as [`run`] answers each of its own.
+/// Answers one call, as [`run`] answers each of its calls.
 pub fn answer<D: SectorDevice, R: Read + Drop>(
     alloc: Global,
     place: StoreOrDevice<D>,
@@ -315,7 +315,7 @@ pub fn answer<D: SectorDevice, R: Read + Drop>(
     }
 }
 
-// All of them in order.
+// Answers all calls in order.
 fn answer_all<D: SectorDevice, R: Read + Drop>(
     alloc: Global,
     place: StoreOrDevice<D>,
@@ -337,23 +337,23 @@ fn answer_all<D: SectorDevice, R: Read + Drop>(
     Ok((place, replies))
 }
 
-/// Answers calls in order: commands, formattings, openings, closings, readings, exports in pieces and steps of a compaction. Where there is no memory
-/// for the replies all is given back.
+/// Answers calls in order: commands, formattings, openings, closings, reads, exports in pieces and steps of a compaction. Returns the place and the
+/// replies.
 ///
-/// What is promised of them is [`PlaceLives`] of `specs/Places.antt`, for a place that stands for a machine with some tables. Each reply follows
-/// from the tables of the commands that were acknowledged before its call, in order (`replied`, `specs/Steps.antt`). Each image that a stop may leave
-/// at any moment has the tables of what was settled: all that was acknowledged before, in order, and the command in flight whole or not at all
-/// (`stops`). Only where no store is open, or its device failed, is a call refused as halted. A command whose bytes come from a reader has all
-/// that its reader had left, where that is known (`AreCallsOf`).
+/// The promise is [`PlaceLives`] of `specs/Places.antt`, for a place that stands for a machine with some tables. Each reply follows from the tables of
+/// the commands that were acknowledged before its call, in order (`replied`, `specs/Steps.antt`). Each image that a stop may leave at any moment has the
+/// tables of the settled commands: all that were acknowledged before, in order, and the command in flight as a whole or not at all (`stops`). A call is
+/// refused as halted only if no store is open or its device failed. A command whose bytes come from a reader has all bytes that its reader had left, if
+/// these are known (`AreCallsOf`).
 ///
-/// An export that is opened in it, and comes to its end while it stays open, gives pieces that are a stream of the table that stood when it was
-/// opened, whatever commands and steps of a compaction came in between (`snapshots`); until it is closed no sector that it keeps is written. A step
-/// of a compaction settles nothing: the tables are the same before it, after it and at each stop in it. On any device and any store, also where it
-/// stands for no machine, each call is answered as its method says (`AnswersEach`, `specs/Answering.antt`).
+/// An export that is opened in the run, and reaches its end while it is open, gives pieces that are a stream of the table as it was when the export was
+/// opened, whatever commands and steps of a compaction come in between (`snapshots`). Until it is closed, no sector that it keeps is written. A step of a
+/// compaction settles nothing: the tables are the same before it, after it and at each stop in it. On any device and any store, even one that stands for
+/// no machine, each call is answered as its method says (`AnswersEach`, `specs/Answering.antt`).
 ///
 /// # Errors
-/// The place and the calls as they were given, where memory was refused for the replies: no call was made. Where a call is refused, or memory is while
-/// it is answered, its reply says so, and the calls after it are made.
+/// The unused place and calls, if memory was refused for the replies; then no call was made. If a call is refused, or memory is refused while it is
+/// answered, its reply says so, and the calls after it are made.
 pub fn run<D: SectorDevice, R: Read + Drop>(
     alloc: Global,
     place: StoreOrDevice<D>,

@@ -1,8 +1,9 @@
-// The rows of a table of which some segments may be lost.
+// Writes the rows of a table that may have lost some segments.
 ghost use Rattle.std.specs.Prelude.{◌≡◌, ◌++◌, true, IfOk, IfErr, OnOk, option_map};
 ghost use Rattle.std.specs.List.{list_all};
 ghost use Rattle.std.specs.Io.KnownBytes.{Appends};
 ghost use Rattle.sector_dev.specs.Disk.{now, shown_image};
+ghost use Rattle.arrow_schema.specs.Column.{PlainSchema};
 ghost use Rattle.arrow_schema.specs.Limits.{IsWithinLimits};
 ghost use Rattle.arrow_schema.specs.View.{schema_of};
 ghost use Rattle.ipc_write.specs.Written.{schema_message, end_of_stream};
@@ -14,26 +15,26 @@ ghost use Rattle.store_changes.specs.ReadSegment.{FailsReading, runs_in};
 ghost use Rattle.store.specs.inner.Salvaging.{is_of_segment, FailsWriting, FindsMessages, SalvagesOne, SalvagesEach};
 
 use crate::Store;
-use crate::exports::segment_piece;
+use crate::exports::read_piece;
 use crate::reading::halts;
 use arrow_schema::Schema;
 use catalogue::{Segment, TableEntry};
-use ipc_write::{write_end, write_schema};
+use ipc_write::{encode_schema, write_end};
 use sector_dev::SectorDevice;
 use std::alloc::Global;
 use std::io::Write;
 use tables::Refusal;
 
-/// A segment of a table whose rows are left out.
+/// A segment whose rows are left out.
 #[derive(Clone, Copy)]
 pub struct LeftOut {
-    /// Its place among those of the table, counted from 0.
+    /// Its place among the segments of the table, counted from 0.
     pub place: u64,
-    /// How many rows the catalogue says it has.
+    /// Its number of rows in the catalogue.
     pub rows: u64,
 }
 
-// Whether it is reported of one segment alone: the others may be read all the same.
+// Returns whether the refusal is about a single segment, so that the others may still be read.
 fn is_of_segment(refusal: Refusal) -> bool
     ensures { result ≡ is_of_segment refusal }
 {
@@ -43,24 +44,23 @@ fn is_of_segment(refusal: Refusal) -> bool
     )
 }
 
-// The messages of the rows of the segment at a place, or none where it doesn't hold them.
+// Returns the messages of the rows of the segment at this place, or `None` if it does not hold them.
 fn messages_of<D: SectorDevice>(
     alloc: Global,
     device: &mut D,
-    schema: &Schema,
+    front: &[u8],
     place: usize,
     segment: Segment,
 ) -> Result<Option<Vec<u8>>, Refusal>
     requires size { is_size (D.size device.old) ≡ true }
     requires placed { is_on_device (D.size device.old) segment.place.run ≡ true }
     requires sound { is_segment segment ≡ true }
-    requires limits { IsWithinLimits (schema_of schema.now) }
     ensures reads { OnlyReadsDevice D.size D.story D.failed D.tells (ended result) device.old device.new }
-    ensures found { IfOk result (λ messages. FindsMessages D.tells (shown_image (now (D.story device.old))) (schema_of schema.now) segment
-        (option_map (λ v. v.items) messages)) }
-    ensures fails { IfErr result FailsReading }
+    ensures found { IfOk result (λ messages. (s : PlainSchema) → IsWithinLimits s → front.now ≡ schema_message s
+        → FindsMessages D.tells (shown_image (now (D.story device.old))) s segment (option_map (λ v. v.items) messages)) }
+    ensures fails { IfErr result (λ e. (s : PlainSchema) → front.now ≡ schema_message s → FailsReading e) }
 {
-    match segment_piece(alloc, device, schema, place, segment) {
+    match read_piece(alloc, device, front, place, segment) {
         Ok(messages) => Ok(messages),
         Err(refusal) => {
             if is_of_segment(refusal) {
@@ -79,11 +79,11 @@ fn write_bytes<W: Write>(writer: &mut W, bytes: &[u8]) -> Result<(), Refusal>
     writer.write_all(bytes).map_err(|_| Refusal::Write)
 }
 
-// Writes the rows of the segment at a place, or counts it among those that are left out. One segment is in memory at a time.
+// Writes the rows of the segment at this place, or adds it to those that are left out. One segment is in memory at a time.
 fn salvage_segment<D: SectorDevice, W: Write>(
     alloc: Global,
     device: &mut D,
-    schema: &Schema,
+    front: &[u8],
     place: usize,
     segment: Segment,
     writer: &mut W,
@@ -92,13 +92,13 @@ fn salvage_segment<D: SectorDevice, W: Write>(
     requires size { is_size (D.size device.old) ≡ true }
     requires placed { is_on_device (D.size device.old) segment.place.run ≡ true }
     requires sound { is_segment segment ≡ true }
-    requires limits { IsWithinLimits (schema_of schema.now) }
     ensures reads { OnlyReadsDevice D.size D.story D.failed D.tells (ended result) device.old device.new }
-    ensures salvaged { OnOk result (SalvagesOne D.tells (shown_image (now (D.story device.old))) (schema_of schema.now) place segment
-        (W.contents writer.old) (W.contents writer.new) (plain_left left_out.old.items) (plain_left left_out.new.items)) }
-    ensures fails { IfErr result BreaksOff }
+    ensures salvaged { OnOk result ((s : PlainSchema) → IsWithinLimits s → front.now ≡ schema_message s
+        → SalvagesOne D.tells (shown_image (now (D.story device.old))) s place segment (W.contents writer.old) (W.contents writer.new)
+        (plain_left left_out.old.items) (plain_left left_out.new.items)) }
+    ensures fails { IfErr result (λ e. (s : PlainSchema) → front.now ≡ schema_message s → BreaksOff e) }
 {
-    match messages_of(alloc, device, schema, place, segment) {
+    match messages_of(alloc, device, front, place, segment) {
         Ok(Some(messages)) => write_bytes(writer, &messages),
         Ok(None) => match left_out.push(LeftOut {
             place: place as u64,
@@ -111,34 +111,26 @@ fn salvage_segment<D: SectorDevice, W: Write>(
     }
 }
 
-// Each segment, in order.
+// Writes the rows of each segment, in order.
 fn salvage_segments<D: SectorDevice, W: Write>(
     alloc: Global,
     device: &mut D,
-    schema: &Schema,
+    front: &[u8],
     segments: &[Segment],
     writer: &mut W,
 ) -> Result<Vec<LeftOut>, Refusal>
     requires size { is_size (D.size device.old) ≡ true }
     requires placed { all_on_device (D.size device.old) (runs_in segments.now) ≡ true }
     requires sound { list_all is_segment segments.now ≡ true }
-    requires limits { IsWithinLimits (schema_of schema.now) }
     ensures reads { OnlyReadsDevice D.size D.story D.failed D.tells (ended result) device.old device.new }
-    ensures salvaged { IfOk result (λ left. SalvagesEach D.tells (shown_image (now (D.story device.old))) (schema_of schema.now) segments.now
-        (W.contents writer.old) (W.contents writer.new) (plain_left left.items)) }
-    ensures fails { IfErr result BreaksOff }
+    ensures salvaged { IfOk result (λ left. (s : PlainSchema) → IsWithinLimits s → front.now ≡ schema_message s
+        → SalvagesEach D.tells (shown_image (now (D.story device.old))) s segments.now (W.contents writer.old) (W.contents writer.new)
+        (plain_left left.items)) }
+    ensures fails { IfErr result (λ e. (s : PlainSchema) → front.now ≡ schema_message s → BreaksOff e) }
 {
     let mut left_out = Vec::new(alloc);
     for (place, segment) in segments.iter().enumerate() {
-        match salvage_segment(
-            alloc,
-            device,
-            schema,
-            place,
-            *segment,
-            writer,
-            &mut left_out,
-        ) {
+        match salvage_segment(alloc, device, front, place, *segment, writer, &mut left_out) {
             Ok(()) => {}
             Err(refusal) => return Err(refusal),
         }
@@ -146,20 +138,23 @@ fn salvage_segments<D: SectorDevice, W: Write>(
     Ok(left_out)
 }
 
-// The message of the schema.
-fn write_front<W: Write>(alloc: Global, schema: &Schema, writer: &mut W) -> Result<(), Refusal>
+// Writes the message of the schema, and returns it.
+fn write_front<W: Write>(alloc: Global, schema: &Schema, writer: &mut W) -> Result<Vec<u8>, Refusal>
     requires { IsWithinLimits (schema_of schema.now) }
+    ensures message { IfOk result (λ front. front.items ≡ schema_message (schema_of schema.now)) }
     ensures written { OnOk result (Appends (W.contents writer.old) (W.contents writer.new) (schema_message (schema_of schema.now))) }
     ensures fails { IfErr result FailsWriting }
 {
-    let mut front = Vec::new(alloc);
-    match write_schema(alloc, &mut front, schema) {
-        Ok(()) => write_bytes(writer, &front),
+    match encode_schema(alloc, schema) {
+        Ok(front) => match write_bytes(writer, &front) {
+            Ok(()) => Ok(front),
+            Err(refusal) => Err(refusal),
+        },
         Err(_) => Err(Refusal::OutOfMemory),
     }
 }
 
-// The end of stream. All is flushed then.
+// Writes the end of stream, and flushes.
 fn write_last<W: Write>(alloc: Global, writer: &mut W) -> Result<(), Refusal>
     ensures written { OnOk result (Appends (W.contents writer.old) (W.contents writer.new) end_of_stream) }
     ensures fails { IfErr result FailsWriting }
@@ -174,7 +169,7 @@ fn write_last<W: Write>(alloc: Global, writer: &mut W) -> Result<(), Refusal>
     }
 }
 
-// The table of an entry.
+// Writes the stream of the table of this entry.
 fn salvage_entry<D: SectorDevice, W: Write>(
     alloc: Global,
     device: &mut D,
@@ -191,7 +186,7 @@ fn salvage_entry<D: SectorDevice, W: Write>(
 {
     let own = entry.schema();
     match write_front(alloc, own, writer) {
-        Ok(()) => match salvage_segments(alloc, device, own, entry.segments(), writer) {
+        Ok(front) => match salvage_segments(alloc, device, &front, entry.segments(), writer) {
             Ok(left_out) => match write_last(alloc, writer) {
                 Ok(()) => Ok(left_out),
                 Err(refusal) => Err(refusal),
@@ -209,19 +204,19 @@ impl<D: SectorDevice> Store<D> {
     ghost use Rattle.store.specs.Reading.{OnlyReadsStore};
     ghost use Rattle.store.specs.Salvaging.{SalvagesAt, RefusesSalvage};
 
-    /// Writes the stream of all rows of a table that can be read, flushes, and gives the segments that are left out. It is for a table that is damaged: it
-    /// only reads, and holds one segment at a time. The stream of a table without damage means that table.
+    /// Writes a stream of all rows that can be read of a damaged table, flushes, and returns the segments that are left out. Only reads the store, and keeps
+    /// one segment in memory at a time. If the table is not damaged, the stream means that table.
     ///
     /// # Errors
-    /// `Halted` after a failure of the device; `NoTable` where no table has the name; `Device`, after which the store is halted; `OutOfMemory`; `Write` where
-    /// the writer fails. After the last three some of the stream may be written.
+    /// `Halted` after a failure of the device; `NoTable` if no table has the name; `Device`, after which the store is halted; `OutOfMemory`; `Write` if the
+    /// writer fails. After the last three a part of the stream may be written.
     pub fn salvage<W: Write>(
         &mut self,
         alloc: Global,
         name: &str,
         writer: &mut W,
     ) -> Result<Vec<LeftOut>, Refusal>
-        // What is written are the rows of each segment that holds its own, as reads show them, and no others; each refusal has its one reason.
+        // Written are the rows of each segment that holds its rows, as reads show them, and no others. Each refusal has one reason.
         ensures salvaged { IfOk result (λ left. SalvagesAt (is_halted self.old) D.tells (shown_image (now (D.story (device_of self.old))))
             (entry_of (listed_in self.old) name.now) (W.contents writer.old) (W.contents writer.new) (plain_left left.items)) }
         ensures told { IfErr result (RefusesSalvage (is_halted self.old) (entry_of (listed_in self.old) name.now)) }

@@ -1,4 +1,4 @@
-// A query is saved: the selection of a table, as a table of its own.
+// Saves the selection of a query as a table of its own.
 ghost use Rattle.std.specs.Prelude.{◌≡◌, ◌≢◌, ◌⊎◌, ◌∷◌, [], true, false, None, Some, Err, IfOk, IfErr, OnOk, string_bytes};
 ghost use Rattle.facts.specs.Checks.{first_some};
 ghost use Rattle.sector_dev.specs.Disk.{now, shown_image};
@@ -34,7 +34,7 @@ use store_changes::{Change, put_table, read_entry, test_create, without_rows};
 use tables::Refusal;
 use values::Table;
 
-// S12: the query makes nothing of tables of this schema.
+// S12: the query does not fit tables of this schema.
 fn test_query(alloc: Global, schema: &Schema, query: &Query) -> Result<(), Refusal>
     requires { IsWithinLimits (schema_of schema.now) }
     ensures ok { OnOk result (unselected (schema_of schema.now) (query_in query.now) ≡ None) }
@@ -48,7 +48,7 @@ fn test_query(alloc: Global, schema: &Schema, query: &Query) -> Result<(), Refus
     }
 }
 
-// The tests of a selection of tables of this schema that is to stand at a name.
+// Tests whether a selection of a table of this schema can be saved under a name.
 fn test_save(
     alloc: Global,
     catalogue: &Catalogue,
@@ -70,7 +70,7 @@ fn test_save(
     }
 }
 
-// The selection of a table, at a name.
+// Returns the change that saves the selection of a table under a name.
 fn put_selection(
     alloc: Global,
     to: String,
@@ -91,7 +91,7 @@ fn put_selection(
     }
 }
 
-// A query on the table of an entry: its tests in order, and then the table is read.
+// Makes all tests of a saved query in order, and then reads the table of the entry.
 fn save_from_entry<D: SectorDevice>(
     alloc: Global,
     device: &mut D,
@@ -125,7 +125,7 @@ impl<D: SectorDevice> Store<D> {
     ghost use Rattle.store.specs.Fits.{device_of, listed_in};
     ghost use Rattle.store.specs.Reading.{OnlyReadsStore};
 
-    // What a query on a table changes, saved as another table.
+    // Returns the change that saves a query on a table as another table.
     pub(crate) fn decide_save(
         &mut self,
         alloc: Global,

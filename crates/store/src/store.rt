@@ -16,7 +16,7 @@ use pages::StoredCatalogue;
 use sector_dev::SectorDevice;
 use std::alloc::Global;
 
-/// Named tables on a device. After a failure of the device it is halted: it has to be closed and opened again.
+/// Named tables on a device. After a failure of the device the store is halted: it must be closed and opened again.
 #[derive(Drop)]
 pub struct Store<D: SectorDevice> {
     pub(crate) device: D,
@@ -45,25 +45,24 @@ impl<D: SectorDevice> Store<D> {
     ghost use Rattle.pages.specs.Stored.{stored_reading};
     ghost use Rattle.store.specs.Opening.{TellsOpening};
 
-    /// Opens the store that stands on a device: what its commit sectors and its catalogue say, after a sync. Where it is refused
-    /// the device is given back.
+    /// Opens the store on a device, as its commit sectors and its catalogue say, after a sync. On an error the device is returned.
     ///
     /// # Errors
-    /// `NotAStore` where no commit rules; `Damaged` with the first cause, also of a device of a size that no store has; `Device`
-    /// where the device failed; `OutOfMemory`. After any but `Device` nothing has changed.
+    /// `NotAStore` if no commit rules; `Damaged` with the first cause, which may be that no store can have the size of the device; `Device` if the device
+    /// failed; `OutOfMemory`. After any error but `Device` nothing has changed.
     pub fn open(alloc: Global, device: D) -> Result<Store<D>, (OpeningRefusal, D)>
-        // On a device whose images the machine allows, the store has the tables of its settled commands, or with the one in doubt.
+        // On a device whose images the machine allows, the store has the tables of the settled commands, with or without the command in doubt.
         ensures opened { IfOk result (λ store. D.tells ≡ true → (base : Tables) (m : Machine) → DeviceFits D.size D.story base m device
             → Opens D.size D.story D.failed base m open_call device store) }
         ensures refused { IfErr result (λ e. D.tells ≡ true → (base : Tables) (m : Machine) → DeviceFits D.size D.story base m device
             → Shuts D.size D.story D.failed base m open_call device e.0 e.1) }
-        // On any device: what is found or reported is so, and no moment has a write.
+        // On any device, what is found or reported is true, and no moment has a write.
         ensures found { IfOk result (λ store. D.tells ≡ true → FindsStore D.size D.story device store) }
         ensures told { IfErr result (λ e. D.tells ≡ true → TellsOpening e.0 (standing_shown stored_reading (D.size device) (D.story device))) }
         ensures not_already { IfErr result (λ e. e.0 ≢ OpeningRefusal.AlreadyAStore) }
         ensures quiet { IfErr result (λ e. e.0 ≢ OpeningRefusal.Device → D.tells ≡ true → now (D.story e.1) ≡ now (D.story device)) }
         ensures moments { IfErr result (λ e. D.tells ≡ true → Grows (IsOpening (now (D.story device))) (D.story device) (D.story e.1)) }
-        // Also of a device that doesn't tell its story.
+        // These also hold for a device that does not tell its story.
         ensures in_limits { OnOk result (is_size (D.size device) ≡ true) }
         ensures on { IfOk result (λ store. is_halted store ≡ false) }
         ensures limits { IfErr result (λ e. is_size (D.size device) ≡ false
@@ -85,14 +84,14 @@ impl<D: SectorDevice> Store<D> {
         }
     }
 
-    /// The version of the format that it is kept in.
+    /// Returns the version of the store's format.
     pub fn version(&self) -> FormatVersion
         ensures { result ≡ (commit_of self.now).version }
     {
         self.opened.commit.version
     }
 
-    /// Closes the store, also one that is halted. No call of the device is made.
+    /// Closes the store, even a halted one, and returns its device. Makes no call of the device.
     pub fn close(self) -> D
         ensures { result ≡ device_of self }
     {

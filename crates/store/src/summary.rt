@@ -1,4 +1,4 @@
-// A store in numbers.
+// Counts the tables, segments and sectors of a store.
 ghost use Rattle.std.specs.Prelude.{◌≡◌, ◌≤◌, ◌<◌, ◌+◌, ◌^◌, ◌∷◌, true, None, sum_by, IfOk, IfErr};
 ghost use Rattle.segments.specs.Usages.{IsUsedIn};
 ghost use Rattle.commit.specs.Standing.{is_size, is_on_device, runs_fault};
@@ -11,21 +11,21 @@ use segments::{FreeMap, Run};
 use std::alloc::Global;
 use tables::Refusal;
 
-/// A store in numbers, of which those of sectors count 512 bytes each.
+/// The numbers of a store. A sector has 512 bytes.
 #[derive(Clone, Copy)]
 pub struct Summary {
     pub format_version: u32,
-    /// That of the commit that rules: each change of the tables has the next one.
+    /// The epoch of the commit that rules. Each change of the tables has the next one.
     pub epoch: u64,
-    /// All of the device.
+    /// All sectors of the device.
     pub sectors: u64,
-    /// Those of the two commits, of the catalogue and of the segments that it names.
+    /// The sectors of the two commits, of the catalogue and of the segments that it names.
     pub used: u64,
-    /// Those that a command can write now: neither used nor kept.
+    /// The sectors that a command can write now: neither used nor kept.
     pub free: u64,
-    /// Those that open exports keep, of segments that no table has any more.
+    /// The sectors that only open exports keep, of segments that no table has any more.
     pub kept: u64,
-    /// Of the largest run that can be written.
+    /// The sectors of the largest run that can be written.
     pub largest_free_run: u64,
     pub tables: u64,
     pub segments: u64,
@@ -38,7 +38,7 @@ fn sectors_of(runs: &[Run]) -> u64
     runs.iter().map(|run| run.count).sum()
 }
 
-// The sectors of the runs that are kept and are not in use, each run once.
+// Returns the number of sectors of the runs that are kept but not used. Each run counts once.
 fn sectors_kept(
     alloc: Global,
     sectors: u64,
@@ -62,7 +62,7 @@ fn sectors_kept(
     let mut count = 0;
     for run in kept {
         if !map.usage(*run).taken {
-            // No run that is kept shares a sector with others, so it is memory that was refused.
+            // A kept run shares no sector with others, so the error is refused memory.
             let Ok(()) = map.occupy(*run) else {
                 return Err(Refusal::OutOfMemory);
             };
@@ -72,7 +72,7 @@ fn sectors_kept(
     Ok(count)
 }
 
-// The largest number of sectors of which a free run is found, by halving what is in question.
+// Returns the number of sectors of the largest free run, by bisection.
 fn largest_free(map: &FreeMap, sectors: u64) -> u64
     requires { map.now.size ≡ sectors }
     ensures { IsLargest sectors (IsUsedIn map.now.entries) result }
@@ -95,7 +95,7 @@ impl<D: SectorDevice> Store<D> {
     ghost use Rattle.store.specs.Listing.{RefusesTables};
     ghost use Rattle.store.specs.Summary.{IsSummary};
 
-    /// The store in numbers. No call of the device is made.
+    /// Returns the numbers of the store. Makes no call of the device.
     ///
     /// # Errors
     /// `Halted` after a failure of the device; `OutOfMemory`.

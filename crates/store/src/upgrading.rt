@@ -1,4 +1,4 @@
-// A store of version 1 becomes one of version 2: its segments get digests.
+// Upgrades a store of version 1 to version 2: its segments get digests.
 ghost use Rattle.std.specs.Prelude.{◌≡◌, ◌≢◌, ◌↔◌, ℕ, true, false, Some, slice_get, Ok, Err, IfOk, IfErr};
 ghost use Rattle.sector_dev.specs.Disk.{now, shown_image};
 ghost use Rattle.sector_dev.specs.Time.{OnlyReads};
@@ -18,9 +18,9 @@ use tables::Refusal;
 /// What an upgrade did.
 #[derive(Clone, Copy, Debug, PartialEq, Eq)]
 pub enum Upgraded {
-    /// Each segment has a digest, and the store is one of version 2.
+    /// The store is now of version 2: each segment has a digest.
     Done,
-    /// It was one.
+    /// The store was already of version 2.
     Already,
 }
 
@@ -34,7 +34,7 @@ impl<D: SectorDevice> Store<D> {
     ghost use Rattle.store.specs.Applying.{GoesOn, IsKept};
     ghost use Rattle.store.specs.Upgrading.{upgrade_reply, upgrade_ended, HasUpgraded, RefusesUpgrade};
 
-    // The digests of all segments. It only reads.
+    // Returns the digests of all segments. Only reads.
     fn find_digests(&mut self, alloc: Global) -> Result<Vec<[u8; 32]>, Refusal>
         requires on { self.old.halted ≡ false }
         ensures reads { OnlyReadsStore D.size D.story D.failed D.tells (ended result) self.old self.new }
@@ -51,20 +51,21 @@ impl<D: SectorDevice> Store<D> {
         digests
     }
 
-    /// Makes a store of version 1 one of version 2: reads all tables, gives each segment the SHA-256 of its bytes, and publishes a catalogue that says
-    /// them. No segment is moved or written again. The tables stay as they are, at each moment. A store of version 2 is left as it is, without a call of
-    /// the device.
+    /// Upgrades a store of version 1 to version 2: reads all tables, computes the SHA-256 of the bytes of each segment, and publishes a catalogue with these
+    /// digests. No segment is moved or written again. The tables stay the same at each moment. A store of version 2 stays as it is, without a call of the
+    /// device.
     ///
     /// # Errors
-    /// `Halted` after a failure of the device; of the first table that can't be read, `SegmentUnread` as [`Store::read`]; `Device`, after which the store
-    /// is halted; `TooMany(Epochs)`; `NoRoom` where the catalogue finds no free run; `OutOfMemory`. After any but `Device` nothing has changed.
+    /// `Halted` after a failure of the device; `SegmentUnread` for the first table that can't be read, as in [`Store::read`]; `Device`, after which the
+    /// store is halted; `TooMany(Epochs)`; `NoRoom` if there is no free run for the catalogue; `OutOfMemory`. After any error but `Device` nothing has
+    /// changed.
     pub fn upgrade(&mut self, alloc: Global) -> Result<Upgraded, Refusal>
-        // On a store that stands for a machine: the tables stay those of the settled commands, at each moment.
+        // On a store that stands for a machine, the tables stay those of the settled commands at each moment.
         ensures goes { IfOk result (λ upgraded. D.tells ≡ true → (base : Tables) (m : Machine) → StoreFits D.size D.story base m self.old
             → GoesOn D.size D.story D.failed base m upgrade_call (upgrade_reply upgraded) self.old self.new) }
         ensures refused { IfErr result (λ e. D.tells ≡ true → (base : Tables) (m : Machine) → StoreFits D.size D.story base m self.old
             → GoesOn D.size D.story D.failed base m upgrade_call (refused e) self.old self.new) }
-        // On any store and any device: the digests are those of the bytes that reads gave of its segments; each refusal has its one reason.
+        // On any store and any device, the digests are those of the bytes that reads gave of its segments. Each refusal has one reason.
         ensures upgraded { IfOk result (λ upgraded. HasUpgraded D.size D.story D.tells self.old upgraded self.new) }
         ensures told { IfErr result (λ e. RefusesUpgrade D.size D.story D.tells (is_halted self.old) self.old e self.new) }
         ensures already { is_halted self.old ≡ false → (commit_of self.old).version ≡ Two → result ≡ Ok Upgraded.Already }

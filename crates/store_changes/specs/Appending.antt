@@ -1,4 +1,4 @@
--- New rows for a table, and what is answered of an append to the table of an entry.
+-- New rows for a table, and the answers to an append to the table of an entry.
 use Rattle.std.specs.Prelude.{◌≡◌, ◌<◌, ◌⊎◌, ℕ, Bool, List, map, Option, Some, None, Result, Ok, Err}
 use Rattle.sector_dev.specs.Disk.{Image}
 use Rattle.cells.specs.Cell.{Cell}
@@ -23,13 +23,13 @@ append_of name (Stream bytes) = append_stream name bytes.items
 append_of name (Given rows) = append_rows name (map row_of rows.items)
 append_of name (OfTable new) = append_rows name (table_of new.table).rows
 
--- the tests of new rows that need an entry alone
+-- the tests of new rows that need only an entry
 abbrev pub added_to : NewRows → PlainEntry → Result Addition Refusal
 added_to (Stream bytes) = streamed_rows bytes.items
 added_to (Given rows) = given_rows (map row_of rows.items)
 added_to (OfTable new) = given_rows (table_of new.table).rows
 
--- rows that passed them: as a table of a schema of one shape and what they weigh, or rows that are too heavy for any table
+-- rows that passed these tests: as a table of a schema with the same shape and its weight, or rows that are too heavy for any table
 abbrev pub ArePassed : PlainEntry → Result Addition Refusal → Option WeighedTable → Type 0
 ArePassed e tested (Some w) =
     (tested ≡ Ok (record { entry = e; rows = (table_of w.table).rows }))
@@ -37,6 +37,6 @@ ArePassed e tested (Some w) =
     × IsTable (rows_under e.schema (table_of w.table).rows)
 ArePassed e tested None = (rows : List (List Cell)) × (tested ≡ Ok (record { entry = e; rows = rows })) × (MAX_TABLE_WEIGHT < table_weight e.schema rows)
 
--- what is answered of new rows for the table of an entry
+-- the answers to new rows for the table of an entry
 abbrev pub IsAppended : (tells : Bool) → Image → List ℕ → Result Addition Refusal → Result PlainChange Refusal → Type 0
 IsAppended tells image name tested answer = (answer ≡ Err OutOfMemory) ⊎ IsNotRead tells image (entry_added tested) answer ⊎ IsAdded tells image name tested answer

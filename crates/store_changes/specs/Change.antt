@@ -1,4 +1,4 @@
--- A change as it is held in memory, as plain data.
+-- A change in memory, as plain data.
 use Rattle.std.specs.Prelude.{◌≡◌, ℕ, List, [], ◌∷◌, Option, Some, None, string_bytes}
 use Rattle.arrow_schema.specs.View.{schema_of}
 use Rattle.cells.specs.Cell.{PlainTable}
@@ -25,7 +25,7 @@ edit_of (edits.Digest digests) = digest digests.items
 abbrev pub rows_table : SegmentRows → PlainTable
 rows_table new = table_under new.schema new.table
 
--- the new segments are the streams of its pieces, with the number of rows of each, or one whose bytes are given
+-- the new segments: the streams of its pieces, with the number of rows of each, or one segment of given bytes
 abbrev pub new_streams : Option NewSegments → List (List ℕ)
 new_streams None = []
 new_streams (Some (news.Rows new)) = piece_streams (rows_table new)
@@ -39,6 +39,6 @@ new_counts (Some (news.Copied bytes rows)) = rows ∷ []
 abbrev pub change_of : Change → PlainChange
 change_of change = record { edit = edit_of change.edit; streams = new_streams change.new; counts = new_counts change.new }
 
--- a table is put at a name: its pieces are the new segments
+-- the change that sets the table with this name: the pieces of its rows are the new segments
 abbrev pub IsPut : (name : List ℕ) → PlainTable → PlainChange → Type 0
 IsPut name table change = change ≡ pieces_put (put name table.schema) table

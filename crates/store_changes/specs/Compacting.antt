@@ -1,4 +1,4 @@
--- A step of a compaction: what it changes of a catalogue, and why none is decided.
+-- A step of a compaction: its change of a catalogue, and why no step is decided.
 use Rattle.std.specs.Prelude.{◌≡◌, ◌⊎◌, ◌≤◌, ◌<◌, ◌+◌, ℕ, Bool, true, false, nat_le, List, [], ◌∷◌, length, slice_get, Option, Some, None}
 use Rattle.sector_dev.specs.Disk.{Image}
 use Rattle.segments.specs.Runs.{IsLowest}
@@ -23,7 +23,7 @@ use Rattle.store_runs.specs.Reading.{IsCopy, LacksBytes, IsRead, Unreads}
 abbrev pub pair_of : PlainEntry → ℕ → PlainEntry
 pair_of e place = record { name = e.name; schema = e.schema; segments = from_place e.segments place 2; page = None }
 
--- the cut keeps all rows in one piece
+-- all rows are cut into one piece
 abbrev pub is_one_piece : PlainTable → Bool
 is_one_piece table = nat_le (length (pieces_of table)) 1
 
@@ -32,15 +32,15 @@ abbrev pub StaysTwo : (tells : Bool) → Image → PlainEntry → ℕ → Type 0
 StaysTwo tells image e place =
     (MAX_PIECE_ROWS < row_count (pair_of e place)) ⊎ ((table : PlainTable) × IsRead tells image (pair_of e place) table × (is_one_piece table ≡ false))
 
--- so do the first pairs of a table
+-- the first pairs of a table stay two segments each
 abbrev pub FirstStay : (tells : Bool) → Image → PlainEntry → (count : ℕ) → Type 0
 FirstStay tells image e count = (place : ℕ) → place < count → place + 2 ≤ length e.segments → StaysTwo tells image e place
 
--- and all pairs of the first tables
+-- so do all pairs of the first tables
 abbrev pub AllStay : (tells : Bool) → Image → PlainCatalogue → (count : ℕ) → Type 0
 AllStay tells image c count = (number : ℕ) (e : PlainEntry) → number < count → slice_get c number ≡ Some e → FirstStay tells image e (length e.segments)
 
--- a change takes the first pair of a table whose rows the cut keeps in one piece, and has the piece of them in its place
+-- a change replaces the first pair of a table whose rows are one piece by that piece
 pub record IsMergeIn (tells : Bool) (image : Image) (e : PlainEntry) (change : PlainChange) : Type 0 where
   pub place : ℕ
   pub within : place + 2 ≤ length e.segments
@@ -50,7 +50,7 @@ pub record IsMergeIn (tells : Bool) (image : Image) (e : PlainEntry) (change : P
   pub one : is_one_piece table ≡ true
   pub is : change ≡ pieces_put (exchange e.name place 2) table
 
--- the same of the first pair of all tables, in order
+-- the same for the first pair of all tables, in order
 pub record IsMerge (tells : Bool) (image : Image) (c : PlainCatalogue) (change : PlainChange) : Type 0 where
   pub number : ℕ
   pub entry : PlainEntry
@@ -60,7 +60,7 @@ pub record IsMerge (tells : Bool) (image : Image) (c : PlainCatalogue) (change :
 
 -- ---- the last segment
 
--- the segment of a place in the table of a number: no other one starts after it
+-- the segment at this place in the table with this number: no other segment starts after it
 pub record IsLast (c : PlainCatalogue) (number place : ℕ) (entry : PlainEntry) (segment : Segment) : Type 0 where
   pub found : slice_get c number ≡ Some entry
   pub at : slice_get entry.segments place ≡ Some segment
@@ -95,15 +95,15 @@ HasNone c = (number : ℕ) (e : PlainEntry) → slice_get c number ≡ Some e �
 
 -- ---- a step
 
--- what a step does beside these runs in use, by what reads show: the first pair that is one piece becomes one segment; where there is none the last
--- segment moves forward; where it can't there is nothing to do
+-- what a step does while these runs are in use, by what reads show: the first pair that is one piece becomes one segment; if there is none, the segment
+-- with the greatest start is moved to a lower one; if it can't be moved, there is nothing to do
 abbrev pub IsStep : (tells : Bool) → Image → (size : ℕ) → (used : Run → Type 0) → PlainCatalogue → Compaction → Option PlainChange → Type 0
 IsStep tells image size used c compactions.Merged (Some change) = IsMerge tells image c change
 IsStep tells image size used c compactions.Moved (Some change) = AllStay tells image c (length c) × IsMove tells image size used c change
 IsStep tells image size used c compactions.Nothing None = AllStay tells image c (length c) × (HasNone c ⊎ IsLastStill size used c)
 IsStep tells image size used c _ _ = ⊥
 
--- why a pair is not read: the number of its segment is that in the table
+-- why a pair is not read: the reported place is that of the segment in the table
 abbrev pub UnreadsPair : (tells : Bool) → Image → PlainEntry → ℕ → Refusal → Type 0
 UnreadsPair tells image e place refusals.Device = Unit {0}
 UnreadsPair tells image e place refusals.OutOfMemory = Unit {0}
@@ -111,7 +111,7 @@ UnreadsPair tells image e place (refusals.SegmentUnread number) = (at : ℕ) × 
 UnreadsPair tells image e place (refusals.SegmentDamaged number) = (at : ℕ) × (number ≡ place + at) × Unreads tells image (pair_of e place) (refusals.SegmentDamaged at)
 UnreadsPair tells image e place _ = ⊥
 
--- it is the first pair of which nothing is known: all before it stay two segments, and by the number of its rows it may be one piece
+-- the pair that is not read is the first one that may be one piece by the number of its rows: all before it stay two segments
 pub record UnreadsInPairs (tells : Bool) (image : Image) (c : PlainCatalogue) (r : Refusal) : Type 0 where
   pub number : ℕ
   pub entry : PlainEntry
@@ -131,6 +131,6 @@ pub record UnreadsMoving (tells : Bool) (image : Image) (c : PlainCatalogue) (r 
   pub last : IsLast c number place entry segment
   pub unread : LacksBytes tells image segment place r
 
--- why nothing is decided: the last segment is looked at where all pairs stay two segments
+-- why nothing is decided: the last segment is considered if all pairs stay two segments
 abbrev pub UnreadsStep : (tells : Bool) → Image → PlainCatalogue → Refusal → Type 0
 UnreadsStep tells image c r = UnreadsInPairs tells image c r ⊎ (AllStay tells image c (length c) × UnreadsMoving tells image c r)

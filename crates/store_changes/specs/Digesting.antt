@@ -1,4 +1,4 @@
--- An upgrade as a change of a catalogue: each segment of each table gets the digest of its bytes, or why none does.
+-- An upgrade as a change of a catalogue: each segment of each table gets the digest of its bytes; or why this fails.
 use Rattle.std.specs.Prelude.{◌≡◌, ◌<◌, ℕ, Bool, List, [], ◌∷◌, slice_get, flat_map, Some}
 use Rattle.sha2.specs.Sha256.{sha256}
 use Rattle.sector_dev.specs.Disk.{Image}
@@ -20,18 +20,18 @@ AreDigests tells image [] digests = digests ≡ []
 AreDigests tells image (g ∷ gs) [] = ⊥
 AreDigests tells image (g ∷ gs) (d ∷ ds) = ((bytes : List ℕ) × IsCopy tells image g bytes × (d ≡ sha256 bytes)) × AreDigests tells image gs ds
 
--- the first tables were read, each as a reading of it reads
+-- the first tables were read, each as by a read of the table
 abbrev pub AreRead : (tells : Bool) → Image → PlainCatalogue → (count : ℕ) → Type 0
 AreRead tells image c count = (number : ℕ) (e : PlainEntry) → number < count → slice_get c number ≡ Some e → (table : PlainTable) × IsRead tells image e table
 
--- what an upgrade changes: all tables were read, and each segment gets the digest of its bytes; none lies elsewhere
+-- the change of an upgrade: all tables were read, and each segment gets the digest of its bytes; none is moved
 pub record IsUpgrade (tells : Bool) (image : Image) (c : PlainCatalogue) (change : PlainChange) : Type 0 where
   pub digests : List (List ℕ)
   pub read : (number : ℕ) (e : PlainEntry) → slice_get c number ≡ Some e → (table : PlainTable) × IsRead tells image e table
   pub own : AreDigests tells image (segments_of c) digests
   pub is : change ≡ names_changed (digest digests)
 
--- the first table that is not read stops it
+-- the first table that can't be read ends it
 pub record StopsReading (tells : Bool) (image : Image) (c : PlainCatalogue) (r : Refusal) : Type 0 where
   pub number : ℕ
   pub entry : PlainEntry

@@ -1,4 +1,4 @@
--- Digests of segments, as they are stated of the rows that calls give.
+-- Digests of segments, for the rows that calls return.
 use Rattle.std.specs.Prelude.{◌≡◌, ℕ, List, Option, Some}
 use Rattle.sha2.specs.Sha256.{sha256}
 use Rattle.arrow_schema.specs.Column.{PlainSchema}
@@ -6,7 +6,7 @@ use Rattle.cells.specs.Cell.{Cell}
 use Rattle.catalogue.specs.declared.entry.Segment.{Segment}
 use Rattle.store_runs.specs.Held.{rows_in_bytes}
 
--- the bytes are there and have this digest
+-- there are bytes, and they have this digest
 pub record HaveDigest (bytes : Option (List ℕ)) (d : List ℕ) : Type 0 where
   pub found : List ℕ
   pub read : bytes ≡ Some found

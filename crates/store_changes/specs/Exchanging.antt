@@ -1,4 +1,4 @@
--- Segments of a table that are exchanged for others, and how catalogues shrink.
+-- Segments of a table that are replaced by others, and how catalogues shrink.
 use Rattle.std.specs.Prelude.{◌≡◌, ◌⊎◌, ◌<◌, ◌+◌, ℕ, true, List, [], ◌∷◌, flat_map, sum_by, Some}
 use Rattle.std.specs.List.{AllByRecursion}
 use Rattle.sector_dev.specs.Disk.{Image}
@@ -17,11 +17,11 @@ pub record HoldsSame (image : Image) (c : PlainCatalogue) (name : List ℕ) (pla
 
 -- ---- catalogues that shrink
 
--- where segments start; pages don't count
+-- the starts of all segments, without pages
 abbrev pub starts_sum : PlainCatalogue → ℕ
 starts_sum c = sum_by (λ (r : Run). r.start) (flat_map (λ (e : PlainEntry). runs_in_segments e.segments) c)
 
--- one segment fewer, or as many with a lower sum of their starts
+-- one segment fewer, or the same number with a lower sum of their starts
 abbrev pub Shrinks : (old new : PlainCatalogue) → Type 0
 Shrinks old new = (segment_count new + 1 ≡ segment_count old) ⊎ ((segment_count new ≡ segment_count old) × (starts_sum new < starts_sum old))
 

@@ -1,4 +1,4 @@
--- What the laws below the store say.
+-- The laws below the store.
 use Rattle.std.specs.Prelude.{◌≡◌, ◌≤◌, ◌++◌, ℕ, true, List, Some, Ok, Err}
 use Rattle.facts.specs.Bytes.{AreBytes}
 use Rattle.sector_dev.specs.Disk.{Image}
@@ -20,7 +20,7 @@ use Rattle.commit.specs.Standing.{is_size}
 use Rattle.pages.specs.Stored.{stored_reading}
 use Rattle.store_runs.specs.Changes.{rows_under, stream_rows}
 
--- of tables, and rows of them
+-- laws of tables and their rows
 pub record TableLaws : Type 0 where
   pub accepts : (s : PlainSchema) (rows : List (List Cell)) (t : PlainTable) → IsWithinLimits s → table_from s rows ≡ Ok t → (t ≡ rows_under s rows) × IsTable t
   pub accepted : (t : PlainTable) → IsTable t → table_from t.schema t.rows ≡ Ok t
@@ -28,7 +28,7 @@ pub record TableLaws : Type 0 where
       → table_weight s (a ++ b) ≤ MAX_TABLE_WEIGHT → IsTable (rows_under s (a ++ b))
   pub cut : (s : PlainSchema) (a b : List (List Cell)) → IsTable (rows_under s (a ++ b)) → IsTable (rows_under s a) × IsTable (rows_under s b)
 
--- of tables, pieces, queries, what streams mean, and catalogues that are read
+-- laws of tables, pieces, queries, the meaning of streams, and catalogues that are read
 pub record LawsBelow : Type 0 where
   pub tables : TableLaws
   pub held : (t : PlainTable) → IsTable t → stream_rows t.schema (piece_streams t) (piece_counts t) ≡ Some t.rows

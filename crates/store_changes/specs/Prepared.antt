@@ -1,4 +1,4 @@
--- A change that can be published: its runs are taken, and its plan is made.
+-- A change to publish: its runs are taken, and its plan is made.
 use Rattle.std.specs.Prelude.{◌≡◌, ◌≤◌, ◌+◌, ℕ, List, [], ◌∷◌, ◌++◌, length, Ok}
 use Rattle.sector_dev.specs.Disk.{Image}
 use Rattle.segments.specs.declared.errors.TakeError.{TakeError}
@@ -29,17 +29,17 @@ use Rattle.store_runs.specs.Carrying.{HasNext, asked_sizes, unplaced, outline, c
 use Rattle.pages.specs.Stored.{stored_reading, form_of, by_kind}
 use Rattle.pages.specs.Paging.{kind_of, text_size, ArePageRuns, settled, dropped_pages}
 
--- the catalogue whose new segments lie in these runs, and whose new pages have none yet
+-- the catalogue with its new segments in these runs, and with new pages that have no runs yet
 abbrev pub unpaged : FormatVersion → PlainCatalogue → PlainChange → List Run → PlainCatalogue
 unpaged version c change places = edited c change.edit (placed_segments version places change.streams change.counts)
 
--- segments without places in these runs, one after another
+-- segments without places, in these runs, in order
 abbrev pub in_runs : List Run → List Segment → List Segment
 in_runs [] segments = []
 in_runs (run ∷ runs) [] = []
 in_runs (run ∷ runs) (s ∷ ss) = record { place = record { run = run; bytes = s.place.bytes }; rows = s.rows; digest = s.digest } ∷ in_runs runs ss
 
--- what an edit asks of the entry that it changes
+-- the condition of an edit on the entry that it changes
 abbrev pub CanGive : PlainEdit → PlainEntry → Type 0
 CanGive (put name schema) e = IsWithinLimits schema
 CanGive (extend name) e = Unit {0}
@@ -48,20 +48,20 @@ CanGive (remove name) e = Unit {0}
 CanGive (exchange name place count) e = place + count ≤ length e.segments
 CanGive (digest digests) e = Unit {0}
 
--- why no run is taken, as it is reported of a command
+-- the refusal of a command for which no run is taken
 abbrev pub taking_refusal : TakeError → Refusal
 taking_refusal (takings.NoRoom count) = refusals.NoRoom count
 taking_refusal takings.OutOfMemory = refusals.OutOfMemory
 
--- an image that holds all pieces of a plan and has elsewhere what lay there before, where the pages that stay were spared, is read as what is made
+-- an image that holds all pieces of a plan, and the old contents elsewhere, is read as the new catalogue, if the pages that remain were not written
 abbrev pub ReadsAgain : (size : ℕ) → Commit → (version : FormatVersion) → PlainCatalogue → (made : PlainCatalogue) → (pages : List Run) → (text : List ℕ) → List PlainPiece → Type 0
 ReadsAgain size k version c made pages text pieces =
     (before image : Image) → standing stored_reading size before ≡ rules k c → HoldsEach image pieces
     → ((n : ℕ) → 2 ≤ n → OutOf (runs_of pieces) n → image n ≡ before n) → ((n : ℕ) → InSome (catalogue_runs c) n → OutOf (runs_of pieces) n)
     → by_kind (kind_of made) (form_of version) size image text ≡ Ok (settled made pages)
 
--- runs were taken for the streams, the pages and the catalogue's text, and the plan has them as its pieces; `back` is what goes back after it
--- was published
+-- runs were taken for the streams, the pages and the catalogue's text, and the plan has them as its pieces; `back` are the runs that become free after
+-- it was published
 pub record IsPrepared (old new : Space) (k : Commit) (c : PlainCatalogue) (change : PlainChange) (plan : Plan StoredCatalogue) (back : List Run) : Type 0 where
   pub next : HasNext k
   pub few : segment_count (outline k.version c change) ≤ MAX_SEGMENTS

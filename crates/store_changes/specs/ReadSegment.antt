@@ -1,4 +1,4 @@
--- What is read of one segment.
+-- Reading a single segment.
 use Rattle.std.specs.Prelude.{◌≡◌, ℕ, Bool, true, false, List, map}
 use Rattle.sector_dev.specs.Disk.{Image}
 use Rattle.segments.specs.declared.run.Run.{Run}
@@ -10,7 +10,7 @@ use Rattle.tables.specs.declared.refusal.Refusal.TheVariants as refusals
 use Rattle.store_runs.specs.Held.{is_undamaged, bytes_of, segment_rows}
 use Rattle.store_runs.specs.Reading.{ArePast}
 
--- why the rows of the segment at a place don't go after these rows
+-- why the rows of the segment at this place can't be appended to these rows
 abbrev pub UnreadsSegment : (tells : Bool) → Image → PlainSchema → List (List Cell) → Segment → (place : ℕ) → Refusal → Type 0
 UnreadsSegment tells image schema rows segment place refusals.Device = Unit {0}
 UnreadsSegment tells image schema rows segment place refusals.OutOfMemory = Unit {0}
@@ -20,7 +20,7 @@ UnreadsSegment tells image schema rows segment place (refusals.SegmentDamaged ot
     (other ≡ place) × (tells ≡ true → is_undamaged segment.digest (bytes_of segment image) ≡ false)
 UnreadsSegment tells image schema rows segment place _ = ⊥
 
--- a call that reads fails only by its device or for want of memory
+-- a call that reads fails only by its device or for lack of memory
 abbrev pub FailsReading : Refusal → Type 0
 FailsReading refusals.Device = Unit {0}
 FailsReading refusals.OutOfMemory = Unit {0}

@@ -7,7 +7,7 @@ use Rattle.cells.specs.Cell.{PlainTable}
 use Rattle.values.specs.TableView.{table_of}
 use Rattle.values.specs.declared.table.Table.{Table}
 
--- in place of its own, where there is one
+-- instead of its own, if another one is given
 abbrev pub table_under : Option Schema → Table → PlainTable
 table_under None table = table_of table
 table_under (Some schema) table = with_schema (schema_of schema) (table_of table)

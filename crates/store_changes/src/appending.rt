@@ -1,4 +1,4 @@
-// Rows are appended to the table of an entry, which is read for its weight.
+// Appends rows to the table of an entry, which is read for its weight.
 ghost use Rattle.std.specs.Prelude.{◌≡◌, ◌≢◌, ◌⊎◌, ◌++◌, List, Some, Err, IfOk, IfErr, false, true, not, nat_le, string_bytes};
 ghost use Rattle.facts.specs.Checks.{when};
 ghost use Rattle.sector_dev.specs.Disk.{now, shown_image};
@@ -40,7 +40,7 @@ fn test_weight(weight: u64) -> Result<(), Refusal>
     }
 }
 
-// New rows after those of an entry's table, where both weigh so much together: the pieces of the new rows, under the entry's own schema.
+// Returns the change that appends new rows to an entry's table, if both together have this weight. The pieces have the schema of the entry.
 fn decide_behind(
     alloc: Global,
     entry: &TableEntry,
@@ -70,7 +70,7 @@ fn decide_behind(
     })
 }
 
-/// An append to the table of an entry: its tests in order, of which the last reads the table.
+/// Decides on an append to the table of an entry: its tests in order, the last of which reads the table.
 ///
 /// # Errors
 /// Those of the new rows, in their order; those of reading the table; `TooMany(Weight)`; `OutOfMemory`.
@@ -98,7 +98,7 @@ pub fn append_to_entry<D: SectorDevice>(
     let standing = match gather_entry(alloc, device, entry) {
         Ok(standing) => standing,
         Err(refusal) => {
-            // By a call: its drop written out is long.
+            // Dropped by a call, since its inlined drop is long.
             drop(passed);
             return Err(refusal);
         }

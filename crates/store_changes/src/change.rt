@@ -1,4 +1,4 @@
-// What a command changes, before its new segments have places.
+// The change that a command makes, before its new segments have places.
 ghost use Rattle.std.specs.Prelude.{◌≡◌, ◌∷◌, [], IfOk};
 ghost use Rattle.ipc_encode.specs.View.{streams_in};
 ghost use Rattle.commit.specs.Placing.{AreShort};
@@ -11,40 +11,40 @@ use ipc_encode::{EncodedPieces, encode_own_pieces, encode_pieces};
 use std::alloc::{AllocError, Global};
 use values::Table;
 
-/// What becomes of the catalogue.
+/// How the catalogue changes.
 #[derive(Drop)]
 pub enum Edit {
-    /// A table of this name whose segments are the new ones, in place of one that stands there.
+    /// A table with this name and the new segments, which replaces one with the same name.
     Put {
         name: String,
         schema: Schema,
     },
-    /// The new segments stand after those of the table.
+    /// The new segments, appended to those of the table.
     Extend {
         name: String,
     },
-    /// The table gets another name.
+    /// Another name for the table.
     Move {
         from: String,
         to: String,
     },
-    /// The table goes.
+    /// The removal of the table.
     Remove {
         name: String,
     },
-    /// The new segments stand in place of n of the table's, from a place on.
+    /// The new segments in place of `count` segments of the table, from `place` on.
     Exchange {
         name: String,
         place: usize,
         count: usize,
     },
-    /// Each segment of each table gets one of these digests, in order; the catalogue is one of version 2 then.
+    /// A digest for each segment of each table, in order. The catalogue is then of version 2.
     Digest {
         digests: Vec<[u8; 32]>,
     },
 }
 
-/// The rows of new segments: those of a table, under another schema in place of its own where there is one.
+/// The rows of new segments: those of a table, under another schema instead of its own if one is given.
 #[derive(Drop)]
 pub struct SegmentRows {
     pub table: Table,
@@ -52,16 +52,16 @@ pub struct SegmentRows {
     ghost kept: { IsTable (table_under schema table) },
 }
 
-/// What new segments hold.
+/// The contents of new segments.
 #[derive(Drop)]
 pub enum NewSegments {
     /// The pieces of these rows.
     Rows(SegmentRows),
-    /// These bytes, which are a stream of n rows.
+    /// These bytes, which are a stream of this number of rows.
     Copied { bytes: Vec<u8>, rows: u64 },
 }
 
-/// An edit, and what its new segments hold.
+/// An edit, and the contents of its new segments.
 #[derive(Drop)]
 pub struct Change {
     pub edit: Edit,
@@ -72,7 +72,7 @@ impl SegmentRows {
     ghost use Rattle.ipc_canonical.specs.PieceStreams.{piece_streams, piece_counts};
     ghost use Rattle.store_changes.specs.Change.{rows_table};
 
-    // The pieces of the rows.
+    // Encodes the pieces of the rows.
     fn pieces(&self, alloc: Global) -> Result<EncodedPieces<'_>, AllocError>
         ensures streams { IfOk result (λ pieces. streams_in pieces ≡ piece_streams (rows_table self.now)) }
         ensures counts { IfOk result (λ pieces. pieces.rows.items ≡ piece_counts (rows_table self.now)) }
@@ -85,7 +85,7 @@ impl SegmentRows {
     }
 }
 
-// One stream of these bytes, where they stand.
+// Borrows these bytes as a single stream.
 fn copied_piece(alloc: Global, bytes: &[u8], rows: u64) -> Result<EncodedPieces<'_>, AllocError>
     ensures streams { IfOk result (λ pieces. streams_in pieces ≡ bytes.now ∷ []) }
     ensures counts { IfOk result (λ pieces. pieces.rows.items ≡ rows ∷ []) }
@@ -107,10 +107,10 @@ fn copied_piece(alloc: Global, bytes: &[u8], rows: u64) -> Result<EncodedPieces<
 impl Change {
     ghost use Rattle.store_changes.specs.Change.{change_of};
 
-    /// The streams of the new segments, in order, and how many rows each has.
+    /// Returns the streams of the new segments, in order, and the number of rows of each.
     ///
     /// # Errors
-    /// Where memory is refused.
+    /// `AllocError` if memory was refused.
     pub fn pieces(&self, alloc: Global) -> Result<EncodedPieces<'_>, AllocError>
         ensures streams { IfOk result (λ pieces. streams_in pieces ≡ (change_of self.now).streams) }
         ensures counts { IfOk result (λ pieces. pieces.rows.items ≡ (change_of self.now).counts) }

@@ -1,4 +1,4 @@
-// A step of a compaction is decided: two neighbouring segments become one, or the last segment moves forward.
+// Decides on a step of a compaction: two neighbouring segments are joined, or the last segment is moved to a lower start.
 ghost use Rattle.std.specs.Prelude.{◌≡◌, true, map, Ok, Err, IfOk, IfErr};
 ghost use Rattle.sector_dev.specs.Disk.{now, shown_image};
 ghost use Rattle.segments.specs.Usages.{IsUsedIn};
@@ -17,28 +17,28 @@ use segments::FreeMap;
 use std::alloc::Global;
 use tables::Refusal;
 
-/// What a step of a compaction did.
+/// The kind of a step of a compaction.
 #[derive(Clone, Copy, Debug, PartialEq, Eq)]
 pub enum Compaction {
-    /// Two neighbouring segments of a table became one.
+    /// Two neighbouring segments of a table are joined.
     Merged,
-    /// The segment that started last lies elsewhere, further in front.
+    /// The segment with the greatest start is moved to a lower start.
     Moved,
     /// There is nothing to do.
     Nothing,
 }
 
-/// What is to be done, and the change that does it.
+/// A step of a compaction, and the change that does it.
 #[derive(Drop)]
 pub struct Step {
     pub done: Compaction,
     pub change: Change,
 }
 
-/// What a step does to these tables, beside the runs that are free; `None` where there is nothing to do.
+/// Returns the next step for these tables and these free runs; `None` if there is nothing to do. Only reads.
 ///
 /// # Errors
-/// Of a segment that is not read, `SegmentUnread` or `SegmentDamaged` with its place; `Device`, `OutOfMemory`.
+/// `SegmentUnread` or `SegmentDamaged` with the place of a segment that can't be read; `Device`; `OutOfMemory`.
 pub fn decide_step<D: SectorDevice>(
     alloc: Global,
     device: &mut D,

@@ -1,4 +1,4 @@
-// What a command changes, as the catalogue decides it: its tests in their order, and then the change.
+// How the catalogue decides on a command: its tests in order, and then its change.
 ghost use Rattle.std.specs.Prelude.{◌≡◌, [], Bool, IfOk, string_bytes};
 ghost use Rattle.sector_dev.specs.Disk.{Image};
 ghost use Rattle.arrow_schema.specs.View.{schema_of};
@@ -21,7 +21,7 @@ use std::alloc::{AllocError, Global};
 use tables::{Limit, MAX_IMPORT_BYTES, NewTable, Refusal};
 use values::Table;
 
-/// Whether a catalogue has a table of this name.
+/// Returns whether a catalogue has a table with this name.
 pub fn has_table(catalogue: &Catalogue, name: &str) -> bool
     ensures has { result ≡ has_entry (catalogue_of catalogue.now) name.now }
     ensures kept { IsCatalogue (catalogue_of catalogue.now) }
@@ -62,7 +62,7 @@ fn test_free(catalogue: &Catalogue, name: &str) -> Result<(), Refusal>
     }
 }
 
-// S7 Tables: the table would be one too many.
+// S7 Tables: there are as many tables as a store may have.
 fn test_room(catalogue: &Catalogue, name: &str) -> Result<(), Refusal>
     ensures test { Tests result (full_in (catalogue_of catalogue.now) name.now) }
     ensures kept { IsCatalogue (catalogue_of catalogue.now) }
@@ -74,7 +74,7 @@ fn test_room(catalogue: &Catalogue, name: &str) -> Result<(), Refusal>
     }
 }
 
-// S7 Bytes: more than may be imported.
+// S7 Bytes: the stream is longer than an import may be.
 pub(crate) fn test_bytes(bytes: &[u8]) -> Result<(), Refusal>
     ensures { Tests result (too_many_bytes bytes.now) }
 {
@@ -97,10 +97,10 @@ pub(crate) fn test_shape(own: &Schema, new: &Schema) -> Result<(), Refusal>
     }
 }
 
-/// The tests of a new name: that a table may have it, that none has it, and that there is room for one more table.
+/// Tests a new name: it is valid, no table has it, and there is room for one more table.
 ///
 /// # Errors
-/// `BadName`, `NameTaken`, `TooMany(Tables)`.
+/// `BadName`, `NameTaken`, `TooMany(Tables)`, in this order.
 pub fn test_create(catalogue: &Catalogue, name: &str) -> Result<(), Refusal>
     ensures test { Tests result (create_tests (catalogue_of catalogue.now) name.now) }
     ensures kept { IsCatalogue (catalogue_of catalogue.now) }
@@ -125,17 +125,17 @@ fn test_rename(catalogue: &Catalogue, from: &str, to: &str) -> Result<(), Refusa
     test_free(catalogue, to)
 }
 
-// A change without new segments.
+// Returns a change without new segments.
 fn change_of_names(edit: Edit) -> Change
     ensures { change_of result ≡ record { edit = edit_of edit; streams = []; counts = [] } }
 {
     Change { edit, new: None }
 }
 
-/// A table at a name: its pieces are the new segments.
+/// Returns the change that sets the table with this name. The pieces of its rows are the new segments.
 ///
 /// # Errors
-/// Where memory is refused.
+/// `AllocError` if memory was refused.
 pub fn put_table(alloc: Global, name: String, table: Table) -> Result<Change, AllocError>
     ensures { IfOk result (λ change. IsPut (string_bytes name) (table_of table) (change_of change)) }
 {
@@ -150,7 +150,7 @@ pub fn put_table(alloc: Global, name: String, table: Table) -> Result<Change, Al
     })
 }
 
-/// A table without rows.
+/// Returns the change that creates a table without rows.
 ///
 /// # Errors
 /// Those of [`test_create`].
@@ -165,10 +165,10 @@ pub fn decide_create(catalogue: &Catalogue, new: NewTable) -> Result<Change, Ref
     Ok(change_of_names(Edit::Put { name, schema }))
 }
 
-/// The table that a stream means, in place of one that stands there.
+/// Returns the change that imports the table of a stream. It replaces a table with the same name.
 ///
 /// # Errors
-/// `BadName` and `TooMany(Bytes)`; those of the stream; `TooMany(Tables)`; `OutOfMemory`.
+/// `BadName`; `TooMany(Bytes)`; those of the stream; `TooMany(Tables)`; in this order. `OutOfMemory`.
 pub fn decide_import(
     alloc: Global,
     catalogue: &Catalogue,
@@ -187,10 +187,10 @@ pub fn decide_import(
     Ok(put_table(alloc, name, table)?)
 }
 
-/// The table under another name.
+/// Returns the change that renames a table.
 ///
 /// # Errors
-/// `NoTable`, `BadName`, `NameTaken`.
+/// `NoTable`, `BadName`, `NameTaken`, in this order.
 pub fn decide_rename(catalogue: &Catalogue, from: String, to: String) -> Result<Change, Refusal>
     ensures ok { IfOk result (λ change. CanChange (catalogue_of catalogue.now) (change_of change)) }
     ensures answers { (tells : Bool) (image : Image) → IsAnswered tells image (catalogue_of catalogue.now)
@@ -200,7 +200,7 @@ pub fn decide_rename(catalogue: &Catalogue, from: String, to: String) -> Result<
     Ok(change_of_names(Edit::Move { from, to }))
 }
 
-/// No table of the name any more.
+/// Returns the change that removes a table.
 ///
 /// # Errors
 /// `NoTable`.

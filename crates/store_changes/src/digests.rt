@@ -1,4 +1,4 @@
-// The digests of all segments are taken.
+// Computes the digests of all segments.
 ghost use Rattle.std.specs.Prelude.{◌≡◌, ℕ, true, Some, map, slice_get, Ok, Err, IfOk, IfErr};
 ghost use Rattle.std.specs.List.{list_all};
 ghost use Rattle.sha2.specs.Sha256.{sha256};
@@ -24,7 +24,7 @@ fn digest_of(bytes: &[u8]) -> [u8; 32]
     Sha256::digest(bytes)
 }
 
-// The digests of segments, by their bytes.
+// Returns the digests of the bytes of segments.
 fn segment_digests<D: SectorDevice>(
     alloc: Global,
     device: &mut D,
@@ -50,7 +50,7 @@ fn segment_digests<D: SectorDevice>(
     Ok(digests)
 }
 
-// The digests of a table's segments. Its rows are read before, so that it is reported as by a reading why one can't be taken.
+// Returns the digests of a table's segments. Its rows are read first, so that a segment that can't be read is reported as by a read of the table.
 fn entry_digests<D: SectorDevice>(
     alloc: Global,
     device: &mut D,
@@ -76,11 +76,11 @@ fn entry_digests<D: SectorDevice>(
     }
 }
 
-/// The digests of the segments of all tables, in their order. The rows of each table are read before, so that it is reported as by a reading why one
-/// can't be taken.
+/// Returns the digests of the segments of all tables, in order. The rows of each table are read first, so that a segment that can't be read is reported as
+/// by a read of the table. Only reads.
 ///
 /// # Errors
-/// Of the first table that can't be read, `SegmentUnread` or `SegmentDamaged` with the place of the segment; `Device`, `OutOfMemory`.
+/// `SegmentUnread` or `SegmentDamaged` with the place of the segment, for the first table that can't be read; `Device`; `OutOfMemory`.
 pub fn all_digests<D: SectorDevice>(
     alloc: Global,
     device: &mut D,

@@ -1,4 +1,4 @@
-// Edits of a catalogue, and the segments that are new in it.
+// Edits of a catalogue, and its new segments.
 ghost use Rattle.std.specs.Prelude.{◌≡◌, ◌<◌, ◌≤◌, ◌+◌, ◌^◌, ◌++◌, ℕ, true, List, Some, map, flat_map, option_map, length, string_bytes, IfOk, OnOk};
 ghost use Rattle.std.specs.List.{list_all};
 ghost use Rattle.std.specs.Str.{bytes_eq};
@@ -24,7 +24,7 @@ use arrow_schema::Schema;
 use catalogue::{Catalogue, MAX_SEGMENT_ROWS, Segment, TableEntry, put_runs};
 use cells::MAX_PIECE_ROWS;
 use commit::FormatVersion;
-use ipc_write::write_schema;
+use ipc_write::encode_schema;
 use sector_dev::SECTOR_BYTES;
 use segments::{Extent, Piece, PiecePart, Run, byte_count};
 use sha2::{Digest, Sha256};
@@ -33,27 +33,25 @@ use std::alloc::{AllocError, Global};
 // A segment holds the rows of one piece.
 const _: () = prove!(MAX_SEGMENT_ROWS == MAX_PIECE_ROWS as u64);
 
-// Whether two schemas have one message.
+// Returns whether two schemas have the same message.
 fn have_one_message(alloc: Global, a: &Schema, b: &Schema) -> Result<bool, AllocError>
     requires first { IsWithinLimits (schema_of a.now) }
     requires second { IsWithinLimits (schema_of b.now) }
     ensures { IfOk result (λ same. same ≡ bytes_eq (schema_message (schema_of a.now)) (schema_message (schema_of b.now))) }
 {
-    let mut one = Vec::new(alloc);
-    write_schema(alloc, &mut one, a)?;
-    let mut other = Vec::new(alloc);
-    write_schema(alloc, &mut other, b)?;
+    let one = encode_schema(alloc, a)?;
+    let other = encode_schema(alloc, b)?;
     Ok(one.as_slice() == other.as_slice())
 }
 
-// The page of a table that gets these segments after its others: it stays where there are none.
+// Returns the page of a table after these segments were appended: it remains if there are none.
 fn page_behind(segments: &[Segment], page: Option<Extent>) -> Option<Extent>
     ensures { result ≡ page_behind segments.now page }
 {
     if segments.is_empty() { page } else { None }
 }
 
-// The page of a table that takes the place of this one: it stays where its text does.
+// Returns the page of a table that replaces this one: it remains if its text does.
 fn page_over(
     alloc: Global,
     old: &TableEntry,
@@ -71,7 +69,7 @@ fn page_over(
     }
 }
 
-// The page of a table of this name, which takes the place of one that stands there.
+// Returns the page of a table with this name, which replaces one with the same name.
 fn page_instead(
     alloc: Global,
     catalogue: &Catalogue,
@@ -104,7 +102,7 @@ fn new_entry(
     TableEntry::new(alloc, name, schema, segments, page)
 }
 
-// The catalogue after an edit with these new segments.
+// Returns the catalogue after an edit with these new segments.
 pub(crate) fn edited(
     alloc: Global,
     catalogue: &Catalogue,
@@ -135,7 +133,7 @@ pub(crate) fn edited(
     Ok(changed)
 }
 
-// n segments of a table, from a place on.
+// Returns `count` segments of a table, from a place on.
 fn segments_from(entry: &TableEntry, place: usize, count: usize) -> &[Segment]
     requires { place + count ≤ length (plain_entry entry.now).segments }
     ensures { result.now ≡ from_place (plain_entry entry.now).segments place count }
@@ -143,7 +141,7 @@ fn segments_from(entry: &TableEntry, place: usize, count: usize) -> &[Segment]
     &entry.segments()[place..place + count]
 }
 
-// Appends the run of a page, where another one, or none, takes its place.
+// Appends the run of a page if another page or none replaces it.
 fn put_lost(runs: &mut Vec<Run>, old: Option<Extent>, new: Option<Extent>) -> Result<(), AllocError>
     ensures { OnOk result (runs.new.items ≡ runs.old.items ++ page_lost old new) }
 {
@@ -153,7 +151,7 @@ fn put_lost(runs: &mut Vec<Run>, old: Option<Extent>, new: Option<Extent>) -> Re
     }
 }
 
-// The name of the table that an edit changes; none where it changes all.
+// Returns the name of the table that an edit changes; `None` if it changes all tables.
 fn name_edited(edit: &Edit) -> Option<&str>
     ensures { option_map (λ name. name.now) result ≡ name_edited (edit_of edit.now) }
 {
@@ -171,7 +169,7 @@ fn name_edited(edit: &Edit) -> Option<&str>
     }
 }
 
-// What an edit with these new segments takes out of the table that it changes.
+// Returns the runs that an edit with these new segments removes from the table that it changes.
 fn given_by(
     alloc: Global,
     edit: &Edit,
@@ -216,7 +214,7 @@ fn given_by(
     Ok(runs)
 }
 
-// The runs of the pages that go where all segments get digests.
+// Returns the runs of the pages that are replaced if all segments get digests.
 fn lost_pages(alloc: Global, entries: &[TableEntry]) -> Result<Vec<Run>, AllocError>
     ensures { IfOk result (λ runs. runs.items ≡ flat_map lost_page (map plain_entry entries.now)) }
 {
@@ -231,7 +229,7 @@ fn lost_pages(alloc: Global, entries: &[TableEntry]) -> Result<Vec<Run>, AllocEr
     Ok(runs)
 }
 
-// The runs that an edit with these new segments takes out.
+// Returns the runs that an edit with these new segments removes.
 pub(crate) fn given_up(
     alloc: Global,
     catalogue: &Catalogue,
@@ -250,7 +248,7 @@ pub(crate) fn given_up(
     }
 }
 
-// How many segments a table has; none if it isn't there.
+// Returns the number of segments of a table; 0 if there is no such table.
 fn segments_at(catalogue: &Catalogue, name: &str) -> u64
     ensures number { result ≡ segments_at (catalogue_of catalogue.now) name.now }
     ensures kept { IsCatalogue (catalogue_of catalogue.now) }
@@ -261,7 +259,7 @@ fn segments_at(catalogue: &Catalogue, name: &str) -> u64
     }
 }
 
-// How many segments there are after an edit with n new ones.
+// Returns the number of segments after an edit with this number of new ones.
 pub(crate) fn segments_after(catalogue: &Catalogue, edit: &Edit, new: u64) -> u64
     requires edit { (streams : List (List ℕ)) × IsEdit (catalogue_of catalogue.now) (edit_of edit.now) streams }
     requires few { new < 2 ^ 63 }
@@ -283,7 +281,7 @@ pub(crate) fn segments_after(catalogue: &Catalogue, edit: &Edit, new: u64) -> u6
     }
 }
 
-// The version after an edit.
+// Returns the version after an edit.
 pub(crate) fn version_after(edit: &Edit, version: FormatVersion) -> FormatVersion
     ensures { result ≡ version_after (edit_of edit.now) version }
 {
@@ -293,7 +291,7 @@ pub(crate) fn version_after(edit: &Edit, version: FormatVersion) -> FormatVersio
     }
 }
 
-// The SHA-256 of parts one after another.
+// Returns the SHA-256 of parts one after another.
 fn digest_of_parts(parts: &[PiecePart<'_>]) -> [u8; 32]
     ensures { result ≡ sha256 (bytes_of_parts parts.now) }
 {
@@ -304,7 +302,7 @@ fn digest_of_parts(parts: &[PiecePart<'_>]) -> [u8; 32]
     hasher.finalize()
 }
 
-// The digest of a segment of these parts, where the version has one.
+// Returns the digest of a segment of these parts, if the version has digests.
 fn digest_for(version: FormatVersion, parts: &[PiecePart<'_>]) -> Option<[u8; 32]>
     ensures { result ≡ digest_for version (bytes_of_parts parts.now) }
 {
@@ -314,7 +312,7 @@ fn digest_for(version: FormatVersion, parts: &[PiecePart<'_>]) -> Option<[u8; 32
     }
 }
 
-// The segments of streams, with a number of rows each, that have no places yet.
+// Returns the segments of streams, with the number of rows of each. They have no places yet.
 pub(crate) fn unplaced(
     alloc: Global,
     version: FormatVersion,
@@ -340,7 +338,7 @@ pub(crate) fn unplaced(
     Ok(segments)
 }
 
-// The same segments in the runs of these pieces.
+// Returns the same segments in the runs of these pieces.
 pub(crate) fn in_runs(
     alloc: Global,
     segments: &[Segment],

@@ -1,4 +1,4 @@
-// Laws of what is decided and changed. The functions do nothing: their contracts are the laws.
+// Laws of decisions and changes. The functions do nothing: their contracts are the laws.
 ghost use Rattle.std.specs.Prelude.{slice_get, Option, ◌≡◌, ◌⊎◌, ◌≤◌, ◌+◌, ◌*◌, ℕ, Bool, true, Some, List, ◌∷◌, length, Result};
 ghost use Rattle.sector_dev.specs.Disk.{Disk, Image, synced_image};
 ghost use Rattle.segments.specs.declared.entries.UsageEntry.{UsageEntry};
@@ -31,8 +31,8 @@ use pages::pages_hold_what_was_read;
 use query::{rows_refuse_no_query, selection_is_a_table};
 use values::{accepted_rows_are_a_table, tables_are_joined_and_cut};
 
-/// Segments that are exchanged for others with the same rows leave the tables as they are; and catalogues that shrink in turn, by a segment or by the sum of
-/// their starts, are no more than the square of the segments times the sectors, and the segments.
+/// Segments that are replaced by others with the same rows leave the tables as they are. A sequence of catalogues, each with a segment fewer or with a lower
+/// sum of the starts than the one before, is no longer than the square of the number of segments times the number of sectors, plus the number of segments.
 pub fn compactions_end()
     ensures tables { (image : Image) (c : PlainCatalogue) (name : List ℕ) (place count : ℕ) (others : List Segment) → HoldsSame image c name place count others
         → tables_held image (with_exchanged c name place count others) ≡ tables_held image c }
@@ -40,9 +40,9 @@ pub fn compactions_end()
         → length cs ≤ segment_count c * (segment_count c * size + 1) }
 {}
 
-/// Rows of a segment come only of bytes that have the digest of its entry, where it has one: those that an image has (`held`, of a table `table`), and
-/// those that were read of any device, for a table (`read`) or a piece of an export (`piece`). And of one table there is at most one of a segment that
-/// can't be read and one with other bytes (`apart`).
+/// Rows of a segment come only from bytes with the digest of its entry, if it has one: those of an image (`held`, and `table` for a table), and those that
+/// were read from any device, for a table (`read`) or a piece of an export (`piece`). The first segment of a table that fails either can't be read or has
+/// other bytes, and not both (`apart`).
 pub fn rows_have_their_digest()
     ensures held { (schema : PlainSchema) (g : Segment) (image : Image) (rows : List (List Cell)) (d : List ℕ) → g.digest ≡ Some d
         → segment_rows schema g image ≡ Some rows → HaveDigest (bytes_of g image) d }
@@ -55,7 +55,7 @@ pub fn rows_have_their_digest()
     ensures apart { (image : Image) (e : PlainEntry) (i j : ℕ) → IsUnread image e i → IsDamaged image e j → ⊥ }
 {}
 
-/// What the laws of tables say, as one fact.
+/// The laws of tables, as one fact.
 pub fn table_laws()
     ensures { TableLaws }
 {
@@ -63,7 +63,7 @@ pub fn table_laws()
     tables_are_joined_and_cut();
 }
 
-/// What all laws below the store say.
+/// All laws below the store.
 pub fn laws_below()
     ensures { LawsBelow }
 {
@@ -75,9 +75,9 @@ pub fn laws_below()
     pages_hold_what_was_read();
 }
 
-/// What is decided of a command by a catalogue, and by what reads show, is the verdict on the tables that the catalogue lists: a change that makes
-/// of them what the command makes, or the same refusal. `decided` is also of a store of which some segment can't be read. Where each can be read
-/// (`listed`) there is no other answer, but that memory was refused, or that the device failed (`answered`). `catalogues`: what stands is a catalogue.
+/// The decision on a command, by a catalogue and by what reads show, is the verdict on the tables that the catalogue lists: a change with the same effect on
+/// them as the command, or the same refusal. `decided` also holds for a store with a segment that can't be read. If each can be read (`listed`), the only
+/// other answers are that memory was refused or that the device failed (`answered`). `catalogues`: what a commit names is a catalogue.
 pub fn decisions_are_verdicts()
     ensures decided { (image : Image) (c : PlainCatalogue) (t : Tables) (command : PlainCommand) (d : Result PlainChange Refusal)
         → AreListed image c t → BringsTables command → IsDecided true image c command d → IsVerdict t command d }
@@ -90,8 +90,8 @@ pub fn decisions_are_verdicts()
     laws_below();
 }
 
-/// Of a store that lies on its disk, with these tables: an image on which a command is done has the tables that the verdict says, where what lay in
-/// the runs of the catalogue lies there still (`done`); so what a stop leaves has those tables, or the ones that stood (`left`).
+/// For a store that lies on its disk, with these tables: an image on which a command is done has the tables of the verdict, if the runs of the catalogue
+/// still have their contents (`done`). So a stop leaves those tables or the old ones (`left`).
 pub fn what_is_done_is_the_verdict()
     ensures done { (size : ℕ) (entries : List UsageEntry) (k : Commit) (c : PlainCatalogue) (before : Disk) (t : Tables) (command : PlainCommand)
         (image : Image) → Stands stored_reading size before k c → tables_held (synced_image before) c ≡ Some t → BringsTables command

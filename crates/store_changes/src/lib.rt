@@ -1,7 +1,7 @@
-//! What a command makes of a catalogue: it is decided, and the change is prepared for publishing. No store stands here.
+//! How a command changes a catalogue: the command is decided, and its change is prepared for publishing. Nothing is published here.
 //!
-//! A command is decided by the catalogue, and where it needs a table, by the segments that are read of a device. The change that it is, of names or with
-//! new segments, takes runs and becomes a plan. So do a step of a compaction and the digests of an upgrade.
+//! The catalogue decides on a command, and so do the segments that are read from a device if the command needs a table. The change, of names or with new
+//! segments, takes runs and becomes a plan. A step of a compaction and the digests of an upgrade become plans in the same way.
 #![tactic(auto)]
 
 mod appending;

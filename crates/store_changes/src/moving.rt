@@ -1,4 +1,4 @@
-// The segment that starts last moves forward, where a free run before it fits.
+// Moves the segment with the greatest start to a lower free run.
 ghost use Rattle.std.specs.Prelude.{◌≡◌, ◌≤◌, ◌<◌, ◌+◌, ◌∷◌, [], Some, true, false, length, map, slice_get, IfOk, IfErr};
 ghost use Rattle.sector_dev.specs.Disk.{now, shown_image};
 ghost use Rattle.segments.specs.Runs.{IsLowest};
@@ -20,7 +20,7 @@ use segments::FreeMap;
 use std::alloc::{AllocError, Global};
 use tables::Refusal;
 
-/// A segment, by the number of its table and its place there.
+/// A segment, by the number of its table and its place in that table.
 #[derive(Clone, Copy)]
 pub(crate) struct Last {
     pub(crate) table: usize,
@@ -28,7 +28,7 @@ pub(crate) struct Last {
     pub(crate) segment: Segment,
 }
 
-// The later one of two, by where they start.
+// Returns the one with the greater start.
 fn later(last: Option<Last>, other: Last) -> Last
     ensures { result ≡ later_of last other }
 {
@@ -44,7 +44,7 @@ fn later(last: Option<Last>, other: Last) -> Last
     }
 }
 
-// The segment of a table that starts last.
+// Returns the segment of a table with the greatest start.
 fn last_in(table: usize, segments: &[Segment]) -> Option<Last>
     ensures { IsLastIn table segments.now (length segments.now) result }
 {
@@ -60,7 +60,7 @@ fn last_in(table: usize, segments: &[Segment]) -> Option<Last>
     last
 }
 
-// The later one of that of the tables before and that of this table.
+// Returns the segment with the greatest start of the tables before and of this table.
 fn later_in(last: Option<Last>, table: usize, entry: &TableEntry) -> Option<Last>
     ensures { (c : PlainCatalogue) → slice_get c table ≡ Some (plain_entry entry.now) → IsLastOf c table last → IsLastOf c (table + 1) result }
 {
@@ -70,7 +70,7 @@ fn later_in(last: Option<Last>, table: usize, entry: &TableEntry) -> Option<Last
     }
 }
 
-// The segment of all tables that starts last.
+// Returns the segment of all tables with the greatest start.
 fn last_segment(entries: &[TableEntry]) -> Option<Last>
     ensures { IsLastOf (map plain_entry entries.now) (length (map plain_entry entries.now)) result }
 {
@@ -81,7 +81,7 @@ fn last_segment(entries: &[TableEntry]) -> Option<Last>
     last
 }
 
-// The table of a segment.
+// Returns the table of a segment.
 fn entry_at(entries: &[TableEntry], table: usize) -> &TableEntry
     requires { table < length entries.now }
     ensures { slice_get (map plain_entry entries.now) table ≡ Some (plain_entry result.now) }
@@ -89,7 +89,7 @@ fn entry_at(entries: &[TableEntry], table: usize) -> &TableEntry
     &entries[table]
 }
 
-// The bytes of a segment become a segment in its place.
+// Returns the change that writes the bytes of a segment as a new segment in its place.
 fn copy_of(
     alloc: Global,
     entry: &TableEntry,
@@ -114,7 +114,7 @@ fn copy_of(
     })
 }
 
-// Whether the lowest free run that fits a segment starts before it.
+// Returns whether the lowest free run that fits a segment starts before it.
 fn fits_below(free: &FreeMap, segment: Segment) -> bool
     requires { 1 ≤ segment.place.run.count }
     ensures below { result ≡ true → (run : Run) × IsLowest free.now.size (IsUsedIn free.now.entries) segment.place.run.count (Some run)
@@ -128,11 +128,10 @@ fn fits_below(free: &FreeMap, segment: Segment) -> bool
     }
 }
 
-/// The segment that starts last moves to the lowest free run that fits it, where this one starts before it. It only reads.
+/// Returns the change that moves the segment with the greatest start to the lowest free run that fits it, if that run starts before it. Only reads.
 ///
 /// # Errors
-/// `SegmentUnread` where a sector can't be read, `SegmentDamaged` where its bytes have another digest than the catalogue has of them, `Device`,
-/// `OutOfMemory`.
+/// `SegmentUnread` if a sector can't be read; `SegmentDamaged` if its bytes have another digest than the one in the catalogue; `Device`; `OutOfMemory`.
 pub(crate) fn decide_move<D: SectorDevice>(
     alloc: Global,
     device: &mut D,

@@ -1,4 +1,4 @@
-// New rows for a table that stands: the tests of them that need no more of it than its entry.
+// New rows for an existing table: the tests that need only its entry.
 ghost use Rattle.std.specs.Prelude.{◌≡◌, ◌⊎◌, map, Ok, Err, None, Some, IfOk, IfErr, OnOk};
 ghost use Rattle.arrow_schema.specs.Limits.{IsWithinLimits};
 ghost use Rattle.arrow_schema.specs.Shape.{HaveOneShape};
@@ -24,7 +24,7 @@ use table_cut::first_unfit_row;
 use tables::Refusal;
 use values::{Table, TableError, WeighedTable, accepted_rows_are_a_table};
 
-/// The rows that a stream means, rows that are given, or those of a table.
+/// New rows: those of a stream, those that a caller gives, or those of a table.
 #[derive(Drop)]
 pub enum NewRows {
     Stream(Vec<u8>),
@@ -32,7 +32,7 @@ pub enum NewRows {
     OfTable(WeighedTable),
 }
 
-// S6: a new row that the table does not take.
+// S6: a new row does not fit the table.
 fn test_rows(alloc: Global, own: &Schema, new: &Table) -> Result<(), Refusal>
     requires { HaveOneShape (schema_of own.now) (table_of new.now).schema }
     ensures ok { OnOk result (unfit_row (schema_of own.now) (table_of new.now).rows ≡ None) }
@@ -45,7 +45,7 @@ fn test_rows(alloc: Global, own: &Schema, new: &Table) -> Result<(), Refusal>
     }
 }
 
-// The rows that a stream means, where they can go after those of an entry's table but for their weight, and what they weigh there.
+// Returns the rows of a stream and their weight in an entry's table, if they pass all tests but that of the total weight.
 fn pass_stream(alloc: Global, entry: &TableEntry, stream: Vec<u8>) -> Result<WeighedTable, Refusal>
     requires { IsWithinLimits (plain_entry entry.now).schema }
     ensures tested { IfOk result (λ new. streamed_rows stream.items (plain_entry entry.now)
@@ -64,7 +64,7 @@ fn pass_stream(alloc: Global, entry: &TableEntry, stream: Vec<u8>) -> Result<Wei
     Ok(new)
 }
 
-// The same of rows that are given, where they are not too heavy for any table.
+// Returns the same for rows that a caller gives, if they are not too heavy for any table.
 fn pass_rows(
     alloc: Global,
     entry: &TableEntry,
@@ -83,7 +83,7 @@ fn pass_rows(
     }
 }
 
-// The rows of a table, each in memory of its own.
+// Copies the rows of a table.
 fn own_rows(alloc: Global, table: &Table) -> Result<Vec<Row>, AllocError>
     ensures { IfOk result (λ rows. map row_of rows.items ≡ (table_of table.now).rows) }
 {
@@ -94,7 +94,7 @@ fn own_rows(alloc: Global, table: &Table) -> Result<Vec<Row>, AllocError>
     Ok(rows)
 }
 
-// The same of the rows of a table: where its schema is the entry's own they are a table there as they stand, and else they are given rows.
+// Returns the same for the rows of a table. If its schema is that of the entry, the table is used as it is. Otherwise its rows are copied and tested.
 fn pass_table(
     alloc: Global,
     entry: &TableEntry,
@@ -113,7 +113,8 @@ fn pass_table(
     pass_rows(alloc, entry, rows)
 }
 
-/// New rows that an entry's table takes but for their weight, as a table and what they weigh there; none where they are too heavy for any table.
+/// Returns new rows that pass all tests of an entry's table but that of the total weight, as a table and its weight; `None` if they are too heavy for any
+/// table.
 ///
 /// # Errors
 /// Those of the tests, in their order; `OutOfMemory`.

@@ -1,4 +1,4 @@
-// Neighbouring segments of a table whose rows are one piece.
+// Joins neighbouring segments of a table whose rows are one piece.
 ghost use Rattle.std.specs.Prelude.{◌≡◌, ◌≤◌, ◌+◌, true, nat_le, length, map, IfOk, IfErr};
 ghost use Rattle.sector_dev.specs.Disk.{now, shown_image};
 ghost use Rattle.cells.specs.declared.limits.TheConstants.{MAX_PIECE_ROWS};
@@ -23,7 +23,7 @@ use table_cut::next_piece;
 use tables::Refusal;
 use values::Table;
 
-// Where the catalogue says that the rows of a pair are more than one piece, it isn't read.
+// Returns whether a pair may be one piece by the numbers of its rows in the catalogue. Otherwise it is not read.
 fn may_be_one(entry: &TableEntry, place: usize) -> bool
     requires sound { is_entry (plain_entry entry.now) ≡ true }
     requires within { place + 2 ≤ length (plain_entry entry.now).segments }
@@ -35,7 +35,7 @@ fn may_be_one(entry: &TableEntry, place: usize) -> bool
     first + second <= MAX_PIECE_ROWS as u64
 }
 
-// Whether the cut keeps all rows in one piece.
+// Returns whether all rows are cut into one piece.
 fn is_one_piece(alloc: Global, table: &Table) -> Result<bool, AllocError>
     requires { 1 ≤ length (table_of table.now).rows }
     ensures { IfOk result (λ one. one ≡ is_one_piece (table_of table.now)) }
@@ -44,7 +44,7 @@ fn is_one_piece(alloc: Global, table: &Table) -> Result<bool, AllocError>
     Ok(piece.len() == table.len())
 }
 
-// Two neighbours as a table of their own.
+// Returns two neighbours as the entry of a table of their own.
 fn pair_of(alloc: Global, entry: &TableEntry, place: usize) -> Result<TableEntry, AllocError>
     requires within { place + 2 ≤ length (plain_entry entry.now).segments }
     ensures { IfOk result (λ pair. plain_entry pair ≡ pair_of (plain_entry entry.now) place) }
@@ -55,7 +55,7 @@ fn pair_of(alloc: Global, entry: &TableEntry, place: usize) -> Result<TableEntry
     TableEntry::new(alloc, name, schema, segments, None)
 }
 
-// The rows of a pair as a table.
+// Reads the rows of a pair as a table.
 fn read_pair<D: SectorDevice>(
     alloc: Global,
     device: &mut D,
@@ -81,7 +81,7 @@ fn read_pair<D: SectorDevice>(
     }
 }
 
-// The table of a pair whose rows are one piece; none where they stay two segments.
+// Returns the table of a pair whose rows are one piece; `None` if they stay two segments.
 fn joined_at<D: SectorDevice>(
     alloc: Global,
     device: &mut D,
@@ -109,7 +109,7 @@ fn joined_at<D: SectorDevice>(
     }
 }
 
-// The pair becomes one segment.
+// Returns the change that joins the pair.
 fn merge(
     alloc: Global,
     entry: &TableEntry,
@@ -133,7 +133,7 @@ fn merge(
     })
 }
 
-// The first pair of a table whose rows are one piece becomes one segment.
+// Returns the change that joins the first pair of a table whose rows are one piece.
 fn first_pair_of<D: SectorDevice>(
     alloc: Global,
     device: &mut D,
@@ -161,7 +161,7 @@ fn first_pair_of<D: SectorDevice>(
     Ok(None)
 }
 
-/// The first pair of all tables, in their order, whose rows are one piece becomes one segment. It only reads.
+/// Returns the change that joins the first pair of all tables, in order, whose rows are one piece. Only reads.
 ///
 /// # Errors
 /// `SegmentUnread`, `SegmentDamaged`, `Device`, `OutOfMemory`.

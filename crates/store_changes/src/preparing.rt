@@ -1,4 +1,4 @@
-// A change is prepared: runs are taken for it, and the plan is made that can be published.
+// Prepares a change: takes runs for it, and makes the plan that is published.
 ghost use Rattle.std.specs.Prelude.{◌≡◌, ◌≢◌, ◌≤◌, ◌++◌, ◌∷◌, [], ℕ, List, Ok, Err, OnErr, IfOk, IfErr, length, true};
 ghost use Rattle.std.specs.List.{list_all};
 ghost use Rattle.segments.specs.Usages.{IsUsedIn, SameUsages, GivesAll};
@@ -29,21 +29,21 @@ use segments::{FreeMap, Piece, PiecePart, Run, TakeError};
 use std::alloc::{AllocError, Global};
 use tables::{Limit, Refusal};
 
-/// A plan that can be published, and the runs that go back once it was.
+/// A plan to publish, and the runs that become free after it was published.
 #[derive(Drop)]
 pub struct Prepared<'a> {
     pub plan: Plan<'a, StoredCatalogue>,
     pub back: Vec<Run>,
 }
 
-// What a change asks for beside its streams, and what goes back once it was published.
+// The room that a change needs besides its streams, and the runs that become free after it was published.
 #[derive(Drop)]
 struct Asked {
     layout: Layout,
     back: Vec<Run>,
 }
 
-// The runs that were taken for pages: those after the pieces', before the text's.
+// Returns the runs that were taken for pages: those after the runs of the pieces and before that of the text.
 fn page_runs<'a>(places: &'a Places<'_>) -> &'a [Run]
     requires { (pages : ℕ) × HasRoom pages places.now }
     ensures { places.now.runs.items ≡ (runs_of (plain_pieces places.now.pieces.items) ++ result.now) ++ places.now.text ∷ [] }
@@ -51,7 +51,7 @@ fn page_runs<'a>(places: &'a Places<'_>) -> &'a [Run]
     &places.runs[places.pieces.len()..places.runs.len() - 1]
 }
 
-// Bytes and more parts after them, where they stand.
+// Borrows bytes and the parts after them.
 fn borrowed_parts<'a>(
     alloc: Global,
     first: &'a [u8],
@@ -67,7 +67,7 @@ fn borrowed_parts<'a>(
     Ok(borrowed)
 }
 
-// The streams of pieces, where their parts stand.
+// Borrows the streams of pieces.
 fn borrowed_streams<'a>(
     alloc: Global,
     pieces: &'a EncodedPieces<'_>,
@@ -81,8 +81,8 @@ fn borrowed_streams<'a>(
     Ok(borrowed)
 }
 
-// What a change asks for beside its streams, and what goes back once it was published: what its edit gives up, the pages of a
-// catalogue that is kept whole from then on, and the run of the text that rules now. Where its new segments lie makes no difference.
+// Returns the room that a change needs besides its streams, and the runs that become free after it was published: those that its edit removes, the pages
+// of a catalogue that is whole from then on, and the run of the current text. The places of its new segments make no difference.
 fn ask(
     alloc: Global,
     commit: Commit,
@@ -112,7 +112,7 @@ fn ask(
     Ok(Asked { layout, back })
 }
 
-// The new catalogue, its new segments in the runs of these pieces and its new pages in these runs, and the texts that are written for it.
+// Returns the new catalogue, with its new segments in the runs of these pieces and its new pages in these runs, and the texts to write.
 fn next_catalogue<'a>(
     alloc: Global,
     stored: &StoredCatalogue,
@@ -145,7 +145,7 @@ fn next_catalogue<'a>(
     Ok((StoredCatalogue { list }, texts))
 }
 
-// Why no run is taken, as it is reported for a command.
+// Returns the refusal of a command for which no run is taken.
 fn taking_refusal(error: TakeError) -> Refusal
     ensures { result ≡ taking_refusal error }
 {
@@ -155,7 +155,7 @@ fn taking_refusal(error: TakeError) -> Refusal
     }
 }
 
-// Takes runs for the streams, the pages and the text of the new catalogue, and makes the plan. After an error each run is used for what it was.
+// Takes runs for the streams, the pages and the text of the new catalogue, and makes the plan. After an error each run has its old use.
 fn plan_change<'a>(
     alloc: Global,
     map: &mut FreeMap,
@@ -218,7 +218,7 @@ fn plan_change<'a>(
     }
 }
 
-/// What can be tested before anything is placed, and then the plan. After an error each run is used for what it was.
+/// Tests what can be tested before runs are taken, and then makes the plan. After an error each run has its old use.
 ///
 /// # Errors
 /// `TooMany(Epochs)`, `TooMany(Segments)`, `NoRoom`, `OutOfMemory`, in this order.
@@ -256,7 +256,7 @@ pub fn prepare<'a>(
     }
 }
 
-/// What was published rules, and the runs that it gave up go back. It takes no memory.
+/// Makes what was published the state of the store, and frees the runs that it no longer needs. Allocates nothing.
 pub fn settle(opened: &mut Opened<StoredCatalogue>, prepared: Prepared<'_>)
     ensures commit { opened.new.commit ≡ prepared.entry.plan.commit }
     ensures catalogue { opened.new.catalogue ≡ prepared.entry.plan.catalogue }

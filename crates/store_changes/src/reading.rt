@@ -1,4 +1,4 @@
-// A table is read from the segments of its entry.
+// Reads a table from the segments of its entry.
 ghost use Rattle.std.specs.Prelude.{◌≡◌, ◌≢◌, ◌≤◌, ◌+◌, ◌++◌, ℕ, true, false, List, [], Option, Some, None, length, option_map, sum_by, IfOk, IfErr, IfSome};
 ghost use Rattle.std.specs.List.{list_all};
 ghost use Rattle.sector_dev.specs.Disk.{now, shown_image};
@@ -25,7 +25,7 @@ use catalogue::{Segment, TableEntry};
 use cells::MAX_TABLE_WEIGHT;
 use ipc_message::ImportError;
 use ipc_stream::decode_weighed;
-use ipc_write::{schema_message_is_read_again, write_schema};
+use ipc_write::{encode_schema, schema_message_is_read_again};
 use sector_dev::SectorDevice;
 use segments::{ReadError, read_run};
 use sha2::{Digest, Sha256};
@@ -33,7 +33,7 @@ use std::alloc::{AllocError, Global};
 use tables::Refusal;
 use values::{Table, TableError, WeighedTable};
 
-// Whether bytes of a segment have the digest of its entry, if it has one.
+// Returns whether bytes of a segment have the digest of its entry, if it has one.
 fn is_undamaged(segment: Segment, bytes: &[u8]) -> bool
     ensures { result ≡ is_undamaged segment.digest (Some bytes.now) }
 {
@@ -43,7 +43,7 @@ fn is_undamaged(segment: Segment, bytes: &[u8]) -> bool
     }
 }
 
-// The bytes of the segment at a place, as they were written.
+// Reads the bytes of the segment at this place, and tests their digest.
 pub(crate) fn read_bytes<D: SectorDevice>(
     alloc: Global,
     device: &mut D,
@@ -76,7 +76,7 @@ pub(crate) fn read_bytes<D: SectorDevice>(
     }
 }
 
-// The table of n rows that some bytes hold, if they begin with the message of its schema.
+// Returns the table of this number of rows in some bytes, if they begin with the message of its schema.
 fn table_in_bytes(
     alloc: Global,
     front: &[u8],
@@ -109,7 +109,7 @@ fn table_in_bytes(
     }
 }
 
-/// The table that the segment at a place holds, if it begins with the message of its schema.
+/// Reads the table of the segment at this place, if it begins with `front`, the message of its schema.
 ///
 /// # Errors
 /// `SegmentUnread` and `SegmentDamaged` with its place, `Device`, `OutOfMemory`.
@@ -143,7 +143,7 @@ pub fn read_segment<D: SectorDevice>(
     }
 }
 
-// Why the rows of the segment at a place don't go after others: they are too heavy, or there is no memory.
+// Returns the refusal if the rows of the segment at this place can't be appended: they are too heavy, or memory was refused.
 fn joining_refusal(error: TableError, place: usize) -> Refusal
     ensures memory { error ≡ TableError.OutOfMemory → result ≡ Refusal.OutOfMemory }
     ensures segment { error ≢ TableError.OutOfMemory → result ≡ Refusal.SegmentUnread place }
@@ -156,7 +156,7 @@ fn joining_refusal(error: TableError, place: usize) -> Refusal
     }
 }
 
-// The rows of the segment at a place after those before it.
+// Appends the rows of the segment at this place to those before it.
 fn append_segment<D: SectorDevice>(
     alloc: Global,
     device: &mut D,
@@ -190,7 +190,7 @@ fn append_segment<D: SectorDevice>(
     }
 }
 
-// The rows of all segments, one after another.
+// Appends the rows of all segments, in order.
 fn read_segments<D: SectorDevice>(
     alloc: Global,
     device: &mut D,
@@ -224,19 +224,18 @@ fn read_segments<D: SectorDevice>(
     Ok(gathered)
 }
 
-// The message of a schema, and no rows of it.
+// Returns the message of a schema, and a builder without rows.
 fn start_table(alloc: Global, schema: &Schema) -> Result<(Vec<u8>, TableBuilder), AllocError>
     requires limits { IsWithinLimits (schema_of schema.now) }
     ensures message { IfOk result (λ r. r.0.items ≡ schema_message (schema_of schema.now)) }
     ensures empty { IfOk result (λ r. table_so_far r.1 ≡ record { schema = schema_of schema.now; rows = [] }) }
 {
-    let mut front = Vec::new(alloc);
-    write_schema(alloc, &mut front, schema)?;
+    let front = encode_schema(alloc, schema)?;
     let empty = TableBuilder::empty(alloc, schema.copy(alloc)?);
     Ok((front, empty))
 }
 
-// The table of gathered rows.
+// Returns the table of the rows so far.
 fn finish_table(alloc: Global, gathered: TableBuilder) -> Result<Table, Refusal>
     ensures table { IfOk result (λ t. table_of t ≡ table_so_far gathered) }
     ensures memory { IfErr result (λ e. e ≡ Refusal.OutOfMemory) }
@@ -247,7 +246,7 @@ fn finish_table(alloc: Global, gathered: TableBuilder) -> Result<Table, Refusal>
     }
 }
 
-// The rows of an entry's segments.
+// Reads the rows of an entry's segments.
 pub(crate) fn gather_entry<D: SectorDevice>(
     alloc: Global,
     device: &mut D,
@@ -272,10 +271,10 @@ pub(crate) fn gather_entry<D: SectorDevice>(
     }
 }
 
-/// The table of an entry.
+/// Reads the table of an entry.
 ///
 /// # Errors
-/// Of the first segment that is not read, `SegmentUnread` or `SegmentDamaged` with its place; `Device`, `OutOfMemory`.
+/// `SegmentUnread` or `SegmentDamaged` with the place of the first segment that fails; `Device`; `OutOfMemory`.
 pub fn read_entry<D: SectorDevice>(
     alloc: Global,
     device: &mut D,

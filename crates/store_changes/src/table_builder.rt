@@ -1,4 +1,4 @@
-// The rows of a table's segments, as they are read one after another.
+// Builds a table from its segments, which are read one after another.
 ghost use Rattle.std.specs.Prelude.{◌≡◌, true, IfOk};
 ghost use Rattle.arrow_schema.specs.Column.{columns_of};
 ghost use Rattle.arrow_schema.specs.Limits.{IsWithinLimits};
@@ -14,7 +14,7 @@ use cells::MAX_TABLE_WEIGHT;
 use std::alloc::{AllocError, Global};
 use values::{Table, TableError, TablePart, WeighedTable, tables_are_joined_and_cut};
 
-/// A table while its segments are read: their record batches, which keep the bytes that were read.
+/// A table while its segments are read: the record batches so far, which keep the bytes that were read.
 #[derive(Drop)]
 pub(crate) struct TableBuilder {
     pub(crate) schema: Schema,
@@ -29,7 +29,7 @@ impl TableBuilder {
     ghost use Rattle.std.specs.Prelude.{◌≢◌, ◌<◌, ◌≤◌, ◌++◌, ℕ, [], IfErr};
     ghost use Rattle.store_changes.specs.inner.TableBuilder.{table_so_far};
 
-    /// No rows yet.
+    /// Returns a builder without rows.
     pub(crate) fn empty(alloc: Global, schema: Schema) -> TableBuilder
         requires { IsWithinLimits (schema_of schema) }
         ensures { table_so_far result ≡ record { schema = schema_of schema; rows = [] } }
@@ -41,10 +41,10 @@ impl TableBuilder {
         }
     }
 
-    /// The rows of a table of the same schema after those so far. No cell is copied.
+    /// Appends the rows of a table of the same schema. No cell is copied.
     ///
     /// # Errors
-    /// `Weight` where the rows are too heavy together; `OutOfMemory`.
+    /// `Weight` if all rows together are too heavy; `OutOfMemory`.
     pub(crate) fn append(self, more: WeighedTable) -> Result<TableBuilder, TableError>
         requires schema { (table_of more.table).schema ≡ (table_so_far self).schema }
         requires weight { more.weight ≡ table_weight (table_of more.table).schema (table_of more.table).rows }
@@ -76,7 +76,7 @@ impl TableBuilder {
         })
     }
 
-    /// The table of the rows.
+    /// Returns the table of the rows.
     pub(crate) fn finish(self, alloc: Global) -> Result<Table, AllocError>
         ensures { IfOk result (λ table. table_of table ≡ table_so_far self) }
     {
@@ -85,10 +85,10 @@ impl TableBuilder {
     }
 }
 
-/// A table of this schema without rows.
+/// Returns a table of this schema without rows.
 ///
 /// # Errors
-/// Where memory is refused.
+/// `AllocError` if memory was refused.
 pub fn without_rows(alloc: Global, schema: &Schema) -> Result<Table, AllocError>
     requires { IsWithinLimits (schema_of schema.now) }
     ensures { IfOk result (λ t. table_of t ≡ empty_table (schema_of schema.now)) }

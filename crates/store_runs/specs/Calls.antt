@@ -1,4 +1,4 @@
--- What is asked of a place, which is an open store or a shut device, and what it answers, as plain data.
+-- The calls of a place, which is an open store or a shut device, and their replies, as plain data.
 use Rattle.std.specs.Prelude.{◌+◌, ◌-◌, ◌^◌, ℕ, min, Bool, true, false, if◌then◌else◌, List, Option, Some, None}
 use Rattle.arrow_schema.specs.Column.{PlainSchema}
 use Rattle.cells.specs.Cell.{PlainTable}
@@ -24,13 +24,13 @@ pub data PlainCall : Type 0 where
   close_export_call : (id : ℕ) → PlainCall
   -- one step of a compaction
   compact_call : PlainCall
-  -- the segments of all tables get digests
+  -- all segments get digests
   upgrade_call : PlainCall
 
 pub data PlainReply : Type 0 where
-  -- a command, a formatting, an opening or a closing that was done, of a store or of an export
+  -- a command was applied, a store was formatted, or a store or an export was opened or closed
   done : PlainReply
-  -- the names of the tables and how many rows each has
+  -- the name and the number of rows of each table
   counts : List (List ℕ × ℕ) → PlainReply
   schema_is : PlainSchema → PlainReply
   table_is : PlainTable → PlainReply
@@ -38,13 +38,13 @@ pub data PlainReply : Type 0 where
   bytes_are : List ℕ → PlainReply
   -- the id of an export
   export_is : ℕ → PlainReply
-  -- its next piece, none after the last one
+  -- the next piece of an export; `None` after the last one
   piece_is : Option (List ℕ) → PlainReply
-  -- two segments became one, one lies elsewhere, and there is nothing to do
+  -- two segments were joined, a segment was moved, there is nothing to do
   merged : PlainReply
   moved : PlainReply
   nothing : PlainReply
-  -- the store has digests
+  -- the store already had digests
   already : PlainReply
   refused : Refusal → PlainReply
   -- a formatting or an opening that was refused: the place is shut
@@ -56,7 +56,7 @@ command_in (apply_call c) = Some c
 command_in (stream_call c) = Some c
 command_in _ = None
 
--- the device failed: no other answer counts a failure
+-- the device failed: no other reply counts a failure
 abbrev pub is_failure : Refusal → Bool
 is_failure refusals.Device = true
 is_failure _ = false
@@ -70,13 +70,13 @@ is_device_reply (refused refusal) = is_failure refusal
 is_device_reply (shut_by refusal) = is_failed_opening refusal
 is_device_reply _ = false
 
--- after it a command may be done: it was acknowledged, or the device failed in it
+-- after this reply a command may have been applied: it was acknowledged, or the device failed during it
 abbrev pub may_be_done : PlainReply → Bool
 may_be_done done = true
 may_be_done (refused refusal) = is_failure refusal
 may_be_done _ = false
 
--- a call that may write or sync where it is done
+-- a call that may write or sync if it succeeds
 abbrev pub may_change : PlainCall → Bool
 may_change (apply_call c) = true
 may_change (stream_call c) = true
@@ -91,13 +91,13 @@ needs_store format_call = false
 needs_store open_call = false
 needs_store _ = true
 
--- whether a call was done that may write or sync
+-- whether a call that may write or sync has succeeded
 abbrev pub is_change : PlainCall → PlainReply → Bool
 is_change call done = may_change call
 is_change call merged = true
 is_change call moved = true
 is_change call _ = false
 
--- a call that failed by its device counts one failure more, up to the greatest number; no other call counts one
+-- a call during which the device failed adds one to the number of failures, up to the greatest number; no other call does
 abbrev pub counted : PlainReply → ℕ → ℕ
 counted reply failed = if is_device_reply reply then min (failed + 1) (2 ^ 64 - 1) else failed

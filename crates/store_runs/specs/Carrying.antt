@@ -1,4 +1,4 @@
--- How a change of a catalogue is carried out: which runs it asks for, and how it ends.
+-- How a change of a catalogue is carried out: the runs that it needs, and how it ends.
 use Rattle.std.specs.Prelude.{◌≡◌, ◌<◌, ◌≤◌, ◌-◌, ◌^◌, ◌++◌, ◌||◌, ℕ, true, List, [], ◌∷◌, length, drop, Result, Ok, Err}
 use Rattle.sector_dev.specs.Disk.{Disk, shown_image}
 use Rattle.segments.specs.Sectors.{sector_count}
@@ -20,7 +20,7 @@ use Rattle.pages.specs.Paging.{kind_of, page_sizes, text_size, settled}
 use Rattle.store_runs.specs.Changes.{PlainChange, version_after, digest_for, edited, placed_segments}
 use Rattle.store_runs.specs.Deciding.{IsDecided}
 
--- new segments of which no place is known yet
+-- new segments whose places are not known yet
 abbrev pub unplaced : FormatVersion → (streams : List (List ℕ)) → (counts : List ℕ) → List Segment
 unplaced version [] counts = []
 unplaced version (stream ∷ streams) [] = []
@@ -32,21 +32,20 @@ unplaced version (stream ∷ streams) (count ∷ counts) =
     }
     ∷ unplaced version streams counts
 
--- the catalogue that a change makes of one of this version, but for the places of its new segments
+-- the catalogue after a change of one of this version, without the places of its new segments
 abbrev pub outline : FormatVersion → PlainCatalogue → PlainChange → PlainCatalogue
 outline version c change = edited c change.edit (unplaced version change.streams change.counts)
 
--- the sectors that are asked for: those of each stream in order, then those of each page that is written, by name, and then those of the
--- catalogue's text
+-- the numbers of sectors that are needed: for each stream in order, then for each page that is written, by name, and then for the catalogue's text
 abbrev pub asked_sizes : FormatVersion → PlainCatalogue → PlainChange → List ℕ
 asked_sizes version c change = counts_of change.streams (page_sizes (outline version c change)) (text_size (outline version c change))
 
--- the catalogue that it makes, where its new segments lie in the first of these runs, and its new pages in the others
+-- the catalogue after the change, with its new segments in the first of these runs and its new pages in the others
 abbrev pub placed : FormatVersion → PlainCatalogue → PlainChange → List Run → PlainCatalogue
 placed version c change places =
     settled (edited c change.edit (placed_segments version places change.streams change.counts)) (drop (length change.streams) places)
 
--- the commit that it makes, where its text lies in this run
+-- the commit after the change, with the catalogue's text in this run
 abbrev pub commit_placed : Commit → PlainCatalogue → PlainChange → Run → Commit
 commit_placed k c change text = next_commit k (version_after change.edit k.version) (kind_of (outline k.version c change)) text (text_size (outline k.version c change))
 
@@ -54,7 +53,7 @@ commit_placed k c change text = next_commit k (version_after change.edit k.versi
 abbrev pub HasNext : Commit → Type 0
 HasNext k = k.epoch < 2 ^ 64 - 1
 
--- how a change of this catalogue ends, beside these runs in use, and which commit and catalogue rule then; each refusal has its one reason, tested in
+-- how a change of this catalogue ends while these runs are in use, and the commit and the catalogue after it; each refusal has one reason, tested in
 -- order, and the device is written to only after these tests
 abbrev pub IsCarried : (size : ℕ) → (used : Run → Type 0) → Commit → PlainCatalogue → PlainChange → Result (Unit {0}) Refusal → Commit → PlainCatalogue → Type 0
 IsCarried size used k c change (Ok unit) k' c' =
@@ -74,7 +73,7 @@ IsCarried size used k c change (Err _) k' c' = ⊥
 abbrev pub IsInUse : Commit → PlainCatalogue → (pinned : List Run) → Run → Type 0
 IsInUse k c pinned run = (is_among (used_runs stored_reading k c) run || is_among pinned run) ≡ true
 
--- how a command ended that is decided as a change, by what reads showed when it was called, and what they show after it
+-- how a command ended for which a change was decided, by what reads showed when it was called and after it
 pub record IsCarriedOut (size : ℕ) (pinned : List Run) (before after : Disk) (command : PlainCommand) (result : Result (Unit {0}) Refusal) : Type 0 where
   pub commit : Commit
   pub catalogue : PlainCatalogue

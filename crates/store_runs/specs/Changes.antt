@@ -1,4 +1,4 @@
--- What a command changes: the catalogue, by an edit, and the segments that are new in it. They have no places yet.
+-- The change that a command makes: an edit of the catalogue, and its new segments, which have no places yet.
 use Rattle.std.specs.Prelude.{◌≡◌, ◌≤◌, ◌<◌, ◌+◌, ◌^◌, ℕ, true, List, [], ◌∷◌, ◌++◌, length, flat_map, Option, Some, None, if◌then◌else◌, Ok}
 use Rattle.std.specs.Str.{bytes_eq}
 use Rattle.std.specs.List.{list_all, AllByRecursion}
@@ -31,7 +31,7 @@ pub data PlainEdit : Type 0 where
   exchange : (name : List ℕ) → (place count : ℕ) → PlainEdit
   digest : (digests : List (List ℕ)) → PlainEdit
 
--- an edit, the streams of the new segments and how many rows each has
+-- an edit, the streams of the new segments and the number of rows of each
 pub record PlainChange : Type 0 where
   pub edit : PlainEdit
   pub streams : List (List ℕ)
@@ -43,7 +43,7 @@ pub record PlainChange : Type 0 where
 abbrev pub new_entry : List ℕ → PlainSchema → List Segment → Option Extent → PlainEntry
 new_entry name schema segments page = record { name = name; schema = schema; segments = segments; page = page }
 
--- the page of a table that takes the place of another one: it stays where neither has segments, and their schemas have one message
+-- the page of a table that replaces another one: it remains if neither has segments and their schemas have the same message
 abbrev pub page_over : PlainEntry → PlainSchema → List Segment → Option Extent
 page_over old schema (s ∷ ss) = None
 page_over old schema [] = if bytes_eq (schema_message old.schema) (schema_message schema) then page_behind old.segments old.page else None
@@ -61,16 +61,16 @@ edited c (remove name) segments = without c name
 edited c (exchange name place count) segments = with_exchanged c name place count segments
 edited c (digest digests) segments = digested c digests
 
--- the run of a page, where another one, or none, takes its place
+-- the run of a page if another page or none replaces it
 abbrev pub page_lost : (old new : Option Extent) → List Run
 page_lost old None = page_runs old
 page_lost old (Some page) = []
 
--- the page of a table that gets digests: it says none, and stays only where there are no segments
+-- the page of a table that gets digests: it has none of them, so it remains only if there are no segments
 abbrev pub lost_page : PlainEntry → List Run
 lost_page e = page_lost e.page (page_behind e.segments e.page)
 
--- what an edit with these new segments takes out of the entry that it finds: its page, if it no longer says what the table is, and segments
+-- the runs that an edit with these new segments removes from the entry that it finds: its page, if the page no longer describes the table, and segments
 abbrev pub given_by : PlainEdit → List Segment → PlainEntry → List Run
 given_by (put name schema) segments e = page_lost e.page (page_over e schema segments) ++ runs_in_segments e.segments
 given_by (extend name) segments e = page_lost e.page (page_behind segments e.page)
@@ -79,7 +79,7 @@ given_by (remove name) segments e = runs_in e
 given_by (exchange name place count) segments e = page_runs e.page ++ runs_in_segments (from_place e.segments place count)
 given_by (digest digests) segments e = lost_page e
 
--- the name of the entry that an edit changes; none where it changes all
+-- the name of the entry that an edit changes; `None` if it changes all entries
 abbrev pub name_edited : PlainEdit → Option (List ℕ)
 name_edited (put name schema) = Some name
 name_edited (extend name) = Some name
@@ -88,7 +88,7 @@ name_edited (remove name) = Some name
 name_edited (exchange name place count) = Some name
 name_edited (digest digests) = None
 
--- the runs that an edit with these new segments takes out
+-- the runs that an edit with these new segments removes
 abbrev pub given_from : PlainEdit → List Segment → Option PlainEntry → List Run
 given_from edit segments None = []
 given_from edit segments (Some e) = given_by edit segments e
@@ -100,7 +100,7 @@ given_of c edit segments (Some name) = given_from edit segments (entry_of c name
 abbrev pub given_up : PlainCatalogue → PlainEdit → List Segment → List Run
 given_up c edit segments = given_of c edit segments (name_edited edit)
 
--- the catalogue can be edited so: with these numbers of new segments only their number is still to be tested
+-- the catalogue can be edited in this way; only the number of segments is still to be tested
 abbrev pub HasEntry : PlainCatalogue → List ℕ → Type 0
 HasEntry c name = (e : PlainEntry) × (entry_of c name ≡ Some e)
 
@@ -122,13 +122,13 @@ pub record IsChange (c : PlainCatalogue) (change : PlainChange) : Type 0 where
   pub short : AllByRecursion (λ (stream : List ℕ). length stream < 2 ^ 64) change.streams
   pub rows : list_all (is_between 1 MAX_SEGMENT_ROWS) change.counts ≡ true
 
--- it is one if 64 bits can count the bytes of each stream, which is known of streams that were made
+-- it is one if 64 bits can count the bytes of each stream, as is known of streams in memory
 abbrev pub CanChange : PlainCatalogue → PlainChange → Type 0
 CanChange c change = AreShort change.streams → IsChange c change
 
 -- ---- the tables
 
--- the rows of some streams one after another, where each means n rows of this schema
+-- the rows of some streams one after another, if each means this number of rows of this schema
 unfoldable pub stream_rows : PlainSchema → (streams : List (List ℕ)) → (counts : List ℕ) → Option (List (List Cell))
 stream_rows schema [] counts = Some []
 stream_rows schema (stream ∷ streams) [] = None
@@ -138,7 +138,7 @@ stream_rows schema (stream ∷ streams) (count ∷ counts) = joined_rows (rows_i
 abbrev pub rows_under : PlainSchema → List (List Cell) → PlainTable
 rows_under schema rows = record { schema = schema; rows = rows }
 
--- what a change makes of tables: its streams hold the new rows, and each table is one
+-- the tables after a change: its streams hold the new rows, and each table is valid
 abbrev pub Makes : Tables → PlainEdit → (streams : List (List ℕ)) → (counts : List ℕ) → Tables → Type 0
 Makes t (put name schema) streams counts new =
     (rows : List (List Cell)) × (stream_rows schema streams counts ≡ Some rows) × (table_from schema rows ≡ Ok (rows_under schema rows))
@@ -149,7 +149,7 @@ Makes t (extend name) streams counts new =
     × (new ≡ with_table t name (joined table rows)))
 Makes t (move from to) streams counts new = (table : PlainTable) × (table_at t from ≡ Some table) × (new ≡ with_table (without_table t from) to table)
 Makes t (remove name) streams counts new = new ≡ without_table t name
--- no command asks for these: the tables stay as they are, where the new segments hold the same rows, and the digests are those of the old ones
+-- edits of no command: the tables stay the same if the new segments hold the same rows and the digests are those of the old segments
 Makes t (exchange name place count) streams counts new = ⊥
 Makes t (digest digests) streams counts new = ⊥
 
@@ -158,7 +158,7 @@ MakesOf t change new = Makes t change.edit change.streams change.counts new
 
 -- ---- the new segments
 
--- the version after an edit: digests are those of version 2, and all else keeps it
+-- the version after an edit: digests make it version 2, and every other edit keeps it
 abbrev pub version_after : PlainEdit → FormatVersion → FormatVersion
 version_after (put name schema) version = version
 version_after (extend name) version = version
@@ -172,7 +172,7 @@ abbrev pub digest_for : FormatVersion → (stream : List ℕ) → Option (List �
 digest_for One stream = None
 digest_for Two stream = Some (sha256 stream)
 
--- their bytes go into these runs, one after another
+-- the same segments in these runs, in order
 abbrev pub placed_segments : FormatVersion → List Run → (streams : List (List ℕ)) → (counts : List ℕ) → List Segment
 placed_segments version [] streams counts = []
 placed_segments version (run ∷ runs) [] counts = []
@@ -180,7 +180,7 @@ placed_segments version (run ∷ runs) (stream ∷ streams) [] = []
 placed_segments version (run ∷ runs) (stream ∷ streams) (count ∷ counts) =
     record { place = record { run = run; bytes = length stream }; rows = count; digest = digest_for version stream } ∷ placed_segments version runs streams counts
 
--- an image has these streams in these segments, which have these numbers of rows, and their digests if they have any
+-- an image has these streams in these segments, which have these numbers of rows, and the digests of the streams if they have digests
 abbrev pub HoldsStreams : Image → List Segment → (streams : List (List ℕ)) → (counts : List ℕ) → Type 0
 HoldsStreams image [] streams counts = streams ≡ []
 HoldsStreams image (g ∷ gs) [] counts = ⊥

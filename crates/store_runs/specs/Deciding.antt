@@ -1,5 +1,5 @@
--- What is decided of a command by the catalogue, and for an append or a query that is saved by the table that stands: the first of its tests that
--- fails, or what it changes.
+-- The decision on a command by the catalogue, and for an append or a saved query by the existing table: the first of its tests that fails, or its
+-- change.
 -- The tests are those of the verdict on the tables that the catalogue lists.
 use Rattle.std.specs.Prelude.{◌≡◌, ◌⊎◌, ℕ, Bool, true, false, not, ◌&&◌, nat_le, List, [], ◌∷◌, ◌++◌, length, is_some, Option, Some, None, Result, Ok, Err}
 use Rattle.facts.specs.Checks.{when, first_some, unless}
@@ -37,7 +37,7 @@ taken_in c name = when (has_entry c name) NameTaken
 abbrev pub full_in : PlainCatalogue → List ℕ → Option Refusal
 full_in c name = when (not (has_entry c name) && nat_le MAX_TABLES (length c)) (TooMany limits.Tables)
 
--- the tests of each command that need no table, in their order
+-- the tests of each command that need no table, in order
 abbrev pub create_tests : PlainCatalogue → List ℕ → Option Refusal
 create_tests c name = first_some (bad_name name ∷ taken_in c name ∷ full_in c name ∷ [])
 
@@ -65,17 +65,17 @@ decided_table c name table = unless (full_in c name) (Ok (pieces_put (put name t
 abbrev pub decided_import : PlainCatalogue → (name bytes : List ℕ) → Result PlainChange Refusal
 decided_import c name bytes = unless (import_tests name bytes) (of_meaning (meaning supported_codes bytes) (decided_table c name))
 
--- the entry of a name at which a table is to stand
+-- the entry of a name that a table is to have
 abbrev pub of_entry : {A : Type 0} → Option PlainEntry → (PlainEntry → Result A Refusal) → Result A Refusal
 of_entry None f = Err NoTable
 of_entry (Some e) f = f e
 
--- rows that go after those of an entry's table
+-- rows to be appended to those of an entry's table
 pub record Addition : Type 0 where
   pub entry : PlainEntry
   pub rows : List (List Cell)
 
--- rows that are given, where the entry's table takes each of them. Nothing of the table that stands is read for the tests of new rows
+-- rows that a caller gives, if each fits the entry's table. Nothing of the existing table is read for the tests of new rows
 abbrev pub given_rows : List (List Cell) → PlainEntry → Result Addition Refusal
 given_rows rows e = unless (unfit_row e.schema rows) (Ok (record { entry = e; rows = rows }))
 
@@ -83,31 +83,31 @@ given_rows rows e = unless (unfit_row e.schema rows) (Ok (record { entry = e; ro
 abbrev pub rows_of_table : PlainEntry → PlainTable → Result Addition Refusal
 rows_of_table e table = unless (other_shape e.schema table.schema) (given_rows table.rows e)
 
--- the rows that a stream brings
+-- the rows of a stream
 abbrev pub streamed_rows : (bytes : List ℕ) → PlainEntry → Result Addition Refusal
 streamed_rows bytes e = unless (too_many_bytes bytes) (of_meaning (meaning supported_codes bytes) (rows_of_table e))
 
--- after the rows that stand, under the entry's own schema
+-- after the existing rows, under the schema of the entry
 abbrev pub decided_behind : List ℕ → Addition → (standing : List (List Cell)) → Result PlainChange Refusal
 decided_behind name a standing = unless (too_heavy a.entry.schema (standing ++ a.rows)) (Ok (pieces_put (extend name) (rows_under a.entry.schema a.rows)))
 
--- the table that stands is read when all else about the new rows is decided
+-- the existing table is read after all other tests of the new rows
 abbrev pub IsAdded : (tells : Bool) → Image → List ℕ → Result Addition Refusal → Result PlainChange Refusal → Type 0
 IsAdded tells image name (Err r) d = d ≡ Err r
 IsAdded tells image name (Ok a) d = (standing : PlainTable) × IsRead tells image a.entry standing × (d ≡ decided_behind name a standing.rows)
 
--- why a query makes nothing of the tables of a schema: the selection of one without rows shows it
+-- why a query can't be executed on tables of a schema: the selection of a table without rows shows it
 abbrev pub unselected : PlainSchema → PlainQuery → Option Refusal
 unselected schema query = elim (selection (empty_table schema) query) [ Ok table ↦ None | Err r ↦ Some (query_refusal r) ]
 
--- the entry whose table is selected from, where the selection can stand at another name. Nothing of its table is read for these tests
+-- the entry of the table of a saved query, if the selection can get the new name. Nothing of the table is read for these tests
 abbrev pub selected_entry : PlainCatalogue → (to : List ℕ) → PlainQuery → PlainEntry → Result PlainEntry Refusal
 selected_entry c to query e = unless (first_some (unselected e.schema query ∷ create_tests c to ∷ [])) (Ok e)
 
 abbrev pub decided_selection : (to : List ℕ) → PlainQuery → PlainTable → Result PlainChange Refusal
 decided_selection to query standing = of_query (selection standing query) (λ table. Ok (pieces_put (put to table.schema) table))
 
--- the table is read when all else is decided
+-- the table is read after all other tests
 abbrev pub IsSaved : (tells : Bool) → Image → (to : List ℕ) → PlainQuery → Result PlainEntry Refusal → Result PlainChange Refusal → Type 0
 IsSaved tells image to query (Err r) d = d ≡ Err r
 IsSaved tells image to query (Ok e) d = (standing : PlainTable) × IsRead tells image e standing × (d ≡ decided_selection to query standing)
@@ -118,14 +118,14 @@ decided_rename c from to = unless (rename_tests c from to) (Ok (names_changed (m
 abbrev pub decided_drop : PlainCatalogue → List ℕ → Result PlainChange Refusal
 decided_drop c name = unless (missing_in c name) (Ok (names_changed (remove name)))
 
--- commands that read the device: the table that takes more rows is weighed, and the one that is selected from is read
+-- commands that read the device: for an append the table is weighed, and for a saved query it is read
 abbrev pub reads_device : PlainCommand → Bool
 reads_device (append_stream name bytes) = true
 reads_device (append_rows name rows) = true
 reads_device (save_as from to query) = true
 reads_device _ = false
 
--- this is decided of a command, where reads of the device show this image
+-- the decision on a command, if reads of the device show this image
 abbrev pub IsDecided : (tells : Bool) → Image → PlainCatalogue → PlainCommand → Result PlainChange Refusal → Type 0
 IsDecided tells image c (create name schema) d = d ≡ decided_create c name schema
 IsDecided tells image c (import_stream name bytes) d = d ≡ decided_import c name bytes
@@ -135,7 +135,7 @@ IsDecided tells image c (save_as from to query) d = IsSaved tells image to query
 IsDecided tells image c (rename from to) d = d ≡ decided_rename c from to
 IsDecided tells image c (drop_table name) d = d ≡ decided_drop c name
 
--- the entry of the table that is read for a command: no test comes before it that fails
+-- the entry of the table that is read for a command: no test before the read fails
 abbrev pub entry_added : Result Addition Refusal → Option PlainEntry
 entry_added (Ok a) = Some a.entry
 entry_added (Err r) = None
@@ -150,7 +150,7 @@ entry_read c (append_rows name rows) = entry_added (of_entry (entry_of c name) (
 entry_read c (save_as from to query) = entry_selected (of_entry (entry_of c from) (selected_entry c to query))
 entry_read c _ = None
 
--- that table is not read
+-- reading that table fails
 pub record IsNotRead (tells : Bool) (image : Image) (found : Option PlainEntry) (answer : Result PlainChange Refusal) : Type 0 where
   pub entry : PlainEntry
   pub tested : found ≡ Some entry
@@ -158,6 +158,6 @@ pub record IsNotRead (tells : Bool) (image : Image) (found : Option PlainEntry) 
   pub told : answer ≡ Err refusal
   pub unread : Unreads tells image entry refusal
 
--- what may be answered: what is decided, that the table was not read, or that memory was refused
+-- the possible answers: the decision, that reading the table failed, or that memory was refused
 abbrev pub IsAnswered : (tells : Bool) → Image → PlainCatalogue → PlainCommand → Result PlainChange Refusal → Type 0
 IsAnswered tells image c command answer = (answer ≡ Err OutOfMemory) ⊎ IsNotRead tells image (entry_read c command) answer ⊎ IsDecided tells image c command answer

@@ -12,7 +12,7 @@ abbrev pub is_done : PlainReply → Bool
 is_done done = true
 is_done _ = false
 
--- after a call, if one was before it or none was
+-- the same after a call, by whether a store was open before it
 abbrev pub is_open_after : PlainCall → PlainReply → (is_open : Bool) → Bool
 is_open_after format_call reply is_open = is_done reply
 is_open_after open_call reply is_open = is_done reply
@@ -24,7 +24,7 @@ abbrev pub tells_halt : (is_open : Bool) → PlainReply → Bool
 tells_halt is_open (refused refusals.Halted) = is_open
 tells_halt is_open _ = false
 
--- one of these calls is so
+-- one of these calls is refused in this way
 abbrev pub tells_halt_while_open : (is_open : Bool) → List PlainCall → List PlainReply → Bool
 tells_halt_while_open is_open [] replies = false
 tells_halt_while_open is_open (call ∷ calls) [] = false

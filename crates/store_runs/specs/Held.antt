@@ -1,4 +1,4 @@
--- What an image holds to one who opens it: its tables, where each segment can be read.
+-- The tables that an image holds, if each segment can be read.
 use Rattle.std.specs.Prelude.{◌==◌, ℕ, Bool, true, nat_eq, List, [], ◌∷◌, ◌++◌, length, Option, Some, None, option_map, Result, Ok, Err, if◌then◌else◌}
 use Rattle.std.specs.List.{starts_with}
 use Rattle.std.specs.Str.{bytes_eq}
@@ -23,7 +23,7 @@ use Rattle.store_runs.specs.Machine.{Held, no_store, broken, holds}
 
 -- ---- a segment
 
--- the rows of a table that a stream means, where there are n of them
+-- the rows of the table that a stream means, if it has n rows
 abbrev pub rows_where : ℕ → Result PlainTable Fault → Option (List (List Cell))
 rows_where count (Err fault) = None
 rows_where count (Ok table) = if length table.rows == count then Some table.rows else None
@@ -33,17 +33,17 @@ abbrev pub rows_in_bytes : PlainSchema → ℕ → Option (List ℕ) → Option 
 rows_in_bytes schema count None = None
 rows_in_bytes schema count (Some bytes) = if starts_with nat_eq bytes (schema_message schema) then rows_where count (meaning supported_codes bytes) else None
 
--- the bytes that were read of a segment have the SHA-256 of its entry, if there are both
+-- the bytes that were read of a segment have the SHA-256 in its entry, if bytes were read and the entry has one
 abbrev pub is_undamaged : (digest bytes : Option (List ℕ)) → Bool
 is_undamaged None bytes = true
 is_undamaged (Some digest) None = true
 is_undamaged (Some digest) (Some bytes) = bytes_eq (sha256 bytes) digest
 
--- the bytes that lie in a segment, where each of its sectors can be read
+-- the bytes in a segment, if each of its sectors can be read
 abbrev pub bytes_of : Segment → Image → Option (List ℕ)
 bytes_of segment image = bytes_at image segment.place.run.start segment.place.bytes
 
--- the rows that some bytes of a segment hold: none where they have another digest
+-- the rows that some bytes of a segment hold: none if they have another digest
 abbrev pub rows_in_segment : PlainSchema → Segment → (bytes : Option (List ℕ)) → Option (List (List Cell))
 rows_in_segment schema segment bytes = if is_undamaged segment.digest bytes then rows_in_bytes schema segment.rows bytes else None
 
@@ -52,7 +52,7 @@ segment_rows schema segment image = rows_in_segment schema segment (bytes_of seg
 
 -- ---- a table
 
--- rows before others, where both can be read
+-- rows followed by others, if both can be read
 abbrev pub joined_rows : Option (List (List Cell)) → Option (List (List Cell)) → Option (List (List Cell))
 joined_rows None others = None
 joined_rows (Some rows) others = option_map (λ more. rows ++ more) others
@@ -67,7 +67,7 @@ abbrev pub with_rows : Option (List (List Cell)) → Option (List (List (List Ce
 with_rows None others = None
 with_rows (Some rows) others = option_map (λ lists. rows ∷ lists) others
 
--- the rows of each of these segments, where all can be read
+-- the rows of each of these segments, if all can be read
 unfoldable pub rows_each : PlainSchema → List Segment → Image → Option (List (List (List Cell)))
 rows_each schema [] image = Some []
 rows_each schema (segment ∷ segments) image = with_rows (segment_rows schema segment image) (rows_each schema segments image)
@@ -78,7 +78,7 @@ pieces_held schema segments image = option_map (stream_parts schema) (rows_each 
 
 -- ---- the table of rows
 
--- the table of these rows, where they are one
+-- the table of these rows, if they are a table
 abbrev pub table_where : Result PlainTable Refusal → Option PlainTable
 table_where (Ok table) = Some table
 table_where (Err refusal) = None
@@ -96,7 +96,7 @@ abbrev pub with_held : List ℕ → Option PlainTable → Option Tables → Opti
 with_held name None others = None
 with_held name (Some table) others = option_map (λ tables. with_table tables name table) others
 
--- the tables of a catalogue, where each can be read
+-- the tables of a catalogue, if each can be read
 unfoldable pub tables_held : Image → PlainCatalogue → Option Tables
 tables_held image [] = Some no_tables
 tables_held image (entry ∷ entries) = with_held entry.name (table_held image entry) (tables_held image entries)
@@ -110,6 +110,6 @@ held_of image standings.no_store = no_store
 held_of image (standings.damaged cause) = broken
 held_of image (standings.rules k c) = held_tables (tables_held image c)
 
--- what one who opens an image on a device of this size finds
+-- what an opening of an image on a device of this size finds
 unfoldable pub held_by : ℕ → Image → Held
 held_by size image = held_of image (standing stored_reading size image)

@@ -1,4 +1,4 @@
--- The commands of a run: those that may have been done, and those that were acknowledged.
+-- The commands of a run: those that may have been applied, and those that were acknowledged.
 use Rattle.std.specs.Prelude.{◌≡◌, ◌≢◌, ◌⊎◌, ◌||◌, Bool, true, false, if◌then◌else◌, List, [], ◌∷◌, ◌++◌, Option, Some, None}
 use Rattle.sector_dev.specs.Disk.{Image}
 use Rattle.tables.specs.Commands.{PlainCommand}
@@ -7,7 +7,7 @@ use Rattle.commit.specs.declared.opening_refusal.OpeningRefusal.TheVariants as o
 use Rattle.store_runs.specs.Calls.{PlainCall, apply_call, stream_call, PlainReply, done, shut_by, may_be_done, is_change}
 use Rattle.store_runs.specs.Machine.{no_store, holds, Setting, Machine, halted}
 
--- these stand among those, in their order
+-- these are among those, in the same order
 abbrev pub InOrder : List PlainCommand → List PlainCommand → Type 0
 InOrder [] ys = Unit {0}
 InOrder (x ∷ xs) [] = ⊥
@@ -23,7 +23,7 @@ called_by (apply_call c) = c ∷ []
 called_by (stream_call c) = c ∷ []
 called_by _ = []
 
--- the command of a call that was acknowledged or in which the device failed: one that is refused for another reason is none
+-- the command of a call that was acknowledged or during which the device failed; none if it was refused for another reason
 abbrev pub begun_by : PlainCall → PlainReply → List PlainCommand
 begun_by call reply = if may_be_done reply then called_by call else []
 
@@ -32,7 +32,7 @@ begun [] replies = []
 begun (call ∷ calls) [] = []
 begun (call ∷ calls) (reply ∷ replies) = begun_by call reply ++ begun calls replies
 
--- the command of a call that answered that it is done
+-- the command of a call that was acknowledged
 abbrev pub acknowledged_by : PlainCall → PlainReply → List PlainCommand
 acknowledged_by call done = called_by call
 acknowledged_by call _ = []
@@ -42,32 +42,32 @@ acknowledged [] replies = []
 acknowledged (call ∷ calls) [] = []
 acknowledged (call ∷ calls) (reply ∷ replies) = acknowledged_by call reply ++ acknowledged calls replies
 
--- one of them was done that may write or sync: a command, a formatting or an opening. From then on a store is there
+-- a command, a formatting or an opening was acknowledged. From then on there is a store
 abbrev pub any_change : List PlainCall → List PlainReply → Bool
 any_change [] replies = false
 any_change (call ∷ calls) [] = false
 any_change (call ∷ calls) (reply ∷ replies) = is_change call reply || any_change calls replies
 
--- how the settled commands grew: by all that were acknowledged, and by none that did not begin or was not in doubt before; with the one in doubt at the end
+-- how the settled commands grew: by all that were acknowledged, and by none that did not begin and was not in doubt before; with the one in doubt at the end
 pub record Settles (settled settled' : List PlainCommand) (doubt doubt' : Option PlainCommand) (acknowledged begun : List PlainCommand) : Type 0 where
   pub more : List PlainCommand
   pub grew : settled' ≡ settled ++ more
   pub kept : InOrder acknowledged more
   pub only : InOrder (more ++ in_doubt doubt') (in_doubt doubt ++ begun)
 
--- just what was acknowledged is settled, nothing is in doubt, and no store is halted
+-- exactly the acknowledged commands are settled, none is in doubt, and no store is halted
 pub record SettlesAll (m m' : Machine) (acknowledged : List PlainCommand) : Type 0 where
   pub settled : m'.settled ≡ m.settled ++ acknowledged
   pub none : m'.doubt ≡ None
   pub on : m'.phase ≢ halted
 
--- an image has the tables of settled commands that grew so from those of this machine, with nothing in doubt
+-- an image has the tables of settled commands that grew in this way from those of this machine, with none in doubt
 pub record HoldsSettled (s : Setting) (m : Machine) (acknowledged begun : List PlainCommand) (image : Image) : Type 0 where
   pub settled : List PlainCommand
   pub held : s.held image ≡ holds (after s.base settled)
   pub settles : Settles m.settled settled m.doubt None acknowledged begun
 
--- or it has no store, and there was none: nothing was acknowledged, no command and no formatting or opening
+-- or it has no store, and there was none: no command, formatting or opening was acknowledged
 pub record HoldsNone (s : Setting) (m : Machine) (changed : Bool) (acknowledged : List PlainCommand) (image : Image) : Type 0 where
   pub none : s.held image ≡ no_store
   pub fresh : m.started ≡ false
@@ -77,7 +77,7 @@ pub record HoldsNone (s : Setting) (m : Machine) (changed : Bool) (acknowledged 
 abbrev pub Keeps : Setting → Machine → (changed : Bool) → (acknowledged begun : List PlainCommand) → Image → Type 0
 Keeps s m changed acknowledged begun image = HoldsSettled s m acknowledged begun image ⊎ HoldsNone s m changed acknowledged image
 
--- ---- what never comes
+-- ---- replies that never occur
 
 -- a store is reported as damaged
 abbrev pub tells_damage : PlainReply → Bool

@@ -1,4 +1,4 @@
--- How a run is judged: by the commands that are settled, at most one in doubt, and whether a store is open.
+-- The model against which a run is checked: the settled commands, at most one in doubt, and whether a store is open.
 use Rattle.std.specs.Prelude.{◌≡◌, ◌⊎◌, ◌+◌, ◌++◌, ◌==◌, ◌&&◌, ℕ, Bool, true, false, if◌then◌else◌, not, nat_lt, List, [], ◌∷◌, find, map, Option, Some, None}
 use Rattle.std.specs.List.{filter, flat_map}
 use Rattle.segments.specs.declared.run.Run.{Run}
@@ -10,13 +10,13 @@ use Rattle.tables.specs.Commands.{PlainCommand}
 use Rattle.tables.specs.Verdict.{after}
 use Rattle.store_runs.specs.Calls.{PlainCall, PlainReply, command_in, may_be_done}
 
--- what one who opens an image finds: no store, one that is damaged or of which a segment can't be read, or these tables
+-- what an opening of an image finds: no store, a store that is damaged or has a segment that can't be read, or these tables
 pub data Held : Type 0 where
   no_store : Held
   broken : Held
   holds : Tables → Held
 
--- what a run is judged by: the sectors of its device, how images are read, and the tables with which it began
+-- the setting of a run: the sectors of its device, how images are read, and the tables with which it began
 pub record Setting : Type 0 where
   pub size : ℕ
   pub held : Image → Held
@@ -28,15 +28,15 @@ pub data Phase : Type 0 where
   running : Phase
   halted : Phase
 
--- an export that is open: the runs of its segments, which it keeps from being written, the pieces of its stream, and how many of them were given
+-- an open export: the runs of its segments, which are not written while it is open, the pieces of its stream, and the number of pieces that were given
 pub record Export : Type 0 where
   pub id : ℕ
   pub runs : List Run
   pub pieces : List (List ℕ)
   pub given : ℕ
 
--- `started`: the run began with a store, or a formatting or an opening was done. `next_id`: that of the export that is opened next; while a store
--- is open no id is given twice
+-- `started`: the run began with a store, or a formatting or an opening succeeded. `next_id`: the id of the export that is opened next; while a store is
+-- open, no id is used twice
 pub record Machine : Type 0 where
   pub started : Bool
   pub phase : Phase
@@ -53,14 +53,14 @@ with_doubt settled (Some c) = settled ++ c ∷ []
 abbrev pub tables_now : Setting → Machine → Tables
 tables_now s m = after s.base m.settled
 
--- what a stop may leave: the tables after the settled commands, or with the one in doubt; before the start also no store
+-- what a stop may leave: the tables after the settled commands, or with the one in doubt as well; before the start also no store
 unfoldable pub Allows : Setting → Machine → Image → Type 0
 Allows s m image =
     (s.held image ≡ holds (after s.base m.settled))
     ⊎ (s.held image ≡ holds (after s.base (with_doubt m.settled m.doubt)))
     ⊎ ((m.started ≡ false) × (s.held image ≡ no_store))
 
--- ---- how a machine goes on
+-- ---- how a machine continues
 
 abbrev pub settle : PlainCommand → Machine → Machine
 settle c m = record m { started = true; phase = running; settled = m.settled ++ c ∷ []; doubt = None }
@@ -69,7 +69,7 @@ settle c m = record m { started = true; phase = running; settled = m.settled ++ 
 abbrev pub opened : List PlainCommand → Machine
 opened settled = record { started = true; phase = running; settled = settled; doubt = None; exports = []; next_id = 0 }
 
--- with the store its exports are closed
+-- closing the store closes its exports
 abbrev pub shut_down : Machine → Machine
 shut_down m = record m { phase = shut; exports = []; next_id = 0 }
 
@@ -82,14 +82,14 @@ halt call wrote m = record m { phase = halted; doubt = if wrote then doubtful ca
 
 -- ---- while a call runs
 
--- once its command has begun a write it is in doubt
+-- a command is in doubt once it has begun a write
 abbrev pub meanwhile : PlainCall → Machine → Bool → Machine
 meanwhile call m begun = if begun then record m { doubt = doubtful call m } else m
 
 abbrev pub has_written : Disk → Disk → Bool
 has_written before d = nat_lt before.writes d.writes
 
--- what a stop may leave at a moment of a call that began at this disk: a command that is refused for another reason than its device was
+-- what a stop may leave at a moment of a call that began at this disk: a command that is refused for another reason than a failure of the device was
 -- never in doubt
 abbrev pub AllowsAt : Setting → PlainCall → PlainReply → Machine → Disk → Disk → Image → Type 0
 AllowsAt s call reply m before d image = Allows s (meanwhile call m (may_be_done reply && has_written before d)) image
@@ -116,11 +116,11 @@ export_at exports id = find (is_of id) exports
 abbrev pub with_export : Export → Machine → Machine
 with_export e m = record m { exports = m.exports ++ e ∷ []; next_id = m.next_id + 1 }
 
--- one piece more was given
+-- one more piece was given
 abbrev pub gave : ℕ → Export → Export
 gave id e = if is_of id e then record e { given = e.given + 1 } else e
 
--- the end was given again and again
+-- the end was given again
 abbrev pub after_piece : Option (List ℕ) → ℕ → Machine → Machine
 after_piece None id m = m
 after_piece (Some piece) id m = record m { exports = map (gave id) m.exports }

@@ -1,4 +1,4 @@
--- What a call in the middle of a run answers, by the commands that were acknowledged before it.
+-- The reply to a call in the middle of a run, by the commands that were acknowledged before it.
 use Rattle.std.specs.Prelude.{◌≡◌, ◌≢◌, Bool, false, ℕ, List, None}
 use Rattle.std.specs.List.{list_any}
 use Rattle.store_runs.specs.Calls.{PlainCall, PlainReply, is_device_reply}
@@ -7,13 +7,13 @@ use Rattle.store_runs.specs.Steps.{Step}
 use Rattle.store_runs.specs.History.{begun, acknowledged, Settles, SettlesAll}
 use Rattle.store_runs.specs.Snapshots.{GivesTable}
 
--- the machine that these calls lead to from another one: its settled commands grew by what was acknowledged, in order. Where no reply says that the
--- device failed they grew by just that
+-- the machine that these calls lead to from another one: its settled commands grew by the acknowledged ones, in order. If no reply says that the device
+-- failed, they grew by exactly those
 pub record IsReached (m : Machine) (calls : List PlainCall) (replies : List PlainReply) (reached : Machine) : Type 0 where
   pub settles : Settles m.settled reached.settled m.doubt reached.doubt (acknowledged calls replies) (begun calls replies)
   pub all_settled : m.doubt ≡ None → m.phase ≢ halted → list_any is_device_reply replies ≡ false → SettlesAll m reached (acknowledged calls replies)
 
--- a call after these ones has this reply: it follows from the tables of that machine
+-- a call after these calls has this reply, which follows from the tables of that machine
 pub record IsReplied (s : Setting) (m : Machine) (calls : List PlainCall) (replies : List PlainReply) (call : PlainCall) (reply : PlainReply) : Type 0 where
   pub machine : Machine
   pub reached : IsReached m calls replies machine

@@ -1,4 +1,4 @@
--- What reading a table answers, beside what reads of a device give, and what it leaves of the device.
+-- The answers to a read of a table, by what reads of the device show, and the device after it.
 use Rattle.std.specs.Prelude.{◌≡◌, ◌≤◌, ◌<◌, ◌++◌, ℕ, Bool, true, false, List, [], ◌∷◌, length, take, slice_get, Option, Some, None, Result, Ok, Err}
 use Rattle.sector_dev.specs.Disk.{Image, Story}
 use Rattle.sector_dev.specs.Time.{OnlyReads}
@@ -17,14 +17,14 @@ use Rattle.ipc_canonical.specs.Canonical.{rows_messages}
 
 -- ---- a segment
 
--- bytes that were read of a segment: as many as its entry says, with the digest of it, if it has one; where the device tells its story they are those
--- that lie there
+-- bytes that were read of a segment: as many as its entry says, with the digest of the entry if it has one; if the device tells its story, they are the
+-- bytes in the segment
 pub record IsCopy (tells : Bool) (image : Image) (g : Segment) (bytes : List ℕ) : Type 0 where
   pub count : length bytes ≡ g.place.bytes
   pub undamaged : is_undamaged g.digest (Some bytes) ≡ true
   pub held : tells ≡ true → bytes_of g image ≡ Some bytes
 
--- why the bytes of the segment at a place are not given: a sector can't be read, or they have another digest. Only its own number is reported
+-- why the bytes of the segment at this place are not returned: a sector can't be read, or they have another digest. The reported place is its own
 abbrev pub LacksBytes : (tells : Bool) → Image → Segment → (place : ℕ) → Refusal → Type 0
 LacksBytes tells image g place refusals.Device = Unit {0}
 LacksBytes tells image g place refusals.OutOfMemory = Unit {0}
@@ -32,13 +32,13 @@ LacksBytes tells image g place (refusals.SegmentUnread other) = (other ≡ place
 LacksBytes tells image g place (refusals.SegmentDamaged other) = (other ≡ place) × (tells ≡ true → is_undamaged g.digest (bytes_of g image) ≡ false)
 LacksBytes tells image g place _ = ⊥
 
--- rows that were read of a segment: bytes that were read of it mean them
+-- rows that were read of a segment: the bytes that were read mean them
 pub record HasRead (tells : Bool) (image : Image) (schema : PlainSchema) (g : Segment) (rows : List (List Cell)) : Type 0 where
   pub bytes : List ℕ
   pub copy : IsCopy tells image g bytes
   pub means : rows_in_bytes schema g.rows (Some bytes) ≡ Some rows
 
--- why the rows of the segment at a place are not given: its bytes have another digest, or they do not and mean no such rows
+-- why the rows of the segment at this place are not returned: its bytes have another digest, or they have the same digest and mean no such rows
 abbrev pub LacksRows : (tells : Bool) → Image → PlainSchema → Segment → (place : ℕ) → Refusal → Type 0
 LacksRows tells image schema g place refusals.Device = Unit {0}
 LacksRows tells image schema g place refusals.OutOfMemory = Unit {0}
@@ -55,13 +55,13 @@ HaveRead tells image schema (g ∷ gs) rows =
 
 -- ---- a table
 
--- after these rows a segment has none that can be read, or rows that are too heavy together with them
+-- after these rows a segment has no rows that can be read, or rows that are too heavy together with these
 abbrev pub ArePast : PlainSchema → List (List Cell) → Option (List (List Cell)) → Type 0
 ArePast schema rows None = Unit {0}
 ArePast schema rows (Some more) = MAX_TABLE_WEIGHT < table_weight schema (rows ++ more)
 
--- the segment at this place, counted from 0, is the first that does not hold its rows, or whose rows pass the weight of a table; its bytes have the
--- digest of its entry, where both are there
+-- the segment at this place, counted from 0, is the first that does not hold its rows, or whose rows exceed the weight of a table; its bytes have the
+-- digest of its entry, if there are both
 pub record IsUnread (image : Image) (e : PlainEntry) (place : ℕ) : Type 0 where
   pub segment : Segment
   pub at : slice_get e.segments place ≡ Some segment
@@ -80,7 +80,7 @@ pub record IsDamaged (image : Image) (e : PlainEntry) (place : ℕ) : Type 0 whe
   pub light : table_weight e.schema rows ≤ MAX_TABLE_WEIGHT
   pub damaged : is_undamaged segment.digest (bytes_of segment image) ≡ false
 
--- why the table of an entry is not read; where the device does not tell its story nothing is known of the image, but the segment is one of the entry's
+-- why the table of an entry is not read; if the device does not tell its story, nothing is known about the image, but the segment is one of the entry's
 abbrev pub Unreads : (tells : Bool) → Image → PlainEntry → Refusal → Type 0
 Unreads tells image e refusals.Device = Unit {0}
 Unreads tells image e refusals.OutOfMemory = Unit {0}
@@ -88,8 +88,8 @@ Unreads tells image e (refusals.SegmentUnread place) = (place < length e.segment
 Unreads tells image e (refusals.SegmentDamaged place) = (place < length e.segments) × (tells ≡ true → IsDamaged image e place)
 Unreads tells image e _ = ⊥
 
--- a table that was read for an entry: it has the entry's schema and as many rows as the entry says, and these come of bytes with the digests of its
--- segments; where the device tells its story it is the one that the image holds
+-- a table that was read for an entry: it has the entry's schema and as many rows as the entry says, and these come from bytes with the digests of its
+-- segments; if the device tells its story, it is the table that the image holds
 pub record IsRead (tells : Bool) (image : Image) (e : PlainEntry) (table : PlainTable) : Type 0 where
   pub kept : IsTable table
   pub schema : table.schema ≡ e.schema
@@ -109,7 +109,7 @@ ReadsTable true tells image found table = ⊥
 ReadsTable false tells image None table = ⊥
 ReadsTable false tells image (Some e) table = IsRead tells image e table
 
--- how a call ended, in the words of replies, whatever it gives
+-- how a call ended, as a reply, without the value that it returned
 abbrev pub ended : {T : Type 0} → Result T Refusal → PlainReply
 ended (Ok x) = done
 ended (Err r) = refused r

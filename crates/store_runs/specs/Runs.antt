@@ -12,18 +12,18 @@ use Rattle.store_runs.specs.Carrying.{IsCarriedOut}
 use Rattle.store_runs.specs.Machine.{no_store, Setting, Machine, Allows, AllowsEach, SparesKept, has_written, pinned_by}
 use Rattle.store_runs.specs.Steps.{Step}
 
--- what is reported of a store that was there already, or of none, is what reads showed when the call began
+-- what is reported about a store that was already there, or about none, is what reads showed when the call began
 abbrev pub TellsFound : Setting → PlainReply → Disk → Type 0
 TellsFound s (shut_by openings.AlreadyAStore) d = s.held (shown_image d) ≢ no_store
 TellsFound s (shut_by openings.NotAStore) d = s.held (shown_image d) ≡ no_store
 TellsFound s _ d = Unit {0}
 
--- why there is no room for a command is so of what stood when the call began
+-- the reason why there is no room for a command is true of the state when the call began
 abbrev pub RoomFrom : Origin → ℕ → (pinned : List Sectors) → (before after : Disk) → PlainCommand → Refusal → Type 0
 RoomFrom by_room size pinned before after c r = IsCarriedOut size pinned before after c (Err r)
 RoomFrom _ size pinned before after c r = Unit {0}
 
--- a command was done, or found no room, by what stood when the call began: its epoch, how many segments there would be, and the runs in use
+-- a command was applied, or found no room, by the state when the call began: its epoch, the number of segments after it, and the runs in use
 abbrev pub TellsRoomOf : ℕ → (pinned : List Sectors) → PlainCommand → PlainReply → (before after : Disk) → Type 0
 TellsRoomOf size pinned c done before after = IsCarriedOut size pinned before after c (Ok tt)
 TellsRoomOf size pinned c (refused r) before after = RoomFrom (origin_of r) size pinned before after c r
@@ -34,8 +34,8 @@ TellsRoom s pinned (apply_call c) reply before after = TellsRoomOf s.size pinned
 TellsRoom s pinned (stream_call c) reply before after = TellsRoomOf s.size pinned c reply before after
 TellsRoom s pinned _ reply before after = Unit {0}
 
--- one call: what it answers and how the machine goes on, what each stop meanwhile may leave and what one after it. A call that
--- was not done, or only reads, changes nothing, unless its device failed.
+-- one call: its reply, how the machine continues, and what a stop during it and after it may leave. A call that did not succeed, or only reads, changes
+-- nothing, unless its device failed.
 pub record Goes (s : Setting) (m : Machine) (call : PlainCall) (reply : PlainReply) (old new : Story) (failed failed' : ℕ) (next : Machine) : Type 0 where
   pub step : Step s m call reply (has_written (now old) (now new)) next
   pub moments : Grows (AllowsEach s call reply m (now old)) old new
@@ -47,7 +47,7 @@ pub record Goes (s : Setting) (m : Machine) (call : PlainCall) (reply : PlainRep
   -- an opening and a formatting end the exports
   pub spares : needs_store call ≡ true → Grows (SparesKept m (now old)) old new
 
--- a call, and then what P says of the machine, the story and the failures after it
+-- a call, and then P of the machine, the story and the failures after it
 pub record Then (s : Setting) (m : Machine) (call : PlainCall) (reply : PlainReply) (old : Story) (failed : ℕ) (P : Machine → Story → ℕ → Type 0) : Type 0 where
   pub machine : Machine
   pub story : Story
@@ -55,13 +55,13 @@ pub record Then (s : Setting) (m : Machine) (call : PlainCall) (reply : PlainRep
   pub goes : Goes s m call reply old story failed failures machine
   pub others : P machine story failures
 
--- no call more
+-- no more calls
 pub record Ends (m : Machine) (story : Story) (failed : ℕ) (m' : Machine) (story' : Story) (failed' : ℕ) : Type 0 where
   pub machine : m' ≡ m
   pub same : story' ≡ story
   pub failures : failed' ≡ failed
 
--- these calls were answered so, one after another: from a machine, a story and a number of failures to those after them
+-- these calls had these replies, one after another: from a machine, a story and a number of failures to those after them
 unfoldable pub Run : Setting → List PlainCall → List PlainReply → Machine → Story → ℕ → Machine → Story → ℕ → Type 0
 Run s [] [] m old failed m' new failed' = Ends m old failed m' new failed'
 Run s (call ∷ calls) (reply ∷ replies) m old failed m' new failed' = Then s m call reply old failed (λ mid story failures. Run s calls replies mid story failures m' new failed')

@@ -1,16 +1,16 @@
--- What a stop at some moment of a run may leave. All is said of the one run: its machines, its stories and the moments of its calls.
+-- What a stop at some moment of a run may leave, by the machines, the stories and the moments of the calls of that run.
 use Rattle.std.specs.Prelude.{◌⊎◌, ℕ, zero, suc, List, [], ◌∷◌}
 use Rattle.sector_dev.specs.Disk.{Disk, Story, Image, now, MayLeave, Somewhere}
 use Rattle.store_runs.specs.Calls.{PlainCall, PlainReply}
 use Rattle.store_runs.specs.Machine.{Setting, Machine, Allows, AllowsAt}
 use Rattle.store_runs.specs.Runs.{Run}
 
--- between two calls: the image is what the machine allows
+-- between two calls: the machine allows the image
 pub record IsBetween (s : Setting) (m : Machine) (story : Story) (image : Image) : Type 0 where
   pub left : MayLeave (now story) image
   pub allowed : Allows s m image
 
--- a disk that may leave the image, which is allowed there in this call
+-- a disk that may leave the image, which is allowed at that moment of this call
 pub record IsWithin (s : Setting) (call : PlainCall) (reply : PlainReply) (m : Machine) (before d : Disk) (image : Image) : Type 0 where
   pub left : MayLeave d image
   pub allowed : AllowsAt s call reply m before d image
@@ -27,7 +27,7 @@ IsLeftIn s (call ∷ calls) (reply ∷ replies) m old failed m' new failed' run 
 IsLeftIn s [] (reply ∷ replies) m old failed m' new failed' run image = ⊥
 IsLeftIn s (call ∷ calls) [] m old failed m' new failed' run image = ⊥
 
--- the story when the call of this number began, counted from 0; after the last call its end
+-- the story when the call with this number began, counted from 0; after the last call the story at the end
 unfoldable pub story_at : (s : Setting) (calls : List PlainCall) (replies : List PlainReply) (m : Machine) (old : Story) (failed : ℕ) (m' : Machine) (new : Story) (failed' : ℕ)
     → Run s calls replies m old failed m' new failed' → ℕ → Story
 unfolding Run
@@ -37,7 +37,7 @@ story_at s (call ∷ calls) (reply ∷ replies) m old failed m' new failed' run 
 story_at s [] (reply ∷ replies) m old failed m' new failed' run i = absurd run
 story_at s (call ∷ calls) [] m old failed m' new failed' run i = absurd run
 
--- a stop left the image when the call of this number began or later
+-- a stop left the image when the call with this number began or later
 unfoldable pub IsLeftFrom : (s : Setting) (calls : List PlainCall) (replies : List PlainReply) (m : Machine) (old : Story) (failed : ℕ) (m' : Machine) (new : Story) (failed' : ℕ)
     → Run s calls replies m old failed m' new failed' → ℕ → Image → Type 0
 unfolding Run

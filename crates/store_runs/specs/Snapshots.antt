@@ -1,4 +1,4 @@
--- What the calls of a run give of an export.
+-- The pieces of an export that the calls of a run give.
 use Rattle.std.specs.Prelude.{◌≡◌, ◌==◌, ◌&&◌, ◌||◌, ◌++◌, ℕ, Bool, true, false, not, if◌then◌else◌, List, [], ◌∷◌, Some, None, Ok}
 use Rattle.cells.specs.Cell.{PlainTable}
 use Rattle.ipc_message.specs.Header.{supported_codes}
@@ -8,7 +8,7 @@ use Rattle.tables.specs.Tables.{table_at}
 use Rattle.store_runs.specs.Calls.{PlainCall, format_call, open_call, close_call, export_next_call, close_export_call, PlainReply, piece_is, is_device_reply}
 use Rattle.store_runs.specs.Machine.{Setting, Machine, tables_now}
 
--- the piece that a call gave of the export of this id
+-- the piece that a call gave of the export with this id
 abbrev pub given_by : ℕ → PlainCall → PlainReply → List (List ℕ)
 given_by id (export_next_call i) (piece_is (Some piece)) = if i == id then piece ∷ [] else []
 given_by id call reply = []
@@ -18,7 +18,7 @@ given id [] replies = []
 given id (call ∷ calls) [] = []
 given id (call ∷ calls) (reply ∷ replies) = given_by id call reply ++ given id calls replies
 
--- a call found no piece more
+-- a call found no more pieces
 abbrev pub finds_end : ℕ → PlainCall → PlainReply → Bool
 finds_end id (export_next_call i) (piece_is None) = i == id
 finds_end id call reply = false
@@ -41,6 +41,6 @@ stays_open id [] replies = true
 stays_open id (call ∷ calls) [] = true
 stays_open id (call ∷ calls) (reply ∷ replies) = leaves_open id call reply && stays_open id calls replies
 
--- the pieces that these calls gave of an export, which came to its end, are a stream of the table that the machine had at this name
+-- the pieces that these calls gave of an export up to its end are a stream of the table that the machine had at this name
 abbrev pub GivesTable : Setting → Machine → (name : List ℕ) → (pieces : List (List ℕ)) → Type 0
 GivesTable s m name pieces = (table : PlainTable) × (table_at (tables_now s m) name ≡ Some table) × (meaning supported_codes (joined pieces) ≡ Ok table)

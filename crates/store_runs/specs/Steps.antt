@@ -1,4 +1,4 @@
--- What may be answered, by a call that began a write or none, and how the machine goes on. What never comes is impossible here.
+-- The possible replies to a call, by whether it began a write, and how the machine continues. A reply that never occurs is impossible here.
 use Rattle.std.specs.Prelude.{◌≡◌, ◌≢◌, ◌⊎◌, ◌≤◌, ◌<◌, ◌+◌, ◌^◌, ℕ, Bool, true, false, List, [], length, slice_get, Option, Some, None, Ok, Err, IsOk, IsSome}
 use Rattle.cells.specs.Cell.{PlainTable}
 use Rattle.ipc_message.specs.Header.{supported_codes}
@@ -19,7 +19,7 @@ use Rattle.store_runs.specs.Machine.{Setting, shut, running, Export, Machine, wi
 abbrev pub Stays : Machine → Bool → Machine → Type 0
 Stays m wrote new = (wrote ≡ false) × (new ≡ m)
 
--- a command, by where its refusal comes from
+-- a command, by the origin of its refusal
 abbrev pub RefusesFrom : Origin → Setting → Machine → PlainCommand → Refusal → Bool → Machine → Type 0
 RefusesFrom by_tables s m c r wrote new = (m.phase ≡ running) × (verdict (tables_now s m) c ≡ Err r) × Stays m wrote new
 RefusesFrom by_room s m c r wrote new = (m.phase ≡ running) × IsOk (verdict (tables_now s m) c) × Stays m wrote new
@@ -33,7 +33,7 @@ StepApply s m c done wrote new = (m.phase ≡ running) × IsOk (verdict (tables_
 StepApply s m c (refused r) wrote new = RefusesFrom (origin_of r) s m c r wrote new
 StepApply s m c _ wrote new = ⊥
 
--- an opening keeps the doubtful command or drops it
+-- an opening keeps the command in doubt or drops it
 abbrev pub StepOpen : Setting → Machine → PlainReply → Bool → Machine → Type 0
 StepOpen s m done wrote new = (wrote ≡ false) × ((new ≡ opened m.settled) ⊎ (new ≡ opened (with_doubt m.settled m.doubt)))
 StepOpen s m (shut_by openings.NotAStore) wrote new = (m.started ≡ false) × (wrote ≡ false) × (new ≡ shut_down m)
@@ -53,14 +53,14 @@ StepClose m done wrote new = (m.phase ≢ shut) × (wrote ≡ false) × (new ≡
 StepClose m (refused refusals.Halted) wrote new = (m.phase ≡ shut) × Stays m wrote new
 StepClose m _ wrote new = ⊥
 
--- what a call that reads may be refused by, wherever it reads
+-- the refusals of a call that reads
 abbrev pub RefusesReading : Machine → PlainCall → Refusal → Bool → Machine → Type 0
 RefusesReading m call refusals.Halted wrote new = (m.phase ≢ running) × Stays m wrote new
 RefusesReading m call refusals.OutOfMemory wrote new = (m.phase ≡ running) × Stays m wrote new
 RefusesReading m call refusals.Device wrote new = (m.phase ≡ running) × (wrote ≡ false) × (new ≡ halt call false m)
 RefusesReading m call _ wrote new = ⊥
 
--- the names come from what is in memory: no call of the device is made
+-- the names come from memory: no call of the device is made
 abbrev pub StepTables : Setting → Machine → PlainReply → Bool → Machine → Type 0
 StepTables s m (counts ns) wrote new = (m.phase ≡ running) × (ns ≡ row_counts (tables_now s m)) × Stays m wrote new
 StepTables s m (refused refusals.Halted) wrote new = (m.phase ≢ running) × Stays m wrote new
@@ -98,12 +98,12 @@ StepStream s m c done wrote new = StepApply s m c done wrote new
 StepStream s m c (refused r) wrote new = StepApply s m c (refused r) wrote new
 StepStream s m c _ wrote new = ⊥
 
--- an export of a table of which nothing was given yet: its pieces, joined, are a stream that means the table. They are one for each segment, and two
+-- an export of a table of which no piece was given yet: its pieces, joined, are a stream that means the table: one for each segment, and two more
 abbrev pub IsExportOf : Option PlainTable → Export → Type 0
 IsExportOf None e = ⊥
 IsExportOf (Some table) e = (meaning supported_codes (joined e.pieces) ≡ Ok table) × (e.given ≡ 0) × (length e.pieces ≡ length e.runs + 2)
 
--- while 64 are open, and after the last id, no other one is opened
+-- while 64 exports are open, and after the last id, no other export is opened
 abbrev pub StepOpenExport : Setting → Machine → List ℕ → PlainReply → Bool → Machine → Type 0
 StepOpenExport s m name (export_is id) wrote new =
     (m.phase ≡ running) × (id ≡ m.next_id) × (id < 2 ^ 64) × (export_at m.exports id ≡ None) × (length m.exports < 64)
@@ -115,7 +115,7 @@ StepOpenExport s m name (refused refusals.Halted) wrote new = (m.phase ≢ runni
 StepOpenExport s m name (refused refusals.OutOfMemory) wrote new = (m.phase ≡ running) × Stays m wrote new
 StepOpenExport s m name _ wrote new = ⊥
 
--- the piece after those that were given, and none after the last one
+-- the piece after those that were given; `None` after the last one
 abbrev pub StepExportNext : Machine → ℕ → PlainReply → Bool → Machine → Type 0
 StepExportNext m id (piece_is piece) wrote new =
     (m.phase ≡ running) × ((e : Export) × (export_at m.exports id ≡ Some e) × (piece ≡ slice_get e.pieces e.given)) × (wrote ≡ false) × (new ≡ after_piece piece id m)
@@ -129,7 +129,7 @@ StepCloseExport m id (refused refusals.NoExport) wrote new = (m.phase ≡ runnin
 StepCloseExport m id (refused refusals.Halted) wrote new = (m.phase ≢ running) × Stays m wrote new
 StepCloseExport m id _ wrote new = ⊥
 
--- a step of a compaction changes no table: the machine stays as it is, but that the device may fail
+-- a step of a compaction changes no table: the machine stays as it is, unless the device fails
 abbrev pub StepCompact : Machine → PlainReply → Bool → Machine → Type 0
 StepCompact m merged wrote new = (m.phase ≡ running) × (m.started ≡ true) × (wrote ≡ true) × (new ≡ m)
 StepCompact m moved wrote new = (m.phase ≡ running) × (m.started ≡ true) × (wrote ≡ true) × (new ≡ m)
@@ -141,7 +141,7 @@ StepCompact m (refused refusals.Halted) wrote new = (m.phase ≢ running) × Sta
 StepCompact m (refused refusals.Device) wrote new = (m.phase ≡ running) × (new ≡ halt compact_call wrote m)
 StepCompact m _ wrote new = ⊥
 
--- so does an upgrade
+-- the same for an upgrade
 abbrev pub StepUpgrade : Machine → PlainReply → Bool → Machine → Type 0
 StepUpgrade m done wrote new = (m.phase ≡ running) × (m.started ≡ true) × (wrote ≡ true) × (new ≡ m)
 StepUpgrade m already wrote new = (m.phase ≡ running) × Stays m wrote new

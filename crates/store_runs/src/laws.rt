@@ -11,8 +11,8 @@ ghost use Rattle.store_runs.specs.Since.{story_at, IsLeftFrom};
 ghost use Rattle.store_runs.specs.Halting.{phase_where, tells_halt_while_open};
 ghost use Rattle.store_runs.specs.History.{any_change, begun, acknowledged, Settles, SettlesAll, Keeps, tells_damage, tells_no_store};
 
-/// An image that a stop may have left since some call of a run began was left before one of the calls from it on, at a moment
-/// of one of them or after the last, and is what the machine of that very moment allows.
+/// An image that a stop may have left since some call of a run began was left before one of the calls from that one on, at a moment of one of them, or
+/// after the last. The machine of that moment allows it.
 pub fn each_stop_is_allowed()
     ensures { (s : Setting) (calls : List PlainCall) (replies : List PlainReply) (m : Machine) (old : Story) (failed : ℕ)
         (m' : Machine) (new : Story) (failed' : ℕ) (run : Run s calls replies m old failed m' new failed') (i : ℕ) (image : Image)
@@ -20,15 +20,15 @@ pub fn each_stop_is_allowed()
         → IsLeftFrom s calls replies m old failed m' new failed' run i image }
 {}
 
-/// An export that is opened in a run, and then comes to its end while it stays open, has given the table that it found: its pieces, joined, are a stream that
-/// means it, whatever was done to the table meanwhile.
+/// An export that is opened in a run, and reaches its end while it is open, has given the table as it was when the export was opened: its pieces, joined,
+/// are a stream that means this table, whatever has changed the table since.
 pub fn snapshots_give_their_table()
     ensures { (s : Setting) (name : List ℕ) (id : ℕ) (calls : List PlainCall) (replies : List PlainReply) (m : Machine) (old : Story) (failed : ℕ)
         (m' : Machine) (new : Story) (failed' : ℕ) → Run s (open_export_call name ∷ calls) (export_is id ∷ replies) m old failed m' new failed'
         → stays_open id calls replies ≡ true → has_ended id calls replies ≡ true → GivesTable s m name (given id calls replies) }
 {}
 
-/// A call by itself is a run, and a run goes on with another one.
+/// A single call is a run, and two runs one after the other are a run.
 pub fn runs_go_on()
     ensures one { (s : Setting) (call : PlainCall) (reply : PlainReply) (m next : Machine) (old new : Story) (failed failed' : ℕ)
         → Goes s m call reply old new failed failed' next → Run s (call ∷ []) (reply ∷ []) m old failed next new failed' }
@@ -37,32 +37,31 @@ pub fn runs_go_on()
         → Run s (calls ++ more) (replies ++ others) m old failed m' new failed' }
 {}
 
-/// Where no call of the device failed, no reply says that one did.
+/// If no call of the device failed, no reply says that one did.
 pub fn undisturbed_runs_tell_no_failure()
     ensures { (s : Setting) (calls : List PlainCall) (replies : List PlainReply) (m : Machine) (old : Story) (failed : ℕ)
         (m' : Machine) (new : Story) (failed' : ℕ) → Run s calls replies m old failed m' new failed' → failed < 2 ^ 64 - 1
         → failed' ≡ failed → list_any is_device_reply replies ≡ false }
 {}
 
-/// The settled commands of a run grow by every command that was acknowledged, in order; with the one in doubt at its end they
-/// stand among the one in doubt before and those that were acknowledged or whose device failed, in order. So none is there that
-/// was refused for another reason than its device.
+/// The settled commands of a run grow by each acknowledged command, in order. Together with the command in doubt at its end they are among the command in
+/// doubt before it and those that were acknowledged or whose device failed, in order. So a command that was refused for any other reason is not there.
 pub fn acknowledged_commands_are_settled()
     ensures { (s : Setting) (calls : List PlainCall) (replies : List PlainReply) (m : Machine) (old : Story) (failed : ℕ)
         (m' : Machine) (new : Story) (failed' : ℕ) → Run s calls replies m old failed m' new failed'
         → Settles m.settled m'.settled m.doubt m'.doubt (acknowledged calls replies) (begun calls replies) }
 {}
 
-/// Where no reply says that a device failed, the settled commands of a run grow by just those that were acknowledged, in order.
-/// Nothing is in doubt after it, and no store is halted.
+/// If no reply says that a device failed, the settled commands of a run grow by exactly the acknowledged commands, in order. After it no command is in doubt
+/// and no store is halted.
 pub fn undisturbed_runs_settle_what_was_acknowledged()
     ensures { (s : Setting) (calls : List PlainCall) (replies : List PlainReply) (m : Machine) (old : Story) (failed : ℕ)
         (m' : Machine) (new : Story) (failed' : ℕ) → Run s calls replies m old failed m' new failed' → m.doubt ≡ None → m.phase ≢ halted
         → list_any is_device_reply replies ≡ false → SettlesAll m m' (acknowledged calls replies) }
 {}
 
-/// Where no store is halted at first and no reply says that a device failed, no call of a run is refused as halted while a store is open: only a failure
-/// of the device halts one.
+/// If no store is halted at first and no reply says that a device failed, no call of a run is refused as halted while a store is open: only a failure of
+/// the device halts a store.
 pub fn undisturbed_runs_tell_no_halt()
     ensures { (s : Setting) (calls : List PlainCall) (replies : List PlainReply) (m : Machine) (old : Story) (failed : ℕ)
         (m' : Machine) (new : Story) (failed' : ℕ) → Run s calls replies m old failed m' new failed' → (is_open : Bool)
@@ -70,8 +69,8 @@ pub fn undisturbed_runs_tell_no_halt()
         → list_any is_device_reply replies ≡ false → tells_halt_while_open is_open calls replies ≡ false }
 {}
 
-/// No reply of a run reports that a store is damaged; and none reports that there is no store once there was one: when the run began, or after
-/// a command, a formatting or an opening that was done.
+/// No reply of a run reports that a store is damaged. No reply reports that there is no store once there was one: when the run began, or after a command,
+/// a formatting or an opening that was acknowledged.
 pub fn runs_tell_no_damage()
     ensures damage { (s : Setting) (calls : List PlainCall) (replies : List PlainReply) (m : Machine) (old : Story) (failed : ℕ)
         (m' : Machine) (new : Story) (failed' : ℕ) → Run s calls replies m old failed m' new failed' → list_any tells_damage replies ≡ false }
@@ -80,10 +79,9 @@ pub fn runs_tell_no_damage()
         → (m.started || any_change (take i calls) (take i replies)) ≡ true → list_any tells_no_store (drop i replies) ≡ false }
 {}
 
-/// An image that a stop may have left since some call of a run began has the tables of settled commands: those that were settled at
-/// first, and all that were acknowledged before that call, in order, among none but the one in doubt at first and those that were
-/// acknowledged or whose device failed. Or it has no store, where there was none before and nothing was acknowledged, also no formatting and
-/// no opening.
+/// An image that a stop may have left since some call of a run began has the tables of settled commands: those that were settled at first, and all that
+/// were acknowledged before that call, in order. Other commands among them can only be the one in doubt at first and those that were acknowledged or whose
+/// device failed. Or the image has no store, if there was none before and no command, formatting or opening was acknowledged.
 pub fn a_stop_keeps_what_was_acknowledged()
     ensures { (s : Setting) (calls : List PlainCall) (replies : List PlainReply) (m : Machine) (old : Story) (failed : ℕ)
         (m' : Machine) (new : Story) (failed' : ℕ) (run : Run s calls replies m old failed m' new failed') (i : ℕ) (image : Image)

@@ -1,4 +1,4 @@
-//! The model of a store's runs, as plain data: calls and their replies, what each changes of the tables, and what a stop may leave.
+//! The model of a store's runs, as plain data: calls and their replies, how each call changes the tables, and what a stop may leave.
 //!
 //! `specs/Steps.antt` says how a reply follows from the tables, `specs/Machine.antt` what a stop at any moment may leave, `specs/Deciding.antt`
 //! and `specs/Carrying.antt` how a command changes a catalogue, and `specs/Runs.antt` what a run of calls is. The functions are laws of whole runs.

@@ -1,4 +1,4 @@
--- What a salvage gives of one segment, and of some.
+-- What a salvage writes for one segment, and for several.
 use Rattle.std.specs.Prelude.{◌≡◌, ◌++◌, ℕ, Bool, true, false, List, [], ◌∷◌, Option, Some, None}
 use Rattle.std.specs.List.{flat_map}
 use Rattle.std.specs.Io.KnownBytes.{Appends}
@@ -13,19 +13,19 @@ use Rattle.store_runs.specs.Reading.{HasRows}
 use Rattle.store_runs.specs.Held.{segment_rows}
 use Rattle.store.specs.Salvaging.{AreFound, left_out}
 
--- a refusal that is of one segment alone
+-- a refusal that is about a single segment
 abbrev pub is_of_segment : Refusal → Bool
 is_of_segment (refusals.SegmentUnread place) = true
 is_of_segment (refusals.SegmentDamaged place) = true
 is_of_segment _ = false
 
--- what is written fails for want of memory, or with its writer
+-- writing fails for lack of memory, or because the writer fails
 abbrev pub FailsWriting : Refusal → Type 0
 FailsWriting refusals.OutOfMemory = Unit {0}
 FailsWriting refusals.Write = Unit {0}
 FailsWriting _ = ⊥
 
--- the messages of the rows that a segment has, or none where it does not hold them
+-- the messages of the rows of a segment, or `None` if it does not hold them
 abbrev pub FindsMessages : (tells : Bool) → Image → PlainSchema → Segment → Option (List ℕ) → Type 0
 FindsMessages tells image schema g (Some messages) = HasRows tells image schema g (Some messages)
 FindsMessages tells image schema g None = tells ≡ true → segment_rows schema g image ≡ None

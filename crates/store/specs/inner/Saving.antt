@@ -1,4 +1,4 @@
--- What is answered of a query on the table of an entry that is saved.
+-- The answers of a saved query on the table of an entry.
 use Rattle.std.specs.Prelude.{◌≡◌, ◌⊎◌, ℕ, Bool, List, Result, Err}
 use Rattle.sector_dev.specs.Disk.{Image}
 use Rattle.catalogue.specs.Entries.{PlainEntry}

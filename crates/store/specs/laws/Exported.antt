@@ -1,4 +1,4 @@
--- What open exports keep stays while the sectors of their runs do.
+-- What open exports keep stays the same while the sectors of their runs do.
 use Rattle.std.specs.Prelude.{◌≡◌, ◌⊎◌, ◌≤◌, ◌+◌, ◌&&◌, ◌++◌, ℕ, true, nat_le, List, [], ◌∷◌, option_map, refl}
 use Rattle.std.specs.List.{flat_map}
 use Rattle.std.proofs.Common.{inl, inr, ⊎_elim, sym, ap, ◌∙◌, arith}
@@ -41,7 +41,7 @@ module _ (a b : Image) (size : ℕ) where
     same_exports ps es are.1 (λ n some. same n (in_right (runs_in_segments p.segments) (runs_kept ps) n some)) fit.1,
   )
 
--- ---- where they lie
+-- ---- the places of the runs
 
 on_device_behind : (size : ℕ) (r : Run) → is_on_device size r ≡ true → 2 ≤ r.start
 on_device_behind size r is = leb-true 2 r.start (and_parts (nat_le 2 r.start) (nat_le 1 r.count && nat_le (r.start + r.count) size) is).0
@@ -60,7 +60,7 @@ in_either [] ss n some = inr some
 in_either (r ∷ rs) ss n (inl here) = inl (inl here)
 in_either (r ∷ rs) ss n (inr later) = ⊎_elim (λ (one : InSome rs n). inl (inr one)) (λ (other : InSome ss n). inr other) (in_either rs ss n later)
 
--- none of these sectors is that of a commit
+-- none of these sectors is a commit sector
 pub kept_behind : (size : ℕ) (ps : List PlainExport) (n : ℕ) → AreExportable size ps → InSome (runs_kept ps) n → 2 ≤ n
 kept_behind size [] n are within = absurd within
 kept_behind size (p ∷ ps) n are within =

@@ -1,4 +1,4 @@
--- Digests that segments get leave the rows of their tables as they are, where they are those of what lies there.
+-- Adding digests to segments leaves the rows of their tables as they are, if they are the digests of the bytes in the segments.
 use Rattle.std.specs.Prelude.{◌≡◌, ◌++◌, ◌+◌, ℕ, Bool, true, List, [], ◌∷◌, length, map, take, drop, Some, refl}
 use Rattle.std.specs.List.{list_all}
 use Rattle.std.proofs.Common.{inl, inr, ⊎_elim, sym, ap, ◌∙◌, subst, arith}
@@ -25,7 +25,7 @@ use Rattle.store_changes.specs.laws.ExchangedRuns.{run_of}
 use Rattle.store.specs.laws.Exported.{in_either}
 use Rattle.store_changes.specs.laws.Frame.{in_left, in_right, sectors_of}
 
--- ---- how many there are, and of how many bytes
+-- ---- the number of digests, and of their bytes
 
 pub digests_number : (tells : Bool) (image : Image) (gs : List Segment) (ds : List (List ℕ)) → AreDigests tells image gs ds → length ds ≡ length gs
 digests_number tells image [] ds are = ap (λ (xs : List (List ℕ)). length xs) are
@@ -45,7 +45,7 @@ digests_are tells image (g ∷ gs) (d ∷ ds) are =
 
 -- ---- the rows that an image has
 
--- the digests of what an image has in segments, which is what was written there
+-- the digests of the bytes that an image has in segments, which are those that were written
 abbrev pub OwnDigests : Image → List Segment → List (List ℕ) → Type 0
 OwnDigests image [] ds = ds ≡ []
 OwnDigests image (g ∷ gs) [] = ⊥
@@ -80,7 +80,7 @@ digested_held image (e ∷ es) ds own =
 
 -- ---- from the digests of what was read
 
--- the segments of tables that stand are sound
+-- the segments of the tables of a catalogue are sound
 segments_sound : (c : PlainCatalogue) → list_all is_entry c ≡ true → list_all is_segment (segments_of c) ≡ true
 segments_sound [] all = refl
 segments_sound (e ∷ es) all =
@@ -95,7 +95,7 @@ own_sectors (e ∷ es) n within =
     (in_either (map run_of e.segments) (map run_of (segments_of es)) n (subst (λ (rs : List Run). InSome rs n) (map-append run_of e.segments (segments_of es)) within))
 
 module _ (tells : Bool) (told : tells ≡ true) (shown image : Image) where
-  -- an image that has in these segments what reads showed
+  -- an image with the bytes in these segments that reads showed
   each_own : (gs : List Segment) (ds : List (List ℕ)) → list_all is_segment gs ≡ true → ((n : ℕ) → InSome (map run_of gs) n → image n ≡ shown n) → AreDigests tells shown gs ds → OwnDigests image gs ds
   each_own [] ds all same are = are
   each_own (g ∷ gs) [] all same are = absurd are

@@ -1,4 +1,4 @@
--- What the parts of an upgrade answer.
+-- The answers of the parts of an upgrade.
 use Rattle.std.specs.Prelude.{◌≡◌, ◌⊎◌, ℕ, Bool, List, slice_get, Some}
 use Rattle.sector_dev.specs.Disk.{Image}
 use Rattle.catalogue.specs.declared.entry.Segment.{Segment}

@@ -1,4 +1,4 @@
--- The table that gathered segments are.
+-- The table of the segments that were read so far.
 use Rattle.arrow_schema.specs.View.{schema_of}
 use Rattle.cells.specs.Cell.{PlainTable}
 use Rattle.values.specs.Parts.{parts_table}

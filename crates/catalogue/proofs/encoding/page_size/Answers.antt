@@ -6,8 +6,8 @@ use Rattle.catalogue.specs.Entries.{plain_entry}
 use Rattle.catalogue.specs.laws.Kept.{entry_is}
 use Rattle.catalogue.proofs.encoding.page_size.Goals as goal
 
-pub message_of-requires : goal.message_of-requires
-message_of-requires c = subst (λ (s : PlainSchema). IsWithinLimits s) (sym c.schema.ensures) (entry_is (plain_entry c.args.entry.now) c.requires.sound).schema
+pub encode_schema-requires : goal.encode_schema-requires
+encode_schema-requires c = subst (λ (s : PlainSchema). IsWithinLimits s) (sym c.schema.ensures) (entry_is (plain_entry c.args.entry.now) c.requires.sound).schema
 
 pub overflow_add-result-2 : goal.overflow_add-result-2
 overflow_add-result-2 c =

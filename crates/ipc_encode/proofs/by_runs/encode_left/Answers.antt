@@ -10,4 +10,4 @@ pub returns : goal.returns
 returns c =
     let s : PlainSchema = schema_of c.args.schema.now in
     whole_written s (rows_left (columns_of s.columns) c.args.all) (stream_in c.begin_stream-stream.result) (stream_in c.write_runs.new.stream) (stream_in c.end_stream.new.stream)
-    (c.begin_stream-stream.ensures ∙ c.in_ok-first.ensures) c.in_ok-write_runs.ensures c.in_ok-end_stream.ensures
+    (c.begin_stream-stream.ensures ∙ c.in_ok-first.ensures.message) c.in_ok-write_runs.ensures c.in_ok-end_stream.ensures

@@ -10,4 +10,4 @@ pub returns : goal.returns
 returns c =
     let s : PlainSchema = schema_of c.args.schema.now in
     whole_written s (table_of c.args.table.now).rows (stream_in c.begin_stream-stream.result) (stream_in c.write_rows.new.stream) (stream_in c.end_stream.new.stream)
-    (c.begin_stream-stream.ensures ∙ c.in_ok-first.ensures) c.in_ok-write_rows.ensures c.in_ok-end_stream.ensures
+    (c.begin_stream-stream.ensures ∙ c.in_ok-first.ensures.message) c.in_ok-write_rows.ensures c.in_ok-end_stream.ensures

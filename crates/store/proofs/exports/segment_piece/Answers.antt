@@ -10,12 +10,9 @@ use Rattle.store.proofs.exports.segment_piece.Goals as goal
 pub returns-in-Ok-clause-piece : goal.returns-in-Ok-clause-piece
 returns-in-Ok-clause-piece g c =
     let s : PlainSchema = schema_of c.args.schema.now in
-    IfOk-weaker c.read_piece.result _ _ (λ piece of. of s c.requires.limits (c.deref.ensures.value ∙ search (c.in-Ok.ensures.appended, c.new-front.ensures.items))) c.read_piece.ensures.piece
+    IfOk-weaker c.read_piece.result _ _ (λ piece of. of s c.requires.limits (c.deref.ensures.value ∙ c.in-Ok.ensures.message)) c.read_piece.ensures.piece
 
 pub returns-in-Ok-clause-told : goal.returns-in-Ok-clause-told
 returns-in-Ok-clause-told g c =
     let s : PlainSchema = schema_of c.args.schema.now in
-    IfErr-weaker c.read_piece.result _ _ (λ e of. of s (c.deref.ensures.value ∙ search (c.in-Ok.ensures.appended, c.new-front.ensures.items))) c.read_piece.ensures.told
-
-pub returns-clause-reads : goal.returns-clause-reads
-returns-clause-reads g c = let D = g.D.SectorDevice in reads_quiet D.size D.story D.failed D.tells (refused OutOfMemory) c.args.device.now refl
+    IfErr-weaker c.read_piece.result _ _ (λ e of. of s (c.deref.ensures.value ∙ c.in-Ok.ensures.message)) c.read_piece.ensures.told

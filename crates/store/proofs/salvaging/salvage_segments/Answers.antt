@@ -8,7 +8,9 @@ use Rattle.sector_dev.specs.Disk.{now, shown_image}
 use Rattle.catalogue.specs.declared.entry.Segment.{Segment}
 use Rattle.catalogue.specs.Entries.{is_segment}
 use Rattle.commit.specs.Standing.{is_size, is_on_device}
-use Rattle.arrow_schema.specs.View.{schema_of}
+use Rattle.arrow_schema.specs.Column.{PlainSchema}
+use Rattle.arrow_schema.specs.Limits.{IsWithinLimits}
+use Rattle.ipc_write.specs.Written.{schema_message}
 use Rattle.store_runs.specs.Calls.{done, refused}
 use Rattle.store.specs.Salvaging.{plain_left}
 use Rattle.store.specs.declared.salvaging.LeftOut.{LeftOut}
@@ -54,8 +56,7 @@ loop-place-init g c =
       salvaged =
           let start = shown_image (now (D.story c.args.device.now)) in
           let written = g.W.Write.contents c.args.writer.now in
-          subst (λ (ls : List LeftOut). SalvagesEach D.tells start (schema_of c.args.schema.now) [] written written (plain_left ls)) (sym c.new-left_out.ensures.items)
-          (each_first D.tells start (schema_of c.args.schema.now) written);
+          λ s within message. subst (λ (ls : List LeftOut). SalvagesEach D.tells start s [] written written (plain_left ls)) (sym c.new-left_out.ensures.items) (each_first D.tells start s written);
     }
 
 pub loop-place-preserved : goal.loop-place-preserved
@@ -70,10 +71,10 @@ loop-place-preserved g c =
     record {
       reads = reads_more D.size D.story D.failed D.tells done c.args.device.now c.loop-place.device c.salvage_segment.new.device c.loop-place.invariant.reads c.in-Ok.ensures.reads;
       salvaged =
-          each_more D.tells (shown_image (now before)) (shown_image (now mid)) (schema_of c.args.schema.now) (take place segments) (take (place + 1) segments) segment place
+          λ s within message. each_more D.tells (shown_image (now before)) (shown_image (now mid)) s (take place segments) (take (place + 1) segments) segment place
           (W.contents c.args.writer.now) (W.contents c.loop-place.writer) (W.contents c.salvage_segment.new.writer) (plain_left c.loop-place.left_out.items) (plain_left c.salvage_segment.new.left_out.items)
           (λ told. image_then before mid (c.loop-place.invariant.reads.moments told))
-          (take_next segments place segment c.loop-place-test.true (at_place segments place segment refl c.loop-place-test.true)) (omega (arith, length-take place segments, c.loop-place-test.true)) c.loop-place.invariant.salvaged c.in-Ok.ensures.salvaged;
+          (take_next segments place segment c.loop-place-test.true (at_place segments place segment refl c.loop-place-test.true)) (omega (arith, length-take place segments, c.loop-place-test.true)) (c.loop-place.invariant.salvaged s within message) (c.in-Ok.ensures.salvaged s within message);
     }
 
 pub returns-in-Err-clause-reads : goal.returns-in-Err-clause-reads
@@ -88,5 +89,5 @@ pub returns-clause-salvaged : goal.returns-clause-salvaged
 returns-clause-salvaged g c =
     let D = g.D.SectorDevice in
     let W = g.W.Write in
-    subst (λ (gs : List Segment). SalvagesEach D.tells (shown_image (now (D.story c.args.device.now))) (schema_of c.args.schema.now) gs (W.contents c.args.writer.now) (W.contents c.loop-place.writer) (plain_left c.loop-place.left_out.items))
+    subst (λ (gs : List Segment). (s : PlainSchema) → IsWithinLimits s → c.args.front.now ≡ schema_message s → SalvagesEach D.tells (shown_image (now (D.story c.args.device.now))) s gs (W.contents c.args.writer.now) (W.contents c.loop-place.writer) (plain_left c.loop-place.left_out.items))
     (take_all c.loop-place.place c.args.segments.now (omega (arith, c.loop-place-test.false))) c.loop-place.invariant.salvaged

@@ -90,27 +90,8 @@ returns-in_err-places-clause-err c = let p = err_from_is_err_and c.from_residual
 pub page_runs-requires : goal.page_runs-requires
 page_runs-requires c = (length c.deref-4.result.now, c.in_ok-places.ensures.room)
 
-pub next_catalogue-requires-clause-count : goal.next_catalogue-requires-clause-count
-next_catalogue-requires-clause-count c =
-    let listed = catalogue_of c.args.stored.now.list in
-    let change : PlainChange = change_of c.args.change.now in
-    let v = c.args.commit.version in
-    let pieces = plain_pieces c.in_ok-places.places.pieces.items in
-    let ps = plain_pieces c.deref-6.result.now in
-    let made : plain_contents c.in_ok-streams.streams.items ≡ change.streams = c.in_ok-streams.ensures ∙ c.requires.streams in
-    let streams = c.in_ok-places.ensures.contents ∙ made in
-    let same = ap plain_pieces c.deref-6.ensures.value in
-    let none_placed : c.in_ok-segments.segments.items ≡ unplaced v change.streams change.counts =
-    c.in_ok-segments.ensures ∙ (λ i. unplaced v ((ap plain_contents c.deref.ensures.value ∙ made) i) ((c.deref-2.ensures.value ∙ c.requires.counts) i)) in
-    let segments = c.deref-5.ensures.value ∙ none_placed in
-    as_many_pieces v c.deref-6.result.now c.deref-5.result.now change (ap contents_of same ∙ streams) segments c.requires.sound.each
-
-pub next_catalogue-requires-clause-edit : goal.next_catalogue-requires-clause-edit
-next_catalogue-requires-clause-edit c =
-    let change : PlainChange = change_of c.args.change.now in (change.streams, c.requires.sound.edit)
-
-pub next_catalogue-requires-clause-sound : goal.next_catalogue-requires-clause-sound
-next_catalogue-requires-clause-sound c =
+pub next_catalogue-requires : goal.next_catalogue-requires
+next_catalogue-requires c =
     let listed = catalogue_of c.args.stored.now.list in
     let change : PlainChange = change_of c.args.change.now in
     let v = c.args.commit.version in
@@ -133,85 +114,23 @@ next_catalogue-requires-clause-sound c =
       read = c.kept_catalogues_are_read.ensures.read;
     } in
     let stands = catalogue_is listed c.args.stored.now.list.kept in
-    subst (λ (gs : List Segment). list_all is_segment gs ≡ true) (sym (given_segments v listed change pieces ps c.deref-5.result.now same segments)) (made_sound laws c.args.commit c.args.map.now c.place.new.map c.requires.limits listed stands change c.requires.sound c.requires.few pieces c.page_runs.result.now c.in_ok-places.places.text took streams)
-
-pub next_catalogue-requires-clause-stands : goal.next_catalogue-requires-clause-stands
-next_catalogue-requires-clause-stands c =
-    let listed = catalogue_of c.args.stored.now.list in
-    let change : PlainChange = change_of c.args.change.now in
-    let v = c.args.commit.version in
-    let pieces = plain_pieces c.in_ok-places.places.pieces.items in
-    let ps = plain_pieces c.deref-6.result.now in
-    let made : plain_contents c.in_ok-streams.streams.items ≡ change.streams = c.in_ok-streams.ensures ∙ c.requires.streams in
-    let streams = c.in_ok-places.ensures.contents ∙ made in
-    let same = ap plain_pieces c.deref-6.ensures.value in
-    let none_placed : c.in_ok-segments.segments.items ≡ unplaced v change.streams change.counts =
-    c.in_ok-segments.ensures ∙ (λ i. unplaced v ((ap plain_contents c.deref.ensures.value ∙ made) i) ((c.deref-2.ensures.value ∙ c.requires.counts) i)) in
-    let segments = c.deref-5.ensures.value ∙ none_placed in
-    let took = took_for v c.args.map.now c.place.new.map listed change (plain_contents c.in_ok-streams.streams.items) c.deref-4.result.now c.in_ok-asked.asked.layout.text_bytes c.in_ok-places.places.runs.items
-    ((runs_of pieces ++ c.page_runs.result.now) ++ c.in_ok-places.places.text ∷ []) made (c.deref-4.ensures.value ∙ c.in_ok-asked.ensures.pages) c.in_ok-asked.ensures.text c.in_ok-places.ensures.taken c.page_runs.ensures in
-    let laws : PageLaws = record {
-      messages = one_schema c.one_page_each.ensures.apart;
-      held = c.pages_hold_what_was_read.ensures.held;
-      form = c.pages_hold_what_was_read.ensures.formed;
-      pages = c.kept_catalogues_are_read.ensures.pages;
-      text = c.kept_catalogues_are_read.ensures.text;
-      read = c.kept_catalogues_are_read.ensures.read;
-    } in
-    let stands = catalogue_is listed c.args.stored.now.list.kept in
-    subst IsCatalogue (sym (given_is v listed change pieces ps c.deref-5.result.now same segments)) (made_stands laws c.args.commit c.args.map.now c.place.new.map c.requires.limits listed stands change c.requires.sound c.requires.few pieces c.page_runs.result.now c.in_ok-places.places.text took streams)
-
-pub next_catalogue-requires-clause-kind : goal.next_catalogue-requires-clause-kind
-next_catalogue-requires-clause-kind c =
-    let listed = catalogue_of c.args.stored.now.list in
-    let change : PlainChange = change_of c.args.change.now in
-    let v = c.args.commit.version in
-    let pieces = plain_pieces c.in_ok-places.places.pieces.items in
-    let ps = plain_pieces c.deref-6.result.now in
-    let made : plain_contents c.in_ok-streams.streams.items ≡ change.streams = c.in_ok-streams.ensures ∙ c.requires.streams in
-    let streams = c.in_ok-places.ensures.contents ∙ made in
-    let same = ap plain_pieces c.deref-6.ensures.value in
-    let none_placed : c.in_ok-segments.segments.items ≡ unplaced v change.streams change.counts =
-    c.in_ok-segments.ensures ∙ (λ i. unplaced v ((ap plain_contents c.deref.ensures.value ∙ made) i) ((c.deref-2.ensures.value ∙ c.requires.counts) i)) in
-    let segments = c.deref-5.ensures.value ∙ none_placed in
-    let took = took_for v c.args.map.now c.place.new.map listed change (plain_contents c.in_ok-streams.streams.items) c.deref-4.result.now c.in_ok-asked.asked.layout.text_bytes c.in_ok-places.places.runs.items
-    ((runs_of pieces ++ c.page_runs.result.now) ++ c.in_ok-places.places.text ∷ []) made (c.deref-4.ensures.value ∙ c.in_ok-asked.ensures.pages) c.in_ok-asked.ensures.text c.in_ok-places.ensures.taken c.page_runs.ensures in
-    let laws : PageLaws = record {
-      messages = one_schema c.one_page_each.ensures.apart;
-      held = c.pages_hold_what_was_read.ensures.held;
-      form = c.pages_hold_what_was_read.ensures.formed;
-      pages = c.kept_catalogues_are_read.ensures.pages;
-      text = c.kept_catalogues_are_read.ensures.text;
-      read = c.kept_catalogues_are_read.ensures.read;
-    } in
-    let stands = catalogue_is listed c.args.stored.now.list.kept in
-    c.in_ok-asked.ensures.kind ∙ sym (ap kind_of (given_is v listed change pieces ps c.deref-5.result.now same segments) ∙ made_kind laws c.args.commit c.args.map.now c.place.new.map c.requires.limits listed stands change c.requires.sound c.requires.few pieces c.page_runs.result.now c.in_ok-places.places.text took streams)
-
-pub next_catalogue-requires-clause-pages : goal.next_catalogue-requires-clause-pages
-next_catalogue-requires-clause-pages c =
-    let listed = catalogue_of c.args.stored.now.list in
-    let change : PlainChange = change_of c.args.change.now in
-    let v = c.args.commit.version in
-    let pieces = plain_pieces c.in_ok-places.places.pieces.items in
-    let ps = plain_pieces c.deref-6.result.now in
-    let made : plain_contents c.in_ok-streams.streams.items ≡ change.streams = c.in_ok-streams.ensures ∙ c.requires.streams in
-    let streams = c.in_ok-places.ensures.contents ∙ made in
-    let same = ap plain_pieces c.deref-6.ensures.value in
-    let none_placed : c.in_ok-segments.segments.items ≡ unplaced v change.streams change.counts =
-    c.in_ok-segments.ensures ∙ (λ i. unplaced v ((ap plain_contents c.deref.ensures.value ∙ made) i) ((c.deref-2.ensures.value ∙ c.requires.counts) i)) in
-    let segments = c.deref-5.ensures.value ∙ none_placed in
-    let took = took_for v c.args.map.now c.place.new.map listed change (plain_contents c.in_ok-streams.streams.items) c.deref-4.result.now c.in_ok-asked.asked.layout.text_bytes c.in_ok-places.places.runs.items
-    ((runs_of pieces ++ c.page_runs.result.now) ++ c.in_ok-places.places.text ∷ []) made (c.deref-4.ensures.value ∙ c.in_ok-asked.ensures.pages) c.in_ok-asked.ensures.text c.in_ok-places.ensures.taken c.page_runs.ensures in
-    let laws : PageLaws = record {
-      messages = one_schema c.one_page_each.ensures.apart;
-      held = c.pages_hold_what_was_read.ensures.held;
-      form = c.pages_hold_what_was_read.ensures.formed;
-      pages = c.kept_catalogues_are_read.ensures.pages;
-      text = c.kept_catalogues_are_read.ensures.text;
-      read = c.kept_catalogues_are_read.ensures.read;
-    } in
-    let stands = catalogue_is listed c.args.stored.now.list.kept in
-    subst (λ (d : PlainCatalogue). ArePageRuns d c.page_runs.result.now) (sym (given_is v listed change pieces ps c.deref-5.result.now same segments)) (made_runs laws c.args.commit c.args.map.now c.place.new.map c.requires.limits listed stands change c.requires.sound c.requires.few pieces c.page_runs.result.now c.in_ok-places.places.text took streams)
+    let given = given_is v listed change pieces ps c.deref-5.result.now same segments in
+    record {
+      count = as_many_pieces v c.deref-6.result.now c.deref-5.result.now change (ap contents_of same ∙ streams) segments c.requires.sound.each;
+      sound =
+          subst (λ (gs : List Segment). list_all is_segment gs ≡ true) (sym (given_segments v listed change pieces ps c.deref-5.result.now same segments))
+          (made_sound laws c.args.commit c.args.map.now c.place.new.map c.requires.limits listed stands change c.requires.sound c.requires.few pieces c.page_runs.result.now c.in_ok-places.places.text took streams);
+      edit = (change.streams, c.requires.sound.edit);
+      stands =
+          subst IsCatalogue (sym given)
+          (made_stands laws c.args.commit c.args.map.now c.place.new.map c.requires.limits listed stands change c.requires.sound c.requires.few pieces c.page_runs.result.now c.in_ok-places.places.text took streams);
+      kind =
+          c.in_ok-asked.ensures.kind
+          ∙ sym (ap kind_of given ∙ made_kind laws c.args.commit c.args.map.now c.place.new.map c.requires.limits listed stands change c.requires.sound c.requires.few pieces c.page_runs.result.now c.in_ok-places.places.text took streams);
+      pages =
+          subst (λ (d : PlainCatalogue). ArePageRuns d c.page_runs.result.now) (sym given)
+          (made_runs laws c.args.commit c.args.map.now c.place.new.map c.requires.limits listed stands change c.requires.sound c.requires.few pieces c.page_runs.result.now c.in_ok-places.places.text took streams);
+    }
 
 pub plan_next-requires-clause-room : goal.plan_next-requires-clause-room
 plan_next-requires-clause-room c =
