@@ -7,8 +7,8 @@ ghost use Rattle.cli_requests.specs.Apps.{store_app, info_app, format_app, new_f
 ghost use Rattle.cli_requests.specs.Apps.{AreForms, other_parameters, parameters_of, IsOwnApp};
 ghost use Rattle.cli_requests.specs.Operands.{names_file, names_table};
 
+use crate::command_help::{COMMANDS, CommandHelp, texts_of};
 use crate::replaying::with_faults;
-use crate::usages::{COMMANDS, Usage, texts_of};
 use clap::builder::ValueParser;
 use clap::{Arg, ArgAction, Command};
 use std::alloc::{AllocError, Global};
@@ -313,15 +313,15 @@ pub(crate) fn own_command<'a>(
     command(alloc, word)?.bin_name(name.as_str())
 }
 
-fn command_of_usage<'a>(alloc: Global, usage: &Usage) -> Result<Command<'a>, AllocError> {
-    command(alloc, usage.name)
+fn command_of_help<'a>(alloc: Global, help: &CommandHelp) -> Result<Command<'a>, AllocError> {
+    command(alloc, help.name)
 }
 
 // Returns the commands in the order of the help.
 fn commands_of_stores<'a>(alloc: Global) -> Result<Vec<Command<'a>>, AllocError> {
     let mut commands = Vec::new(alloc);
-    for usage in &COMMANDS {
-        commands.push(command_of_usage(alloc, usage)?)?;
+    for help in &COMMANDS {
+        commands.push(command_of_help(alloc, help)?)?;
     }
     Ok(commands)
 }

@@ -2,15 +2,15 @@
 use cli_texts::abouts;
 
 // A command as its help shows it.
-pub(crate) struct Usage {
+pub(crate) struct CommandHelp {
     pub(crate) name: &'static str,
     about: &'static str,
     example: &'static str,
 }
 
 // In the order of the help.
-pub(crate) const COMMANDS: [Usage; 17] = [
-    Usage {
+pub(crate) const COMMANDS: [CommandHelp; 17] = [
+    CommandHelp {
         name: "format",
         about: abouts::FORMAT,
         example: "Example: arrowstore format store 4096
@@ -18,7 +18,7 @@ pub(crate) const COMMANDS: [Usage; 17] = [
 The size is fixed. A sector takes space on the disk only after it has been written, so
 if in doubt, use 4194304, the maximum (2 GiB).",
     },
-    Usage {
+    CommandHelp {
         name: "create",
         about: abouts::CREATE,
         example: "Example: arrowstore create store measurements id:uint64 'value:int32?' 'tags:list<utf8>'
@@ -30,18 +30,18 @@ struct<FIELD,..> or dict<INDEX,TYPE>, for example dict<int8,utf8>. A timestamp m
 have a time zone, as in timestamp_ms(UTC). An ITEM is a TYPE, followed by ? if nulls
 are allowed. A column of the type null needs the ?, as in n:null?, to accept rows.",
     },
-    Usage {
+    CommandHelp {
         name: "import",
         about: abouts::IMPORT,
         example: "Example: arrowstore import store measurements < readings.arrows",
     },
-    Usage {
+    CommandHelp {
         name: "append",
         about: abouts::APPEND,
         example: "Example: arrowstore append store measurements --as csv --null NA < readings.csv
 where readings.csv begins with the line id,value",
     },
-    Usage {
+    CommandHelp {
         name: "query",
         about: abouts::QUERY,
         example: "Example: arrowstore query store measurements 'value >= 7' --columns id,value --limit 10
@@ -51,37 +51,37 @@ operator and one space. Bytes are pairs of hexadecimal digits, and bools are tru
 false. Dates and timestamps are the stored integers: the number of days, seconds, ..
 since 1970-01-01.",
     },
-    Usage {
+    CommandHelp {
         name: "export",
         about: abouts::EXPORT,
         example: "Example: arrowstore export store measurements > readings.arrows",
     },
-    Usage {
+    CommandHelp {
         name: "rename",
         about: abouts::RENAME,
         example: "Example: arrowstore rename store measurements readings",
     },
-    Usage {
+    CommandHelp {
         name: "drop",
         about: abouts::DROP,
         example: "Example: arrowstore drop store measurements",
     },
-    Usage {
+    CommandHelp {
         name: "tables",
         about: abouts::TABLES,
         example: "Example: arrowstore tables store",
     },
-    Usage {
+    CommandHelp {
         name: "schema",
         about: abouts::SCHEMA,
         example: "Example: arrowstore schema store measurements",
     },
-    Usage {
+    CommandHelp {
         name: "check",
         about: abouts::CHECK,
         example: "Example: arrowstore check store",
     },
-    Usage {
+    CommandHelp {
         name: "salvage",
         about: abouts::SALVAGE,
         example: "Example: arrowstore salvage store measurements > rescued.arrows
@@ -89,7 +89,7 @@ since 1970-01-01.",
 It is for a table that check and export refuse. Each segment that can't be read is left
 out and reported on standard error, and the status is then 1. The store is not changed.",
     },
-    Usage {
+    CommandHelp {
         name: "info",
         about: abouts::INFO,
         example: "Example: arrowstore info store --json
@@ -101,7 +101,7 @@ step of compact is a change. Segments are the pieces in which a table is stored.
 commits_agree is false, something other than this program has changed a commit, and the
 last command may be undone.",
     },
-    Usage {
+    CommandHelp {
         name: "compact",
         about: abouts::COMPACT,
         example: "Example: arrowstore compact store
@@ -109,7 +109,7 @@ last command may be undone.",
 The tables keep their rows, even if it is interrupted. Each append adds a segment, and a
 store has at most 65,536 of them. Merged segments are also read faster.",
     },
-    Usage {
+    CommandHelp {
         name: "upgrade",
         about: abouts::UPGRADE,
         example: "Example: arrowstore upgrade store
@@ -117,7 +117,7 @@ store has at most 65,536 of them. Merged segments are also read faster.",
 The tables keep their rows, even if it is interrupted. With version 2 the program notices
 if the disk has changed a segment. Programs that know only version 1 can't read it.",
     },
-    Usage {
+    CommandHelp {
         name: "copy",
         about: abouts::COPY,
         example: "Example: arrowstore copy store larger 65536
@@ -125,7 +125,7 @@ if the disk has changed a segment. Programs that know only version 1 can't read 
 If it is interrupted, no command opens the new file as a store: delete that file, and
 copy again.",
     },
-    Usage {
+    CommandHelp {
         name: "replay",
         about: abouts::REPLAY,
         example: "Example: arrowstore replay script --sectors 16 --stop 8 --choice new
@@ -138,9 +138,9 @@ and syncs of the device are counted from 1, after the formatting. No line may be
 
 // Returns what the help of a command says it does, and an example.
 pub(crate) fn texts_of(name: &str) -> (&'static str, &'static str) {
-    for usage in &COMMANDS {
-        if usage.name == name {
-            return (usage.about, usage.example);
+    for help in &COMMANDS {
+        if help.name == name {
+            return (help.about, help.example);
         }
     }
     ("", "")
