@@ -54,7 +54,7 @@ pub fn recode<R: Read, W: Write>(
     }
 }
 
-// Reads the whole input and returns the table that it stands for.
+// Reads the whole input and returns the table that it means.
 fn read_table<R: Read>(alloc: Global, reader: &mut R) -> Result<Table, Refusal>
     ensures meaning { IfOk result (λ table. IfSome (R.remaining reader.old) (λ input. meaning supported_codes input ≡ Ok (table_of table))) }
     ensures fault { IfErr result (λ refusal. IsTrueFault refusal (R.remaining reader.old)) }

@@ -55,7 +55,7 @@ query_remedy queries.NotComparable = remedies.TEST_FOR_NULL.now
 -- for an opening
 unfoldable pub opening_remedy : OpeningRefusal → List ℕ
 opening_remedy openings.NotAStore = remedies.FILE_OF_A_STORE.now
-opening_remedy openings.AlreadyAStore = remedies.SEE_TO_FILES.now
+opening_remedy openings.AlreadyAStore = remedies.CHECK_FILES.now
 opening_remedy (openings.Damaged cause) = remedies.EARLIER_COPY.now
 opening_remedy openings.Device = remedies.TRY_AGAIN.now
 opening_remedy openings.OutOfMemory = remedies.MORE_MEMORY.now
@@ -72,18 +72,18 @@ store_remedy (stores.TooMany limit) = remedies.GIVE_LESS.now
 store_remedy (stores.NoRoom sectors) = remedies.MORE_ROOM.now
 store_remedy stores.Device = remedies.LOOK_AGAIN.now
 store_remedy stores.Halted = remedies.LOOK_AGAIN.now
-store_remedy stores.NoExport = remedies.SEE_TO_FILES.now
+store_remedy stores.NoExport = remedies.CHECK_FILES.now
 store_remedy (stores.Query reason) = query_remedy reason
 store_remedy (stores.SegmentUnread segment) = remedies.IMPORT_AGAIN.now
-store_remedy stores.Read = remedies.SEE_TO_FILES.now
+store_remedy stores.Read = remedies.CHECK_FILES.now
 store_remedy (stores.SegmentDamaged segment) = remedies.IMPORT_AGAIN.now
-store_remedy stores.Write = remedies.SEE_TO_FILES.now
+store_remedy stores.Write = remedies.CHECK_FILES.now
 store_remedy stores.OutOfMemory = remedies.MORE_MEMORY.now
 
 unfoldable pub remedy : Refusal → List ℕ
 remedy (Fault fault) = fault_remedy fault
 remedy TooManyBytes = remedies.GIVE_LESS.now
-remedy Io = remedies.SEE_TO_FILES.now
+remedy Io = remedies.CHECK_FILES.now
 remedy BadSize = remedies.SIZE_OF_A_STORE.now
 remedy (BadScript line) = remedies.LINES_OF_A_SCRIPT.now
 remedy (Fields error) = fields_remedy error

@@ -13,25 +13,26 @@ use tables::QueryRefusal;
 pub const WRITE_AGAIN: &str =
     "Have the stream written again, by another writer or with other options.";
 
-pub const GIVE_ALL: &str = "Give all of the stream.";
+pub const GIVE_ALL: &str = "Give the whole stream.";
 
 pub const GIVE_A_STREAM: &str =
-    "Give an Arrow IPC stream, not an Arrow file (Feather), Parquet, or a stream of an Arrow before 0.15; `append` with `--as` takes CSV and JSON Lines.";
+    "Give an Arrow IPC stream, not an Arrow file (Feather), a Parquet file, or a stream of Arrow before 0.15. For CSV and JSON Lines use `append` with `--as`.";
 
 pub const WRITE_V5: &str = "Have the stream written with metadata of version V5.";
 
 pub const LEAVE_OUT_MESSAGES: &str =
-    "Leave tensors out: give a schema, dictionary batches and record batches alone.";
+    "Leave tensors out: give only a schema, dictionary batches and record batches.";
 
-pub const SCHEMA_FIRST: &str = "Give a stream from its beginning, which is its schema.";
+pub const SCHEMA_FIRST: &str =
+    "Give a stream from its beginning, where its schema is. An empty input is not a stream.";
 
-pub const ONE_STREAM: &str = "Give each stream by itself.";
+pub const ONE_STREAM: &str = "Give each stream separately.";
 
 pub const LITTLE_ENDIAN: &str = "Have the numbers written as little-endian.";
 
-pub const CONVERT_COLUMN: &str = "Leave the column out, or convert it.";
+pub const CONVERT_COLUMN: &str = "Leave the column out, or convert it to another type.";
 
-pub const FEWER_FIELDS: &str = "Leave out fields or metadata.";
+pub const FEWER_FIELDS: &str = "Give fewer fields or less metadata.";
 
 pub const NO_COMPRESSION: &str = "Have the stream written without compression.";
 
@@ -41,75 +42,75 @@ pub const FEWER_ROWS: &str = "Give fewer rows.";
 
 // ---- G and C: files
 
-pub const SEE_TO_FILES: &str =
-    "See to the file, the input and the output, and look with `tables` what a store has.";
+pub const CHECK_FILES: &str =
+    "Check the file, the input and the output. `tables` shows what a store contains.";
 
 pub const SIZE_OF_A_STORE: &str =
-    "Give 16 to 4,194,304 sectors, or the whole file of a store; where a `copy` was broken off, delete its new file and copy again.";
+    "Give 16 to 4,194,304 sectors, or the whole file of a store. If a `copy` was interrupted, delete its new file and copy again.";
 
 pub const LINES_OF_A_SCRIPT: &str =
     "Write each line as `create NAME FIELD ..`, `import NAME FILE`, `append NAME FILE`, `rename FROM TO`, `drop NAME`, `compact`, `upgrade` or `reopen`.";
 
 pub const FILE_OF_A_STORE: &str =
-    "Give the file of a store; where `format` or `copy` was interrupted, delete its new file and do it again.";
+    "Give the file of a store. If a `format` or `copy` was interrupted, delete its new file and run the command again.";
 
 pub const EARLIER_COPY: &str =
-    "Take a copy of the file from before; to `replay` give 16 to 4,194,304 sectors.";
+    "Use an earlier copy of the file. For `replay`, give 16 to 4,194,304 sectors.";
 
-pub const TRY_AGAIN: &str = "See to the disk, and try again.";
+pub const TRY_AGAIN: &str = "Check the disk, and try again.";
 
 // ---- P: field texts
 
 pub const FORM_OF_A_FIELD: &str =
-    "Write a field without spaces as `NAME:TYPE`, or `NAME:TYPE?` where nulls are allowed, as `id:uint64`: `help create` lists the types.";
+    "Write a field without spaces as `NAME:TYPE`, or as `NAME:TYPE?` if nulls are allowed, for example `id:uint64`. `help create` lists the types.";
 
 pub const SMALLER_FIELDS: &str =
     "Give numbers of at most 2,147,483,647, and fewer, shorter or less deeply nested fields.";
 
 // ---- X: texts
 
-pub const FIX_RECORD: &str = "Fix the record, and append all of the text again.";
+pub const FIX_RECORD: &str = "Fix the record, and append the whole text again.";
 
 pub const NAMES_FIRST: &str =
-    "Begin the text with the names of the columns in order, which `schema` prints.";
+    "Begin the text with the names of the columns, in the order that `schema` prints.";
 
 pub const GIVE_JSON_LINES: &str = "Give the rows as JSON Lines.";
 
-pub const GIVE_ARRAYS: &str = "Give arrays in place of objects.";
+pub const GIVE_ARRAYS: &str = "Give each row and struct as an array instead of an object.";
 
 // ---- Q: queries
 
 pub const NAMES_OF_COLUMNS: &str =
-    "Give names of columns as `schema` prints them, without the quotation marks: in `--columns` each once, and for `--objects` no two alike.";
+    "Give names of columns as `schema` prints them, without the quotation marks. In `--columns` list each only once; for `--objects` all names must differ.";
 
 pub const FORM_OF_A_CONDITION: &str =
-    "Write `NAME OP LITERAL`, `NAME is null` or `NAME is not null`: OP is = != < <= > or >=, LITERAL is of the column's type (dates are integers).";
+    "Write `NAME OP LITERAL`, `NAME is null` or `NAME is not null`. OP is = != < <= > or >=. LITERAL is a value of the column's type; dates are integers.";
 
-pub const TEST_FOR_NULL: &str = "Ask `is null` or `is not null` of such a column.";
+pub const TEST_FOR_NULL: &str = "Use `is null` or `is not null` for such a column.";
 
 // ---- S: the open store
 
 pub const NAME_OF_A_TABLE: &str = "Give the name of a table: `tables` prints them.";
 
-pub const OTHER_NAME: &str = "Take another name, or drop the table that has it.";
+pub const OTHER_NAME: &str = "Use another name, or drop the table that has it.";
 
-pub const FORM_OF_A_NAME: &str = "Take a name of 1 to 64 ASCII letters, digits, `_`, `-` and `.`.";
+pub const FORM_OF_A_NAME: &str = "Use a name of 1 to 64 ASCII letters, digits, `_`, `-` and `.`.";
 
 pub const FIELDS_OF_THE_TABLE: &str =
-    "Give rows with the fields of the table, in name, type and nullability: `schema` prints them.";
+    "Give rows whose fields have the names, types and nullability of the table. `schema` prints them.";
 
 pub const FIX_ROW: &str = "Fix the row, and append all rows again.";
 
 pub const GIVE_LESS: &str =
-    "For Bytes give less at once, for Weight begin another table, for Segments use `compact`, for Tables drop some, for Epochs `copy` the store.";
+    "For Bytes give less at once; for Weight start another table; for Segments use `compact`; for Tables drop some; for Epochs `copy` the store.";
 
 pub const MORE_ROOM: &str =
-    "Drop tables, bring free sectors together with `compact`, or `copy` the store into a larger one; where a `copy` is refused give it more sectors.";
+    "Drop tables, gather the free sectors with `compact`, or `copy` the store into a larger one. If a `copy` is refused, give it more sectors.";
 
-pub const LOOK_AGAIN: &str = "See to the disk, and look with `tables` whether the command is done.";
+pub const LOOK_AGAIN: &str = "Check the disk, and see with `tables` whether the command is done.";
 
 pub const IMPORT_AGAIN: &str =
-    "Write what can be read of the table with `salvage`, and drop it or import it again. Then use `check` once more: other tables may be damaged too.";
+    "Save the readable rows of the table with `salvage`, and drop it or import it again. Then run `check` once more: other tables may be damaged too.";
 
 pub const MORE_MEMORY: &str =
     "Give the program more memory: a stream needs a small multiple of its size.";
@@ -203,7 +204,7 @@ fn opening_remedy(refusal: OpeningRefusal) -> &'static str
 {
     match refusal {
         OpeningRefusal::NotAStore => FILE_OF_A_STORE,
-        OpeningRefusal::AlreadyAStore => SEE_TO_FILES,
+        OpeningRefusal::AlreadyAStore => CHECK_FILES,
         OpeningRefusal::Damaged(_) => EARLIER_COPY,
         OpeningRefusal::Device => TRY_AGAIN,
         OpeningRefusal::OutOfMemory => MORE_MEMORY,
@@ -226,7 +227,7 @@ fn store_remedy(refusal: tables::Refusal) -> &'static str
         tables::Refusal::Device | tables::Refusal::Halted => LOOK_AGAIN,
         tables::Refusal::Query(reason) => query_remedy(reason),
         tables::Refusal::SegmentUnread(_) | tables::Refusal::SegmentDamaged(_) => IMPORT_AGAIN,
-        tables::Refusal::NoExport | tables::Refusal::Read | tables::Refusal::Write => SEE_TO_FILES,
+        tables::Refusal::NoExport | tables::Refusal::Read | tables::Refusal::Write => CHECK_FILES,
         tables::Refusal::OutOfMemory => MORE_MEMORY,
     }
 }
@@ -240,7 +241,7 @@ impl Refusal {
         match self {
             Refusal::Fault(fault) => fault_remedy(fault),
             Refusal::TooManyBytes => GIVE_LESS,
-            Refusal::Io => SEE_TO_FILES,
+            Refusal::Io => CHECK_FILES,
             Refusal::BadSize => SIZE_OF_A_STORE,
             Refusal::BadScript(_) => LINES_OF_A_SCRIPT,
             Refusal::Fields(error) => fields_remedy(error),

@@ -7,8 +7,8 @@ ghost use Rattle.cli_requests.specs.Apps.{store_app, info_app, format_app, new_f
 ghost use Rattle.cli_requests.specs.Apps.{AreForms, other_parameters, parameters_of, IsOwnApp};
 ghost use Rattle.cli_requests.specs.Operands.{names_file, names_table};
 
+use crate::command_help::{COMMANDS, CommandHelp, texts_of};
 use crate::replaying::with_faults;
-use crate::usages::{COMMANDS, Usage, texts_of};
 use clap::builder::ValueParser;
 use clap::{Arg, ArgAction, Command};
 use std::alloc::{AllocError, Global};
@@ -65,7 +65,7 @@ fn sectors<'a>(alloc: Global) -> Arg<'a>
     required(
         alloc,
         "SECTORS",
-        "How many sectors of 512 bytes, 16 to 4194304",
+        "The number of sectors of 512 bytes, 16 to 4194304",
     )
     .value_parser(ValueParser::unsigned(0, u64::MAX))
 }
@@ -77,7 +77,7 @@ pub(crate) fn format_version<'a>(alloc: Global) -> Arg<'a>
         alloc,
         "format-version",
         "V",
-        "The version of the store: 2, each segment with a digest, which it is without this option; 1 without digests",
+        "The version of the store: 2, with a digest of each segment, is the default; 1 is without digests",
     )
     .value_parser(ValueParser::unsigned(1, 2))
 }
@@ -89,7 +89,7 @@ fn form<'a>(alloc: Global) -> Arg<'a>
         alloc,
         "as",
         "FORM",
-        "What the input is: CSV begins with the names of the columns, JSON Lines has a row on each line",
+        "The form of the input: csv begins with a line of the names of the columns, jsonl has a row on each line",
     )
     .value_parser(ValueParser::Names(&FORMS))
     .default_value("stream")
@@ -102,7 +102,7 @@ fn null_text<'a>(alloc: Global) -> Arg<'a>
         alloc,
         "null",
         "TEXT",
-        "In CSV, the text that stands for null where nulls are allowed, without this option the empty one; other forms pass it over",
+        "In CSV, the text that means null in a column that allows nulls; by default the empty text; ignored in other forms",
     )
     .default_value("")
     .hide_default_value(true)
@@ -114,13 +114,13 @@ fn objects<'a>(alloc: Global) -> Arg<'a>
     Arg::new(alloc, "objects")
         .long("objects")
         .action(ArgAction::SetTrue)
-        .help("Prints each row as an object by the names of the columns, which then have to differ")
+        .help("Prints each row as an object with the names of the columns, which must all differ")
 }
 
 fn limit<'a>(alloc: Global) -> Arg<'a>
     ensures { (rule_of result ≡ limit_rule) × (result.global ≡ false) }
 {
-    option(alloc, "limit", "N", "How many rows at most").value_parser(ValueParser::unsigned(
+    option(alloc, "limit", "N", "The maximum number of rows").value_parser(ValueParser::unsigned(
         0,
         u64::MAX,
     ))
@@ -238,7 +238,7 @@ fn with_fields<'a>(alloc: Global, name: &'a str) -> Result<Command<'a>, AllocErr
     with_table(alloc, name)?.arg(repeated(
         alloc,
         "FIELD",
-        "The fields, each as NAME:TYPE, followed by ? where nulls are allowed",
+        "The fields, each as NAME:TYPE, followed by ? if nulls are allowed",
     ))
 }
 
@@ -257,7 +257,7 @@ fn with_conditions<'a>(alloc: Global, name: &'a str) -> Result<Command<'a>, Allo
     with_table(alloc, name)?.arg(repeated(
         alloc,
         "CONDITION",
-        "What each row must meet: 'NAME OP LITERAL' with OP one of = != < <= > >=, 'NAME is null' or 'NAME is not null', split by single spaces",
+        "What each row must meet: 'NAME OP LITERAL' with OP one of = != < <= > >=, 'NAME is null' or 'NAME is not null', with single spaces between the parts",
     ))
 }
 
@@ -269,13 +269,13 @@ pub(crate) fn with_query<'a>(alloc: Global, name: &'a str) -> Result<Command<'a>
         alloc,
         "columns",
         "A,B",
-        "The columns, in this order; without this option all of them",
+        "The columns, in this order; by default all columns",
     );
     let save = option(
         alloc,
         "save",
         "NEW",
-        "Stores these rows as a new table NEW, in place of printing them",
+        "Saves the rows as a new table NEW, instead of printing them",
     );
     with_conditions(alloc, name)?
         .arg(columns)?
@@ -313,15 +313,15 @@ pub(crate) fn own_command<'a>(
     command(alloc, word)?.bin_name(name.as_str())
 }
 
-fn command_of_usage<'a>(alloc: Global, usage: &Usage) -> Result<Command<'a>, AllocError> {
-    command(alloc, usage.name)
+fn command_of_help<'a>(alloc: Global, help: &CommandHelp) -> Result<Command<'a>, AllocError> {
+    command(alloc, help.name)
 }
 
 // Returns the commands in the order of the help.
 fn commands_of_stores<'a>(alloc: Global) -> Result<Vec<Command<'a>>, AllocError> {
     let mut commands = Vec::new(alloc);
-    for usage in &COMMANDS {
-        commands.push(command_of_usage(alloc, usage)?)?;
+    for help in &COMMANDS {
+        commands.push(command_of_help(alloc, help)?)?;
     }
     Ok(commands)
 }

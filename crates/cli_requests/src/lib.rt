@@ -13,6 +13,7 @@
 //! ```
 #![tactic(auto)]
 
+mod command_help;
 mod command_parameters;
 mod found_values;
 mod laws;
@@ -20,7 +21,6 @@ mod naming;
 mod replaying;
 mod store_command_line;
 mod store_words;
-mod usages;
 
 pub use command_parameters::cli_commands;
 pub use laws::options_are_read;

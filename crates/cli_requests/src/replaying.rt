@@ -60,10 +60,10 @@ fn choice_of(text: &str) -> Option<CrashChoice>
 }
 
 fn wrong_choice(alloc: Global) -> Result<Mistake, AllocError> {
-    let mut command = Command::new(alloc, "replay");
+    let mut command = with_faults(alloc, "replay")?.bin_name("arrowstore replay")?;
     let error = command.error(
         ErrorKind::InvalidValue,
-        "the choice is old, new, lost, a number, or lost: and a number",
+        "invalid value for '--choice <C>': it is none of old, new, lost, N and lost:N",
     )?;
     Ok(Mistake::Words(error))
 }
@@ -106,7 +106,7 @@ fn choice<'a>(alloc: Global) -> Arg<'a>
         alloc,
         "choice",
         "C",
-        "What the crash leaves of sectors that are not yet synced: old, new, lost, N (new where its bits are 1) or lost:N",
+        "What the crash leaves of sectors that are not yet synced: old, new, lost, N (new where a bit of N is 1) or lost:N (lost where a bit of N is 1)",
     )
     .default_value("old")
 }
@@ -118,7 +118,7 @@ fn size<'a>(alloc: Global) -> Arg<'a>
         alloc,
         "sectors",
         "S",
-        "How many sectors of 512 bytes the device has, 16 to 4194304",
+        "The number of sectors of the device, of 512 bytes each, 16 to 4194304",
     )
     .required(true)
 }
@@ -137,13 +137,13 @@ pub(crate) fn with_faults<'a>(alloc: Global, name: &'a str) -> Result<Command<'a
         alloc,
         "fail",
         "K",
-        "The write or sync that fails once, counted from 1; without this option or with 0 none",
+        "The write or sync that fails once, counted from 1; 0, the default, means none",
     );
     let stop = number(
         alloc,
         "stop",
         "K",
-        "The write or sync in which the device stops, counted from 1; without this option or with 0 none",
+        "The write or sync in which the device stops, counted from 1; 0, the default, means none",
     );
     with_script(alloc, name)?
         .arg(fail)?

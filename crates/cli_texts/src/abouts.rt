@@ -1,11 +1,11 @@
 //! What each command does: its line in the help of the program, and the first line of its own help.
 
-pub const FORMAT: &str = "Makes a file of the given number of sectors, and an empty store in it";
+pub const FORMAT: &str = "Makes a file of the given number of sectors, with an empty store in it";
 
 pub const CREATE: &str = "Makes a table without rows";
 
 pub const IMPORT: &str =
-    "Reads an Arrow IPC stream from standard input, and stores it as the table NAME, in place of one that is there";
+    "Reads an Arrow IPC stream from standard input, and stores it as the table NAME, which it replaces if it exists";
 
 pub const APPEND: &str = "Reads rows from standard input, and appends them to a table";
 
@@ -18,27 +18,28 @@ pub const RENAME: &str = "Gives a table another name";
 
 pub const DROP: &str = "Removes a table with all its rows";
 
-pub const TABLES: &str = "Prints a line for each table: its name, and how many rows it has";
+pub const TABLES: &str = "Prints a line for each table: its name and its number of rows";
 
 pub const SCHEMA: &str = "Prints a line for each field of a table";
 
-pub const CHECK: &str = "Reads all tables, and prints ok where each can be read";
+pub const CHECK: &str = "Reads all tables, and prints ok if all can be read";
 
 pub const SALVAGE: &str =
-    "Writes, as an Arrow IPC stream, the rows of a damaged table that can be read, and tells what is left out";
+    "Writes the readable rows of a damaged table as an Arrow IPC stream, and reports what is left out";
 
-pub const INFO: &str = "Prints the store in numbers";
+pub const INFO: &str = "Prints the size of the store, its free sectors, and other numbers";
 
 pub const COMPACT: &str =
-    "Joins small segments, moves the last ones forward, and prints how many steps that took";
+    "Merges small segments, moves the last ones forward, and prints the number of steps";
 
-pub const UPGRADE: &str = "Gives each segment of a store of version 1 the digest of its bytes";
+pub const UPGRADE: &str =
+    "Adds a digest to each segment of a store of version 1, and makes it version 2";
 
 pub const COPY: &str =
-    "Makes a store of the given number of sectors in a new file, with all tables of another one";
+    "Copies all tables of a store into a new store of the given number of sectors";
 
 pub const REPLAY: &str =
     "Plays a script on a device in memory that fails or stops, and prints what a crash leaves";
 
 pub const RECODE: &str =
-    "Reads an Arrow IPC stream from standard input, and writes the same rows in the one form of this program";
+    "Reads an Arrow IPC stream from standard input, and writes the same rows as a stream in canonical form";

@@ -8,7 +8,7 @@ use std::io::{self, Write};
 
 /// What the segments that are left out mean for the stream, and what to do.
 pub const STREAM_LACKS_THEM: &str =
-    "The stream has all rows of the table but these. Take them from a copy of the file from before.";
+    "The stream has all rows of the table except these. Take them from an earlier copy of the file.";
 
 /// Reports a segment that is left out: its place in its table, counted from 0, and the number of rows that it is said to have.
 ///

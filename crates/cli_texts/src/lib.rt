@@ -1,4 +1,4 @@
-//! What the program says and how it ends: its status, what it reports of a refusal and to whom, and its own texts.
+//! What the program prints and how it ends: its status, what it reports of a refusal and to whom, and its own texts.
 //!
 //! [`end`] and [`report_arguments`] report on any writer how a run ended, and say which bytes are written: for a program the line of a refusal, and
 //! on a terminal also what to do. [`end_output`] does the same for a run with an output, whose reader may be gone ([`Output`], [`WatchedOutput`]).

@@ -80,7 +80,7 @@ pub fn report_signed_number<E: Write>(errors: &mut E) -> Ended
     }
 }
 
-/// `end` for a run that has written to an output: if its reader is gone, a person is not told that the output failed.
+/// `end` for a run that has written to an output: if its reader is gone, a terminal does not show that the output failed.
 pub fn end_output<W: Output, E: Write>(
     done: Result<(), Refusal>,
     hint: Option<Hint<'_>>,

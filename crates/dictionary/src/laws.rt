@@ -3,7 +3,7 @@ ghost use Rattle.std.specs.Prelude.{◌≡◌, ◌++◌, ◌↔◌, ℕ, true, f
 ghost use Rattle.std.specs.List.{list_any, filter};
 ghost use Rattle.dictionary.specs.InEffect.{DictionaryBatch, has_id, replaces, in_effect};
 
-/// The arrays in effect for an id are those of its last batch that is no delta and of all its batches since, whatever other batches come before or
+/// The arrays in effect for an id are those of its last batch that is not a delta and of all its batches since, whatever other batches come before or
 /// between; an id has none if and only if it has no batch.
 pub fn last_batches_are_in_effect()
     ensures since { (id : ℕ) (before since : List DictionaryBatch) (b : DictionaryBatch) → replaces id b ≡ true → list_any (replaces id) since ≡ false

@@ -121,7 +121,7 @@ fn messages_of<'a>(alloc: Global, table: &'a Table) -> Result<Stream<'a>, AllocE
     Ok(stream)
 }
 
-/// Encodes the rows of a table as messages, as they stand in its stream: without the schema's message before them and the end of stream after them.
+/// Encodes the rows of a table as the messages of its stream, without the schema's message before them and the end of stream after them.
 ///
 /// Takes the memory and the time of [`encode`].
 ///
@@ -237,7 +237,7 @@ fn encode_rows_pieces<'a>(
 /// where [`encode`] cuts them.
 ///
 /// The caller makes sure that the rows are a table under this schema, as they are under the table's own. Fails only if memory is refused. A buffer
-/// that stands in the table's bytes as it is written is not copied unless it is small. This takes the memory of all other buffers, and that of the
+/// that the table's bytes contain as it is written is not copied unless it is small. This takes the memory of all other buffers, and that of the
 /// schema's message once; and time linear in these and in the cells of the table if it is not kept in record batches of exactly these columns, or
 /// of pieces that have rows under several dictionaries of 8 or 16 bit indices. The law [`crate::pieces_are_tables`] says what the streams mean.
 ///

@@ -71,7 +71,7 @@ fn write_stream<W: Write>(writer: &mut W, stream: &Stream<'_>) -> Result<(), Wri
 
 /// Writes a table as one stream, that of [`crate::encode`], and flushes.
 ///
-/// A buffer of a piece that stands in the table's bytes as it is written is written from where it stands, without a copy unless it is small. All
+/// A buffer of a piece that the table's bytes contain as it is written is written from these bytes, without a copy unless it is small. All
 /// others are made before the first byte is written: this takes their memory, and time linear in the stream and in the cells of the table.
 ///
 /// # Errors

@@ -4,7 +4,7 @@
 //! a tree that borrows its strings, so that hostile metadata cannot make a reader copy more than it was given.
 //!
 //! ```
-//! // The schema of a stream, where a schema stands first.
+//! // The schema of a stream, if its first message is a schema.
 //! let (next, taken) = read_message(bytes)?;
 //! if let NextMessage::Message(message) = next {
 //!     if let Header::Schema(raw) = message.header(alloc)? {

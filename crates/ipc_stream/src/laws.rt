@@ -22,8 +22,7 @@ use ipc_message::{
 
 /// A stream means a table exactly if it encodes it: the messages are framed, the first is the table's schema, each other one is a dictionary batch or
 /// a record batch that is read after those before it, their rows in order are the table's, and then come no bytes or the end of stream. A stream
-/// encodes at most one table. A stream has a fault exactly if that fault stands: some messages are read, and the bytes after them are refused with
-/// it.
+/// encodes at most one table. A stream has a fault exactly if some messages are read, and the bytes after them are refused with that fault.
 pub fn meaning_is_framed()
     ensures table { (supported : ℕ → Bool) (bytes : List ℕ) (t : PlainTable) → meaning supported bytes ≡ Ok t → StreamEncodes supported bytes t }
     ensures once { (supported : ℕ → Bool) (bytes : List ℕ) (t u : PlainTable) → StreamEncodes supported bytes t
@@ -37,7 +36,7 @@ pub fn meaning_is_framed()
     next_message_is_framed();
 }
 
-/// A fault stands after as many messages as its place counts, at the byte where they end. A stream that means a table has no such place.
+/// The place of a fault is the number of messages before it and the byte where they end. A stream that means a table has no such place.
 pub fn faults_stand_at_their_place()
     ensures placed { (supported : ℕ → Bool) (bytes : List ℕ) (fault : Fault) → (stands : FaultStands supported bytes fault)
         → place_of supported bytes ≡ Some (length stands.messages, bytes_taken stands.messages) }

@@ -46,7 +46,7 @@ fn main(rt: HostRuntime) -> ExitCode {
     ExitCode::from(ended.code())
 }
 
-// Returns where failed calls on files are noted: only a person is told of them.
+// Returns where failed calls on files are noted: only a terminal shows them.
 fn noted_at(audience: Audience, failures: &Failures) -> Option<&Failures> {
     match audience {
         Audience::Terminal => Some(failures),

@@ -9,7 +9,7 @@ use std::alloc::Global;
 
 // The contents of the sectors from `start` on.
 #[derive(Drop)]
-pub(crate) struct Buffer {
+pub(crate) struct SectorBuffer {
     pub(crate) start: u64,
     pub(crate) contents: Vec<[u8; 512]>,
 }
@@ -23,12 +23,12 @@ const FIRST_READ: usize = 8;
 // copying more sectors than this takes longer than a system call that writes them from where they are
 const LONGEST_ADDED: usize = 128;
 
-impl Buffer {
-    pub(crate) fn empty(alloc: Global) -> Buffer
+impl SectorBuffer {
+    pub(crate) fn empty(alloc: Global) -> SectorBuffer
         ensures none { (n : ℕ) → content_in result n ≡ None }
         ensures start { result.start ≡ 0 }
     {
-        Buffer {
+        SectorBuffer {
             start: 0,
             contents: Vec::new(alloc),
         }

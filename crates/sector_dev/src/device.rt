@@ -26,7 +26,7 @@ pub trait SectorDevice {
     /// The number of failed calls.
     ghost failed: { Self → ℕ };
 
-    /// Whether the device tells its story. For one that does not, only its size and its failed calls are known.
+    /// Whether the story of the device is known. If it is not, only its size and its failed calls are known.
     ghost tells: { Bool };
 
     /// The disk at each moment, the newest first.

@@ -3,7 +3,7 @@ ghost use Rattle.std.specs.Prelude.{◌≡◌, ◌≤◌};
 ghost use Rattle.sector_dev.specs.declared.file.FileError.TheVariants.{Io};
 ghost use Rattle.sector_dev.specs.declared.file.TheConstants.{MOST_SECTORS};
 
-use crate::buffer::Buffer;
+use crate::buffer::SectorBuffer;
 use std::fs::OpenFile;
 use std::io::{self, Read, Seek, Write};
 
@@ -41,9 +41,9 @@ pub struct FileDevice<F: Read + Write + Seek + OpenFile + Drop> {
     sectors: u64,
     failed: u64,
     // buffered writes, which are not yet in the file
-    writes: Buffer,
+    writes: SectorBuffer,
     // sectors that were read ahead; dropped as soon as the file is written
-    ahead: Buffer,
+    ahead: SectorBuffer,
     ghost within: { sectors ≤ MOST_SECTORS },
     ghost writes_within: { writes.start ≤ MOST_SECTORS },
 }

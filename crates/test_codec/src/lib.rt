@@ -1,6 +1,6 @@
 //! Tests of the public calls of the codec's crates: a module for each crate, each case a row of data.
 //!
-//! A test here stands on the crates' contracts alone, so no library is proved again for it. What needs a crate's private parts is tested in that
+//! A test here uses only the crates' contracts, so no library is proved again for it. What needs a crate's private parts is tested in that
 //! crate. `docs/gate.md` says which forms of tests are cheap.
 #![tactic(auto)]
 

@@ -63,7 +63,7 @@ pub fn table_of_rows(alloc: Global, columns: &[&str], rows: Vec<Row>) -> Result<
     Table::new(alloc, schema, rows).map_err(|_| NotMade)
 }
 
-// Returns whether a text is the one after `'`, or has as many bytes as stands after `#`.
+// Returns whether a text is the one after `'`, or has the length in bytes that follows `#`.
 fn is_text(text: &str, want: &str) -> bool {
     match want.strip_prefix("#") {
         Some(length) => length.parse::<i128>().ok() == Some(text.len() as i128),

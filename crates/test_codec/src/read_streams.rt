@@ -136,7 +136,7 @@ const DICTIONARY_CHANGED: &[Change] = &[
     (424, 0xff, Err((NotUtf8, 1, 200))),
     (593, 0xff, Err((DictionaryIndex, 2, 432))),
     (593, 0x02, Err((DictionaryIndex, 2, 432))),
-    // below a null any value may stand
+    // below a null there may be any value
     (595, 0xff, Ok(CODED)),
 ];
 

@@ -260,7 +260,7 @@ pub const DEEP: [u8; 204] = [
     0x00, 0x00, 0x00, 0x00, 0x10, 0x00, 0x00, 0x00, 0x01, 0x00, 0x00, 0x00,
 ];
 
-/// The numbers 7 and -1 as they stand in a batch.
+/// The numbers 7 and -1 as a batch contains them.
 pub const SEVEN: u32 = 7;
 
 pub const MINUS_ONE: u32 = 0xffff_ffff;

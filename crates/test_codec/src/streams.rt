@@ -59,7 +59,7 @@ fn empty_rows(alloc: Global, count: usize) -> Result<Vec<Row>, AllocError> {
     Ok(rows)
 }
 
-// Returns the same numbers as they stand in a batch.
+// Returns the same numbers as a batch contains them.
 fn many(alloc: Global) -> Result<Vec<u32>, AllocError> {
     let mut rows = Vec::new(alloc);
     for number in 0..MANY {

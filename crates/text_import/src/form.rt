@@ -14,7 +14,7 @@ use std::alloc::Global;
 /// The form of a text of rows.
 #[derive(Clone, Copy)]
 pub enum TextForm<'a> {
-    /// CSV, in which this text stands for a null where nulls are allowed.
+    /// CSV, in which this text means a null where nulls are allowed.
     Csv { null_text: &'a str },
     /// JSON Lines, with a line for each row.
     JsonLines,

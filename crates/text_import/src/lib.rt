@@ -10,7 +10,7 @@
 //! let rows = text_import::csv_rows(alloc, &schema, b"a,s\n1,x\n,\n", "")?;
 //! ```
 //!
-//! The rows are 1 and "x", and a null and "": the null text stands for a null only where nulls are allowed.
+//! The rows are 1 and "x", and a null and "": the null text means a null only where nulls are allowed.
 #![tactic(auto)]
 
 mod flat;

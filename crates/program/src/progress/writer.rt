@@ -1,4 +1,4 @@
-// Shows how much of a long output was written; what is written to the terminal itself stands alone there.
+// Shows how much of a long output was written; an output on the terminal itself does not share a line with that.
 ghost use Rattle.std.specs.Prelude.{◌≡◌};
 
 use super::{LEAST_TOLD, ProgressLine, Stage};
@@ -8,7 +8,7 @@ use std::time::Clock;
 // The maximum length of a write of which progress is shown, what a pipe of Linux holds: the number would lag behind a longer write.
 const MOST_AT_ONCE: usize = 64 * 1024;
 
-/// Writes to `output` and shows how much was written. If `output` is a terminal, each write clears the line instead.
+/// Writes to `output` and shows how much was written. The first write clears the line; if `output` is a terminal, each write does so.
 #[derive(Drop)]
 pub struct ProgressWriter<'a, C: Clock, T, W: Write> {
     output: W,
@@ -38,8 +38,11 @@ impl<C: Clock, T: Write + Copy, W: Write> Write for ProgressWriter<'_, C, T, W> 
         let Some(line) = self.line else {
             return self.output.write(buf);
         };
-        if self.is_on_terminal {
+        // Whoever reads a pipe may print on the same terminal.
+        if self.is_on_terminal || self.bytes_written == 0 {
             line.clear();
+        }
+        if self.is_on_terminal {
             return self.output.write(buf);
         }
         let written = self.output.write(&buf[..buf.len().min(MOST_AT_ONCE)]);

@@ -4,7 +4,7 @@ ghost use Rattle.sector_dev.specs.View.{sectors_of, failures_of, IsDeviceLength,
 ghost use Rattle.sector_dev.specs.Written.{IsEmpty};
 
 use super::{FileDevice, FileError, LEAST_SECTORS, LockFile, MOST_SECTORS};
-use crate::buffer::Buffer;
+use crate::buffer::SectorBuffer;
 use std::alloc::Global;
 use std::fs::{self, File, OpenFile, OpenOptions};
 use std::io::{self, ErrorKind, Read, Seek, SeekFrom, Write};
@@ -197,8 +197,8 @@ impl<F: Read + Write + Seek + OpenFile + Drop> FileDevice<F> {
             file,
             sectors,
             failed: 0,
-            writes: Buffer::empty(alloc),
-            ahead: Buffer::empty(alloc),
+            writes: SectorBuffer::empty(alloc),
+            ahead: SectorBuffer::empty(alloc),
         }
     }
 }

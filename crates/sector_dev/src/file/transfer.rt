@@ -9,7 +9,7 @@ ghost use Rattle.sector_dev.specs.Written.{Writes, buffered, IsEmpty, Empties, B
 
 use super::FileDevice;
 use crate::DevError;
-use crate::buffer::Buffer;
+use crate::buffer::SectorBuffer;
 use std::fs::OpenFile;
 use std::io::{self, Read, Seek, SeekFrom, Write};
 use std::slice;
@@ -30,7 +30,7 @@ fn write_at<F: Write + Seek>(file: &mut F, start: u64, contents: &[[u8; 512]]) -
 }
 
 // Writes a buffer to the file and clears it. On an error the buffer is unchanged.
-fn write_buffer<F: Write + Seek>(file: &mut F, buffer: &mut Buffer) -> io::Result<()>
+fn write_buffer<F: Write + Seek>(file: &mut F, buffer: &mut SectorBuffer) -> io::Result<()>
     requires { buffer.old.start ≤ MOST_SECTORS }
     ensures start { buffer.new.start ≡ buffer.old.start }
     ensures stays { OnErr result (buffer.new ≡ buffer.old) }
@@ -47,7 +47,7 @@ fn write_buffer<F: Write + Seek>(file: &mut F, buffer: &mut Buffer) -> io::Resul
 }
 
 // Reads this sector and some after it, at most `most` in all, as far as memory and the file allow.
-fn read_ahead<F: Read + Seek>(file: &mut F, ahead: &mut Buffer, n: u64, most: u64)
+fn read_ahead<F: Read + Seek>(file: &mut F, ahead: &mut SectorBuffer, n: u64, most: u64)
     requires { n < MOST_SECTORS }
 {
     let count = ahead.count_from(n).min(most as usize);
@@ -60,14 +60,14 @@ fn read_ahead<F: Read + Seek>(file: &mut F, ahead: &mut Buffer, n: u64, most: u6
 }
 
 // Returns the content of a sector, if it is buffered or was read ahead.
-fn in_memory<'a>(writes: &'a Buffer, ahead: &'a Buffer, n: u64) -> Option<&'a [u8; 512]>
+fn in_memory<'a>(writes: &'a SectorBuffer, ahead: &'a SectorBuffer, n: u64) -> Option<&'a [u8; 512]>
     ensures { option_copied result ≡ option_or (content_in writes.now n) (content_in ahead.now n) }
 {
     writes.get(n).or(ahead.get(n))
 }
 
 // Copies the content of such a sector. Returns `false` if it is not in memory.
-fn copy_from_memory(writes: &Buffer, ahead: &Buffer, n: u64, to: &mut [u8; 512]) -> bool
+fn copy_from_memory(writes: &SectorBuffer, ahead: &SectorBuffer, n: u64, to: &mut [u8; 512]) -> bool
     ensures there { OnTrue result (option_or (content_in writes.now n) (content_in ahead.now n) ≡ Some to.new) }
     ensures absent { OnFalse result (option_or (content_in writes.now n) (content_in ahead.now n) ≡ None) }
 {

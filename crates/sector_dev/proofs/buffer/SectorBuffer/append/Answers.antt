@@ -1,7 +1,7 @@
 use Rattle.std.proofs.Common.{refl}
 use Rattle.sector_dev.specs.Buffer.{content_in}
 use Rattle.sector_dev.proofs.Appended.{row_appended}
-use Rattle.sector_dev.proofs.buffer.Buffer.append.Goals as goal
+use Rattle.sector_dev.proofs.buffer.SectorBuffer.append.Goals as goal
 
 pub returns-clause-appended : goal.returns-clause-appended
 returns-clause-appended c =
