@@ -141,23 +141,24 @@ impl<W: Write> Write for NotedOutput<'_, W> {
     }
 }
 
-// Where the failures of a file are noted, and the path at which it was opened.
+// Where the failures of a file are noted, and the path at which it was opened, unless memory for it was refused.
 #[derive(Drop)]
 struct FileNote<'a> {
     failures: &'a Failures,
-    path: String,
+    path: Option<String>,
 }
 
 impl FileNote<'_> {
     // Returns `None` if memory for the path is refused.
     fn failure(&self, call: FileCall, error: io::Error) -> Option<Failure> {
         Some(Failure::File {
-            path: self.path.clone().ok()?,
+            path: self.path.as_ref()?.clone().ok()?,
             call,
             error,
         })
     }
 
+    // A failure whose file can't be named clears the note, so that no older failure is named in its place.
     fn note<T>(&self, call: FileCall, done: &io::Result<T>) {
         self.failures.note(match done {
             Ok(_) => None,
@@ -166,7 +167,7 @@ impl FileNote<'_> {
     }
 }
 
-/// A file that notes how its last lock, read, write or sync ended. If memory for its path is refused, it notes nothing.
+/// A file that notes how its last lock, read, write or sync ended. If memory for its path is refused, each of these clears what was noted before.
 #[derive(Drop)]
 pub struct NotedFile<'a, F> {
     file: F,
@@ -184,10 +185,10 @@ impl<'a, F> NotedFile<'a, F> {
         ensures { result.file ≡ file }
     {
         let note = match failures {
-            Some(failures) => match String::from_str(alloc, path) {
-                Ok(path) => Some(FileNote { failures, path }),
-                Err(_) => None,
-            },
+            Some(failures) => Some(FileNote {
+                failures,
+                path: String::from_str(alloc, path).ok(),
+            }),
             None => None,
         };
         NotedFile { file, note }

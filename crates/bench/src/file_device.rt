@@ -2,6 +2,7 @@
 use anyhow::{Context, Result, bail};
 use sector_dev::{DevError, FileDevice, FileError, SectorDevice};
 use std::fs::{self, File};
+use std::io;
 use std::time::Instant;
 
 const SECTORS_IN_A_MEBIBYTE: u64 = 2048;
@@ -117,10 +118,21 @@ fn measure_sectors(rt: &HostRuntime, path: &str, sectors: u64) -> Result<()> {
     measure_step(rt, path, sectors, Step::Read)
 }
 
+// If a standard stream is closed, the next file opened takes its descriptor, and what is printed would go into the device. Files that can't be
+// written take such descriptors first.
+fn reserve_standard_descriptors(rt: &HostRuntime) -> io::Result<(File, File, File)> {
+    Ok((
+        fs::open(rt, "/dev/null")?,
+        fs::open(rt, "/dev/null")?,
+        fs::open(rt, "/dev/null")?,
+    ))
+}
+
 /// Measures devices of this many mebibytes, each in a new file at the path.
 pub fn measure(rt: &HostRuntime, path: &str, mebibytes: &str) -> Result<()> {
     let mebibytes = mebibytes.parse::<u64>().context("a number of mebibytes")?;
     let sectors = mebibytes.saturating_mul(SECTORS_IN_A_MEBIBYTE);
+    let _reserved = reserve_standard_descriptors(rt)?;
     let measured = measure_sectors(rt, path, sectors);
     let _removed = fs::remove_file(rt, path);
     measured?;

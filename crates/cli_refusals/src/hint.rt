@@ -1,4 +1,7 @@
 // What is refused, if more of it is known than the refusal carries.
+ghost use Rattle.std.specs.Prelude.{◌≡◌, option_map};
+ghost use Rattle.cli_refusals.specs.Shown.{shown};
+
 use crate::part_shown::{Counts, FieldShown, LineShown, OtherFieldShown, PartShown};
 use crate::shown::shown;
 use crate::{FailedFile, Word};
@@ -55,6 +58,16 @@ struct TableShown<'a> {
     name: Option<&'a str>,
 }
 
+impl<'a> TableShown<'a> {
+    fn new(name: &'a str) -> TableShown<'a>
+        ensures { option_map (λ t. t.now) result.name ≡ shown name.now }
+    {
+        TableShown {
+            name: shown(name.as_bytes()),
+        }
+    }
+}
+
 impl fmt::Display for TableShown<'_> {
     ghost use Rattle.std.specs.Prelude.{Some, option_map};
     ghost use Rattle.cli_refusals.specs.Hint.{table_text};
@@ -83,45 +96,16 @@ impl fmt::Display for Hint<'_> {
             Hint::File(FailedFile { path, reason }) => write!(f, "The file `{path}` {reason}. "),
             Hint::Input(reason) => write!(f, "The input cannot be read: {reason}. "),
             Hint::Output(reason) => write!(f, "The output cannot be written: {reason}. "),
-            Hint::Part(part) => {
-                let part = PartShown { part };
-                write!(f, "{part}")
-            }
-            Hint::Table(name) => {
-                let table = TableShown {
-                    name: shown(name.as_bytes()),
-                };
-                write!(f, "{table}")
-            }
-            Hint::UnreadTable(name) => {
-                let table = TableShown {
-                    name: shown(name.as_bytes()),
-                };
-                write!(f, "{table}")
-            }
-            Hint::ScriptLine(text) => {
-                let line = LineShown { text: shown(text) };
-                write!(f, "{line}")
-            }
-            Hint::Field(name) => {
-                let field = FieldShown {
-                    name: shown(name),
-                    text: None,
-                };
-                write!(f, "{field}")
-            }
+            Hint::Part(part) => write!(f, "{}", PartShown { part }),
+            Hint::Table(name) => write!(f, "{}", TableShown::new(name.as_str())),
+            Hint::UnreadTable(name) => write!(f, "{}", TableShown::new(name)),
+            Hint::ScriptLine(text) => write!(f, "{}", LineShown { text: shown(text) }),
+            Hint::Field(name) => write!(f, "{}", FieldShown::of_name(name)),
             Hint::OtherField {
                 name,
                 found,
                 wanted,
-            } => {
-                let field = OtherFieldShown {
-                    name: shown(name.as_bytes()),
-                    found: shown(found.as_bytes()),
-                    wanted: shown(wanted.as_bytes()),
-                };
-                write!(f, "{field}")
-            }
+            } => write!(f, "{}", OtherFieldShown::new(name, found, wanted)),
             Hint::FieldCount { fields, columns } => {
                 let counts = Counts {
                     whole: "input",

@@ -1,4 +1,7 @@
 // Prints the refused part of an input.
+ghost use Rattle.std.specs.Prelude.{◌≡◌, option_map, None};
+ghost use Rattle.cli_refusals.specs.Shown.{shown};
+
 use crate::shown::shown;
 use std::fmt;
 use text_import::{LinePart, RefusedPart};
@@ -8,6 +11,18 @@ use text_import::{LinePart, RefusedPart};
 pub(crate) struct FieldShown<'a> {
     pub(crate) name: Option<&'a str>,
     pub(crate) text: Option<&'a str>,
+}
+
+impl<'a> FieldShown<'a> {
+    /// Returns a field of which only the name is reported.
+    pub(crate) fn of_name(name: &'a [u8]) -> FieldShown<'a>
+        ensures { (option_map (λ t. t.now) result.name ≡ shown name.now) × (result.text ≡ None) }
+    {
+        FieldShown {
+            name: shown(name),
+            text: None,
+        }
+    }
 }
 
 impl fmt::Display for FieldShown<'_> {
@@ -33,6 +48,20 @@ pub(crate) struct OtherFieldShown<'a> {
     pub(crate) name: Option<&'a str>,
     pub(crate) found: Option<&'a str>,
     pub(crate) wanted: Option<&'a str>,
+}
+
+impl<'a> OtherFieldShown<'a> {
+    pub(crate) fn new(name: &'a str, found: &'a str, wanted: &'a str) -> OtherFieldShown<'a>
+        ensures name { option_map (λ t. t.now) result.name ≡ shown name.now }
+        ensures found { option_map (λ t. t.now) result.found ≡ shown found.now }
+        ensures wanted { option_map (λ t. t.now) result.wanted ≡ shown wanted.now }
+    {
+        OtherFieldShown {
+            name: shown(name.as_bytes()),
+            found: shown(found.as_bytes()),
+            wanted: shown(wanted.as_bytes()),
+        }
+    }
 }
 
 impl fmt::Display for OtherFieldShown<'_> {
@@ -206,11 +235,7 @@ impl fmt::Display for LinePartShown<'_> {
         match self.part {
             None => Ok(()),
             Some(LinePart::Cell { name }) => {
-                let field = FieldShown {
-                    name: shown(name.as_bytes()),
-                    text: None,
-                };
-                write!(f, "{field}")
+                write!(f, "{}", FieldShown::of_name(name.as_bytes()))
             }
             Some(LinePart::Count { items, columns }) => {
                 let counts = Counts {

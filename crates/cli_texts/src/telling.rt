@@ -86,7 +86,7 @@ pub(crate) fn tell<E: Write>(
 {
     let remedy = refusal.remedy();
     match (audience, hint) {
-        (Audience::Program, _) => writeln!(errors, "refused {refusal}"),
+        (Audience::Program, _) => tell_line(refusal, errors),
         (Audience::Departed, _) => tell_unless_io(refusal, errors),
         (Audience::Terminal, None) => writeln!(errors, "refused {refusal}\n{remedy}"),
         (Audience::Terminal, Some(hint)) => {
