@@ -1,11 +1,10 @@
-"""Arrays of each kind of type, whose content is chosen at random, and columns and fields that share their buffers, as the format allows: few bytes mean much."""
+"""Arrays of each kind of type, chosen at random, and columns and fields that share their buffers, as the format allows: few bytes mean much."""
 import struct
 from collections import namedtuple
 
 import streams
 
 NO_TABLE = streams.Table()
-MOST_FIELDS = 2_047
 
 # A type: its field of a name, and what makes an array of this many slots, of which these are visible (None: all of them).
 Type = namedtuple("Type", "field make")
