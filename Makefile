@@ -79,6 +79,7 @@ vectors: bin/arrowstore
 	tests/replays bin/arrowstore
 	tests/killed bin/arrowstore
 	tests/types bin/arrowstore
+	tests/shapes bin/arrowstore
 	tests/metadata bin/arrowstore
 	tests/refused_memory bin/arrowstore
 	tests/failing_reads bin/arrowstore

@@ -4,6 +4,7 @@ Little-endian, metadata version V5. Each message is laid out front to back: a ta
 its vtable, inline slots in slot order, then what they refer to in slot order. This is also the order of the canonical
 stream, so with batches of 4,096 rows the program gives such a stream back unchanged.
 """
+import itertools
 import struct
 
 CONTINUATION = b"\xff\xff\xff\xff"
@@ -89,8 +90,7 @@ class Pairs:
         out += bytes(-(len(out) + 4) % 8)
         start = len(out)
         out += struct.pack("<I", len(self.pairs))
-        for pair in self.pairs:
-            out += struct.pack("<qq", *pair)
+        out += struct.pack(f"<{2 * len(self.pairs)}q", *itertools.chain.from_iterable(self.pairs))
         return start
 
 
