@@ -104,9 +104,8 @@ impl<'a> RowsLeft<'a> {
     }
 
     /// The rows of the next piece: the longest front of the rows that are left which is within the limits of a piece. It takes time linear in the runs of
-    /// the piece, and for a piece that is too heavy with one run more, in the rows of that run; where its rows stand under several dictionaries of 8 or 16
-    /// bit indices, also in the cells of all its rows, for each of its first such runs anew, and for one that does not fit as often as it can be halved.
-    /// Refused only where a growth was; from then on it is not promised which rows are left, and a caller that tries again begins with [`RowsLeft::new`].
+    /// the piece, and for a piece that is too heavy with one run more, in the rows of that run. If its rows have several dictionaries with 8 or 16 bit
+    /// indices, it also takes time linear in the cells of all its rows, for each of its first such runs anew.
     ///
     /// # Errors
     /// `AllocError` where memory was refused. It is not promised then which rows are left: a caller that tries again begins with [`RowsLeft::new`].
