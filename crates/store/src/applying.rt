@@ -59,6 +59,11 @@ impl<D: SectorDevice> Store<D> {
 
     /// Applies a command, or refuses it. After `Ok` the change is safe: no later stop undoes it.
     ///
+    /// ```
+    /// let name = String::from_str(alloc, "readings")?;
+    /// store.apply(alloc, Command::Drop { name }).map_err(Error::msg)?;
+    /// ```
+    ///
     /// # Errors
     /// `Halted` if the store is halted, before any other test. Then the refusals of the command, in the order of its tests. An append reads its table for
     /// the last test, and a saved query reads its table after all tests: `SegmentUnread` and `SegmentDamaged` as in [`Store::read`], and `Device`. Then

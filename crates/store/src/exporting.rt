@@ -77,6 +77,10 @@ impl<D: SectorDevice> Store<D> {
     /// Writes the canonical stream of the table with this name, and flushes. All parts are made before the first byte is written, except those that are
     /// borrowed from the table's bytes.
     ///
+    /// ```
+    /// store.export(alloc, "readings", &mut file).map_err(Error::msg)?;
+    /// ```
+    ///
     /// # Errors
     /// Those of [`Store::export_bytes`], and then nothing is written; `Write` if the writer fails, as a `Vec` does if memory is refused, and then a part of
     /// the stream may be written.

@@ -225,6 +225,14 @@ impl<D: SectorDevice> Store<D> {
     /// Opens an export of the table with this name, and returns its id. The export gives the table as it is now, whatever changes the table until the
     /// export is closed. Until then the sectors of the table are not written. Ids count from 0 since the store was opened, and none is used twice.
     ///
+    /// ```
+    /// let id = store.open_export(alloc, "readings").map_err(Error::msg)?;
+    /// while let Some(piece) = store.export_next(alloc, id).map_err(Error::msg)? {
+    ///     file.write_all(&piece)?;
+    /// }
+    /// store.close_export(id).map_err(Error::msg)?;
+    /// ```
+    ///
     /// # Errors
     /// `Halted` after a failure of the device; `NoTable` if no table has the name; `TooMany(Exports)` if 64 exports are open, or the last id is used;
     /// `OutOfMemory`. After any error nothing has changed.

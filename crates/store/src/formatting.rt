@@ -49,6 +49,13 @@ impl<D: SectorDevice> Store<D> {
 
     /// Makes an empty store of version 2 ([`Store::format_version`]).
     ///
+    /// ```
+    /// let store = match Store::format(alloc, ModelDevice::new(alloc, 64)?) {
+    ///     Ok(store) => store,
+    ///     Err((refusal, _device)) => bail!("{refusal}"),
+    /// };
+    /// ```
+    ///
     /// # Errors
     /// Those of [`Store::format_version`].
     pub fn format(alloc: Global, device: D) -> Result<Store<D>, (OpeningRefusal, D)>

@@ -21,6 +21,11 @@ impl<D: SectorDevice> Store<D> {
 
     /// Imports the stream that a reader has left, as [`Store::apply`] does with `ImportStream` and these bytes. It replaces a table with this name.
     ///
+    /// ```
+    /// let mut reader = stream.as_slice();
+    /// store.import_from(alloc, "readings", &mut reader).map_err(Error::msg)?;
+    /// ```
+    ///
     /// # Errors
     /// `Halted`, then `BadName`, before anything is read; `Read` if a read fails; `TooMany(Bytes)` if the input is longer than
     /// [`tables::MAX_IMPORT_BYTES`]. After these nothing has changed. Otherwise those of the command.
@@ -49,6 +54,11 @@ impl<D: SectorDevice> Store<D> {
     }
 
     /// Appends the rows of the stream that a reader has left to a table, as [`Store::apply`] does with `AppendStream` and these bytes.
+    ///
+    /// ```
+    /// let mut reader = more.as_slice();
+    /// store.append_from(alloc, "readings", &mut reader).map_err(Error::msg)?;
+    /// ```
     ///
     /// # Errors
     /// `Halted`, then `NoTable`, before anything is read; `Read` if a read fails; `TooMany(Bytes)` if the input is longer than

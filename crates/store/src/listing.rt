@@ -33,6 +33,12 @@ impl<D: SectorDevice> Store<D> {
 
     /// Returns the name and the number of rows of each table, in the byte order of the names.
     ///
+    /// ```
+    /// for (name, rows) in store.tables(alloc).map_err(Error::msg)? {
+    ///     println!(rt; "{name} {rows}")?;
+    /// }
+    /// ```
+    ///
     /// # Errors
     /// `Halted` after a failure of the device; `OutOfMemory`.
     pub fn tables(&self, alloc: Global) -> Result<Vec<(String, u64)>, Refusal>

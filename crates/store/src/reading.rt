@@ -55,6 +55,10 @@ impl<D: SectorDevice> Store<D> {
 
     /// Returns the table with this name: the rows of its segments, in order. Only reads.
     ///
+    /// ```
+    /// let rows = store.read(alloc, "readings").map_err(Error::msg)?.len();
+    /// ```
+    ///
     /// # Errors
     /// `Halted` after a failure of the device; `NoTable` if no table has the name; for the first segment that fails, counted from 0, `SegmentUnread` if it
     /// can't be read, is not a stream of the table's schema and number of rows, or takes the table over its maximum weight, and `SegmentDamaged` if its

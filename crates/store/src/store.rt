@@ -47,6 +47,13 @@ impl<D: SectorDevice> Store<D> {
 
     /// Opens the store on a device, as its commit sectors and its catalogue say, after a sync. On an error the device is returned.
     ///
+    /// ```
+    /// let store = match Store::open(alloc, device) {
+    ///     Ok(store) => store,
+    ///     Err((refusal, _device)) => bail!("{refusal}"),
+    /// };
+    /// ```
+    ///
     /// # Errors
     /// `NotAStore` if no commit rules; `Damaged` with the first cause, which may be that no store can have the size of the device; `Device` if the device
     /// failed; `OutOfMemory`. After any error but `Device` nothing has changed.

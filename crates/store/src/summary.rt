@@ -97,6 +97,10 @@ impl<D: SectorDevice> Store<D> {
 
     /// Returns the numbers of the store. Makes no call of the device.
     ///
+    /// ```
+    /// let free_bytes = store.summary(alloc).map_err(Error::msg)?.free * 512;
+    /// ```
+    ///
     /// # Errors
     /// `Halted` after a failure of the device; `OutOfMemory`.
     pub fn summary(&self, alloc: Global) -> Result<Summary, Refusal>
