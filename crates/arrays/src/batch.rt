@@ -72,7 +72,7 @@ fn check_slots(before: u64, placed: Placed<'_>, rows: usize) -> Result<u64, Faul
     }
 }
 
-/// The arrays of a record batch whose body stands in some bytes, or its first fault, where the rows before it weigh so much. A dictionary column takes
+/// The arrays of a record batch whose body is in some bytes, or its first fault, where the rows before it weigh so much. A dictionary column takes
 /// the next of `parts`, whose arrays were read with [`crate::read_dictionary`]. Nothing is copied: the arrays are places in the bytes. Their slots can be
 /// looked up. The rows before the next batch weigh as much more as this one answers.
 ///

@@ -25,7 +25,7 @@ use columns::{Dictionary, DictionaryPart, PlacedArray, Span, bytes_at, no_array}
 use ipc_message::{Fault, ImportError, RawBatch};
 use std::alloc::{AllocError, Global};
 
-/// Arrays with their fields and the bytes that they stand in.
+/// Arrays with their fields and the bytes that they are in.
 #[derive(Clone, Copy)]
 pub(crate) struct Placed<'a> {
     pub(crate) fields: &'a [Field],
@@ -107,7 +107,7 @@ fn first_fault(
     Ok(array_fault(placed, batch, body, &every))
 }
 
-/// The arrays of a batch whose body stands in some bytes, or the first fault of the checks of its arrays. A dictionary column takes the next
+/// The arrays of a batch whose body is in some bytes, or the first fault of the checks of its arrays. A dictionary column takes the next
 /// of `parts`. Nothing is copied: the arrays are places in the bytes.
 ///
 /// # Errors

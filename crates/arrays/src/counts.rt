@@ -77,7 +77,7 @@ pub(crate) fn column_counts(field: &Field) -> Counts
     }
 }
 
-// What stands below an array.
+// What is below an array.
 #[tactic(auto, unfolding(columns::specs::Tests::arrays_below))]
 #[cycle(counts)]
 fn counts_below(data_type: &DataType) -> Counts

@@ -100,7 +100,7 @@ fn has_no_base(dictionaries: &Dictionaries, raw: &RawDictionaryBatch) -> bool
     raw.is_delta && !dictionaries.has(raw.id)
 }
 
-/// The array of a dictionary batch whose body stands in some bytes, after the batches of which these are the dictionaries; or its first fault: F24 where
+/// The array of a dictionary batch whose body is in some bytes, after the batches of which these are the dictionaries; or its first fault: F24 where
 /// no column has its id, F25 where it is a delta and its id has no dictionary, then F16 to F22, and F15 of a text that is not UTF-8.
 ///
 /// # Errors

@@ -1,4 +1,4 @@
-// What the entries of a dictionary weigh, as far as that is known before slots are gone through.
+// What the entries of a dictionary weigh, as far as that is known before slots are visited.
 ghost use Rattle.std.specs.Prelude.{◌≡◌, ◌<◌, true, IfSome, length, get_or};
 ghost use Rattle.std.specs.List.{list_all};
 ghost use Rattle.arrow_schema.specs.View.{kind_of};

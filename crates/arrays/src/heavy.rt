@@ -66,7 +66,7 @@ fn has_heavy_row(
         || has_heavy_row(placed, from + half, count - half, total - front, none)
 }
 
-// Some rows after others: where they weigh no more than one may, as most do, they are gone through once.
+// Some rows after others: where they weigh no more than one may, as most do, they are visited once.
 fn weigh(before: u64, placed: Placed<'_>, rows: usize, none: &PlacedArray) -> Option<u64>
     requires empty { IsNoArray none.now }
     requires sound { are_sound (columns_of (map column_of placed.fields.now)) rows (placed_in placed) ≡ true }

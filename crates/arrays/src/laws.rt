@@ -58,7 +58,7 @@ pub fn read_rows_are_rows()
         → AllPass (is_row s) (rows_in (columns_of s.columns) arrays b.length) × (before + batch_weight s b.length arrays ≤ MAX_TABLE_WEIGHT) }
 {}
 
-/// Where rows are of arrays that stand in bytes, and all have the same entries in each dictionary whose indices can name only some, no dictionary column has
+/// Where rows are of arrays that are in bytes, and all have the same entries in each dictionary whose indices can name only some, no dictionary column has
 /// more values in them than its indices can name.
 pub fn shared_entries_fit()
     ensures fit { (s : PlainSchema) (own : Arrays) (rows : List (List Cell)) → IsWithinLimits s → AreRowsSharing (columns_of s.columns) own rows

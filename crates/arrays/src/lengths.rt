@@ -1,4 +1,4 @@
-// The checks of a batch's nodes and buffers as they stand (docs/definitions/arrays.md).
+// The checks of a batch's nodes and buffers, each by itself (docs/definitions/arrays.md).
 ghost use Rattle.std.specs.Prelude.{◌≡◌, ℕ, List, map, not, ◌==◌};
 ghost use Rattle.std.specs.List.{list_any};
 ghost use Rattle.arrow_schema.specs.Column.{columns_of};

@@ -1,9 +1,9 @@
 //! Reading record batches: the arrays that the nodes and buffers of a batch are (Message.fbs, "RecordBatch").
 //!
-//! [`read`] answers the arrays of a record batch of any types, as places in the bytes that its body stands in, and what its rows weigh; or the fault of the
+//! [`read`] answers the arrays of a record batch of any types, as places in the bytes that its body is in, and what its rows weigh; or the fault of the
 //! first check that finds something (docs/definitions/arrays.md). [`read_arrays`] makes the checks of the arrays alone: it looks at every array, hidden or not.
 //! [`read_dictionary`] answers the array of a dictionary batch in the same way.
-//! [`names_no_entry_in`], [`has_bad_text`] and [`has_forbidden_null`] are tests of what is visible: by spans of slots, without memory, and whatever stands
+//! [`names_no_entry_in`], [`has_bad_text`] and [`has_forbidden_null`] are tests of what is visible: by spans of slots, without memory, and whatever is
 //! in hidden slots. Nothing is copied. [`row_span_weight`] weighs rows of a batch by spans too.
 //!
 //! ```ignore

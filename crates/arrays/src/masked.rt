@@ -1,4 +1,4 @@
-// How much texts, binaries and lists weigh of which some are null, or stand below nulls, where their offsets alone tell it.
+// The weight of texts, binaries and lists of which some are null, or are below nulls, by their offsets alone.
 ghost use Rattle.std.specs.Prelude.{◌≡◌, ◌==◌, ◌+◌, ◌*◌, ◌^◌, ◌≤◌, ◌<◌, ◌&&◌, ℕ, false, IfSome, Some, None, option_map, if◌then◌else◌};
 ghost use Rattle.std.specs.Int.{bit_at};
 ghost use Rattle.arrow_schema.specs.View.{column_of, kind_of};
@@ -75,7 +75,7 @@ fn joined_bits(slots: SizedSlots<'_>, mask: ValidSlots<'_>, from: usize, count: 
     both % (1 << count)
 }
 
-// How many bits stand below the lowest that is set, and how many from there on are set.
+// How many bits are below the lowest that is set, and how many from there on are set.
 #[inline]
 fn first_run(bits: u64) -> (usize, usize)
     requires some { 0 < bits }
@@ -90,7 +90,7 @@ fn first_run(bits: u64) -> (usize, usize)
     (unset, set)
 }
 
-// The bytes of the slots whose bits are set, of those from one on: of a run of them they stand between two offsets.
+// The bytes of the slots whose bits are set, from one slot on: those of a run are between two offsets.
 fn sizes_of(slots: SizedSlots<'_>, bits: u64, from: usize, count: usize) -> u64
     requires few { count ≤ SLOTS_AT_ONCE }
     requires bits { bits < 2 ^ count }

@@ -1,4 +1,4 @@
-// The nodes and buffers of a batch as they stand, sixteen bytes each.
+// The nodes and buffers of a batch as the metadata has them, sixteen bytes each.
 ghost use Rattle.std.specs.Prelude.{◌≡◌, ℕ, List, ◌+◌, ◌*◌, ◌/◌, ◌<◌, ◌≤◌, ◌^◌, length, drop, take};
 ghost use Rattle.byteorder.specs.Endian.{little_number};
 ghost use Rattle.ipc_message.specs.Raw.{nodes_in, buffers_in};
@@ -48,7 +48,7 @@ pub(crate) fn after(bytes: &[u8], count: usize) -> &[u8]
     &bytes[16 * count..]
 }
 
-/// Where a buffer stands in the bytes that a body stands in. What would stand past the body is not there.
+/// The place of a buffer in the bytes that hold a body. What would be past the end of the body is left out.
 #[tactic(auto, using(crate::proofs::Raws::buffer_within))]
 pub(crate) fn span_in(body: Span, offset: u64, len: u64) -> Span
     requires { body.start + body.len < 2 ^ 64 }

@@ -6,7 +6,7 @@ use crate::counts::Counts;
 use crate::raw::{after, count_of, pair_at, span_in};
 use columns::{Dictionary, DictionaryPart, Span};
 
-/// The nodes, buffers and dictionaries that are left, and the bytes that the body stands in.
+/// The nodes, buffers and dictionaries that are left, and the bytes that the body is in.
 #[derive(Clone, Copy)]
 pub(crate) struct Rest<'a> {
     pub(crate) nodes: &'a [u8],
@@ -40,7 +40,7 @@ impl<'a> Rest<'a> {
         pair_at(self.nodes, 0).0 as usize
     }
 
-    /// Where a buffer stands; an empty one where there is none.
+    /// Where a buffer is; an empty one where there is none.
     #[tactic(auto, using(crate::proofs::Firsts::no_buffer, crate::proofs::Firsts::buffer_is))]
     pub(crate) fn buffer(self, k: usize) -> Span
         ensures bytes { within self.entry.bytes.now result ≡ buffer_at (rest_buffers self.entry) k }

@@ -27,7 +27,7 @@ use columns::{
     entry_place, indexed_entry,
 };
 
-// Of how many entries of a dictionary the weights are kept while its slots are gone through.
+// Of how many entries of a dictionary the weights are kept while its slots are visited.
 const FIRST_ENTRIES: usize = 256;
 
 // Of how many slots the weights, each as it is reported, are added in 64 bits without a test.
@@ -79,7 +79,7 @@ fn span_weight(
     }
 }
 
-// Without a dictionary. Where some of the slots are null they are not gone through run by run, unless what is below them has to be.
+// Without a dictionary. Where some of the slots are null they are not visited run by run, unless what is below them has to be.
 #[cycle(weights)]
 fn plain_weight(
     field: &Field,
@@ -148,7 +148,7 @@ fn runs_weight(
     add_weights(total, nulls_weight(field, nulls))
 }
 
-// Structs of which some are null: each field is gone through once for all of them. A null struct weighs as if its fields were null.
+// Structs of which some are null: each field is visited once for all of them. A null struct weighs as if its fields were null.
 #[cycle(weights)]
 fn masked_fields_weight(
     fields: &[Field],
@@ -381,7 +381,7 @@ pub(crate) fn parts_weight(
     total
 }
 
-// The entry that stands at a place, or a null where there is none.
+// The entry at a place, or a null where there is none.
 #[cycle(weights)]
 fn place_weight(field: &Field, found: Option<EntryPlace<'_>>, none: &PlacedArray) -> u64
     requires empty { IsNoArray none.now }
@@ -424,7 +424,7 @@ fn first_weights(
     weights
 }
 
-// Whether a dictionary has no entries but the first ones, and fewer than so many slots: their weights are looked up faster than offsets.
+// Whether a dictionary has no entries but the first ones, and fewer than n slots: their weights are looked up faster than offsets.
 fn are_first_alone(view: ArrayView<'_>, count: usize) -> bool {
     let entries = entry_count(view.dictionary());
     entries <= FIRST_ENTRIES as u128 && entries < count as u128

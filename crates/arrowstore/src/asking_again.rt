@@ -1,4 +1,4 @@
-// What a terminal is told beside a refusal: the system call that failed, or what a second look at the store, its path, the script or the kept start
+// What a terminal shows beside a refusal: the system call that failed, or what a second look at the store, its path, the script or the kept start
 // of the input finds.
 use crate::Failures;
 use crate::copying_files::open_to_read;

@@ -212,7 +212,7 @@ pub(crate) fn serve<
         (channels input.old output.old hint.old) (channels input.new output.new hint.new)
         (plain_left left_out.old.items) (plain_left left_out.new.items) result }
     ensures unread { (takes_input_word (request_word request.now) ≡ true) ⊎ (input.new ≡ input.old) }
-    // A refusal writes nothing, unless a read or a write failed or a salvage was broken off.
+    // A refusal writes nothing, unless a read or a write failed or a salvage was interrupted.
     ensures silent { IfErr result (λ refusal. ¬ WritesPart (request_word request.now) refusal → output.new ≡ output.old) }
 {
     match request {

@@ -61,7 +61,7 @@ pub fn copy_tables<D: SectorDevice, E: SectorDevice>(
     from: &mut Store<D>,
     to: &mut Store<E>,
 ) -> Result<(), Refusal>
-    // If the stores stand for machines: the one without tables then has exactly those of the other one, and each import was acknowledged.
+    // If the stores represent machines: the one without tables then has exactly those of the other one, and each import was acknowledged.
     ensures copied { OnOk result (HasAllOf from.old to.old to.new) }
     // On any store and any device: the stream of each table that is listed and read was imported; each refusal has its one reason.
     ensures imports { OnOk result (ImportsEach from.old (tables_of (listed_in from.old)) to.old to.new) }

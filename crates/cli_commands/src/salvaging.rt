@@ -33,7 +33,7 @@ pub fn salvage_table<D: SectorDevice, W: Write>(
         (IsSome (entry_of (listed_in store.old) name.now))) }
     // The store is only read.
     ensures reads { OnlyReadsStore D.size D.story D.failed D.tells (store_ended result) store.old store.new }
-    // A refusal writes nothing, unless the salvage was broken off.
+    // A refusal writes nothing, unless the salvage was interrupted.
     ensures silent { IfErr result (λ refusal. ¬ IsBrokenOff refusal → output.new ≡ output.old) }
 {
     match store.salvage(alloc, name, output) {

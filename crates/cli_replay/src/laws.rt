@@ -11,7 +11,7 @@ ghost use Rattle.cli_replay.specs.Playing.{Plays, ArePlayedAsRun};
 use sector_dev::SectorDevice;
 use std::io::Read;
 
-/// Lines that were played on a place that stands for a machine are a run of calls, so the laws of runs hold of them, above all what a stop in the
+/// Lines that were played on a place that represents a machine are a run of calls, so the laws of runs hold of them, above all what a stop in the
 /// meantime leaves.
 pub fn played_lines_are_a_run<D: SectorDevice, R: Read>()
     ensures { D.tells ≡ true → (is_over : D → Bool) (base : Tables) (m : Machine) (calls : List (Call R)) (replies : List PlainReply)

@@ -80,7 +80,7 @@ fn new_codes<'a>(
 }
 
 /// The indices of runs of slots, each the place of a value among the distinct ones, in the order in which they are first seen. Where a bit of the mask is not
-/// set there is a null, whatever stands there. What was known of dictionaries is used, and what is seen is kept.
+/// set there is a null, whatever is there. What was known of dictionaries is used, and what is seen is kept.
 ///
 /// # Errors
 /// `AllocError` where memory was refused: what is known is still so.

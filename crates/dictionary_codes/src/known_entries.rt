@@ -44,7 +44,7 @@ pub struct KnownEntries<'a> {
     pub(crate) named: Vec<usize>,
     pub(crate) dictionaries: Vec<KnownDictionary<'a>>,
     pub(crate) are_new: bool,
-    // For how many entries more the slots that were gone through pay.
+    // For how many entries more the slots that were visited pay.
     pub(crate) paid: usize,
     // How many entries were named where the slots of a run are begun.
     pub(crate) named_before: usize,
@@ -300,7 +300,7 @@ impl<'a> KnownEntries<'a> {
         self.are_new = false;
     }
 
-    // Which of the dictionaries is that of an array, of which n slots are gone through.
+    // Which of the dictionaries is that of an array, of which n slots are visited.
     fn find(&self, field: &Field, array: ArrayView<'_>, slots: usize) -> Option<usize>
         ensures within { IfSome result (λ i. i < length self.now.dictionaries.items) }
         ensures known { IfSome result (λ i. (d : KnownDictionary) → slice_get self.now.dictionaries.items i ≡ Some d
@@ -327,7 +327,7 @@ impl<'a> KnownEntries<'a> {
         None
     }
 
-    // Whether the slots that were gone through, and n more, pay for places for so many entries.
+    // Whether the slots that were visited, and n more, pay for places for n entries.
     fn pay(&mut self, entries: u128, slots: usize) -> bool
         ensures most { result ≡ true → entries < 2 ^ 64 }
         ensures seen { seen_cells self.new ≡ seen_cells self.old }
@@ -363,7 +363,7 @@ impl<'a> KnownEntries<'a> {
         }
     }
 
-    /// What is known of the dictionary of an array, of which n slots are gone through. Of a large one that stands where an earlier one stood, the numbers of
+    /// What is known of the dictionary of an array, of which n slots are visited. Of a large one that is where an earlier one was, the numbers of
     /// its entries are guesses.
     pub(crate) fn take_numbers(
         &mut self,

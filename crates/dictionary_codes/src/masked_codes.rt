@@ -1,4 +1,4 @@
-// The places of cells among the entries of a dictionary, of slots under a mask: there are nulls where a bit is not set, whatever stands there.
+// The places of cells among the entries of a dictionary, of slots under a mask: there are nulls where a bit is not set, whatever is there.
 ghost use Rattle.std.specs.Prelude.{◌≡◌, ◌≢◌, ◌≤◌, ◌<◌, ◌+◌, ◌-◌, ◌*◌, ◌/◌, ℕ, true, OnOk, Some, length, replicate};
 ghost use Rattle.std.specs.List.{list_all};
 ghost use Rattle.arrow_schema.specs.View.{bits_of, column_of};
@@ -70,7 +70,7 @@ fn is_set(mask: &[u8], i: usize) -> bool
     mask.is_empty() || get(mask, i)
 }
 
-/// Writes the indices of slots of an array, and whether each slot has one, where there is room for just these. Their bits stand in a mask from a place on,
+/// Writes the indices of slots of an array, and whether each slot has one, where there is room for just these. Their bits are in a mask from a place on,
 /// unless it has no byte.
 pub(crate) fn put_part_codes<'a>(
     entries: &mut KnownEntries<'a>,

@@ -1,4 +1,4 @@
-// Little-endian numbers, written over what stands there.
+// Little-endian numbers, written over earlier bytes.
 ghost use Rattle.std.specs.Prelude.{◌≡◌, ◌≤◌, ◌+◌, ◌++◌, drop, length, take};
 ghost use Rattle.byteorder.specs.Endian.{little_bytes};
 

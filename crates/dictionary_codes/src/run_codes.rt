@@ -346,7 +346,7 @@ fn put_each_code<'a, const SIZE: usize, const SIGNED: bool>(
     Ok(())
 }
 
-// How many slots are written one by one behind some with named entries: one alone where these were many.
+// How many slots are written one by one after some with named entries: one alone where these were many.
 fn count_of_each(named: usize) -> usize
     ensures { 0 < result }
 {
@@ -503,7 +503,7 @@ fn put_array_codes<'a>(
     entries.keep_numbers(field, array, known)
 }
 
-/// Zeros stand for the indices of nulls.
+/// The indices of nulls are zeros.
 pub(crate) fn put_null_codes(indices: &mut [u8], valid: &mut [bool])
     ensures indices { indices.new ≡ replicate (length indices.old) 0 }
     ensures valid { valid.new ≡ replicate (length valid.old) false }

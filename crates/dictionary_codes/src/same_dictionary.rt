@@ -50,7 +50,7 @@ fn is_at(a: Span, b: Span) -> bool {
     a.start == b.start && a.len == b.len
 }
 
-// Whether the values of two arrays stand at the same places, each in its own bytes.
+// Whether the values of two arrays are at the same places, each in its own bytes.
 fn is_alike(a: &PlacedArray, b: &PlacedArray) -> bool {
     match (&a.layout, &b.layout) {
         (PlacedLayout::Bits(a), PlacedLayout::Bits(b)) => is_at(*a, *b),
@@ -62,7 +62,7 @@ fn is_alike(a: &PlacedArray, b: &PlacedArray) -> bool {
     }
 }
 
-/// Whether two dictionaries stand at the same places, each in its own bytes: within the same bytes they are one.
+/// Whether two dictionaries are at the same places, each in its own bytes: within the same bytes they are one.
 pub(crate) fn are_alike(own: KnownArrays<'_>, others: KnownArrays<'_>) -> bool {
     if own.arrays.len() != others.arrays.len() {
         return false;

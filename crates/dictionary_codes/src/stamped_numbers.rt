@@ -12,7 +12,7 @@ pub(crate) struct StampedNumber {
     pub(crate) number: u32,
 }
 
-// What stands at a place where no number was written: no list has the stamp 0.
+// What is at a place where no number was written: no list has the stamp 0.
 const UNWRITTEN: StampedNumber = StampedNumber {
     stamp: 0,
     number: 0,

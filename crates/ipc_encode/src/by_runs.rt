@@ -131,7 +131,7 @@ pub(crate) fn messages_of_parts<'a>(
 ///
 /// The caller makes sure that the rows are a table. Fails only if memory is refused. Takes the memory of the stream and of the buffers that have to
 /// be made, and time linear in the stream and in the runs; and in the cells of the pieces that have rows under several dictionaries of 8 or 16 bit
-/// indices, which are gone through for each of their first such runs, to find where the pieces end.
+/// indices, which are visited for each of their first such runs, to find where the pieces end.
 ///
 /// # Errors
 /// `AllocError` if memory is refused. The runs are freed.

@@ -70,7 +70,7 @@ impl<D: SectorDevice> Store<D> {
     /// `TooMany(Epochs)`, `TooMany(Segments)`, `NoRoom` and `Device`. `OutOfMemory` at any time. After `Device` the store is halted, and only opening the
     /// device again shows whether the command was applied. After any other error nothing has changed.
     pub fn apply(&mut self, alloc: Global, command: Command) -> Result<(), Refusal>
-        // On a store that stands for a machine, it does what the command does to the tables of the settled commands, or gives the refusal that they require.
+        // On a store that represents a machine, it does what the command does to the tables of the settled commands, or gives the refusal that they require.
         ensures goes { D.tells ≡ true → (base : Tables) (m : Machine) → StoreFits D.size D.story base m self.old
             → GoesOn D.size D.story D.failed base m (apply_call (command_of command)) (ended result) self.old self.new }
         // On any store and any device, the catalogue decides on the command, and so does the table that an append or a saved query reads. The decision

@@ -51,7 +51,7 @@ impl<D: SectorDevice> Store<D> {
     /// if there is no free run for the new segment or the catalogue, and then no other segment is moved instead; `OutOfMemory`. After any error but
     /// `Device` nothing has changed.
     pub fn compact_step(&mut self, alloc: Global) -> Result<Compaction, Refusal>
-        // On a store that stands for a machine, the tables stay those of the settled commands at each moment.
+        // On a store that represents a machine, the tables stay those of the settled commands at each moment.
         ensures goes { IfOk result (λ done. D.tells ≡ true → (base : Tables) (m : Machine) → StoreFits D.size D.story base m self.old
             → GoesOn D.size D.story D.failed base m compact_call (reply_of done) self.old self.new) }
         ensures refused { IfErr result (λ e. D.tells ≡ true → (base : Tables) (m : Machine) → StoreFits D.size D.story base m self.old

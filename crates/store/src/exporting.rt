@@ -53,7 +53,7 @@ impl<D: SectorDevice> Store<D> {
     /// # Errors
     /// Those of [`Store::read`]; `OutOfMemory` also if memory is refused for the stream.
     pub fn export_bytes(&mut self, alloc: Global, name: &str) -> Result<Vec<u8>, Refusal>
-        // On a store that stands for a machine, it is a stream of the table of the settled commands.
+        // On a store that represents a machine, it is a stream of the table of the settled commands.
         ensures goes { IfOk result (λ bytes. D.tells ≡ true → (base : Tables) (m : Machine) → StoreFits D.size D.story base m self.old
             → GoesOn D.size D.story D.failed base m (export_call name.now) (bytes_are bytes.items) self.old self.new) }
         ensures refused { IfErr result (λ e. D.tells ≡ true → (base : Tables) (m : Machine) → StoreFits D.size D.story base m self.old
@@ -90,7 +90,7 @@ impl<D: SectorDevice> Store<D> {
         name: &str,
         writer: &mut W,
     ) -> Result<(), Refusal>
-        // On a store that stands for a machine, it is a stream of the table of the settled commands.
+        // On a store that represents a machine, it is a stream of the table of the settled commands.
         ensures goes { OnOk result (D.tells ≡ true → (base : Tables) (m : Machine) → StoreFits D.size D.story base m self.old → (bytes : List ℕ)
             × Appends (W.contents writer.old) (W.contents writer.new) bytes
             × GoesOn D.size D.story D.failed base m (export_call name.now) (bytes_are bytes) self.old self.new) }

@@ -237,7 +237,7 @@ impl<D: SectorDevice> Store<D> {
     /// `Halted` after a failure of the device; `NoTable` if no table has the name; `TooMany(Exports)` if 64 exports are open, or the last id is used;
     /// `OutOfMemory`. After any error nothing has changed.
     pub fn open_export(&mut self, alloc: Global, name: &str) -> Result<u64, Refusal>
-        // On a store that stands for a machine, its pieces are a stream of the table of the settled commands, and none was given yet.
+        // On a store that represents a machine, its pieces are a stream of the table of the settled commands, and none was given yet.
         ensures goes { IfOk result (λ id. D.tells ≡ true → (base : Tables) (m : Machine) → StoreFits D.size D.story base m self.old
             → GoesOn D.size D.story D.failed base m (open_export_call name.now) (export_is id) self.old self.new) }
         ensures refused { IfErr result (λ e. D.tells ≡ true → (base : Tables) (m : Machine) → StoreFits D.size D.story base m self.old
@@ -293,7 +293,7 @@ impl<D: SectorDevice> Store<D> {
     /// `SegmentDamaged` with its place if its bytes have another digest than the one in the catalogue when the export was opened. After any error the same
     /// piece is still the next one.
     pub fn export_next(&mut self, alloc: Global, id: u64) -> Result<Option<Vec<u8>>, Refusal>
-        // On a store that stands for a machine, it is the piece after those that were given.
+        // On a store that represents a machine, it is the piece after those that were given.
         ensures goes { IfOk result (λ piece. D.tells ≡ true → (base : Tables) (m : Machine) → StoreFits D.size D.story base m self.old
             → GoesOn D.size D.story D.failed base m (export_next_call id) (piece_is (option_map (λ v. v.items) piece)) self.old self.new) }
         ensures refused { IfErr result (λ e. D.tells ≡ true → (base : Tables) (m : Machine) → StoreFits D.size D.story base m self.old
@@ -337,7 +337,7 @@ impl<D: SectorDevice> Store<D> {
     /// # Errors
     /// `Halted` after a failure of the device; `NoExport` if no export has the id. After any error nothing has changed.
     pub fn close_export(&mut self, id: u64) -> Result<(), Refusal>
-        // On a store that stands for a machine.
+        // On a store that represents a machine.
         ensures goes { OnOk result (D.tells ≡ true → (base : Tables) (m : Machine) → StoreFits D.size D.story base m self.old
             → GoesOn D.size D.story D.failed base m (close_export_call id) done self.old self.new) }
         ensures refused { IfErr result (λ e. D.tells ≡ true → (base : Tables) (m : Machine) → StoreFits D.size D.story base m self.old

@@ -42,7 +42,7 @@ impl<D: SectorDevice> Store<D> {
     /// # Errors
     /// `Halted` after a failure of the device; `OutOfMemory`.
     pub fn tables(&self, alloc: Global) -> Result<Vec<(String, u64)>, Refusal>
-        // On a store that stands for a machine, they are those of the settled commands.
+        // On a store that represents a machine, they are those of the settled commands.
         ensures goes { IfOk result (λ found. D.tells ≡ true → (base : Tables) (m : Machine) → StoreFits D.size D.story base m self.now
             → GoesOn D.size D.story D.failed base m tables_call (counts (map (λ t. (string_bytes t.0, t.1)) found.items)) self.now self.now) }
         ensures refused { IfErr result (λ e. D.tells ≡ true → (base : Tables) (m : Machine) → StoreFits D.size D.story base m self.now

@@ -64,7 +64,7 @@ impl<D: SectorDevice> Store<D> {
     /// can't be read, is not a stream of the table's schema and number of rows, or takes the table over its maximum weight, and `SegmentDamaged` if its
     /// bytes have another digest than the one in the catalogue; `Device`, after which the store is halted; `OutOfMemory`.
     pub fn read(&mut self, alloc: Global, name: &str) -> Result<Table, Refusal>
-        // On a store that stands for a machine, it is the table of the settled commands.
+        // On a store that represents a machine, it is the table of the settled commands.
         ensures goes { IfOk result (λ t. D.tells ≡ true → (base : Tables) (m : Machine) → StoreFits D.size D.story base m self.old
             → GoesOn D.size D.story D.failed base m (read_call name.now) (table_is (table_of t)) self.old self.new) }
         ensures refused { IfErr result (λ e. D.tells ≡ true → (base : Tables) (m : Machine) → StoreFits D.size D.story base m self.old

@@ -340,7 +340,7 @@ fn answer_all<D: SectorDevice, R: Read + Drop>(
 /// Answers calls in order: commands, formattings, openings, closings, reads, exports in pieces and steps of a compaction. Returns the place and the
 /// replies.
 ///
-/// The promise is [`PlaceLives`] of `specs/Places.antt`, for a place that stands for a machine with some tables. Each reply follows from the tables of
+/// The promise is [`PlaceLives`] of `specs/Places.antt`, for a place that represents a machine with some tables. Each reply follows from the tables of
 /// the commands that were acknowledged before its call, in order (`replied`, `specs/Steps.antt`). Each image that a stop may leave at any moment has the
 /// tables of the settled commands: all that were acknowledged before, in order, and the command in flight as a whole or not at all (`stops`). A call is
 /// refused as halted only if no store is open or its device failed. A command whose bytes come from a reader has all bytes that its reader had left, if
@@ -348,7 +348,7 @@ fn answer_all<D: SectorDevice, R: Read + Drop>(
 ///
 /// An export that is opened in the run, and reaches its end while it is open, gives pieces that are a stream of the table as it was when the export was
 /// opened, whatever commands and steps of a compaction come in between (`snapshots`). Until it is closed, no sector that it keeps is written. A step of a
-/// compaction settles nothing: the tables are the same before it, after it and at each stop in it. On any device and any store, even one that stands for
+/// compaction settles nothing: the tables are the same before it, after it and at each stop in it. On any device and any store, even one that represents
 /// no machine, each call is answered as its method says (`AnswersEach`, `specs/Answering.antt`).
 ///
 /// # Errors

@@ -60,7 +60,7 @@ impl<D: SectorDevice> Store<D> {
     /// store is halted; `TooMany(Epochs)`; `NoRoom` if there is no free run for the catalogue; `OutOfMemory`. After any error but `Device` nothing has
     /// changed.
     pub fn upgrade(&mut self, alloc: Global) -> Result<Upgraded, Refusal>
-        // On a store that stands for a machine, the tables stay those of the settled commands at each moment.
+        // On a store that represents a machine, the tables stay those of the settled commands at each moment.
         ensures goes { IfOk result (λ upgraded. D.tells ≡ true → (base : Tables) (m : Machine) → StoreFits D.size D.story base m self.old
             → GoesOn D.size D.story D.failed base m upgrade_call (upgrade_reply upgraded) self.old self.new) }
         ensures refused { IfErr result (λ e. D.tells ≡ true → (base : Tables) (m : Machine) → StoreFits D.size D.story base m self.old

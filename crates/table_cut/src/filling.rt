@@ -1,4 +1,4 @@
-// Which schemas have a dictionary that a row by itself can fill: one with a limit that stands below a list.
+// Which schemas have a dictionary that a row by itself can fill: one with a limit, below a list.
 ghost use Rattle.std.specs.Prelude.{◌≡◌, map};
 ghost use Rattle.arrow_schema.specs.Column.{columns_of};
 ghost use Rattle.arrow_schema.specs.View.{kind_of, column_of, schema_of};

@@ -3,7 +3,7 @@
 //! [`next_piece`] has the longest front of the rows that are left which is within the limits: at most 4,096 rows, a weight of at most 16,777,216,
 //! and in no dictionary more values than its indices can name. It borrows the rows, and weighs each once, but for the first of the next piece.
 //! [`first_unfit_row`] gives which row of a table another schema of its shape does not take: rows are borrowed only where a dictionary of 8 or 16 bit
-//! indices stands below a list.
+//! indices is below a list.
 //!
 //! ```ignore
 //! let piece = next_piece(alloc, table.schema(), &table, from)?;

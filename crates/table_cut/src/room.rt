@@ -24,7 +24,7 @@ use columns::row;
 use std::alloc::{AllocError, Global};
 use values::Values;
 
-// For how many runs of a piece its columns are gone through, each time from its first row on.
+// For how many runs of a piece its columns are visited, each time from its first row on.
 const MOST_TRIED: usize = 16;
 
 /// What is known of the entries that dictionaries have in the rows of a piece.
@@ -34,9 +34,9 @@ pub(crate) enum Seen<'a> {
     Nothing,
     /// All rows have, in each dictionary whose indices can name only some, the entries that those of this run have.
     Shared(RowRun<'a>),
-    /// The columns of all rows were gone through, for n runs.
+    /// The columns of all rows were visited, for n runs.
     Columns(usize),
-    /// Each row was gone through.
+    /// Each row was visited.
     Rows(SeenRows<'a>),
 }
 
@@ -126,7 +126,7 @@ fn take_rows<'a>(
     Ok(run.len)
 }
 
-// The same of a run after rows that were gone through.
+// The same of a run after rows that were visited.
 fn room_behind<'a>(
     alloc: Global,
     schema: &'a Schema,
@@ -185,7 +185,7 @@ fn rows_behind<'a>(
     columns_room(alloc, &schema.fields, piece, run)
 }
 
-// The same after a piece of which that is found by columns, unless it was for many of its runs; else its rows are gone through.
+// The same after a piece of which that is found by columns, unless it was for many of its runs; else its rows are visited.
 fn room_anew<'a>(
     alloc: Global,
     schema: &'a Schema,

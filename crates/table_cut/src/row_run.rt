@@ -3,7 +3,7 @@ ghost use Rattle.std.specs.Prelude.{◌+◌, ◌<◌, ◌^◌};
 
 use columns::{Dictionary, PlacedArray};
 
-/// n rows of a record batch, from one on: its arrays, the bytes in which they stand, and its dictionaries.
+/// n rows of a record batch, from one on: its arrays, the bytes in which they are, and its dictionaries.
 #[derive(Clone, Copy)]
 pub struct RowRun<'a> {
     pub arrays: &'a [PlacedArray],

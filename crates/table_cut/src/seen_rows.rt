@@ -1,4 +1,4 @@
-// The entries of dictionaries in rows that are gone through one after another.
+// The entries of dictionaries in rows that are visited one after another.
 ghost use Rattle.std.specs.Prelude.{◌≡◌, true, List, [], ◌∷◌, ◌++◌, OnOk, IfOk};
 ghost use Rattle.arrow_schema.specs.Column.{PlainSchema, columns_of};
 ghost use Rattle.arrow_schema.specs.View.{schema_of};

@@ -14,7 +14,7 @@ use cells::entry_limit;
 use columns::{ArrayView, PlacedArray, array_or, no_array};
 use dictionary_codes::{Compared, is_same_dictionary};
 
-// Buffers with more bytes than these together, of which the second are for each row, are not compared: the rows are gone through.
+// Buffers with more bytes than these together, of which the second are for each row, are not compared: the rows are visited.
 const LEAST_COMPARED: usize = 16_384;
 
 const COMPARED_PER_ROW: usize = 64;

@@ -73,7 +73,7 @@ fn items_weight(item: &Field, items: Values<'_>) -> u64
     total
 }
 
-// A null fixed list is not gone through: its size is the type's word alone.
+// A null fixed list is not visited: its size is the type's word alone.
 #[tactic(auto, using(cells::specs::laws::Weights::capped_product))]
 #[cycle(weight)]
 fn fixed_weight(size: u32, item: &Field, value: ValueRef<'_>) -> u64

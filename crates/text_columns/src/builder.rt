@@ -38,7 +38,7 @@ pub(crate) struct Slots {
     pub(crate) null_weight: u64,
 }
 
-/// Where lists end among the items of all, of which there are so many.
+/// Where lists end among the items of all, of which there are n.
 #[derive(Drop)]
 pub(crate) struct ListOffsets {
     pub(crate) width: OffsetWidth,
@@ -55,7 +55,7 @@ impl Slots {
         Ok(())
     }
 
-    // Appends so many nulls.
+    // Appends n nulls.
     fn push_nulls(&mut self, count: usize) -> Result<(), AllocError>
         ensures nullable { OnOk result (self.new.nullable ≡ self.old.nullable) }
         ensures null_weight { OnOk result (self.new.null_weight ≡ self.old.null_weight) }
@@ -69,7 +69,7 @@ impl Slots {
 }
 
 impl ListOffsets {
-    /// Appends the end of a list of so many items.
+    /// Appends the end of a list of n items.
     pub(crate) fn push(&mut self, items: u64) -> Result<(), AllocError>
         ensures { OnOk result (PushesEnd items self.old self.new) }
     {
@@ -80,7 +80,7 @@ impl ListOffsets {
         push_offset(&mut self.offsets, self.width, count)
     }
 
-    // Appends the ends of so many lists without items.
+    // Appends the ends of n lists without items.
     fn push_empty(&mut self, lists: usize) -> Result<(), AllocError>
         ensures { OnOk result (PushesEmpty lists self.old self.new) }
     {
@@ -91,7 +91,7 @@ impl ListOffsets {
     }
 }
 
-// How many items so many lists of a size have.
+// How many items n lists of a size have.
 fn items_of(lists: usize, size: u32) -> Result<usize, AllocError>
     ensures { IfOk result (λ items. items ≡ lists * size) }
 {
@@ -101,7 +101,7 @@ fn items_of(lists: usize, size: u32) -> Result<usize, AllocError>
     }
 }
 
-// Appends so many nulls to each column.
+// Appends n nulls to each column.
 #[cycle(nulls)]
 fn push_nulls_each(builders: &mut [ColumnBuilder], count: usize) -> Result<(), AllocError>
     ensures { OnOk result (AllAppendNulls count builders.old builders.new) }
@@ -157,7 +157,7 @@ impl ColumnBuilder {
         }
     }
 
-    /// Appends so many nulls, whether the column is nullable or not: below a null list is nothing, and below
+    /// Appends n nulls, whether the column is nullable or not: below a null list is nothing, and below
     /// one of a size or a struct are nulls.
     #[cycle(nulls)]
     pub(crate) fn push_nulls(&mut self, count: usize) -> Result<(), AllocError>

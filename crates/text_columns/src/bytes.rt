@@ -39,7 +39,7 @@ pub(crate) fn push_bytes(
     Ok(Some(1 + count as u64))
 }
 
-/// Appends so many bytes, where digits spell them, and answers what they weigh.
+/// Appends n bytes, where digits spell them, and answers what they weigh.
 pub(crate) fn push_fixed(
     values: &mut Vec<u8>,
     width: u32,

@@ -30,7 +30,7 @@ fn has_room(index: IntegerType, count: usize) -> bool
     }
 }
 
-/// Where the entry stands that has these bytes.
+/// The place of the entry with these bytes.
 pub(crate) fn find(keys: &IndexSet<Vec<u8>>, key: &[u8]) -> Option<usize>
     ensures { result ≡ position (bytes_eq key.now) (key_list keys.now.keys) }
 {
@@ -47,7 +47,7 @@ pub(crate) fn add_key(keys: &mut IndexSet<Vec<u8>>, key: &[u8]) -> Result<bool, 
     Ok(added)
 }
 
-// Where the entry stands that has these bytes, which is one then; none where no index can name it.
+// The place of the entry with these bytes, which is an entry after the call; none where no index can name it.
 fn place_of(
     index: IntegerType,
     keys: &mut IndexSet<Vec<u8>>,

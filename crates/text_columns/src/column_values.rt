@@ -12,7 +12,7 @@ use columns::{OffsetWidth, push_offset};
 use std::alloc::AllocError;
 use text_import::spelled_boolean;
 
-/// What the cells of a column are written as, but for where nulls stand: nothing, bits, the bytes of integers or of binaries of one width, or where
+/// What the cells of a column are written as, apart from the places of nulls: nothing, bits, the bytes of integers or of binaries of one width, or where
 /// strings or binaries end and their bytes.
 #[derive(Drop)]
 pub(crate) enum Values {
@@ -59,7 +59,7 @@ fn push_boolean(bits: &mut Vec<bool>, text: &[u8]) -> Result<Option<u64>, AllocE
     }
 }
 
-// No string or binary: before the first stands the offset 0.
+// No string or binary: the offset 0 is before the first.
 fn clear_contents(
     offsets: &mut Vec<u8>,
     contents: &mut Vec<u8>,

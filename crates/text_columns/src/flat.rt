@@ -60,7 +60,7 @@ impl FlatBuilder {
         Ok(taken)
     }
 
-    /// Appends so many nulls, whether the column is nullable or not: what stands below a null is null.
+    /// Appends n nulls, whether the column is nullable or not: what is below a null is null.
     pub(crate) fn push_nulls(&mut self, count: usize) -> Result<(), AllocError>
         ensures { OnOk result (AppendsNulls count (Flat self.old) (Flat self.new)) }
     {

@@ -24,7 +24,7 @@ use text_import::{is_blank, text_of};
 // How deep the values of a line's object or array may nest.
 const BELOW: u32 = 126;
 
-// Appends the cells of the object that a reader stands in, and answers what its row weighs; none where it does not go in.
+// Appends the cells of the object that a reader is in, and answers what its row weighs; none where it does not go in.
 fn push_object(
     names: &IndexSet<Vec<u8>>,
     order: &mut [usize],
@@ -45,7 +45,7 @@ fn push_object(
     Ok(Some(weight))
 }
 
-// The same of the array that a reader stands in, by the places of its items.
+// The same of the array that a reader is in, by the places of its items.
 fn push_array(
     builders: &mut [ColumnBuilder],
     reader: &mut Reader<'_>,
@@ -63,7 +63,7 @@ fn push_array(
     Ok(Some(weight))
 }
 
-// The same of the value that a reader stands at, which is an object or an array.
+// The same of the value that a reader is at, which is an object or an array.
 fn push_value(
     names: &IndexSet<Vec<u8>>,
     order: &mut [usize],

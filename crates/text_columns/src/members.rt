@@ -1,4 +1,4 @@
-// Names of columns, and where those of members stand among them.
+// Names of columns, and the places of those of members among them.
 ghost use Rattle.std.specs.Prelude.{◌≡◌, true, false, map, slice_get, IfOk, IfSome, Some};
 ghost use Rattle.arrow_schema.specs.Column.{columns_of};
 ghost use Rattle.arrow_schema.specs.View.{column_of};
@@ -37,7 +37,7 @@ pub(crate) fn names_of(
     }
 }
 
-// Whether a name stands at a place.
+// Whether the name at a place is this one.
 fn stands_at(names: &IndexSet<Vec<u8>>, at: usize, name: &str) -> bool
     ensures { result ≡ true → slice_get (key_list names.now.keys) at ≡ Some name.now }
 {
@@ -47,7 +47,7 @@ fn stands_at(names: &IndexSet<Vec<u8>>, at: usize, name: &str) -> bool
     }
 }
 
-/// Where a name stands: first the place is tested where it stood in the line before.
+/// The place of a name: the place that it had in the line before is tested first.
 pub(crate) fn find(names: &IndexSet<Vec<u8>>, before: usize, name: &str) -> Option<usize>
     ensures { IfSome result (λ at. slice_get (key_list names.now.keys) at ≡ Some name.now) }
 {

@@ -1,4 +1,4 @@
-// The value that a reader of JSON stands at, into the column that it belongs to: a list item by item, an object member by member.
+// The value that a reader of JSON is at, into the column that it belongs to: a list item by item, an object member by member.
 ghost use Rattle.std.specs.Prelude.{◌≡◌, ◌≤◌, true, IfOk, IfSome};
 ghost use Rattle.text_columns.specs.inner.Kept.{key_list};
 ghost use Rattle.json.specs.Reads.{token_of};
@@ -35,7 +35,7 @@ fn end_list(
     Ok(Some(taken.weight))
 }
 
-// Appends the slot of a list of so many items; none where there were more or fewer.
+// Appends the slot of a list of n items; none if the list needs more or fewer.
 fn end_fixed_list(
     slots: &mut Slots,
     size: u32,
@@ -64,7 +64,7 @@ fn end_struct(slots: &mut Slots, taken: Option<u64>) -> Result<Option<u64>, Allo
     Ok(Some(weight))
 }
 
-// Appends the items of the array that a reader stands in; none where one does not go in, or they are too heavy for a row. Their values nest no deeper
+// Appends the items of the array that a reader is in; none where one does not go in, or they are too heavy for a row. Their values nest no deeper
 // than the number.
 #[cycle(next)]
 fn push_list_items(
@@ -90,7 +90,7 @@ fn push_list_items(
     Ok(None)
 }
 
-/// Appends the cells of the items that a reader stands at, whose values nest no deeper than the number, and answers what their row weighs; none where
+/// Appends the cells of the items that a reader is at, whose values nest no deeper than the number, and answers what their row weighs; none where
 /// they are not as many as columns, or one does not go in.
 #[cycle(next)]
 pub(crate) fn push_items(
@@ -118,7 +118,7 @@ pub(crate) fn push_items(
     Ok(Some(weight))
 }
 
-// Appends the value that a reader stands at to the column at a place that has no cell of this row yet, and keeps what the cell weighs;
+// Appends the value that a reader is at to the column at a place that has no cell of this row yet, and keeps what the cell weighs;
 // false where it does not go in.
 #[cycle(next)]
 fn push_member(
@@ -141,7 +141,7 @@ fn push_member(
     Ok(true)
 }
 
-/// Appends the values of the members that a reader stands at, which nest no deeper than the number, and keeps what each weighs; false where one does not
+/// Appends the values of the members that a reader is at, which nest no deeper than the number, and keeps what each weighs; false where one does not
 /// go into a column, or two have one name. `order` has the places of the columns that the members of the line before went into, and then those of this
 /// one.
 #[cycle(next)]
@@ -177,7 +177,7 @@ fn push_members(
     }
 }
 
-/// Appends the cells of the members that a reader stands at, which nest no deeper than the number, and answers what their row weighs; none where they do not
+/// Appends the cells of the members that a reader is at, which nest no deeper than the number, and answers what their row weighs; none where they do not
 /// go in.
 #[cycle(next)]
 pub(crate) fn push_fields(
@@ -202,7 +202,7 @@ pub(crate) fn push_fields(
     complete_row(builders, heavies)
 }
 
-// Appends the items of the array that a reader stands in to the fields of structs.
+// Appends the items of the array that a reader is in to the fields of structs.
 #[cycle(next)]
 fn push_parts(
     fields: &mut Vec<ColumnBuilder>,
@@ -237,7 +237,7 @@ fn push_named(
 }
 
 impl ColumnBuilder {
-    // Appends the list that the array is that a reader stands in, and answers what it weighs; none where the column has no lists, or it does not go in.
+    // Appends the list of the array that a reader is in, and answers what it weighs; none where the column has no lists, or it does not go in.
     #[cycle(next)]
     fn push_array(&mut self, reader: &mut Reader<'_>, depth: u32) -> Result<Option<u64>, AllocError>
         ensures { IfOk result (λ taken. IfSome taken (λ heavy. KeepsArray depth reader.old reader.new heavy self.old self.new)) }
@@ -259,7 +259,7 @@ impl ColumnBuilder {
         }
     }
 
-    // The same of the object that a reader stands in.
+    // The same of the object that a reader is in.
     #[cycle(next)]
     fn push_object(
         &mut self,
@@ -277,7 +277,7 @@ impl ColumnBuilder {
         }
     }
 
-    // The same of the value that a reader stands at, in a column with parts.
+    // The same of the value that a reader is at, in a column with parts.
     #[cycle(next)]
     fn push_nested(
         &mut self,
@@ -297,7 +297,7 @@ impl ColumnBuilder {
         }
     }
 
-    /// Appends the cell of the value that a reader stands at, which nests no deeper than the number, and answers what it weighs; none where it is no cell of
+    /// Appends the cell of the value that a reader is at, which nests no deeper than the number, and answers what it weighs; none where it is no cell of
     /// the column.
     #[cycle(next)]
     pub(crate) fn push_next(

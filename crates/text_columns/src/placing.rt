@@ -12,7 +12,7 @@ use crate::flat::FlatBuilder;
 use columns::{Dictionary, DictionaryPart, PlacedArray, PlacedLayout, Span};
 use std::alloc::{AllocError, Global};
 
-// Appends a buffer, and says where it stands.
+// Appends a buffer, and says where it is.
 fn append(bytes: &mut Vec<u8>, buffer: &[u8]) -> Result<Span, AllocError>
     ensures { IfOk result (λ span. IsAppended bytes.old.items buffer.now bytes.new.items span) }
 {
@@ -36,7 +36,7 @@ fn are_set(bits: &[bool]) -> bool
     true
 }
 
-// Appends bits, packed, and says where they stand.
+// Appends bits, packed, and says where they are.
 fn append_bits(alloc: Global, bytes: &mut Vec<u8>, bits: &[bool]) -> Result<Span, AllocError>
     ensures { IfOk result (λ span. IsAppended bytes.old.items (packed bits.now) bytes.new.items span) }
 {
@@ -63,7 +63,7 @@ fn has_bitmap(values: &Values) -> bool
     }
 }
 
-// Appends the validity bitmap of slots, and says where it stands: no byte where each is valid, or where there is no bitmap.
+// Appends the validity bitmap of slots, and says where it is: no byte where each is valid, or where there is no bitmap.
 fn append_validity(
     alloc: Global,
     bytes: &mut Vec<u8>,
@@ -79,7 +79,7 @@ fn append_validity(
     }
 }
 
-// Appends the buffers of values, and says where they stand.
+// Appends the buffers of values, and says where they are.
 fn place_values(
     alloc: Global,
     bytes: &mut Vec<u8>,
@@ -142,7 +142,7 @@ fn place_coded(
     Ok(PlacedLayout::Dictionary(indices, part))
 }
 
-// Appends the values of a column, or its indices and entries, and says where they stand.
+// Appends the values of a column, or its indices and entries, and says where they are.
 fn place_layout(
     alloc: Global,
     bytes: &mut Vec<u8>,
@@ -157,7 +157,7 @@ fn place_layout(
     }
 }
 
-// Appends the buffers of a column without parts, and says where they stand.
+// Appends the buffers of a column without parts, and says where they are.
 fn place_flat(
     alloc: Global,
     bytes: &mut Vec<u8>,
@@ -175,7 +175,7 @@ fn place_flat(
     })
 }
 
-// Appends the buffers of a column, and says where they stand: those of items and fields come behind
+// Appends the buffers of a column, and says where they are: those of items and fields come after
 // those of their lists and structs.
 #[cycle(place)]
 fn place(
@@ -219,7 +219,7 @@ fn place(
     }
 }
 
-// Appends the buffers of the fields of structs, and says where they stand.
+// Appends the buffers of the fields of structs, and says where they are.
 #[cycle(place)]
 fn place_fields(
     alloc: Global,
@@ -237,7 +237,7 @@ fn place_fields(
     Ok(arrays)
 }
 
-/// The arrays of columns, and the bytes and the dictionaries that they stand in.
+/// The arrays of columns, and the bytes and the dictionaries that they are in.
 #[derive(Drop)]
 pub(crate) struct Placed {
     pub(crate) bytes: Vec<u8>,

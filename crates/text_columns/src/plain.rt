@@ -1,4 +1,4 @@
-// Records without quotes, read where they stand in the text: no byte of a field is copied before it goes into its column (RFC 4180, section 2).
+// Records without quotes, read where they are in the text: no byte of a field is copied before it goes into its column (RFC 4180, section 2).
 ghost use Rattle.std.specs.Prelude.{◌≡◌, ◌<◌, ◌≤◌, [], ◌∷◌, ℕ, List, length, drop, IfOk, IfSome};
 ghost use Rattle.csv.specs.Reading.{is_bom, strip_bom};
 ghost use Rattle.csv.specs.declared.parser.State.TheVariants as st;
@@ -96,7 +96,7 @@ fn field_end(text: &[u8], from: usize) -> usize
     text.len()
 }
 
-// Whether a quote stands at a place.
+// Whether there is a quote at a place.
 fn is_quoted(text: &[u8], at: usize) -> bool
     requires { at ≤ length text.now }
     ensures { result ≡ begins_quoted (drop at text.now) }
@@ -104,7 +104,7 @@ fn is_quoted(text: &[u8], at: usize) -> bool
     at < text.len() && text[at] == b'"'
 }
 
-// Whether another field stands after one that ends there.
+// Whether another field follows one that ends there.
 fn goes_on(text: &[u8], end: usize) -> bool
     requires { end ≤ length text.now }
     ensures { result ≡ begins_with 44 (drop end text.now) }

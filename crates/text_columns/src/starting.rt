@@ -16,7 +16,7 @@ use columns::{OffsetWidth, date_integer, push_offset, timestamp_integer};
 use indexmap::IndexSet;
 use std::alloc::{AllocError, Global};
 
-// Before the first string or binary stands the offset 0.
+// The offset 0 is before the first string or binary.
 fn no_contents(alloc: Global, width: OffsetWidth) -> Result<(Vec<u8>, Vec<u8>), AllocError>
     ensures { IfOk result (λ started. HoldContents width [] started.0.items started.1.items) }
 {
@@ -190,7 +190,7 @@ fn nulls_weight(builders: &[ColumnBuilder]) -> Option<u64>
     Some(weight)
 }
 
-// The names of so many fields, where there was no object yet.
+// The names of n fields, where there was no object yet.
 fn no_object(alloc: Global, names: IndexSet<Vec<u8>>, count: usize) -> Result<Names, AllocError>
     ensures { IfOk result (λ own. own.names ≡ names) }
 {

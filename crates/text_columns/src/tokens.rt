@@ -135,7 +135,7 @@ fn push_binary(
     push_bytes(offsets, contents, width, digits.as_bytes())
 }
 
-// The same of a binary of so many bytes.
+// The same of a binary of n bytes.
 fn push_fixed_binary(
     values: &mut Vec<u8>,
     width: u32,

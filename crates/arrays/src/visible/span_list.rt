@@ -1,4 +1,4 @@
-// Spans of slots that are looked at together, so that the fields of a struct are gone through once for many of its runs.
+// Spans of slots that are looked at together, so that the fields of a struct are visited once for many of its runs.
 ghost use Rattle.std.specs.Prelude.{◌≡◌, ◌≤◌, ◌*◌, [], length, map, nat_le, true, false};
 ghost use Rattle.columns.specs.Array.{slots_in, items_in};
 ghost use Rattle.columns.specs.Offsets.{width_of};

@@ -57,7 +57,7 @@ fn any_slot_of(test: SlotTest, field: &Field, view: ArrayView<'_>, spans: &[Slot
     requires within { are_within (slots_in (view_array view)) spans.now ≡ true }
     ensures { result ≡ any_slot_of (finds test) (column_of field.now) (view_array view.entry) spans.now }
 {
-    // by the type alone, so that no span is gone through in vain
+    // by the type alone, so that no span is visited in vain
     if !may_find_own(test, field) {
         return false;
     }
@@ -80,7 +80,7 @@ fn has_below(field: &Field) -> bool
     field.dictionary.is_none() && field.data_type.is_nested()
 }
 
-// A test of all that is visible by the slots of some spans. What stands below them is looked at by runs of valid slots.
+// A test of all that is visible by the slots of some spans. What is below them is looked at by runs of valid slots.
 #[cycle(spans)]
 fn any_visible(
     test: SlotTest,
@@ -106,7 +106,7 @@ fn any_visible(
     any_below(test, field, view, spans, none)
 }
 
-// The same of what stands below the slots: as many runs as can be are looked at together.
+// The same of what is below the slots: as many runs as can be are looked at together.
 #[cycle(spans)]
 fn any_below(
     test: SlotTest,
@@ -202,7 +202,7 @@ fn any_with_run(
     found
 }
 
-// A test of what stands below runs of slots that are all valid.
+// A test of what is below runs of slots that are all valid.
 #[tactic(auto, unfolding(columns::specs::Sound::has_sound_children))]
 #[cycle(spans)]
 fn any_valid_below(

@@ -138,7 +138,7 @@ pub(crate) fn any_bad_text(field: &Field, view: ArrayView<'_>, from: usize, coun
     }
 }
 
-// The bytes of some slots are few for so many, and a text for each.
+// Some slots have few bytes for their number, and each is a text.
 fn is_one_short_text(width: OffsetWidth, view: ArrayView<'_>, from: usize, count: usize) -> bool
     requires long { are_few_offsets (width_of width) (view_array view) ≡ false }
     requires ordered { are_unordered (width_of width) (length (contents_in (view_array view))) (view_array view) ≡ false }
