@@ -1,9 +1,9 @@
 -- How many cells stand in a cell, itself and those below it: what a recursion over borrowed values goes down.
 use Rattle.std.proofs.Common.{ℕ, ◌+◌, ◌*◌}
 use Rattle.cells.specs.Cell.{Cell, Cells, null, boolean, number, text, bytes, items, parts, no_cell, and_cell, cells_of}
-use Rattle.values.specs.declared.borrowed.Values.{Values}
-use Rattle.values.specs.declared.borrowed.ValueRef.{ValueRef}
-use Rattle.values.specs.Borrowed.{borrowed_cell, borrowed_cells}
+use Rattle.columns.specs.declared.borrowed.Values.{Values}
+use Rattle.columns.specs.declared.borrowed.ValueRef.{ValueRef}
+use Rattle.columns.specs.Borrowed.{borrowed_cell, borrowed_cells}
 
 abbrev mutual
   pub nodes : Cell → ℕ

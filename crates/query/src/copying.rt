@@ -4,7 +4,7 @@ ghost use Rattle.cells.specs.Cell as plain;
 ghost use Rattle.cells.specs.Cell.{Cell, cells_of};
 ghost use Rattle.cells.specs.Row.{row_of};
 ghost use Rattle.cells.specs.View.{cell};
-ghost use Rattle.values.specs.Borrowed.{borrowed_cell, borrowed_cells};
+ghost use Rattle.columns.specs.Borrowed.{borrowed_cell, borrowed_cells};
 
 use cells::{Row, Value};
 use std::alloc::{AllocError, Global};

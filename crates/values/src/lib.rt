@@ -15,7 +15,6 @@
 
 mod accept;
 mod batches;
-mod borrowed;
 mod content;
 mod errors;
 mod laws;
@@ -26,8 +25,8 @@ mod table;
 mod table_part;
 mod weighed_table;
 
-pub use borrowed::{ValueRef, Values, ValuesIter, borrow_value};
 pub use cells::{Row, Value};
+pub use columns::{ValueRef, Values, ValuesIter, borrow_value};
 pub use errors::TableError;
 pub use laws::{accepted_rows_are_a_table, tables_are_joined_and_cut};
 pub use list_items::{items, push_all};

@@ -1,7 +1,7 @@
 use Rattle.std.proofs.Common.{◌≡◌, ◌≤◌, ◌+◌, ◌++◌, length, map, vec_len, vec_capacity}
 use Rattle.cells.specs.Cell.{cells_of}
 use Rattle.cells.specs.View.{cell}
-use Rattle.values.specs.Borrowed.{borrowed_cells, values_left}
+use Rattle.columns.specs.Borrowed.{borrowed_cells, values_left}
 use Rattle.query.proofs.Nodes.{nodes_all, value_depth, values_depth}
 use Rattle.query.proofs.copying.+copy.Given as goal
 
