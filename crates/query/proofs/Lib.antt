@@ -1,6 +1,4 @@
-pub mod Nodes
 pub mod PickedSchemas
-pub mod PickedPlaces
 pub mod PickedRows
 pub mod SelectedTables
 pub mod Splitting

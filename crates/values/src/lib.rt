@@ -16,6 +16,7 @@
 mod accept;
 mod batches;
 mod content;
+mod copying;
 mod errors;
 mod laws;
 mod list_items;
@@ -27,6 +28,7 @@ mod weighed_table;
 
 pub use cells::{Row, Value};
 pub use columns::{ValueRef, Values, ValuesIter, borrow_value};
+pub use copying::copy_row;
 pub use errors::TableError;
 pub use laws::{accepted_rows_are_a_table, tables_are_joined_and_cut};
 pub use list_items::{items, push_all};

@@ -2,8 +2,8 @@ use Rattle.std.proofs.Common.{◌≡◌, ◌≤◌, ◌+◌, ◌++◌, length, m
 use Rattle.cells.specs.Cell.{cells_of}
 use Rattle.cells.specs.View.{cell}
 use Rattle.columns.specs.Borrowed.{borrowed_cells, values_left}
-use Rattle.query.proofs.Nodes.{nodes_all, value_depth, values_depth}
-use Rattle.query.proofs.copying.+copy.Given as goal
+use Rattle.columns.specs.laws.Nodes.{nodes_all, value_depth, values_depth}
+use Rattle.values.proofs.copying.+copy.Given as goal
 
 abbrev pub decreases-copy_value : goal.decreases-copy_value
 decreases-copy_value l = value_depth l.value

@@ -7,8 +7,8 @@ ghost use Rattle.cells.specs.View.{cell};
 ghost use Rattle.columns.specs.Borrowed.{borrowed_cell, borrowed_cells};
 
 use cells::{Row, Value};
+use columns::{ValueRef, Values};
 use std::alloc::{AllocError, Global};
-use values::{ValueRef, Values};
 
 fn copy_text(alloc: Global, text: &str) -> Result<Value, AllocError>
     ensures { IfOk result (λ v. cell v ≡ plain.text text.now) }

@@ -1,7 +1,7 @@
 use Rattle.std.proofs.Common.{◌≡◌, ◌≤◌, ◌++◌, length, map, drop, vec_len, vec_capacity}
 use Rattle.arrow_schema.specs.View.{column_of}
 use Rattle.query.specs.Selection.{pick}
-use Rattle.query.proofs.selecting.pick_fields.Given as goal
+use Rattle.selection.proofs.picked_schema.pick_fields.Given as goal
 
 abbrev pub invariant-loop-place : goal.invariant-loop-place
 invariant-loop-place l = record {

@@ -3,7 +3,7 @@ use Rattle.std.proofs.lemmas.List.{map-append, append-nil}
 use Rattle.cells.specs.View.{cell}
 use Rattle.cells.specs.declared.value.Value.{the_lemmas as value_lemmas}
 use Rattle.columns.specs.Borrowed.{borrowed_cell}
-use Rattle.query.proofs.copying.+copy.Goals as goal
+use Rattle.values.proofs.copying.+copy.Goals as goal
 
 pub copy_values-loop-value-preserved : goal.copy_values-loop-value-preserved
 copy_values-loop-value-preserved t c =
