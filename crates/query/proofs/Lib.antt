@@ -12,7 +12,7 @@ pub mod SelectionReports
 pub mod Numbers
 pub mod SlotFlags
 pub mod IntegerKinds
-pub mod Cuts
+pub mod OrderAnswers
 pub mod SlotNumbers
 pub mod Lanes
 pub mod Masked

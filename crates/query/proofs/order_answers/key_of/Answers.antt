@@ -3,7 +3,7 @@ use Rattle.std.specs.Prelude.{pos, ◌-ℤ◌, ◌<ℤ◌}
 use Rattle.std.specs.Cmp.{int_cmp_is}
 use Rattle.std.specs.declared.cmp.Ordering.TheVariants.{Less, Greater}
 use Rattle.std.proofs.lemmas.Int.{ints}
-use Rattle.query.proofs.cut.key_of.Goals as goal
+use Rattle.query.proofs.order_answers.key_of.Goals as goal
 
 pub returns-then-literal-least : goal.returns-then-literal-least
 returns-then-literal-least c = λ n h.

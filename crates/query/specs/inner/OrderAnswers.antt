@@ -7,7 +7,7 @@ use Rattle.arrow_schema.specs.declared.types.BitWidth.{BitWidth}
 use Rattle.arrow_schema.specs.declared.types.IntegerType.{IntegerType}
 use Rattle.cells.specs.Integers.{integer_of}
 use Rattle.columns.specs.CellAt.{number_at}
-use Rattle.query.specs.declared.cut.Cut.{Cut}
+use Rattle.query.specs.declared.order_answers.OrderAnswers.{OrderAnswers}
 use Rattle.query.specs.declared.operator.Operator.{Operator}
 use Rattle.query.specs.Bound.{accepts}
 use Rattle.query.specs.inner.Slots.{width_of}
@@ -29,19 +29,19 @@ abbrev pub AllStand : ℤ → (bias numbers : ℕ) → Ordering → Type 0
 AllStand literal bias numbers order = (n : ℕ) → n < numbers → int_cmp (pos n -ℤ pos bias) literal ≡ order
 
 -- the answer for a number to which the bias was added
-abbrev pub answer : Cut → ℕ → Bool
-answer cut n = if nat_lt n cut.key then cut.below else if n == cut.key then cut.equal else cut.above
+abbrev pub answer : OrderAnswers → ℕ → Bool
+answer by_order n = if nat_lt n by_order.key then by_order.below else if n == by_order.key then by_order.equal else by_order.above
 
 -- a number with the bias added, in n bytes
-abbrev pub moved : Cut → (width : ℕ) → ℕ → ℕ
-moved cut width n = (n + cut.bias) % 256 ^ width
+abbrev pub moved : OrderAnswers → (width : ℕ) → ℕ → ℕ
+moved by_order width n = (n + by_order.bias) % 256 ^ width
 
 -- the answer for a slot of numbers
-abbrev pub answer_at : Cut → (width : ℕ) → List ℕ → ℕ → Bool
-answer_at cut width values i = answer cut (moved cut width (number_at width values i))
+abbrev pub answer_at : OrderAnswers → (width : ℕ) → List ℕ → ℕ → Bool
+answer_at by_order width values i = answer by_order (moved by_order width (number_at width values i))
 
 -- the answers are those of a comparison with a literal
-pub record IsCut (t : IntegerType) (o : Operator) (literal : ℤ) (cut : Cut) : Type 0 where
-  pub bias : cut.bias < 256 ^ width_of t
-  pub key : cut.key < 256 ^ width_of t
-  pub answers : (n : ℕ) → n < 256 ^ width_of t → answer cut (moved cut (width_of t) n) ≡ accepts o (int_cmp (integer_of (width_of t) t.signed n) literal)
+pub record AreOrderAnswers (t : IntegerType) (o : Operator) (literal : ℤ) (by_order : OrderAnswers) : Type 0 where
+  pub bias : by_order.bias < 256 ^ width_of t
+  pub key : by_order.key < 256 ^ width_of t
+  pub answers : (n : ℕ) → n < 256 ^ width_of t → answer by_order (moved by_order (width_of t) n) ≡ accepts o (int_cmp (integer_of (width_of t) t.signed n) literal)

@@ -1,7 +1,7 @@
 // Answers a comparison by the order of a number to a key.
 ghost use Rattle.std.specs.Prelude.{◌≡◌, ◌<◌, ◌≤◌, ◌*◌, ◌^◌, ◌<ℤ◌, ◌≤ℤ◌, pos, MatchResult};
 ghost use Rattle.query.specs.inner.Slots.{width_of};
-ghost use Rattle.query.specs.inner.Cuts.{bias_in, IsKey, AllStand, IsCut};
+ghost use Rattle.query.specs.inner.OrderAnswers.{bias_in, IsKey, AllStand, AreOrderAnswers};
 
 use crate::operator::{Operator, accepts};
 use arrow_schema::IntegerType;
@@ -10,7 +10,7 @@ use std::cmp::Ordering;
 
 /// The answers of a comparison by the order of a number to a key. The bias is added to each number first, and moves the least one to 0.
 #[derive(Clone, Copy)]
-pub(crate) struct Cut {
+pub(crate) struct OrderAnswers {
     pub(crate) bias: u64,
     pub(crate) key: u64,
     pub(crate) below: bool,
@@ -52,14 +52,14 @@ fn key_of(literal: i128, bias: u64, half: u64) -> Result<u64, Ordering>
     Ok(unsigned(literal + i128::from(bias)))
 }
 
-impl Cut {
+impl OrderAnswers {
     /// Returns the answers of a comparison of integers with a literal.
-    pub(crate) fn of(integer: IntegerType, operator: Operator, literal: i128) -> Cut
-        ensures { IsCut integer operator literal result }
+    pub(crate) fn of(integer: IntegerType, operator: Operator, literal: i128) -> OrderAnswers
+        ensures { AreOrderAnswers integer operator literal result }
     {
         let bias = bias_of(integer);
         match key_of(literal, bias, least_negative(integer.width)) {
-            Ok(key) => Cut {
+            Ok(key) => OrderAnswers {
                 bias,
                 key,
                 below: accepts(operator, Ordering::Less),
@@ -68,7 +68,7 @@ impl Cut {
             },
             Err(order) => {
                 let answer = accepts(operator, order);
-                Cut {
+                OrderAnswers {
                     bias,
                     key: 0,
                     below: answer,

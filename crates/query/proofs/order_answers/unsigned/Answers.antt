@@ -3,8 +3,8 @@ use Rattle.std.specs.Prelude.{ℤ, pos, ◌<ℤ◌, ◌≤ℤ◌}
 use Rattle.std.proofs.lemmas.Int.{ints}
 use mir.Syntax.{w128}
 use mir.Val.{to_z, of_z}
-use Rattle.query.proofs.Cuts.{not_negative, absolute, absolute_below}
-use Rattle.query.proofs.cut.unsigned.Goals as goal
+use Rattle.query.proofs.OrderAnswers.{not_negative, absolute, absolute_below}
+use Rattle.query.proofs.order_answers.unsigned.Goals as goal
 
 pub overflow_cast-result : goal.overflow_cast-result
 overflow_cast-result c =

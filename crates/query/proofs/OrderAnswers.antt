@@ -19,13 +19,13 @@ use Rattle.arrow_schema.specs.declared.types.BitWidth.TheVariants.{Eight, Sixtee
 use Rattle.arrow_schema.specs.declared.types.IntegerType.{IntegerType}
 use Rattle.cells.specs.Integers.{integer_of}
 use Rattle.columns.specs.CellAt.{number_at}
-use Rattle.query.specs.declared.cut.Cut.{Cut}
+use Rattle.query.specs.declared.order_answers.OrderAnswers.{OrderAnswers}
 use Rattle.query.specs.declared.operator.Operator.{Operator}
 use Rattle.query.specs.declared.integer_slots.IntegerComparison.{IntegerComparison}
 use Rattle.query.specs.Bound.{accepts}
 use Rattle.query.specs.inner.Slots.{width_of, is_valid_in, integer_holds_in}
 use lib.Signed.{non_neg}
-use Rattle.query.specs.inner.Cuts.{bias_in, moved, answer_at, IsCut}
+use Rattle.query.specs.inner.OrderAnswers.{bias_in, moved, answer_at, AreOrderAnswers}
 
 -- ---- numbers that are not negative
 
@@ -135,34 +135,34 @@ alike x false true = refl
 alike x false false = refl
 
 -- with a key
-pub cut_is : (t : IntegerType) (o : Operator) (literal : ℤ) (cut : Cut) (half : ℕ) → cut.bias ≡ bias_in t → 2 * half ≡ 256 ^ width_of t → pos cut.key ≡ literal +ℤ pos cut.bias → cut.key < 2 * half
-    → cut.below ≡ accepts o Less → cut.equal ≡ accepts o Equal → cut.above ≡ accepts o Greater → IsCut t o literal cut
-cut_is t o literal cut half bias whole key fits below equal above = record {
+pub order_answers_are : (t : IntegerType) (o : Operator) (literal : ℤ) (by_order : OrderAnswers) (half : ℕ) → by_order.bias ≡ bias_in t → 2 * half ≡ 256 ^ width_of t → pos by_order.key ≡ literal +ℤ pos by_order.bias → by_order.key < 2 * half
+    → by_order.below ≡ accepts o Less → by_order.equal ≡ accepts o Equal → by_order.above ≡ accepts o Greater → AreOrderAnswers t o literal by_order
+order_answers_are t o literal by_order half bias whole key fits below equal above = record {
   bias = omega (arith, bias, bias_fits t);
   key = omega (arith, whole, fits);
   answers = λ n h.
-      let m = moved cut (width_of t) n in
-      let z_is : integer_of (width_of t) t.signed n ≡ pos m -ℤ pos cut.bias = moved_is t n h ∙ ap (λ b. pos ((n + b) % 256 ^ width_of t) -ℤ pos b) (sym bias) in
-      ap (λ (x : Bool). three x cut.equal cut.above m cut.key) below
-      ∙ ap (λ (x : Bool). three (accepts o Less) x cut.above m cut.key) equal
-      ∙ ap (λ (x : Bool). three (accepts o Less) (accepts o Equal) x m cut.key) above
-      ∙ ordered o (integer_of (width_of t) t.signed n) literal m cut.key cut.bias z_is key;
+      let m = moved by_order (width_of t) n in
+      let z_is : integer_of (width_of t) t.signed n ≡ pos m -ℤ pos by_order.bias = moved_is t n h ∙ ap (λ b. pos ((n + b) % 256 ^ width_of t) -ℤ pos b) (sym bias) in
+      ap (λ (x : Bool). three x by_order.equal by_order.above m by_order.key) below
+      ∙ ap (λ (x : Bool). three (accepts o Less) x by_order.above m by_order.key) equal
+      ∙ ap (λ (x : Bool). three (accepts o Less) (accepts o Equal) x m by_order.key) above
+      ∙ ordered o (integer_of (width_of t) t.signed n) literal m by_order.key by_order.bias z_is key;
 }
 
 -- where all numbers stand alike to the literal
-pub same_cut_is : (t : IntegerType) (o : Operator) (literal : ℤ) (cut : Cut) (half : ℕ) (order : Ordering) → cut.bias ≡ bias_in t → 2 * half ≡ 256 ^ width_of t → cut.key ≡ 0
-    → ((n : ℕ) → n < 2 * half → int_cmp (pos n -ℤ pos cut.bias) literal ≡ order) → cut.below ≡ accepts o order → cut.equal ≡ accepts o order → cut.above ≡ accepts o order → IsCut t o literal cut
-same_cut_is t o literal cut half order bias whole key all below equal above = record {
+pub same_order_answers_are : (t : IntegerType) (o : Operator) (literal : ℤ) (by_order : OrderAnswers) (half : ℕ) (order : Ordering) → by_order.bias ≡ bias_in t → 2 * half ≡ 256 ^ width_of t → by_order.key ≡ 0
+    → ((n : ℕ) → n < 2 * half → int_cmp (pos n -ℤ pos by_order.bias) literal ≡ order) → by_order.below ≡ accepts o order → by_order.equal ≡ accepts o order → by_order.above ≡ accepts o order → AreOrderAnswers t o literal by_order
+same_order_answers_are t o literal by_order half order bias whole key all below equal above = record {
   bias = omega (arith, bias, bias_fits t);
   key = omega (arith, key, bias_fits t);
   answers = λ n h.
-      let m = moved cut (width_of t) n in
-      let fits : m < 2 * half = omega (arith, whole, mod_below (n + cut.bias) (256 ^ width_of t) (omega (arith, h))) in
-      let z_is : integer_of (width_of t) t.signed n ≡ pos m -ℤ pos cut.bias = moved_is t n h ∙ ap (λ b. pos ((n + b) % 256 ^ width_of t) -ℤ pos b) (sym bias) in
-      ap (λ (x : Bool). three x cut.equal cut.above m cut.key) below
-      ∙ ap (λ (x : Bool). three (accepts o order) x cut.above m cut.key) equal
-      ∙ ap (λ (x : Bool). three (accepts o order) (accepts o order) x m cut.key) above
-      ∙ alike (accepts o order) (nat_lt m cut.key) (m == cut.key)
+      let m = moved by_order (width_of t) n in
+      let fits : m < 2 * half = omega (arith, whole, mod_below (n + by_order.bias) (256 ^ width_of t) (omega (arith, h))) in
+      let z_is : integer_of (width_of t) t.signed n ≡ pos m -ℤ pos by_order.bias = moved_is t n h ∙ ap (λ b. pos ((n + b) % 256 ^ width_of t) -ℤ pos b) (sym bias) in
+      ap (λ (x : Bool). three x by_order.equal by_order.above m by_order.key) below
+      ∙ ap (λ (x : Bool). three (accepts o order) x by_order.above m by_order.key) equal
+      ∙ ap (λ (x : Bool). three (accepts o order) (accepts o order) x m by_order.key) above
+      ∙ alike (accepts o order) (nat_lt m by_order.key) (m == by_order.key)
       ∙ ap (accepts o) (sym (all m fits) ∙ ap (λ (z : ℤ). int_cmp z literal) (sym z_is));
 }
 
@@ -178,9 +178,9 @@ number_below : (k i : ℕ) (values : List ℕ) → ((j : ℕ) → get_or values 
 number_below k i values fit = little_below k 0 (drop (i * k) values) (λ j. omega (arith, fit (i * k + j), get_or-drop (i * k) values j 0))
 
 -- what is answered of slots, where they are valid
-pub answers_hold : (c : IntegerComparison) (cut : Cut) (validity values : List ℕ) (first n : ℕ) → IsCut c.integer c.operator c.literal cut → ((j : ℕ) → get_or values j 0 < 256)
-    → map (λ i. is_valid_in validity i && answer_at cut (width_of c.integer) values i) (range_with_len first n) ≡ map (integer_holds_in c validity values) (range_with_len first n)
-answers_hold c cut validity values first n is fit =
-    maps_same (λ i. is_valid_in validity i && answer_at cut (width_of c.integer) values i) (integer_holds_in c validity values)
+pub answers_hold : (c : IntegerComparison) (by_order : OrderAnswers) (validity values : List ℕ) (first n : ℕ) → AreOrderAnswers c.integer c.operator c.literal by_order → ((j : ℕ) → get_or values j 0 < 256)
+    → map (λ i. is_valid_in validity i && answer_at by_order (width_of c.integer) values i) (range_with_len first n) ≡ map (integer_holds_in c validity values) (range_with_len first n)
+answers_hold c by_order validity values first n is fit =
+    maps_same (λ i. is_valid_in validity i && answer_at by_order (width_of c.integer) values i) (integer_holds_in c validity values)
     (λ i. ap (λ (b : Bool). is_valid_in validity i && b) (is.answers (number_at (width_of c.integer) values i) (number_below (width_of c.integer) i values fit)))
     (range_with_len first n)
