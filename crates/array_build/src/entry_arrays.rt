@@ -11,7 +11,7 @@ ghost use Rattle.cells.specs.Entry.{entry_cell};
 ghost use Rattle.columns.specs.Buildable.{can_build, large_offset};
 ghost use Rattle.columns.specs.Built.{contents_of, offsets_of};
 ghost use Rattle.columns.specs.Offsets.{contents_width, width_of};
-ghost use Rattle.values.specs.Borrowed.{borrowed_cell};
+ghost use Rattle.columns.specs.Borrowed.{borrowed_cell};
 
 use crate::number_bytes::last_offset;
 use arrow_schema::DataType;

@@ -3,6 +3,7 @@ use Rattle.std.proofs.Common.{◌≡◌, ◌+◌, Bool, false, List, [], ◌∷�
 use Rattle.std.specs.Prelude.{ℕ, Option, Some, None, position}
 use Rattle.std.specs.List.{position_from}
 use Rattle.std.proofs.lemmas.Iterator.Adapters.{position_from-zero}
+use Rattle.facts.specs.laws.Lists.{nowhere_from}
 use Rattle.cells.specs.declared.entry.Entry.{Entry}
 use Rattle.cells.specs.Cell.{Cell, null, boolean, number, text, bytes, items, parts}
 use Rattle.cells.specs.Entry.{entry_cell}
@@ -17,10 +18,6 @@ place_from e (x ∷ xs) i = rw (entry_eq_is e x, place_from e xs (i + 1)) refl
 -- the place of an entry is that of its cell
 pub place_is : (e : Entry) (es : List Entry) → position (entry_eq e) es ≡ position (is_entry (entry_cell e)) (map entry_cell es)
 place_is e es = position_from-zero (entry_eq e) es ∙ sym (place_from e es 0) ∙ sym (position_from-zero (is_entry (entry_cell e)) (map entry_cell es))
-
-pub nowhere_from : (test : Cell → Bool) (cells : List Cell) (i : ℕ) → ((c : Cell) → test c ≡ false) → position_from test i cells ≡ None
-nowhere_from test [] i never = refl
-nowhere_from test (c ∷ cells) i never = rw (never c) (nowhere_from test cells (i + 1) never)
 
 nowhere : (test : Cell → Bool) (cells : List Cell) → ((c : Cell) → test c ≡ false) → 0 ≡ place_or_zero (position test cells)
 nowhere test cells never = sym (ap place_or_zero (position_from-zero test cells ∙ nowhere_from test cells 0 never))

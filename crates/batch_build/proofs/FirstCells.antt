@@ -7,8 +7,8 @@ use Rattle.cells.specs.Cell.{Cell, null}
 use Rattle.cells.specs.View.{cell}
 use Rattle.cells.specs.declared.value.Value.{Value}
 use Rattle.columns.specs.Built.{first_cell}
-use Rattle.values.specs.Borrowed.{borrowed_cell}
-use Rattle.values.specs.declared.borrowed.ValueRef.{ValueRef}
+use Rattle.columns.specs.Borrowed.{borrowed_cell}
+use Rattle.columns.specs.declared.borrowed.ValueRef.{ValueRef}
 
 first_left : (cells : List Cell) (i : ℕ) → first_cell (drop i cells) ≡ get_or cells i null
 first_left [] zero = refl

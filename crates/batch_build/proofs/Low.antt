@@ -1,14 +1,14 @@
 -- The low bytes of an integer that fits are the number that stands for it.
 use Rattle.std.specs.Prelude.{pos, negsuc, ℤ, ◌≤ℤ◌, neg_ℤ, int_le, int_lt, ◌&&◌}
 use Rattle.std.specs.Int.{w128, byte_at, bytes_low_first, cast_unsigned, to_le_bytes}
-use Rattle.std.proofs.Common.{◌≡◌, ℕ, refl, zero, suc, ◌+◌, ◌-◌, ◌*◌, ◌/◌, ◌%◌, ◌^◌, ◌≤◌, ◌<◌, Bool, true, false, List, [], ◌∷◌, ◌++◌, replicate, take, ap, ap₂, sym, ◌∙◌, arith}
+use Rattle.std.proofs.Common.{◌≡◌, ℕ, refl, zero, suc, ◌+◌, ◌-◌, ◌*◌, ◌/◌, ◌%◌, ◌^◌, ◌≤◌, ◌<◌, Bool, true, false, List, [], ◌∷◌, ◌++◌, take, ap, ap₂, sym, ◌∙◌, arith}
 use Rattle.std.specs.List.{flat_map}
 use Rattle.std.proofs.lemmas.Bool.{and_parts}
 use Rattle.std.proofs.lemmas.Int.{ints}
-use Rattle.std.proofs.Math.Nat.{add-mul-div_left, add-mul-mod_self_left, mod-add-div, mod-eq_of_lt, one-le-pow, pow-suc, pow-succ', zero-div}
+use Rattle.std.proofs.Math.Nat.{add-mul-div_left, add-mul-mod_self_left, mod-add-div, mod-eq_of_lt, one-le-pow, pow-suc, pow-succ'}
 use Rattle.std.proofs.lemmas.Nat.{pow-add}
 use Rattle.std.proofs.Math.Pow.{not_mod}
-use Rattle.facts.specs.laws.Numbers.{powers, byte_at-pow}
+use Rattle.facts.specs.laws.Numbers.{powers, byte_at-pow, zero_bytes}
 use Rattle.byteorder.specs.Endian.{little_bytes, low_bytes}
 use Rattle.arrow_schema.specs.Column.{is_bit_width, integers}
 use Rattle.arrow_schema.specs.View.{bits_of}
@@ -101,12 +101,6 @@ stored_fits : (width : BitWidth) (signed : Bool) (z : ℤ) → null_or true (fit
     → little_bytes (bits_of width / 8) (cast_unsigned w128 z) ≡ little_bytes (bits_of width / 8) (number_of (bits_of width / 8) z)
 stored_fits width signed z h =
     sym (low_left (cast_unsigned w128 z) (bits_of width / 8)) ∙ ap (little_bytes (bits_of width / 8)) (low_fits width signed z h)
-
--- the bytes of 0
-pub zero_bytes : (i n : ℕ) → bytes_low_first i n 0 ≡ replicate n 0
-zero_bytes i zero = refl
-zero_bytes i (suc n) =
-    ap₂ (λ (b : ℕ) (bs : List ℕ). b ∷ bs) (byte_at-pow i 0 ∙ ap (λ (t : ℕ). t % 256) (zero-div (256 ^ i))) (zero_bytes (suc i) n)
 
 -- what is written for a cell is its value
 stored_value : (width : BitWidth) (signed : Bool) (c : Cell) → null_or true (fits_kind (integers (bits_of width) signed)) c ≡ true

@@ -2,7 +2,7 @@
 ghost use Rattle.std.specs.Prelude.{◌≡◌, ◌*◌, ◌||◌, ◌==◌, nat_le, true, OnOk, map, length};
 ghost use Rattle.batch_build.specs.Batch.{batch_in, buffer_bytes, no_batch, node_in};
 ghost use Rattle.batch_build.specs.Nodes.{with_node, with_buffer, with_slots, with_validity};
-ghost use Rattle.values.specs.Borrowed.{borrowed_cell};
+ghost use Rattle.columns.specs.Borrowed.{borrowed_cell};
 
 use crate::valid_bits::{unset_bits, validity};
 use std::alloc::{AllocError, Global};

@@ -2,7 +2,7 @@
 ghost use Rattle.std.specs.Prelude.{◌≡◌, IfOk, map};
 ghost use Rattle.bitmap.specs.Bits.{packed};
 ghost use Rattle.columns.specs.Built.{is_set};
-ghost use Rattle.values.specs.Borrowed.{borrowed_cell};
+ghost use Rattle.columns.specs.Borrowed.{borrowed_cell};
 
 use bitmap::pack;
 use std::alloc::{AllocError, Global};

@@ -7,7 +7,7 @@ ghost use Rattle.batch_build.specs.Coded.{values_batch};
 ghost use Rattle.batch_build.specs.Nodes.{list_kind};
 ghost use Rattle.cells.specs.Dictionary.{part_list};
 ghost use Rattle.columns.specs.Buildable.{can_build, can_build_parts, can_build_rows};
-ghost use Rattle.values.specs.Borrowed.{borrowed_cell, borrowed_cells};
+ghost use Rattle.columns.specs.Borrowed.{borrowed_cell, borrowed_cells};
 
 use crate::batch::{BuiltBatch, BuiltDictionary, empty_batch, push_buffer, push_slots};
 use crate::coded_cells::{push_dictionary, push_indices, values_of};

@@ -4,7 +4,7 @@ ghost use Rattle.arrow_schema.specs.View.{bits_of};
 ghost use Rattle.batch_build.specs.Batch.{batch_in, dictionary_in};
 ghost use Rattle.batch_build.specs.Coded.{with_dictionary, with_indices};
 ghost use Rattle.cells.specs.Dictionary.{entries_of};
-ghost use Rattle.values.specs.Borrowed.{borrowed_cell};
+ghost use Rattle.columns.specs.Borrowed.{borrowed_cell};
 
 use crate::batch::{BuiltBatch, BuiltDictionary, push_buffer, push_slots};
 use crate::dictionary_cells::{entry_set, indices};

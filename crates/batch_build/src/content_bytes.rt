@@ -5,7 +5,7 @@ ghost use Rattle.cells.specs.Dictionary.{item_list};
 ghost use Rattle.columns.specs.Buildable.{contents_fit, items_fit, large_offset};
 ghost use Rattle.columns.specs.Built.{contents_of, list_offsets, offsets_of};
 ghost use Rattle.columns.specs.Offsets.{width_of};
-ghost use Rattle.values.specs.Borrowed.{borrowed_cell};
+ghost use Rattle.columns.specs.Borrowed.{borrowed_cell};
 
 use crate::widths::offset_size;
 use columns::{OffsetWidth, push_offset};

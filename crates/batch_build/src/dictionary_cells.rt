@@ -5,7 +5,7 @@ ghost use Rattle.arrow_schema.specs.View.{bits_of};
 ghost use Rattle.cells.specs.Dictionary.{entries_of, with_entry};
 ghost use Rattle.cells.specs.Entry.{entry_cell};
 ghost use Rattle.columns.specs.Built.{entry_index, index_bytes};
-ghost use Rattle.values.specs.Borrowed.{borrowed_cell};
+ghost use Rattle.columns.specs.Borrowed.{borrowed_cell};
 
 use arrow_schema::IntegerType;
 use cells::{Entry, note};

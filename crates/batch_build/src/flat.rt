@@ -8,7 +8,7 @@ ghost use Rattle.batch_build.specs.Nodes.{binary_kind, text_kind, with_buffer, w
 ghost use Rattle.columns.specs.Buildable.{are_nulls_or_fit, can_build, contents_fit, large_offset};
 ghost use Rattle.columns.specs.Built.{contents_of, integer_bytes, offsets_of};
 ghost use Rattle.columns.specs.Offsets.{width_of};
-ghost use Rattle.values.specs.Borrowed.{borrowed_cell};
+ghost use Rattle.columns.specs.Borrowed.{borrowed_cell};
 
 use crate::batch::{BuiltBatch, push_buffer, push_node, push_slots};
 use crate::boolean_bits::bits;

@@ -3,7 +3,7 @@ ghost use Rattle.std.specs.Prelude.{◌≡◌, ◌++◌, OnOk, IfOk, map, replic
 ghost use Rattle.std.specs.List.{flat_map};
 ghost use Rattle.cells.specs.Cell.{null};
 ghost use Rattle.columns.specs.Built.{fixed_items};
-ghost use Rattle.values.specs.Borrowed.{borrowed_cell};
+ghost use Rattle.columns.specs.Borrowed.{borrowed_cell};
 
 use std::alloc::{AllocError, Global};
 use values::{ValueRef, push_all};

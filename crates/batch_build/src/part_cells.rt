@@ -3,7 +3,7 @@ ghost use Rattle.std.specs.Prelude.{◌≡◌, ◌<◌, ◌+◌, ◌++◌, ◌�
 ghost use Rattle.cells.specs.Dictionary.{part_list};
 ghost use Rattle.cells.specs.View.{cell};
 ghost use Rattle.columns.specs.Built.{first_cell};
-ghost use Rattle.values.specs.Borrowed.{borrowed_cell, borrowed_cells};
+ghost use Rattle.columns.specs.Borrowed.{borrowed_cell, borrowed_cells};
 
 use cells::Value;
 use std::alloc::{AllocError, Global};

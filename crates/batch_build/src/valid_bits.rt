@@ -4,7 +4,7 @@ ghost use Rattle.std.specs.List.{list_all};
 ghost use Rattle.cells.specs.Nulls.{is_there};
 ghost use Rattle.columns.specs.Built.{validity_of};
 ghost use Rattle.columns.specs.Tests.{unset_bits};
-ghost use Rattle.values.specs.Borrowed.{borrowed_cell};
+ghost use Rattle.columns.specs.Borrowed.{borrowed_cell};
 
 use bitmap::{count_set, pack};
 use std::alloc::{AllocError, Global};

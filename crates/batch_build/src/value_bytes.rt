@@ -9,7 +9,7 @@ ghost use Rattle.byteorder.specs.Endian.{little_bytes};
 ghost use Rattle.cells.specs.Cell.{null};
 ghost use Rattle.columns.specs.Buildable.{are_nulls_or_fit};
 ghost use Rattle.columns.specs.Built.{fixed_bytes, integer_bytes};
-ghost use Rattle.values.specs.Borrowed.{borrowed_cell};
+ghost use Rattle.columns.specs.Borrowed.{borrowed_cell};
 
 use arrow_schema::{BitWidth, IntegerType};
 use std::alloc::{AllocError, Global};

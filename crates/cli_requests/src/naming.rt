@@ -46,7 +46,7 @@ fn query_in<'r, 'a>(command: &'r StoreCommand<'a>) -> Option<&'r QueryWords<'a>>
 }
 
 // Returns the first text that does not have the form of a condition.
-fn formless<'a>(alloc: Global, texts: &[&'a str]) -> Option<&'a str> {
+fn first_malformed<'a>(alloc: Global, texts: &[&'a str]) -> Option<&'a str> {
     for text in texts {
         if let Err(QueryError::BadCondition) = Condition::parse(alloc, text) {
             return Some(text);
@@ -169,7 +169,7 @@ fn word_of_query<'a>(
     table: Option<&'a Table>,
     reason: QueryRefusal,
 ) -> Option<Word<'a>> {
-    let text = formless(alloc, &query.conditions);
+    let text = first_malformed(alloc, &query.conditions);
     if text.is_some() {
         return named(Role::Condition, text);
     }

@@ -12,3 +12,4 @@ pub mod Rows
 pub mod Held
 pub mod ReadableRuns
 pub mod RunsOfRows
+pub mod Nodes

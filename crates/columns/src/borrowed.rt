@@ -1,4 +1,4 @@
-// Borrowed values of arrays.
+// Borrowed values: those of stored cells, or of arrays.
 ghost use Rattle.std.specs.Prelude.{◌≡◌, true};
 ghost use Rattle.arrow_schema.specs.View.{column_of};
 ghost use Rattle.columns.specs.inner.Readable.{is_run_readable, are_parts_readable};

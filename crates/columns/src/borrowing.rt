@@ -1,12 +1,14 @@
 // Access to borrowed values.
-ghost use Rattle.std.specs.Prelude.{◌≡◌, ◌==◌, length, slice_get, option_map};
+ghost use Rattle.std.specs.Prelude.{◌≡◌, ◌==◌, length, slice_get, map, option_map, IfSome};
+ghost use Rattle.cells.specs.Dictionary.{entry_in};
+ghost use Rattle.cells.specs.Entry.{entry_cell_of};
 ghost use Rattle.cells.specs.View.{cell};
 ghost use Rattle.columns.specs.Borrowed.{borrowed_cell, borrowed_cells, slice_cells, parts_cells, values_left};
 
 use crate::borrowed::{ArraySlice, Form, PartsAt, ValueRef, Values, ValuesIter};
 use crate::read::value;
 use crate::view::ArrayView;
-use cells::Value;
+use cells::{Entry, Value};
 
 /// Borrows a value.
 pub fn borrow_value(value: &Value) -> ValueRef<'_>
@@ -18,12 +20,8 @@ pub fn borrow_value(value: &Value) -> ValueRef<'_>
         Value::Int(number) => ValueRef::Int(*number),
         Value::Text(text) => ValueRef::Text(text.as_str()),
         Value::Bytes(bytes) => ValueRef::Bytes(bytes),
-        Value::List(items) => ValueRef::List(Values {
-            form: Form::Cells(items),
-        }),
-        Value::Struct(parts) => ValueRef::Struct(Values {
-            form: Form::Cells(parts),
-        }),
+        Value::List(items) => ValueRef::List(Values::of_cells(items)),
+        Value::Struct(parts) => ValueRef::Struct(Values::of_cells(parts)),
     }
 }
 
@@ -67,7 +65,33 @@ fn parts_get<'a>(parts: &PartsAt<'a>, i: usize) -> Option<ValueRef<'a>>
     Some(value(field, view, parts.place))
 }
 
+impl<'a> ValueRef<'a> {
+    /// Returns the value as an entry of a dictionary. A null, a list and a struct are none.
+    pub fn as_entry(self) -> Option<Entry<'a>>
+        ensures { entry_cell_of result ≡ entry_in (borrowed_cell self.entry) }
+    {
+        match self {
+            ValueRef::Bool(boolean) => Some(Entry::Bool(boolean)),
+            ValueRef::Int(number) => Some(Entry::Int(number)),
+            ValueRef::Text(text) => Some(Entry::Text(text)),
+            ValueRef::Bytes(bytes) => Some(Entry::Bytes(bytes)),
+            ValueRef::Null => None,
+            ValueRef::List(_) => None,
+            ValueRef::Struct(_) => None,
+        }
+    }
+}
+
 impl<'a> Values<'a> {
+    /// Borrows stored cells.
+    pub fn of_cells(cells: &'a [Value]) -> Values<'a>
+        ensures { borrowed_cells result ≡ map cell cells.now }
+    {
+        Values {
+            form: Form::Cells(cells),
+        }
+    }
+
     /// Returns the number of values.
     pub fn len(&self) -> usize
         ensures { result ≡ length (borrowed_cells self.now) }
@@ -94,6 +118,17 @@ impl<'a> Values<'a> {
             Form::Cells(cells) => Some(borrow_value(cells.get(i)?)),
             Form::Slots(run) => run_get(run, i),
             Form::Parts(parts) => parts_get(parts, i),
+        }
+    }
+
+    /// Returns the stored cells, if the values are not in arrays.
+    pub fn as_cells(&self) -> Option<&'a [Value]>
+        ensures { IfSome result (λ cells. map cell cells.now ≡ borrowed_cells self.now) }
+    {
+        match self.form {
+            Form::Cells(cells) => Some(cells),
+            Form::Slots(_) => None,
+            Form::Parts(_) => None,
         }
     }
 

@@ -8,6 +8,7 @@ use Rattle.std.proofs.lemmas.Iterator.Adapters.{position_from-zero}
 use Rattle.std.proofs.lemmas.List.{get_or-set_other, get_or-set_same, get_or_append_left, map-append, set_past}
 use Rattle.std.proofs.lemmas.List.Folds.{list_any-append}
 use Rattle.std.proofs.lemmas.Slice.Eq.{bytes_eq-Decides}
+use Rattle.facts.specs.laws.Lists.{nowhere_from}
 use Rattle.arrow_schema.specs.Column.{Index}
 use Rattle.dictionary_codes.proofs.Known.{is_within}
 use Rattle.dictionary_codes.specs.inner.Codes.{AreKnown, IsCoded, IsNumber, IsUnderway, IsWritten, code_in, known_at, noted, sized_code}
@@ -20,10 +21,6 @@ use Rattle.columns.specs.Buildable.{is_null_or_entry}
 use Rattle.columns.specs.Built.{index_bytes}
 use Rattle.columns.specs.CellAt.{entry_at, named_number}
 use Rattle.columns.specs.Texts.{has_utf8_texts}
-
-nowhere_from : (test : Cell → Bool) (cells : List Cell) (i : ℕ) → ((c : Cell) → test c ≡ false) → position_from test i cells ≡ None
-nowhere_from test [] i never = refl
-nowhere_from test (c ∷ cells) i never = rw (never c) (nowhere_from test cells (i + 1) never)
 
 -- ---- the first place at which a test passes
 

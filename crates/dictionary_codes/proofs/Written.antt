@@ -1,7 +1,7 @@
 -- Indices of codes, and which slots have one, as they are written over what stands where there is room for them.
 use Rattle.std.specs.Prelude.{Option, None, get_or, is_some, set}
 use Rattle.std.specs.List.{flat_map}
-use Rattle.std.proofs.Common.{◌≡◌, ◌≤◌, ◌<◌, ◌+◌, ◌*◌, ◌-◌, ◌++◌, ◌∙◌, ℕ, zero, suc, Bool, true, false, List, [], ◌∷◌, arith, ap, ap₂, drop, length, length-append, length-drop, refl, replicate, sym, take, ◌%◌, ◌^◌}
+use Rattle.std.proofs.Common.{◌≡◌, ◌≤◌, ◌<◌, ◌+◌, ◌*◌, ◌-◌, ◌++◌, ◌∙◌, ℕ, zero, suc, Bool, true, false, List, [], ◌∷◌, arith, ap, ap₂, drop, length, length-append, length-drop, refl, replicate, sym, take}
 use Rattle.std.proofs.lemmas.Grind.{flat_map-append}
 use Rattle.std.proofs.lemmas.List.{append_assoc, append-nil, get_or-set_other, length-take-le, map-append, set-get_or, take_all, take_at, take_more_set}
 use Rattle.byteorder.specs.Numbers.{length-bytes_low_first}
@@ -12,15 +12,7 @@ use Rattle.cells.specs.Cell.{Cell, null}
 use Rattle.cells.specs.Dictionary.{with_entry}
 use Rattle.columns.specs.Built.{place_or_zero}
 use borrow.Rule.Slice.PartMut.{mid_of}
-use Rattle.std.specs.Int.{byte_at, bytes_low_first}
-use Rattle.std.proofs.Math.Nat.{zero-div}
-use Rattle.facts.specs.laws.Numbers.{byte_at-pow}
-
--- the bytes of 0
-zero_bytes : (i n : ℕ) → bytes_low_first i n 0 ≡ replicate n 0
-zero_bytes i zero = refl
-zero_bytes i (suc n) =
-    ap₂ (λ (b : ℕ) (bs : List ℕ). b ∷ bs) (byte_at-pow i 0 ∙ ap (λ (t : ℕ). t % 256) (zero-div (256 ^ i))) (zero_bytes (suc i) n)
+use Rattle.facts.specs.laws.Numbers.{zero_bytes}
 
 -- ---- slot by slot, in room for all
 

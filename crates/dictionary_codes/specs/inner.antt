@@ -1,4 +1,3 @@
-pub mod ArrayCells
 pub mod Codes
 pub mod Known
 pub mod MaskParts

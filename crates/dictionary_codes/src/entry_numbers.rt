@@ -4,7 +4,7 @@ ghost use Rattle.dictionary_codes.specs.inner.Codes.{IsNumber, sized_code};
 ghost use Rattle.cells.specs.Dictionary.{with_entry};
 ghost use Rattle.cells.specs.Entry.{entry_cell};
 ghost use Rattle.columns.specs.Built.{place_or_zero};
-ghost use Rattle.values.specs.Borrowed.{borrowed_cell};
+ghost use Rattle.columns.specs.Borrowed.{borrowed_cell};
 
 use crate::number_bytes::put_number;
 use cells::Entry;

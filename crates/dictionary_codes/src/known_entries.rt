@@ -7,7 +7,7 @@ ghost use Rattle.dictionary_codes.specs.inner.Seen.{AreDistinct, ArePlaces, Have
 ghost use Rattle.cells.specs.Cell.{Cell, null};
 ghost use Rattle.cells.specs.Dictionary.{is_entry, with_entry};
 ghost use Rattle.cells.specs.Entry.{entry_cell};
-ghost use Rattle.values.specs.Borrowed.{borrowed_cell};
+ghost use Rattle.columns.specs.Borrowed.{borrowed_cell};
 
 use crate::entry_numbers::number_of;
 use crate::known_dictionary::KnownDictionary;

@@ -14,7 +14,6 @@ mod known_entries;
 mod masked_codes;
 mod named_slots;
 mod number_bytes;
-mod run_cells;
 mod run_codes;
 mod run_slots;
 mod same_dictionary;

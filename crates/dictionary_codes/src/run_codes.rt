@@ -18,11 +18,10 @@ ghost use Rattle.cells.specs.Cell.{Cell};
 use crate::entry_numbers::put_code;
 use crate::known_entries::KnownEntries;
 use crate::masked_codes::put_part_codes;
-use crate::run_cells::slot_cell;
 use crate::run_slots::run_len;
 use crate::stamped_numbers::StampedNumbers;
 use arrow_schema::{BitWidth, DictSpec, Field};
-use columns::{ArrayView, CodedSlots, SlotRun};
+use columns::{ArrayView, CodedSlots, SlotRun, value};
 use std::alloc::{AllocError, Global};
 
 // Where fewer slots than these have named entries in a row, the loop over named ones is left at nearly each slot, and costs more than it saves.
@@ -105,7 +104,7 @@ pub(crate) fn new_code<'a>(
 {
     let place = slots.number(i);
     let guess = guessed_code(known, place);
-    let number = entries.number_of(slot_cell(field, slots.view, i), guess)?;
+    let number = entries.number_of(value(field, slots.view, i), guess)?;
     note_code(known, place, small_code(number));
     code_at(entries, number)
 }

@@ -11,7 +11,7 @@ ghost use Rattle.ipc_encode.specs.inner.Stream.{stream_in};
 ghost use Rattle.ipc_write.specs.Written.{schema_message};
 ghost use Rattle.table_cut.specs.Cut.{pieces};
 ghost use Rattle.table_cut.specs.Piece.{within_piece};
-ghost use Rattle.values.specs.Borrowed.{borrowed_cells};
+ghost use Rattle.columns.specs.Borrowed.{borrowed_cells};
 ghost use Rattle.values.specs.Table.{IsTable};
 ghost use Rattle.values.specs.TableView.{table_of};
 

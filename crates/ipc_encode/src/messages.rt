@@ -10,7 +10,7 @@ ghost use Rattle.table_cut.specs.Rows.{runs_rows, are_runs_sound};
 ghost use Rattle.ipc_encode.specs.inner.Messages.{AreFew, HasFew, built_message, built_messages, built_batch, entries_of_piece, batch_of_piece};
 ghost use Rattle.ipc_encode.specs.inner.Stream.{stream_in};
 ghost use Rattle.ipc_write.specs.Written.{body};
-ghost use Rattle.values.specs.Borrowed.{borrowed_cells};
+ghost use Rattle.columns.specs.Borrowed.{borrowed_cells};
 
 use crate::front::{BatchFront, borrowed};
 use crate::stream::{Stream, push_body};

@@ -1,5 +1,5 @@
 -- Which codes are supported alike: those of a stream that names no later one, and those of a schema that was read.
-use Rattle.std.proofs.Common.{◌≡◌, ℕ, ◌==◌, Bool, true, false, not, ◌&&◌, ◌||◌, List, [], ◌∷◌, map, Ok, refl, sym, ap}
+use Rattle.std.proofs.Common.{◌≡◌, ℕ, ◌==◌, Bool, true, false, not, ◌&&◌, ◌||◌, List, [], ◌∷◌, map, Ok, refl, ap}
 use Rattle.std.specs.Prelude.{Option, Some, None, find, if◌then◌else◌}
 use Rattle.std.specs.List.{list_any}
 use Rattle.std.proofs.lemmas.Bool.{not-true, or_parts, true≢false}
@@ -12,20 +12,27 @@ use Rattle.ipc_message.specs.Convert.{plain_schema_of}
 use Rattle.ipc_message.specs.Fields.{every_field, code_of}
 use Rattle.ipc_message.specs.Framing.{first_some}
 use Rattle.ipc_message.specs.Header.{supported_codes}
+use Rattle.ipc_message.specs.declared.type_codes.TheConstants.{NONE, NULL, INT, BINARY, UTF8, BOOL, DATE, TIMESTAMP, LIST, STRUCT, FIXED_SIZE_BINARY, FIXED_SIZE_LIST, LARGE_BINARY, LARGE_UTF8, LARGE_LIST}
 use Rattle.ipc_message.specs.Raw.{RawField, RawSchema, schema_header}
 
 -- ---- a stream that names no later code
 
-earlier : (none own later : Bool) → later ≡ false → (none || own) ≡ (none || (own && not later))
-earlier true own later h = refl
-earlier false true later h = sym (ap not h)
-earlier false false later h = refl
+-- without the five later ones, the supported codes are the earlier ones
+earlier : (code : ℕ) → is_later_code code ≡ false → supported_codes code ≡ earlier_codes code
+earlier code h =
+    let date = or_parts (DATE == code) _ h in
+    let timestamp = or_parts (TIMESTAMP == code) _ date.1 in
+    let binary = or_parts (LARGE_BINARY == code) _ timestamp.1 in
+    let text = or_parts (LARGE_UTF8 == code) _ binary.1 in
+    let list = or_parts (LARGE_LIST == code) _ text.1 in
+    (λ k. (NULL == code) || ((INT == code) || ((BINARY == code) || ((UTF8 == code) || ((BOOL == code) || (date.0 k || (timestamp.0 k
+    || ((LIST == code) || ((STRUCT == code) || ((FIXED_SIZE_BINARY == code) || ((FIXED_SIZE_LIST == code) || (binary.0 k || (text.0 k || (list.0 k || false))))))))))))))
 
 none_later : (codes : List ℕ) → list_any is_later_code codes ≡ false → SupportAlike supported_codes earlier_codes codes
 none_later [] h = tt
 none_later (code ∷ codes) h =
     let none = or_parts (is_later_code code) (list_any is_later_code codes) h in
-    (earlier (code == 0) (supported_codes code) (is_later_code code) none.0, none_later codes none.1)
+    (ap (λ (b : Bool). (code == NONE) || b) (earlier code none.0), none_later codes none.1)
 
 pub older_alike : (bytes : List ℕ) → names_no_later_code bytes ≡ true → SupportAlike supported_codes earlier_codes (codes_named bytes)
 unfolding names_no_later_code

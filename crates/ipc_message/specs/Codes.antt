@@ -1,13 +1,13 @@
 -- The type codes that a schema message names, and the codes that were supported before the five later ones. Support for a code affects only the
 -- messages that name it (`only_named_codes_matter`).
-use Rattle.std.specs.Prelude.{◌≡◌, ℕ, Bool, false, not, ◌&&◌, ◌||◌, ◌==◌, List, [], ◌∷◌, map, Result, Ok, Err}
+use Rattle.std.specs.Prelude.{◌≡◌, ℕ, Bool, false, not, ◌||◌, ◌==◌, List, [], ◌∷◌, map, Result, Ok, Err}
 use Rattle.std.specs.List.{list_any, AllByRecursion}
 use Rattle.ipc_message.specs.declared.fault.Fault.{Fault}
-use Rattle.ipc_message.specs.declared.type_codes.TheConstants.{NONE, DATE, TIMESTAMP, LARGE_BINARY, LARGE_UTF8, LARGE_LIST}
+use Rattle.ipc_message.specs.declared.type_codes.TheConstants.{NONE, NULL, INT, BINARY, UTF8, BOOL, DATE, TIMESTAMP, LIST, STRUCT, FIXED_SIZE_BINARY, FIXED_SIZE_LIST, LARGE_BINARY, LARGE_UTF8, LARGE_LIST}
 use Rattle.ipc_message.specs.Raw.{RawHeader, schema_header, dictionary_header, batch_header}
 use Rattle.ipc_message.specs.Fields.{every_field, code_of}
 use Rattle.ipc_message.specs.Framing.{NextMessage, end_of_stream, message, next_message}
-use Rattle.ipc_message.specs.Header.{supported_codes, header_of}
+use Rattle.ipc_message.specs.Header.{header_of}
 
 -- the codes of all fields of a schema, at every depth; other headers have none
 abbrev pub codes_of : RawHeader → List ℕ
@@ -44,7 +44,7 @@ is_later_code code = list_any (λ n. n == code) (DATE ∷ TIMESTAMP ∷ LARGE_BI
 
 -- the codes that were supported before these five
 abbrev pub earlier_codes : ℕ → Bool
-earlier_codes code = supported_codes code && not (is_later_code code)
+earlier_codes code = list_any (λ n. n == code) (NULL ∷ INT ∷ BINARY ∷ UTF8 ∷ BOOL ∷ LIST ∷ STRUCT ∷ FIXED_SIZE_BINARY ∷ FIXED_SIZE_LIST ∷ [])
 
 -- no field of the schema message at the start of a stream has a later code, at any depth
 unfoldable pub names_no_later_code : List ℕ → Bool

@@ -1,7 +1,8 @@
 -- What a stream means depends on the supported codes that its first message names, and on no other.
-use Rattle.std.proofs.Common.{◌≡◌, ℕ, zero, suc, ◌==◌, Bool, true, false, List, [], length, drop, Result, Ok, Err, refl, sym, ap, subst, ◌∙◌}
-use Rattle.std.specs.Prelude.{◌≢◌, Some, None, if◌then◌else◌}
-use Rattle.std.proofs.lemmas.Bool.{eqb-false}
+use Rattle.std.proofs.Common.{◌≡◌, ℕ, zero, suc, ◌==◌, Bool, true, false, List, [], length, drop, Result, Ok, Err, refl, sym, ap, subst, ◌∙◌, ◌∷◌, inl, inr}
+use Rattle.std.specs.Prelude.{◌≢◌, Some, None, if◌then◌else◌, not, ◌||◌, IsErr}
+use Rattle.std.specs.List.{AllByRecursion, list_any}
+use Rattle.std.proofs.lemmas.Bool.{eqb-false, eqb-true, or_cases, true≢false}
 use Rattle.flatbuf.specs.declared.FlatError.{FlatError}
 use Rattle.flatbuf.specs.Walk.{run}
 use Rattle.arrow_schema.specs.Column.{PlainSchema}
@@ -9,8 +10,9 @@ use Rattle.cells.specs.Cell.{PlainTable}
 use Rattle.ipc_message.specs.declared.fault.Fault.{Fault}
 use Rattle.ipc_message.specs.declared.fault.Fault.TheVariants.{SecondSchema}
 use Rattle.ipc_message.specs.declared.header_type.TheConstants.{SCHEMA}
+use Rattle.ipc_message.specs.declared.type_codes.TheConstants.{NULL, INT, BINARY, UTF8, BOOL, DATE, TIMESTAMP, LIST, STRUCT, FIXED_SIZE_BINARY, FIXED_SIZE_LIST, LARGE_BINARY, LARGE_UTF8, LARGE_LIST}
 use Rattle.ipc_message.specs.Checks.{schema_checks, checked_schema}
-use Rattle.ipc_message.specs.Codes.{codes_of, codes_in, codes_of_next, codes_named, SupportAlike, earlier_codes, names_no_later_code}
+use Rattle.ipc_message.specs.Codes.{codes_of, codes_in, codes_of_next, codes_named, SupportAlike, earlier_codes, is_later_code, may_stand, names_no_later_code}
 use Rattle.ipc_message.specs.Framing.{Envelope, NextMessage, end_of_stream, message, next_message, taken, first_some, unless, when, type_of}
 use Rattle.ipc_message.specs.Header.{supported_codes, header, header_of, header_things, decoded}
 use Rattle.ipc_message.specs.Raw.{RawSchema, RawHeader, schema_header, dictionary_header, batch_header}
@@ -107,11 +109,63 @@ meaning_alike law supported other bytes alike =
 pub older_meaning : NamedCodes → StaySupported → (bytes : List ℕ) → names_no_later_code bytes ≡ true → meaning supported_codes bytes ≡ meaning earlier_codes bytes
 older_meaning law stay bytes older = meaning_alike law supported_codes earlier_codes bytes (stay.older bytes older)
 
-pub table_kept : NamedCodes → StaySupported → (fewer more : ℕ → Bool) (bytes : List ℕ) (t : PlainTable) → ((code : ℕ) → fewer code ≡ true → more code ≡ true)
-    → meaning fewer bytes ≡ Ok t → meaning more bytes ≡ Ok t
-table_kept law stay fewer more bytes t kept means =
+-- what is known of a schema whose checks passed, by the codes that were supported
+checked_codes : NamedCodes → StaySupported → (fewer more : ℕ → Bool) (bytes : List ℕ) (t : PlainTable) → ((code : ℕ) → fewer code ≡ true → more code ≡ true)
+    → meaning fewer bytes ≡ Ok t → SupportAlike more fewer (codes_named bytes)
+checked_codes law stay fewer more bytes t kept means =
     let begins = means_begins fewer bytes t means in
     let codes : codes_named bytes ≡ codes_of (schema_header begins.schema) =
     ap codes_of_next begins.found ∙ sym (law.named fewer begins.first.metadata) ∙ ap codes_of (header_is fewer begins.first.metadata (schema_header begins.schema) begins.decoded) in
-    let alike = subst (SupportAlike more fewer) (sym codes) (stay.checked fewer more begins.schema t.schema kept begins.checked) in
-    meaning_alike law more fewer bytes alike ∙ means
+    subst (SupportAlike more fewer) (sym codes) (stay.checked fewer more begins.schema t.schema kept begins.checked)
+
+pub table_kept : NamedCodes → StaySupported → (fewer more : ℕ → Bool) (bytes : List ℕ) (t : PlainTable) → ((code : ℕ) → fewer code ≡ true → more code ≡ true)
+    → meaning fewer bytes ≡ Ok t → meaning more bytes ≡ Ok t
+table_kept law stay fewer more bytes t kept means = meaning_alike law more fewer bytes (checked_codes law stay fewer more bytes t kept means) ∙ means
+
+-- ---- a stream that names a later code
+
+-- a number of a list has what each number of it has
+one_of : (P : ℕ → Type 0) (numbers : List ℕ) (n : ℕ) → AllByRecursion P numbers → list_any (λ m. m == n) numbers ≡ true → P n
+one_of P [] n all h = absurd cc
+one_of P (m ∷ numbers) n all h =
+    elim (or_cases (m == n) (list_any (λ k. k == n) numbers) h) [ inl here ↦ subst P (eqb-true m n here) all.0 | inr there ↦ one_of P numbers n all.1 there ]
+
+abbrev earlier_numbers : List ℕ
+earlier_numbers = NULL ∷ INT ∷ BINARY ∷ UTF8 ∷ BOOL ∷ LIST ∷ STRUCT ∷ FIXED_SIZE_BINARY ∷ FIXED_SIZE_LIST ∷ []
+
+earlier_stay : (code : ℕ) → earlier_codes code ≡ true → supported_codes code ≡ true
+earlier_stay code h =
+    let all : AllByRecursion (λ n. supported_codes n ≡ true) earlier_numbers = (refl, (refl, (refl, (refl, (refl, (refl, (refl, (refl, (refl, tt))))))))) in
+    one_of (λ n. supported_codes n ≡ true) earlier_numbers code all h
+
+-- only now may a field have a later code
+abbrev IsAdded : ℕ → Type 0
+IsAdded code = (may_stand supported_codes code ≡ true) × (may_stand earlier_codes code ≡ false)
+
+abbrev later_numbers : List ℕ
+later_numbers = DATE ∷ TIMESTAMP ∷ LARGE_BINARY ∷ LARGE_UTF8 ∷ LARGE_LIST ∷ []
+
+later_added : (code : ℕ) → is_later_code code ≡ true → IsAdded code
+later_added code h =
+    let all : AllByRecursion IsAdded later_numbers = ((refl, refl), ((refl, refl), ((refl, refl), ((refl, refl), ((refl, refl), tt))))) in
+    one_of IsAdded later_numbers code all h
+
+not_later : (code : ℕ) (later : Bool) → is_later_code code ≡ later → may_stand supported_codes code ≡ may_stand earlier_codes code → later ≡ false
+not_later code false is alike = refl
+not_later code true is alike = let added = later_added code is in sym added.0 ∙ alike ∙ added.1
+
+none_later : (codes : List ℕ) → SupportAlike supported_codes earlier_codes codes → list_any is_later_code codes ≡ false
+none_later [] alike = refl
+none_later (code ∷ codes) alike =
+    ap (λ (b : Bool). b || list_any is_later_code codes) (not_later code (is_later_code code) refl alike.0) ∙ none_later codes alike.1
+
+-- so a stream that had a meaning names none
+pub later_fault : NamedCodes → StaySupported → (bytes : List ℕ) → names_no_later_code bytes ≡ false → IsErr (meaning earlier_codes bytes)
+unfolding names_no_later_code
+later_fault law stay bytes later = by_meaning (meaning earlier_codes bytes) refl
+  where
+    by_meaning : (r : Result PlainTable Fault) → meaning earlier_codes bytes ≡ r → IsErr r
+    by_meaning (Err e) is = refl
+    by_meaning (Ok t) is =
+        let none = none_later (codes_named bytes) (checked_codes law stay earlier_codes supported_codes bytes t earlier_stay is) in
+        absurd (true≢false (sym (ap not none) ∙ later))

@@ -1,5 +1,5 @@
 // Laws about the definitions. The functions do nothing: their contracts are the laws.
-ghost use Rattle.std.specs.Prelude.{◌≡◌, ◌++◌, ℕ, Bool, true, List, Ok, Err, None, Some, length};
+ghost use Rattle.std.specs.Prelude.{◌≡◌, ◌++◌, ℕ, Bool, true, false, List, Ok, Err, None, Some, IsErr, length};
 ghost use Rattle.facts.specs.Bytes.{AreBytes};
 ghost use Rattle.cells.specs.Cell.{PlainTable};
 ghost use Rattle.values.specs.Table.{IsTable};
@@ -66,11 +66,13 @@ pub fn settled_faults_stay()
 {}
 
 /// Whether a type code is supported matters only to streams whose schema names it. So a stream that names no later code has the meaning that it had
-/// before these codes were supported, table or fault. And a table that a stream means stays its meaning if more codes are supported.
+/// before these codes were supported, table or fault. A stream that names one had a fault then. And a table that a stream means stays its meaning if
+/// more codes are supported.
 pub fn older_streams_keep_their_meaning()
     ensures named { (supported other : ℕ → Bool) (bytes : List ℕ) → SupportAlike supported other (codes_named bytes)
         → meaning supported bytes ≡ meaning other bytes }
     ensures older { (bytes : List ℕ) → names_no_later_code bytes ≡ true → meaning supported_codes bytes ≡ meaning earlier_codes bytes }
+    ensures later { (bytes : List ℕ) → names_no_later_code bytes ≡ false → IsErr (meaning earlier_codes bytes) }
     ensures tables { (fewer more : ℕ → Bool) (bytes : List ℕ) (t : PlainTable) → ((code : ℕ) → fewer code ≡ true → more code ≡ true)
         → meaning fewer bytes ≡ Ok t → meaning more bytes ≡ Ok t }
 {

@@ -9,11 +9,11 @@ use Rattle.std.proofs.Math.Nat.{mul-le-mul_left, mul_comm}
 use Rattle.std.specs.Prelude.{bit_and}
 use Rattle.std.specs.Int.{bit_at}
 use Rattle.facts.specs.laws.Lists.{range-append}
-use Rattle.query.specs.declared.cut.Cut.{Cut}
+use Rattle.query.specs.declared.order_answers.OrderAnswers.{OrderAnswers}
 use Rattle.query.specs.declared.integer_slots.IntegerComparison.{IntegerComparison}
 use Rattle.query.specs.inner.Slots.{width_of, is_valid_in, integer_holds_in}
-use Rattle.query.specs.inner.Cuts.{answer_at, IsCut}
-use Rattle.query.proofs.Cuts.{answers_hold}
+use Rattle.query.specs.inner.OrderAnswers.{answer_at, AreOrderAnswers}
+use Rattle.query.proofs.OrderAnswers.{answers_hold}
 use Rattle.query.proofs.Masked.{masked_word}
 use mir.Val.{bool_byte}
 
@@ -40,10 +40,10 @@ pub word_fits : (word n : ℕ) (bits : List Bool) → word ≡ mask_l bits → l
 word_fits word n bits is size = subst (λ k. word < 2 ^ k) size (subst (λ w. w < 2 ^ length bits) (sym is) (mask_l-lt bits))
 
 -- the word of a block: what is answered of its slots, where they are valid
-pub word_of_block : (c : IntegerComparison) (cut : Cut) (validity values : List ℕ) (first slots own answers valid : ℕ) → IsCut c.integer c.operator c.literal cut → ((j : ℕ) → get_or values j 0 < 256)
-    → slots ≡ own → answers ≡ mask_l (map (answer_at cut (width_of c.integer) values) (range_with_len first own)) → ((j : ℕ) → j < slots → (bit_at valid j == 1) ≡ is_valid_in validity (first + j))
+pub word_of_block : (c : IntegerComparison) (by_order : OrderAnswers) (validity values : List ℕ) (first slots own answers valid : ℕ) → AreOrderAnswers c.integer c.operator c.literal by_order → ((j : ℕ) → get_or values j 0 < 256)
+    → slots ≡ own → answers ≡ mask_l (map (answer_at by_order (width_of c.integer) values) (range_with_len first own)) → ((j : ℕ) → j < slots → (bit_at valid j == 1) ≡ is_valid_in validity (first + j))
     → bit_and answers valid ≡ mask_l (map (integer_holds_in c validity values) (range_with_len first slots))
-word_of_block c cut validity values first slots own answers valid is fit count are each =
-    let answer = answer_at cut (width_of c.integer) values in
+word_of_block c by_order validity values first slots own answers valid is fit count are each =
+    let answer = answer_at by_order (width_of c.integer) values in
     masked_word answer (is_valid_in validity) slots first answers valid (are ∙ ap (λ n. mask_l (map answer (range_with_len first n))) (sym count)) each
-    ∙ ap mask_l (answers_hold c cut validity values first slots is fit)
+    ∙ ap mask_l (answers_hold c by_order validity values first slots is fit)

@@ -8,9 +8,9 @@ use Rattle.std.proofs.lemmas.List.{drop_more, drop-drop, drop-take, take-take, l
 use Rattle.std.proofs.lemmas.List.FromFn.{get_or-map-range_with_len, length-map-range_with_len}
 use Rattle.facts.specs.laws.Lists.{maps_same}
 use Rattle.byteorder.specs.Endian.{little_from}
-use Rattle.query.specs.declared.cut.Cut.{Cut}
+use Rattle.query.specs.declared.order_answers.OrderAnswers.{OrderAnswers}
 use Rattle.columns.specs.CellAt.{number_at}
-use Rattle.query.specs.inner.Cuts.{answer, moved, answer_at}
+use Rattle.query.specs.inner.OrderAnswers.{answer, moved, answer_at}
 use mir.Syntax.{Width}
 use mir.Val.{bits, hbits, bool_byte}
 
@@ -77,51 +77,51 @@ test_of false false b e true = refl
 test_of false false b e false = refl
 
 -- the bits of lanes, where each has the answer of its number
-answers_of : (w : Width) (cut : Cut) (numbers : List ℕ) (n b e a : ℕ) → b ≡ bool_byte cut.below → e ≡ bool_byte cut.equal → a ≡ bool_byte cut.above → length numbers ≡ n → n ≤ 64
+answers_of : (w : Width) (by_order : OrderAnswers) (numbers : List ℕ) (n b e a : ℕ) → b ≡ bool_byte by_order.below → e ≡ bool_byte by_order.equal → a ≡ bool_byte by_order.above → length numbers ≡ n → n ≤ 64
     → mask_l (map (top (hbits w)) (zip2 (λ x y. cond (x == y) (2 ^ bits w - 1) 0)
-    (sel_l (map (top (hbits w)) (zip2 (λ x y. cond (nat_lt x y) (2 ^ bits w - 1) 0) numbers (replicate n cut.key))) (replicate n b)
-    (sel_l (map (top (hbits w)) (zip2 (λ x y. cond (x == y) (2 ^ bits w - 1) 0) numbers (replicate n cut.key))) (replicate n e) (replicate n a)))
-    (replicate n 1))) % 2 ^ 64 ≡ mask_l (map (answer cut) numbers)
-answers_of w cut numbers n b e a b_is e_is a_is size few =
-    let key = replicate n cut.key in
+    (sel_l (map (top (hbits w)) (zip2 (λ x y. cond (nat_lt x y) (2 ^ bits w - 1) 0) numbers (replicate n by_order.key))) (replicate n b)
+    (sel_l (map (top (hbits w)) (zip2 (λ x y. cond (x == y) (2 ^ bits w - 1) 0) numbers (replicate n by_order.key))) (replicate n e) (replicate n a)))
+    (replicate n 1))) % 2 ^ 64 ≡ mask_l (map (answer by_order) numbers)
+answers_of w by_order numbers n b e a b_is e_is a_is size few =
+    let key = replicate n by_order.key in
     let below = map (top (hbits w)) (zip2 (λ x y. cond (nat_lt x y) (2 ^ bits w - 1) 0) numbers key) in
     let equal = map (top (hbits w)) (zip2 (λ x y. cond (x == y) (2 ^ bits w - 1) 0) numbers key) in
-    let lt : below ≡ map (λ x. nat_lt x cut.key) numbers = tops_compared w nat_lt numbers key ∙ zip2_splat nat_lt numbers n cut.key size in
-    let eq : equal ≡ map (λ x. x == cut.key) numbers = tops_compared w (λ x y. x == y) numbers key ∙ zip2_splat (λ x y. x == y) numbers n cut.key size in
+    let lt : below ≡ map (λ x. nat_lt x by_order.key) numbers = tops_compared w nat_lt numbers key ∙ zip2_splat nat_lt numbers n by_order.key size in
+    let eq : equal ≡ map (λ x. x == by_order.key) numbers = tops_compared w (λ x y. x == y) numbers key ∙ zip2_splat (λ x y. x == y) numbers n by_order.key size in
     let lanes = sel_l below (replicate n b) (sel_l equal (replicate n e) (replicate n a)) in
-    let f = λ (x : ℕ). cond (nat_lt x cut.key) b (cond (x == cut.key) e a) in
+    let f = λ (x : ℕ). cond (nat_lt x by_order.key) b (cond (x == by_order.key) e a) in
     let are : lanes ≡ map f numbers =
     ap (λ (ms : List Bool). sel_l ms (replicate n b) (sel_l equal (replicate n e) (replicate n a))) lt
-    ∙ ap (λ (ms : List Bool). sel_l (map (λ x. nat_lt x cut.key) numbers) (replicate n b) (sel_l ms (replicate n e) (replicate n a))) eq
-    ∙ chosen (λ x. nat_lt x cut.key) (λ x. x == cut.key) numbers n b e a size in
+    ∙ ap (λ (ms : List Bool). sel_l (map (λ x. nat_lt x by_order.key) numbers) (replicate n b) (sel_l ms (replicate n e) (replicate n a))) eq
+    ∙ chosen (λ x. nat_lt x by_order.key) (λ x. x == by_order.key) numbers n b e a size in
     let count : length lanes ≡ n = ap length are ∙ length-map numbers f ∙ size in
-    let tested : (x : ℕ) → (f x == 1) ≡ answer cut x =
-    λ x. ap (λ y. cond (nat_lt x cut.key) y (cond (x == cut.key) e a) == 1) b_is
-    ∙ ap (λ y. cond (nat_lt x cut.key) (bool_byte cut.below) (cond (x == cut.key) y a) == 1) e_is
-    ∙ ap (λ y. cond (nat_lt x cut.key) (bool_byte cut.below) (cond (x == cut.key) (bool_byte cut.equal) y) == 1) a_is
-    ∙ test_of (nat_lt x cut.key) (x == cut.key) cut.below cut.equal cut.above in
+    let tested : (x : ℕ) → (f x == 1) ≡ answer by_order x =
+    λ x. ap (λ y. cond (nat_lt x by_order.key) y (cond (x == by_order.key) e a) == 1) b_is
+    ∙ ap (λ y. cond (nat_lt x by_order.key) (bool_byte by_order.below) (cond (x == by_order.key) y a) == 1) e_is
+    ∙ ap (λ y. cond (nat_lt x by_order.key) (bool_byte by_order.below) (cond (x == by_order.key) (bool_byte by_order.equal) y) == 1) a_is
+    ∙ test_of (nat_lt x by_order.key) (x == by_order.key) by_order.below by_order.equal by_order.above in
     bitmask_splat w (λ x y. x == y) lanes n 1 count few
     ∙ ap (λ (xs : List ℕ). mask_l (map (λ x. x == 1) xs)) are
     ∙ ap mask_l (map-map (λ x. x == 1) f numbers)
-    ∙ ap mask_l (maps_same (λ x. f x == 1) (answer cut) tested numbers)
+    ∙ ap mask_l (maps_same (λ x. f x == 1) (answer by_order) tested numbers)
 
 -- the same of numbers to each of which the bias is added, where they are those from a slot on
-pub block_is : (w : Width) (k n first : ℕ) (cut : Cut) (values lanes : List ℕ) (b e a : ℕ) → b ≡ bool_byte cut.below → e ≡ bool_byte cut.equal → a ≡ bool_byte cut.above → n ≤ 64
+pub block_is : (w : Width) (k n first : ℕ) (by_order : OrderAnswers) (values lanes : List ℕ) (b e a : ℕ) → b ≡ bool_byte by_order.below → e ≡ bool_byte by_order.equal → a ≡ bool_byte by_order.above → n ≤ 64
     → lanes ≡ map (number_at k values) (range_with_len first n)
     → mask_l (map (top (hbits w)) (zip2 (λ x y. cond (x == y) (2 ^ bits w - 1) 0)
-    (sel_l (map (top (hbits w)) (zip2 (λ x y. cond (nat_lt x y) (2 ^ bits w - 1) 0) (zip2 (λ x y. (x + y) % 256 ^ k) lanes (replicate n cut.bias)) (replicate n cut.key))) (replicate n b)
-    (sel_l (map (top (hbits w)) (zip2 (λ x y. cond (x == y) (2 ^ bits w - 1) 0) (zip2 (λ x y. (x + y) % 256 ^ k) lanes (replicate n cut.bias)) (replicate n cut.key))) (replicate n e) (replicate n a)))
-    (replicate n 1))) % 2 ^ 64 ≡ mask_l (map (answer_at cut k values) (range_with_len first n))
-block_is w k n first cut values lanes b e a b_is e_is a_is few are =
-    let numbers = zip2 (λ x y. (x + y) % 256 ^ k) lanes (replicate n cut.bias) in
+    (sel_l (map (top (hbits w)) (zip2 (λ x y. cond (nat_lt x y) (2 ^ bits w - 1) 0) (zip2 (λ x y. (x + y) % 256 ^ k) lanes (replicate n by_order.bias)) (replicate n by_order.key))) (replicate n b)
+    (sel_l (map (top (hbits w)) (zip2 (λ x y. cond (x == y) (2 ^ bits w - 1) 0) (zip2 (λ x y. (x + y) % 256 ^ k) lanes (replicate n by_order.bias)) (replicate n by_order.key))) (replicate n e) (replicate n a)))
+    (replicate n 1))) % 2 ^ 64 ≡ mask_l (map (answer_at by_order k values) (range_with_len first n))
+block_is w k n first by_order values lanes b e a b_is e_is a_is few are =
+    let numbers = zip2 (λ x y. (x + y) % 256 ^ k) lanes (replicate n by_order.bias) in
     let f = number_at k values in
     let size : length lanes ≡ n = ap length are ∙ length-map-range_with_len f first n in
-    let moves : numbers ≡ map (moved cut k) lanes = zip2_splat (λ x y. (x + y) % 256 ^ k) lanes n cut.bias size in
-    let count : length numbers ≡ n = ap length moves ∙ length-map lanes (moved cut k) ∙ size in
-    answers_of w cut numbers n b e a b_is e_is a_is count few
-    ∙ ap (λ (xs : List ℕ). mask_l (map (answer cut) xs)) (moves ∙ ap (map (moved cut k)) are)
-    ∙ ap (λ (xs : List ℕ). mask_l (map (answer cut) xs)) (map-map (moved cut k) f (range_with_len first n))
-    ∙ ap mask_l (map-map (answer cut) (λ i. moved cut k (f i)) (range_with_len first n))
+    let moves : numbers ≡ map (moved by_order k) lanes = zip2_splat (λ x y. (x + y) % 256 ^ k) lanes n by_order.bias size in
+    let count : length numbers ≡ n = ap length moves ∙ length-map lanes (moved by_order k) ∙ size in
+    answers_of w by_order numbers n b e a b_is e_is a_is count few
+    ∙ ap (λ (xs : List ℕ). mask_l (map (answer by_order) xs)) (moves ∙ ap (map (moved by_order k)) are)
+    ∙ ap (λ (xs : List ℕ). mask_l (map (answer by_order) xs)) (map-map (moved by_order k) f (range_with_len first n))
+    ∙ ap mask_l (map-map (answer by_order) (λ i. moved by_order k (f i)) (range_with_len first n))
 
 -- numbers of one byte are the bytes
 pub bytes_are : (n first : ℕ) (values : List ℕ) → first + n ≤ length values → chunk first n values ≡ map (number_at 1 values) (range_with_len first n)

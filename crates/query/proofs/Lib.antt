@@ -1,6 +1,4 @@
-pub mod Nodes
 pub mod PickedSchemas
-pub mod PickedPlaces
 pub mod PickedRows
 pub mod SelectedTables
 pub mod Splitting
@@ -14,7 +12,7 @@ pub mod SelectionReports
 pub mod Numbers
 pub mod SlotFlags
 pub mod IntegerKinds
-pub mod Cuts
+pub mod OrderAnswers
 pub mod SlotNumbers
 pub mod Lanes
 pub mod Masked

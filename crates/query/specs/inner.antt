@@ -1,7 +1,7 @@
 pub mod BoundView
 pub mod ColumnSlots
 pub mod Contents
-pub mod Cuts
+pub mod OrderAnswers
 pub mod Masks
 pub mod Nulls
 pub mod SlotTests

@@ -4,10 +4,10 @@ ghost use Rattle.std.specs.Int.{bit_at};
 ghost use Rattle.std.specs.List.{range_with_len};
 ghost use Rattle.std.specs.Simd.Lanes.{mask_l};
 ghost use Rattle.arrow_schema.specs.View.{bits_of};
-ghost use Rattle.query.specs.inner.Cuts.{answer_at, block_slots};
+ghost use Rattle.query.specs.inner.OrderAnswers.{answer_at, block_slots};
 ghost use Rattle.query.specs.inner.Slots.{is_valid_in};
 
-use crate::cut::Cut;
+use crate::order_answers::OrderAnswers;
 use arrow_schema::BitWidth;
 use byteorder::{ByteOrder, LittleEndian};
 use std::simd::prelude::*;
@@ -29,17 +29,22 @@ pub(crate) fn slots_in_block(width: BitWidth) -> usize
 }
 
 /// Returns the answers for the slots of a block, from a slot on, a bit each.
-pub(crate) fn answers_of_block(width: BitWidth, cut: Cut, values: &[u8], first: usize) -> u64
+pub(crate) fn answers_of_block(
+    width: BitWidth,
+    by_order: OrderAnswers,
+    values: &[u8],
+    first: usize,
+) -> u64
     requires room { (first + block_slots width) * (bits_of width / 8) ≤ length values.now }
-    requires bias { cut.bias < 256 ^ (bits_of width / 8) }
-    requires key { cut.key < 256 ^ (bits_of width / 8) }
-    ensures { result ≡ mask_l (map (answer_at cut (bits_of width / 8) values.now) (range_with_len first (block_slots width))) }
+    requires bias { by_order.bias < 256 ^ (bits_of width / 8) }
+    requires key { by_order.key < 256 ^ (bits_of width / 8) }
+    ensures { result ≡ mask_l (map (answer_at by_order (bits_of width / 8) values.now) (range_with_len first (block_slots width))) }
 {
     match width {
-        BitWidth::Eight => of_8_bits(cut, values, first),
-        BitWidth::Sixteen => of_16_bits(cut, values, first),
-        BitWidth::ThirtyTwo => of_32_bits(cut, values, first),
-        BitWidth::SixtyFour => of_64_bits(cut, values, first),
+        BitWidth::Eight => of_8_bits(by_order, values, first),
+        BitWidth::Sixteen => of_16_bits(by_order, values, first),
+        BitWidth::ThirtyTwo => of_32_bits(by_order, values, first),
+        BitWidth::SixtyFour => of_64_bits(by_order, values, first),
     }
 }
 
@@ -59,70 +64,70 @@ pub(crate) fn valid_slots(validity: &[u8], first: usize, slots: usize) -> u64
 }
 
 // Returns the answers for 16 numbers of 32 bits, from a slot on, a bit each.
-fn of_32_bits(cut: Cut, values: &[u8], first: usize) -> u64
+fn of_32_bits(by_order: OrderAnswers, values: &[u8], first: usize) -> u64
     requires room { 4 * (first + 16) ≤ length values.now }
-    requires bias { cut.bias < 2 ^ 32 }
-    requires key { cut.key < 2 ^ 32 }
-    ensures { result ≡ mask_l (map (answer_at cut 4 values.now) (range_with_len first 16)) }
+    requires bias { by_order.bias < 2 ^ 32 }
+    requires key { by_order.key < 2 ^ 32 }
+    ensures { result ≡ mask_l (map (answer_at by_order 4 values.now) (range_with_len first 16)) }
 {
-    let bias = u32x16::splat(cut.bias as u32);
-    let key = u32x16::splat(cut.key as u32);
+    let bias = u32x16::splat(by_order.bias as u32);
+    let key = u32x16::splat(by_order.key as u32);
     let numbers = u32x16::from_le_bytes(u8x64::from_slice(&values[4 * first..])) + bias;
-    let below = u32x16::splat(u32::from(cut.below));
-    let equal = u32x16::splat(u32::from(cut.equal));
-    let above = u32x16::splat(u32::from(cut.above));
+    let below = u32x16::splat(u32::from(by_order.below));
+    let equal = u32x16::splat(u32::from(by_order.equal));
+    let above = u32x16::splat(u32::from(by_order.above));
     let others = numbers.simd_eq(key).select(equal, above);
     let answers = numbers.simd_lt(key).select(below, others);
     answers.simd_eq(u32x16::splat(1)).to_bitmask()
 }
 
 // `of_32_bits` for 8 numbers of 64 bits.
-fn of_64_bits(cut: Cut, values: &[u8], first: usize) -> u64
+fn of_64_bits(by_order: OrderAnswers, values: &[u8], first: usize) -> u64
     requires { 8 * (first + 8) ≤ length values.now }
-    ensures { result ≡ mask_l (map (answer_at cut 8 values.now) (range_with_len first 8)) }
+    ensures { result ≡ mask_l (map (answer_at by_order 8 values.now) (range_with_len first 8)) }
 {
-    let bias = u64x8::splat(cut.bias);
-    let key = u64x8::splat(cut.key);
+    let bias = u64x8::splat(by_order.bias);
+    let key = u64x8::splat(by_order.key);
     let numbers = u64x8::from_le_bytes(u8x64::from_slice(&values[8 * first..])) + bias;
-    let below = u64x8::splat(u64::from(cut.below));
-    let equal = u64x8::splat(u64::from(cut.equal));
-    let above = u64x8::splat(u64::from(cut.above));
+    let below = u64x8::splat(u64::from(by_order.below));
+    let equal = u64x8::splat(u64::from(by_order.equal));
+    let above = u64x8::splat(u64::from(by_order.above));
     let others = numbers.simd_eq(key).select(equal, above);
     let answers = numbers.simd_lt(key).select(below, others);
     answers.simd_eq(u64x8::splat(1)).to_bitmask()
 }
 
 // `of_32_bits` for 32 numbers of 16 bits.
-fn of_16_bits(cut: Cut, values: &[u8], first: usize) -> u64
+fn of_16_bits(by_order: OrderAnswers, values: &[u8], first: usize) -> u64
     requires room { 2 * (first + 32) ≤ length values.now }
-    requires bias { cut.bias < 2 ^ 16 }
-    requires key { cut.key < 2 ^ 16 }
-    ensures { result ≡ mask_l (map (answer_at cut 2 values.now) (range_with_len first 32)) }
+    requires bias { by_order.bias < 2 ^ 16 }
+    requires key { by_order.key < 2 ^ 16 }
+    ensures { result ≡ mask_l (map (answer_at by_order 2 values.now) (range_with_len first 32)) }
 {
-    let bias = u16x32::splat(cut.bias as u16);
-    let key = u16x32::splat(cut.key as u16);
+    let bias = u16x32::splat(by_order.bias as u16);
+    let key = u16x32::splat(by_order.key as u16);
     let numbers = u16x32::from_le_bytes(u8x64::from_slice(&values[2 * first..])) + bias;
-    let below = u16x32::splat(u16::from(cut.below));
-    let equal = u16x32::splat(u16::from(cut.equal));
-    let above = u16x32::splat(u16::from(cut.above));
+    let below = u16x32::splat(u16::from(by_order.below));
+    let equal = u16x32::splat(u16::from(by_order.equal));
+    let above = u16x32::splat(u16::from(by_order.above));
     let others = numbers.simd_eq(key).select(equal, above);
     let answers = numbers.simd_lt(key).select(below, others);
     answers.simd_eq(u16x32::splat(1)).to_bitmask()
 }
 
 // `of_32_bits` for 64 numbers of 8 bits.
-fn of_8_bits(cut: Cut, values: &[u8], first: usize) -> u64
+fn of_8_bits(by_order: OrderAnswers, values: &[u8], first: usize) -> u64
     requires room { first + 64 ≤ length values.now }
-    requires bias { cut.bias < 2 ^ 8 }
-    requires key { cut.key < 2 ^ 8 }
-    ensures { result ≡ mask_l (map (answer_at cut 1 values.now) (range_with_len first 64)) }
+    requires bias { by_order.bias < 2 ^ 8 }
+    requires key { by_order.key < 2 ^ 8 }
+    ensures { result ≡ mask_l (map (answer_at by_order 1 values.now) (range_with_len first 64)) }
 {
-    let bias = u8x64::splat(cut.bias as u8);
-    let key = u8x64::splat(cut.key as u8);
+    let bias = u8x64::splat(by_order.bias as u8);
+    let key = u8x64::splat(by_order.key as u8);
     let numbers = u8x64::from_slice(&values[first..]) + bias;
-    let below = u8x64::splat(u8::from(cut.below));
-    let equal = u8x64::splat(u8::from(cut.equal));
-    let above = u8x64::splat(u8::from(cut.above));
+    let below = u8x64::splat(u8::from(by_order.below));
+    let equal = u8x64::splat(u8::from(by_order.equal));
+    let above = u8x64::splat(u8::from(by_order.above));
     let others = numbers.simd_eq(key).select(equal, above);
     let answers = numbers.simd_lt(key).select(below, others);
     answers.simd_eq(u8x64::splat(1)).to_bitmask()

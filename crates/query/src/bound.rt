@@ -3,7 +3,7 @@ ghost use Rattle.std.specs.Prelude.{◌≡◌, IfOk, IfErr, map, option_map, pos
 ghost use Rattle.std.specs.Option.{option_copied};
 ghost use Rattle.arrow_schema.specs.View.{kind_of, column_of};
 ghost use Rattle.cells.specs.View.{cell};
-ghost use Rattle.values.specs.Borrowed.{borrowed_cell, borrowed_cells};
+ghost use Rattle.columns.specs.Borrowed.{borrowed_cell, borrowed_cells};
 ghost use Rattle.query.specs.Bound.{has_name, place_of, predicate_of, bound, order, meets, holds};
 ghost use Rattle.query.specs.View.{test_in, condition_in, Reports};
 ghost use Rattle.query.specs.inner.BoundView.{predicate_in, bound_in};

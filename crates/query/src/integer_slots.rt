@@ -10,8 +10,8 @@ ghost use Rattle.query.specs.inner.Slots.{width_of, IsIntegerKind, IsIntegerColu
 
 use crate::blocks::{answers_of_block, slots_in_block, valid_slots};
 use crate::bound::{Bound, Predicate, field_at};
-use crate::cut::Cut;
 use crate::operator::{Operator, accepts};
+use crate::order_answers::OrderAnswers;
 use arrow_schema::{BitWidth, DataType, Field, IntegerType};
 use bitmap::MaskBuilder;
 use byteorder::{ByteOrder, LittleEndian};
@@ -147,12 +147,12 @@ impl IntegerComparison {
         ensures flags { IfOk result (λ n. flags.new ≡ flags.old ++ map (integer_holds_in self validity.now values.now) (range_with_len 0 n)) }
     {
         let width = self.integer.width;
-        let cut = Cut::of(self.integer, self.operator, self.literal);
+        let by_order = OrderAnswers::of(self.integer, self.operator, self.literal);
         let slots = slots_in_block(width);
         let blocks = rows / slots;
         for block in 0..blocks {
             let first = slots * block;
-            let answers = answers_of_block(width, cut, values, first);
+            let answers = answers_of_block(width, by_order, values, first);
             flags.push_word(answers & valid_slots(validity, first, slots), slots)?;
         }
         Ok(slots * blocks)

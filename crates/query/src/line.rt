@@ -4,7 +4,7 @@ ghost use Rattle.std.specs.Fmt.{signed_decimal};
 ghost use Rattle.json.specs.Print.{quoted};
 ghost use Rattle.hex.specs.Hex.{encode_lower, lower_digits};
 ghost use Rattle.cells.specs.Cell.{cells_of};
-ghost use Rattle.values.specs.Borrowed.{borrowed_cell, borrowed_cells};
+ghost use Rattle.columns.specs.Borrowed.{borrowed_cell, borrowed_cells};
 ghost use Rattle.query.specs.Line.{json_of, json_of_all, line};
 
 use crate::plain_text::are_plain;
@@ -96,7 +96,7 @@ fn push_hex(out: &mut Vec<u8>, bytes: &[u8]) -> Result<(), AllocError>
     Ok(())
 }
 
-pub(crate) fn push_quoted_hex(out: &mut Vec<u8>, bytes: &[u8]) -> Result<(), AllocError>
+fn push_quoted_hex(out: &mut Vec<u8>, bytes: &[u8]) -> Result<(), AllocError>
     ensures { OnOk result (out.new.items ≡ out.old.items ++ (codes "\"" ++ encode_lower bytes.now ++ codes "\"")) }
 {
     push_bytes(out, b"\"")?;

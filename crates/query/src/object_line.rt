@@ -2,7 +2,7 @@
 ghost use Rattle.std.specs.Prelude.{◌≡◌, ◌++◌, OnOk, codes, map};
 ghost use Rattle.arrow_schema.specs.Parts.{name_of_column};
 ghost use Rattle.arrow_schema.specs.View.{column_of};
-ghost use Rattle.values.specs.Borrowed.{borrowed_cell, borrowed_cells, values_left};
+ghost use Rattle.columns.specs.Borrowed.{borrowed_cell, borrowed_cells, values_left};
 ghost use Rattle.query.specs.ObjectLine.{member, members, other_members, object_line, is_of_one, are_named_apart, line_in};
 
 use crate::RowForm;

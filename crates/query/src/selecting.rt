@@ -1,22 +1,22 @@
 // Chooses the columns and rows of a table that a query selects.
 ghost use Rattle.std.specs.Prelude.{◌≡◌, ◌≤◌, ◌*◌, Ok, Some, IfOk, IfErr, map, length, string_bytes, replicate, true};
 ghost use Rattle.std.specs.List.{range_with_len};
-ghost use Rattle.arrow_schema.specs.View.{column_of, schema_of};
+ghost use Rattle.arrow_schema.specs.View.{column_of};
 ghost use Rattle.values.specs.TableView.{table_of};
 ghost use Rattle.query.specs.Bound.{bound, holds};
-ghost use Rattle.query.specs.Selection.{pick, chosen, all_ok, holds_all, selected, selection};
+ghost use Rattle.query.specs.Selection.{chosen, all_ok, holds_all, selected, selection};
 ghost use Rattle.query.specs.View.{condition_in, query_in, Reports, Unchosen};
 ghost use Rattle.query.specs.inner.BoundView.{bound_in};
 ghost use Rattle.query.specs.Choice.{chosen_table};
 ghost use Rattle.query.specs.inner.Masks.{IsMask};
 
-use crate::bound::{Bound, bind, field_at, holds, place_of};
+use crate::bound::{Bound, bind, holds, place_of};
 use crate::choice::Choice;
 use crate::condition::Condition;
 use crate::errors::QueryError;
 use crate::query::Query;
 use crate::slot_test::slot_test_of;
-use arrow_schema::{Field, Schema};
+use arrow_schema::Field;
 use bitmap::MaskBuilder;
 use std::alloc::{AllocError, Global};
 use values::Table;
@@ -114,31 +114,6 @@ fn mask_of_all(alloc: Global, table: &Table, bounds: &[Bound]) -> Result<Vec<u8>
         mask = bitmap::and(alloc, &mask, &own, rows)?;
     }
     Ok(mask)
-}
-
-fn pick_fields(alloc: Global, fields: &[Field], places: &[usize]) -> Result<Vec<Field>, AllocError>
-    ensures { IfOk result (λ v. map column_of v.items ≡ pick places.now (map column_of fields.now)) }
-{
-    let mut picked = Vec::with_capacity(alloc, places.len())?;
-    for place in places {
-        let Some(field) = field_at(fields, *place) else {
-            continue;
-        };
-        picked.push_reserved(field.copy(alloc)?);
-    }
-    Ok(picked)
-}
-
-/// Returns a schema of the columns at some places.
-///
-/// # Errors
-/// `AllocError` if memory is refused.
-pub fn pick_schema(alloc: Global, schema: &Schema, places: &[usize]) -> Result<Schema, AllocError>
-    ensures { IfOk result (λ s. schema_of s ≡ record { columns = pick places.now (schema_of schema.now).columns; pairs = (schema_of schema.now).pairs }) }
-{
-    let mut picked = schema.copy(alloc)?;
-    picked.fields = pick_fields(alloc, &schema.fields, places)?;
-    Ok(picked)
 }
 
 // Chooses the rows for which all conditions hold, then the columns at these places, then the first rows.

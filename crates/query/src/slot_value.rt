@@ -3,7 +3,6 @@
 ghost use Rattle.std.specs.Prelude.{◌≡◌, ◌++◌, ◌<◌, ◌≤◌, true, codes, length, take, OnOk};
 ghost use Rattle.arrow_schema.specs.View.{column_of};
 ghost use Rattle.columns.specs.Array.{slots_in};
-ghost use Rattle.columns.specs.Borrowed.{borrowed_cell};
 ghost use Rattle.columns.specs.CellAt.{cell_at};
 ghost use Rattle.columns.specs.Sound.{is_sound};
 ghost use Rattle.columns.specs.Texts.{has_utf8_texts};
@@ -13,13 +12,9 @@ ghost use Rattle.query.specs.inner.ColumnSlots.{AreBuffers};
 ghost use Rattle.query.specs.inner.Slots.{number_or_null};
 
 use crate::column_slots::{Buffers, ColumnSlots, FirstBytes};
-use crate::line::{
-    push_array, push_bytes, push_few_in_quotes, push_in_quotes, push_number, push_quoted_hex,
-    push_text,
-};
-use columns::{ValueRef, value};
+use crate::line::{push_bytes, push_few_in_quotes, push_in_quotes, push_number, push_value};
+use columns::value;
 use std::alloc::{AllocError, Global};
-use values::Values;
 
 // Appends a number or a null.
 fn push_integer(out: &mut Vec<u8>, number: Option<i128>) -> Result<(), AllocError>
@@ -28,22 +23,6 @@ fn push_integer(out: &mut Vec<u8>, number: Option<i128>) -> Result<(), AllocErro
     match number {
         Some(number) => push_number(out, number),
         None => push_bytes(out, b"null"),
-    }
-}
-
-#[tactic(auto, unfolding(crate::specs::Line::json_of))]
-fn push_borrowed(alloc: Global, out: &mut Vec<u8>, value: ValueRef<'_>) -> Result<(), AllocError>
-    ensures { OnOk result (out.new.items ≡ out.old.items ++ json_of (borrowed_cell value.entry)) }
-{
-    match value {
-        ValueRef::Null => push_bytes(out, b"null"),
-        ValueRef::Bool(true) => push_bytes(out, b"true"),
-        ValueRef::Bool(false) => push_bytes(out, b"false"),
-        ValueRef::Int(number) => push_number(out, number),
-        ValueRef::Text(text) => push_text(alloc, out, text),
-        ValueRef::Bytes(bytes) => push_quoted_hex(out, bytes),
-        ValueRef::List(items) => push_array(alloc, out, Values::of_arrays(items)),
-        ValueRef::Struct(parts) => push_array(alloc, out, Values::of_arrays(parts)),
     }
 }
 
@@ -59,7 +38,7 @@ fn push_other(
     requires texts { has_utf8_texts (cell_at (column_of column.now.field.now) (view_array column.now.view) slot) ≡ true }
     ensures { OnOk result (out.new.items ≡ out.old.items ++ json_of (cell_at (column_of column.now.field.now) (view_array column.now.view) slot)) }
 {
-    push_borrowed(alloc, out, value(column.field, column.view, slot))
+    push_value(alloc, out, value(column.field, column.view, slot))
 }
 
 // Appends the first of some bytes between quotes.

@@ -9,7 +9,7 @@ ghost use Rattle.columns.specs.Sound.{are_sound};
 ghost use Rattle.columns.specs.Texts.{have_utf8_texts};
 ghost use Rattle.columns.specs.View.{fields_of};
 ghost use Rattle.values.specs.Parts.{arrays_with, batch_rows, part_rows, parts_rows};
-ghost use Rattle.values.specs.Borrowed.{borrowed_cells};
+ghost use Rattle.columns.specs.Borrowed.{borrowed_cells};
 ghost use Rattle.values.specs.TableView.{table_of};
 ghost use Rattle.query.specs.ObjectLine.{line_in, lines_text};
 ghost use Rattle.query.specs.inner.ColumnSlots.{AreColumns};

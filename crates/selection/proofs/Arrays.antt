@@ -1,10 +1,9 @@
 -- The arrays at some places of those of a record batch, and the rows that they have.
-use Rattle.std.proofs.Common.{◌≡◌, ℕ, zero, suc, ◌+◌, ◌<◌, ◌≤◌, Bool, true, List, [], ◌∷◌, ◌++◌, map, length, drop, get_or, refl, sym, ap, ◌∙◌, arith, append_assoc}
-use Rattle.std.specs.Prelude.{◌&&◌, nat_le, Option, Some, None, slice_get}
+use Rattle.std.proofs.Common.{◌≡◌, ℕ, zero, suc, ◌+◌, ◌<◌, ◌≤◌, Bool, true, List, [], ◌∷◌, ◌++◌, map, length, drop, get_or, refl, sym, ap, ◌∙◌, arith}
+use Rattle.std.specs.Prelude.{◌&&◌, nat_le, Some, None, slice_get}
 use Rattle.std.proofs.Math.Bool.{and_assoc}
-use Rattle.std.specs.List.{cons_option, list_all}
-use Rattle.std.proofs.lemmas.List.{map-append, get_or_default, drop_all}
-use Rattle.facts.specs.laws.Lists.{drop-item}
+use Rattle.std.specs.List.{list_all}
+use Rattle.std.proofs.lemmas.List.{drop_all}
 use Rattle.arrow_schema.specs.Column.{Column, columns_of}
 use Rattle.cells.specs.Cell.{Cell}
 use Rattle.columns.specs.Array.{Array, Arrays, slots_in, first_array, other_arrays, arrays_of}
@@ -14,6 +13,7 @@ use Rattle.columns.specs.declared.array.PlacedArray.{PlacedArray}
 use Rattle.query.specs.Selection.{pick}
 use Rattle.query.specs.laws.Picks.{pick-map, list_all-pick}
 use Rattle.selection.specs.inner.Picked.{first_arrays}
+use Rattle.selection.proofs.PickedPlaces.{one_picked as one_at, none_picked as none_at}
 
 -- ---- the array at a place
 
@@ -30,34 +30,18 @@ no_array_at zero p arrays h = refl
 no_array_at (suc n) zero arrays h = absurd (omega (arith, h))
 no_array_at (suc n) (suc p) arrays h = no_array_at n p (other_arrays arrays) (omega (arith, h))
 
--- what stands at the places from one on
-picked_from : {X : Type 0} (ps : List ℕ) (i : ℕ) (xs : List X) → i < length ps → pick (drop i ps) xs ≡ cons_option (slice_get xs (get_or ps i 0)) (pick (drop (i + 1) ps) xs)
-picked_from ps i xs lt = ap (λ (qs : List ℕ). pick qs xs) (drop-item ps i (get_or ps i 0) lt (get_or_default ps i 0 (get_or ps i 0) lt))
-
 -- an array more
 pub one_picked : (f : PlacedArray → Array) (ps : List ℕ) (i n : ℕ) (arrays before more : List PlacedArray) (a : PlacedArray) (all : List Array) → i < length ps → get_or ps i 0 < n
     → more ≡ before ++ a ∷ [] → f a ≡ first_array (arrays_of (map f (drop (get_or ps i 0) arrays)))
     → map f before ++ pick (drop i ps) (first_arrays n (arrays_of (map f arrays))) ≡ all → map f more ++ pick (drop (i + 1) ps) (first_arrays n (arrays_of (map f arrays))) ≡ all
 one_picked f ps i n arrays before more a all lt within added own h =
-    let xs = first_arrays n (arrays_of (map f arrays)) in
-    let rest = pick (drop (i + 1) ps) xs in
-    let first = first_array (arrays_of (map f (drop (get_or ps i 0) arrays))) in
-    let next : pick (drop i ps) xs ≡ first ∷ rest = picked_from ps i xs lt ∙ ap (λ (o : Option Array). cons_option o rest) (array_at f n (get_or ps i 0) arrays within) in
-    ap (λ (ys : List PlacedArray). map f ys ++ rest) added
-    ∙ ap (λ (ys : List Array). ys ++ rest) (map-append f before (a ∷ []))
-    ∙ append_assoc (map f before) (f a ∷ []) rest
-    ∙ ap (λ (x : Array). map f before ++ x ∷ rest) own
-    ∙ ap (λ (ys : List Array). map f before ++ ys) (sym next)
-    ∙ h
+    one_at f ps i (first_arrays n (arrays_of (map f arrays))) before more a all lt (array_at f n (get_or ps i 0) arrays within ∙ ap Some (sym own)) added h
 
 -- none
 pub none_picked : (f : PlacedArray → Array) (ps : List ℕ) (i n : ℕ) (arrays before more : List PlacedArray) (all : List Array) → i < length ps → n ≤ get_or ps i 0 → more ≡ before
     → map f before ++ pick (drop i ps) (first_arrays n (arrays_of (map f arrays))) ≡ all → map f more ++ pick (drop (i + 1) ps) (first_arrays n (arrays_of (map f arrays))) ≡ all
 none_picked f ps i n arrays before more all lt past same h =
-    let xs = first_arrays n (arrays_of (map f arrays)) in
-    let rest = pick (drop (i + 1) ps) xs in
-    let next : pick (drop i ps) xs ≡ rest = picked_from ps i xs lt ∙ ap (λ (o : Option Array). cons_option o rest) (no_array_at n (get_or ps i 0) (arrays_of (map f arrays)) past) in
-    (λ k. map f (same k) ++ sym next k) ∙ h
+    none_at f ps i (first_arrays n (arrays_of (map f arrays))) before more all lt (no_array_at n (get_or ps i 0) (arrays_of (map f arrays)) past) same h
 
 -- ---- columns beside their arrays
 

@@ -1,5 +1,6 @@
 pub mod Arrays
 pub mod Batches
 pub mod Copies
+pub mod PickedPlaces
 pub mod Runs
 pub mod Selected

@@ -55,7 +55,7 @@ fn keep_batch<'a>(
     let mut next = next_set(mask, start, end);
     while next < end && (kept.rows as u64) < most {
         let stop = bitmap::run_end(mask, next, end);
-        let run = whole.behind(next - start).front(stop - next);
+        let run = whole.skip(next - start).front(stop - next);
         let len = keep_front(kept, run, most)?;
         next = next_set(mask, next + len, end);
     }

@@ -11,6 +11,7 @@
 mod copying;
 mod kept;
 mod picked;
+mod picked_schema;
 mod selecting;
 
 pub use selecting::select;

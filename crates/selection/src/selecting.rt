@@ -15,11 +15,12 @@ ghost use Rattle.values.specs.TableView.{is_in_parts, table_of};
 
 use crate::kept::{KeptRuns, keep_batches};
 use crate::picked::pick_batches;
+use crate::picked_schema::pick_schema;
 use arrow_schema::Schema;
 use ipc_canonical::canonical_means_its_table;
 use ipc_encode::{encode, encode_runs};
 use ipc_stream::decode;
-use query::{Choice, Query, QueryError, choose, pick_schema, selection_is_a_table};
+use query::{Choice, Query, QueryError, choose, selection_is_a_table};
 use std::alloc::Global;
 use values::{Table, TablePart};
 

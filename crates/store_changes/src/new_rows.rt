@@ -18,11 +18,10 @@ use arrow_schema::{Schema, one_shape_is_decided};
 use catalogue::TableEntry;
 use cells::Row;
 use ipc_stream::decode_weighed;
-use query::copy_row;
 use std::alloc::{AllocError, Global};
 use table_cut::first_unfit_row;
 use tables::Refusal;
-use values::{Table, TableError, WeighedTable, accepted_rows_are_a_table};
+use values::{Table, TableError, WeighedTable, accepted_rows_are_a_table, copy_row};
 
 /// New rows: those of a stream, those that a caller gives, or those of a table.
 #[derive(Drop)]

@@ -5,7 +5,7 @@ ghost use Rattle.arrow_schema.specs.Column.{columns_of};
 ghost use Rattle.arrow_schema.specs.View.{kind_of, column_of, index_of};
 ghost use Rattle.cells.specs.Dictionary.{item_list, part_list, cells_at, own_holding, holdings, holdings_below, holdings_from};
 ghost use Rattle.table_cut.specs.inner.Seen.{held_of, held_in};
-ghost use Rattle.values.specs.Borrowed.{borrowed_cell, borrowed_cells};
+ghost use Rattle.columns.specs.Borrowed.{borrowed_cell, borrowed_cells};
 
 use arrow_schema::{DataType, DictSpec, Field};
 use cells::entry_limit;

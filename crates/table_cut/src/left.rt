@@ -140,7 +140,7 @@ impl<'a> RowsLeft<'a> {
             weight = taken.weight;
             seen = room.seen;
             if room.rows < run.len {
-                self.runs[self.next] = run.behind(room.rows);
+                self.runs[self.next] = run.skip(room.rows);
                 return Ok(RunPiece { runs, rows });
             }
             self.next += 1;

@@ -12,7 +12,7 @@ ghost use Rattle.table_cut.specs.Rows.{arrays_of_run, run_rows, runs_rows};
 ghost use Rattle.table_cut.specs.inner.Fit.{are_flat};
 ghost use Rattle.table_cut.specs.inner.Room.{IsRunOf, AreRunsOf, IsRunBehind, IsSeen, IsSeenWithin, HasRoom, IsRoom};
 ghost use Rattle.table_cut.specs.SeenRows.{HaveSeen};
-ghost use Rattle.values.specs.Borrowed.{borrowed_cells};
+ghost use Rattle.columns.specs.Borrowed.{borrowed_cells};
 
 use crate::columns_room::{are_flat, columns_room};
 use crate::row_run::RowRun;
@@ -57,14 +57,14 @@ fn row_of<'a>(schema: &'a Schema, run: RowRun<'a>, i: usize) -> Values<'a>
     requires within { i < run.len }
     ensures { borrowed_cells result ≡ row_at (columns_of (schema_of schema.now).columns) (arrays_of_run run.entry) (run.entry.from + i) }
 {
-    Values::of_arrays(row(
+    row(
         &schema.fields,
         run.arrays,
         run.bytes,
         run.dictionaries,
         run.from + run.len,
         run.from + i,
-    ))
+    )
 }
 
 // Goes through the rows of a run.

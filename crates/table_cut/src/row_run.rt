@@ -38,7 +38,7 @@ impl<'a> RowRun<'a> {
     }
 
     /// The rows after the first of these.
-    pub fn behind(self, len: usize) -> RowRun<'a>
+    pub fn skip(self, len: usize) -> RowRun<'a>
         requires { len ≤ self.len }
         ensures len { result.len ≡ self.entry.len - len }
         ensures rows { (columns : Columns) → run_rows columns result ≡ drop len (run_rows columns self.entry) }

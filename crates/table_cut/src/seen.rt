@@ -5,7 +5,7 @@ ghost use Rattle.arrow_schema.specs.View.{schema_of};
 ghost use Rattle.cells.specs.Cell.{Cell};
 ghost use Rattle.cells.specs.Dictionary.{with_entries, is_within, is_any_limited, dictionaries_fit};
 ghost use Rattle.table_cut.specs.inner.Seen.{held_in, entries_in, entries_held, with_all, are_within, AreSeen};
-ghost use Rattle.values.specs.Borrowed.{borrowed_cell, borrowed_cells};
+ghost use Rattle.columns.specs.Borrowed.{borrowed_cell, borrowed_cells};
 
 use crate::holding::{Held, held_in_row};
 use arrow_schema::Schema;

@@ -4,7 +4,7 @@ ghost use Rattle.arrow_schema.specs.Column.{PlainSchema, columns_of};
 ghost use Rattle.arrow_schema.specs.View.{schema_of};
 ghost use Rattle.cells.specs.Cell.{Cell};
 ghost use Rattle.cells.specs.Dictionary.{is_any_limited, dictionaries_fit};
-ghost use Rattle.values.specs.Borrowed.{borrowed_cells};
+ghost use Rattle.columns.specs.Borrowed.{borrowed_cells};
 
 use crate::seen::{first_entries, fits_dictionaries, takes_row};
 use arrow_schema::Schema;

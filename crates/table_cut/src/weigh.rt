@@ -4,7 +4,7 @@ ghost use Rattle.arrow_schema.specs.Column.{columns_of};
 ghost use Rattle.arrow_schema.specs.View.{kind_of, column_of, schema_of};
 ghost use Rattle.cells.specs.Cell.{cells_of, no_cell, null};
 ghost use Rattle.cells.specs.Weight.{weight, row_weight, kind_weight, parts_weight, sum_of, fixed_sum, byte_count, items_in, parts_in, capped_weight};
-ghost use Rattle.values.specs.Borrowed.{borrowed_cell, borrowed_cells};
+ghost use Rattle.columns.specs.Borrowed.{borrowed_cell, borrowed_cells};
 
 use arrow_schema::{DataType, Field, Schema};
 use cells::{add_weights, multiply_weight};

@@ -16,7 +16,7 @@ use arrow_schema::Schema;
 use cells::{MAX_ROW_WEIGHT, MAX_TABLE_WEIGHT, has_limits};
 use csv::{ByteRecord, Reader};
 use std::alloc::{AllocError, Global};
-use text_import::{TextError, csv_records, field_text, numbered_row, read_next};
+use text_import::{TextError, csv_records, numbered_row, read_next, record_field};
 
 // Appends the cells of as many fields as columns, and answers what their row weighs; none where a field is no cell of its column, or the
 // row is too heavy.
@@ -32,7 +32,7 @@ fn push_fields(
     let mut weight = 1;
     for i in 0..builders.len() {
         let builder = &mut builders[i];
-        let Some(heavy) = builder.push_field(null_text, field_text(row, i))? else {
+        let Some(heavy) = builder.push_field(null_text, record_field(row, i))? else {
             return Ok(None);
         };
         if heavy > MAX_ROW_WEIGHT - weight {

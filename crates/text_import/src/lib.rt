@@ -30,6 +30,6 @@ pub use jsonl::{is_blank, jsonl_rows, split_lines};
 pub use laws::{refused_parts_are_causes, rows_of_texts_are_rows};
 pub use objects::distinct_names;
 pub use part::{LinePart, RefusedPart, refused_part};
-pub use records::{csv_records, csv_rows, field_text, numbered_row, read_next};
+pub use records::{csv_records, csv_rows, numbered_row, read_next, record_field};
 pub use refusal::{Refusal, Refused, TextError};
 pub use texts::text_of;

@@ -21,7 +21,7 @@ use crate::TextForm;
 use crate::flat::field_cell;
 use crate::jsonl::{line_at, line_value};
 use crate::objects::{cell_in, first_unknown, member_in, repeat_names};
-use crate::records::{field_text, has_nested, record_at};
+use crate::records::{has_nested, record_at, record_field};
 use crate::refusal::CellError;
 use crate::texts::{is_name_of, name_of};
 use arrow_schema::{Field, Schema};
@@ -172,7 +172,7 @@ fn refused_field(
     ensures { IfOk result (λ part. option_map part_of part ≡ refused_field null_text.now (map column_of fields.now) (fields_of row.now)) }
 {
     for (i, field) in fields.iter().enumerate() {
-        let text = field_text(row, i);
+        let text = record_field(row, i);
         if is_refused(field_cell(alloc, field, null_text, text))? {
             return Ok(Some(field_part(alloc, field, text)?));
         }

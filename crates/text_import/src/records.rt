@@ -110,7 +110,7 @@ fn are_names(row: &ByteRecord, fields: &[Field]) -> bool
 }
 
 /// Returns the text of a field.
-pub fn field_text(row: &ByteRecord, i: usize) -> &[u8]
+pub fn record_field(row: &ByteRecord, i: usize) -> &[u8]
     requires { i < length (fields_of row.now) }
     ensures { result.now ≡ slice_index_or (fields_of row.now) i [] }
 {
@@ -129,7 +129,7 @@ fn field_cells(
 {
     let mut cells = Vec::with_capacity(alloc, fields.len())?;
     for (i, field) in fields.iter().enumerate() {
-        cells.push_reserved(field_cell(alloc, field, null_text, field_text(row, i))?);
+        cells.push_reserved(field_cell(alloc, field, null_text, record_field(row, i))?);
     }
     Ok(cells)
 }

@@ -10,6 +10,7 @@ ghost use Rattle.values.specs.Parts.{parts_rows, are_parts_sound};
 use crate::starts::{run_near, starts_of};
 use crate::table_part::TablePart;
 use arrow_schema::Field;
+use columns::Values;
 use std::alloc::{AllocError, Global};
 
 /// Record batches, and where the rows of each start: those of a part in the table, and those of a batch in its part.
@@ -140,7 +141,7 @@ impl Batches {
         fields: &'a [Field],
         place: BatchPlace,
         row: usize,
-    ) -> columns::Values<'a>
+    ) -> Values<'a>
         requires there { IsInBatch self.now.parts.items place.part place.batch row }
         requires sound { are_parts_sound (fields_of fields.now) self.now.parts.items ≡ true }
         requires texts { (cells : List Cell) → slice_get (parts_rows (fields_of fields.now) self.now.parts.items) row ≡ Some cells

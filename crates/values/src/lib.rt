@@ -15,8 +15,8 @@
 
 mod accept;
 mod batches;
-mod borrowed;
 mod content;
+mod copying;
 mod errors;
 mod laws;
 mod list_items;
@@ -26,8 +26,9 @@ mod table;
 mod table_part;
 mod weighed_table;
 
-pub use borrowed::{ValueRef, Values, ValuesIter, borrow_value};
 pub use cells::{Row, Value};
+pub use columns::{ValueRef, Values, ValuesIter, borrow_value};
+pub use copying::copy_row;
 pub use errors::TableError;
 pub use laws::{accepted_rows_are_a_table, tables_are_joined_and_cut};
 pub use list_items::{items, push_all};

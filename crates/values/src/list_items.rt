@@ -2,9 +2,9 @@
 ghost use Rattle.std.specs.Prelude.{◌≡◌, ◌++◌, OnOk, OnErr, IfOk, map};
 ghost use Rattle.std.specs.List.{flat_map};
 ghost use Rattle.cells.specs.Dictionary.{item_list};
-ghost use Rattle.values.specs.Borrowed.{borrowed_cell, borrowed_cells};
+ghost use Rattle.columns.specs.Borrowed.{borrowed_cell, borrowed_cells};
 
-use crate::borrowed::{ValueRef, Values};
+use columns::{ValueRef, Values};
 use std::alloc::{AllocError, Global};
 
 /// Appends borrowed values, in order.

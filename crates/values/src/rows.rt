@@ -4,9 +4,9 @@ ghost use Rattle.cells.specs.Row.{row_of};
 ghost use Rattle.cells.specs.View.{cell};
 
 use crate::batches::BatchPlace;
-use crate::borrowed::Values;
 use crate::table::Table;
 use cells::{Row, Value};
+use columns::Values;
 
 /// Gives the rows of a table in order.
 #[derive(Drop)]
@@ -19,7 +19,7 @@ pub struct Rows<'a> {
 
 impl<'a> Iterator for Rows<'a> {
     ghost use Rattle.std.specs.Iterator.{YieldsFirstBy, item_count};
-    ghost use Rattle.values.specs.Borrowed.{borrowed_cells};
+    ghost use Rattle.columns.specs.Borrowed.{borrowed_cells};
     ghost use Rattle.values.specs.TableView.{rows_left};
 
     type Item = Values<'a>;

@@ -5,7 +5,6 @@ ghost use Rattle.values.specs.Content.{table_with, is_filled};
 
 use crate::accept::weigh_rows;
 use crate::batches::{BatchPlace, Batches, part_lengths};
-use crate::borrowed::{Form, Values};
 use crate::content::Content;
 use crate::errors::TableError;
 use crate::rows::{Rows, given_row};
@@ -13,6 +12,7 @@ use crate::starts::total;
 use crate::table_part::TablePart;
 use arrow_schema::Schema;
 use cells::{MAX_TABLE_WEIGHT, Row};
+use columns::Values;
 use std::alloc::{AllocError, Global};
 
 /// A table: its schema, and its rows in order. Contracts see nothing else of it. Rows that were given one by one stay as
@@ -31,7 +31,7 @@ impl Table {
     ghost use Rattle.arrow_schema.specs.Column.{columns_of};
     ghost use Rattle.arrow_schema.specs.View.{schema_of};
     ghost use Rattle.arrow_schema.specs.Limits.{IsWithinLimits};
-    ghost use Rattle.values.specs.Borrowed.{borrowed_cells};
+    ghost use Rattle.columns.specs.Borrowed.{borrowed_cells};
     ghost use Rattle.values.specs.Parts.{are_parts_sound, parts_table};
     ghost use Rattle.values.specs.Table.{table_from};
     ghost use Rattle.cells.specs.Row.{row_of};
@@ -198,15 +198,14 @@ impl Table {
         if i >= self.len() {
             return None;
         }
-        let form = match &self.content {
-            Content::Rows(rows) => Form::Cells(given_row(rows, i)),
+        match &self.content {
+            Content::Rows(rows) => Some(Values::of_cells(given_row(rows, i))),
             Content::Batches(batches) => {
                 let place = batches.find(i, *near);
                 *near = place;
-                Form::Arrays(batches.row(&self.schema.fields, place, i))
+                Some(batches.row(&self.schema.fields, place, i))
             }
-        };
-        Some(Values { form })
+        }
     }
 
     /// Returns the rows, in order.

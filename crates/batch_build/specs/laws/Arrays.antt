@@ -15,8 +15,8 @@ use Rattle.columns.specs.Offsets.{width_of}
 use Rattle.columns.specs.Tests.{Typed, arrays_at, arrays_below, typed}
 use Rattle.columns.specs.declared.numbers.OffsetWidth.{OffsetWidth}
 use Rattle.columns.specs.declared.numbers.OffsetWidth.TheVariants.{Four, Eight}
-use Rattle.values.specs.Borrowed.{borrowed_cell}
-use Rattle.values.specs.declared.borrowed.ValueRef.{ValueRef}
+use Rattle.columns.specs.Borrowed.{borrowed_cell}
+use Rattle.columns.specs.declared.borrowed.ValueRef.{ValueRef}
 use Rattle.batch_build.specs.Batch.{PlainBatch, dictionary_of, with_arrays, plain_column, built_at, built_below}
 use Rattle.batch_build.specs.Nodes.{with_node, with_buffer, with_slots, node_of_cells, text_kind, binary_kind, list_kind}
 use Rattle.batch_build.specs.laws.Joined.{more_arrays}

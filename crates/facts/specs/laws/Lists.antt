@@ -1,5 +1,5 @@
 -- Lists up to a place and from a place on, joined lists, and lists made from each item.
-use Rattle.std.specs.List.{AllByRecursion, flat_map, list_all, list_any, range_with_len}
+use Rattle.std.specs.List.{AllByRecursion, flat_map, list_all, list_any, position_from, range_with_len}
 use Rattle.std.specs.Prelude.{slice_get}
 use Rattle.std.proofs.Common.{inl, inr, ◌≡◌, ℕ, zero, suc, ◌+◌, ◌<◌, ◌≤◌, Bool, true, false, List, [], ◌∷◌, ◌++◌, map, length, get_or, take, drop, Some, None, refl, ap, sym, ◌∙◌, arith}
 use Rattle.std.proofs.lemmas.Bool.{and_from, and_parts, or_parts}
@@ -50,6 +50,11 @@ none_in_range p start zero none = refl
 none_in_range p start (suc n) none =
     let here : p start ≡ false = none start (omega arith) (omega arith) in
     rw here (none_in_range p (start + 1) n (λ i low high. none i (omega arith) (omega arith)))
+
+-- what no item passes is nowhere
+pub nowhere_from : {X : Type 0} (p : X → Bool) (xs : List X) (i : ℕ) → ((x : X) → p x ≡ false) → position_from p i xs ≡ None
+nowhere_from p [] i never = refl
+nowhere_from p (x ∷ xs) i never = rw (never x) (nowhere_from p xs (i + 1) never)
 
 -- functions that agree map a list alike
 pub maps_same : {X Y : Type 0} (f g : X → Y) → ((x : X) → f x ≡ g x) → (xs : List X) → map f xs ≡ map g xs

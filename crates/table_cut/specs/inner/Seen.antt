@@ -7,7 +7,7 @@ use Rattle.cells.specs.Entry.{entry_cell}
 use Rattle.cells.specs.declared.entry.Entry.{Entry}
 use Rattle.indexmap.specs.IndexSet.{IndexSet}
 use Rattle.table_cut.specs.declared.holding.Held.{Held}
-use Rattle.values.specs.Borrowed.{borrowed_cell}
+use Rattle.columns.specs.Borrowed.{borrowed_cell}
 
 -- the cells of a dictionary column, and how many entries its indices can name
 pub record LimitedCells : Type 0 where

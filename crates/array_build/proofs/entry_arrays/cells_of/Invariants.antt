@@ -1,6 +1,6 @@
 use Rattle.std.proofs.Common.{◌≡◌, ◌≤◌, ◌+◌, ◌++◌, drop, length, map, vec_len, vec_capacity}
 use Rattle.cells.specs.Entry.{entry_cell}
-use Rattle.values.specs.Borrowed.{borrowed_cell}
+use Rattle.columns.specs.Borrowed.{borrowed_cell}
 use Rattle.array_build.proofs.entry_arrays.cells_of.Given as goal
 
 -- those that are made, and those that are left

@@ -2,8 +2,8 @@ use Rattle.std.proofs.Common.{◌≡◌, ◌∙◌, ◌+◌, Bool, List, [], ◌
 use Rattle.bitmap.specs.Bits.{packed}
 use Rattle.facts.specs.laws.Lists.{drop-item}
 use Rattle.columns.specs.Built.{is_set}
-use Rattle.values.specs.Borrowed.{borrowed_cell}
-use Rattle.values.specs.declared.borrowed.ValueRef.{ValueRef}
+use Rattle.columns.specs.Borrowed.{borrowed_cell}
+use Rattle.columns.specs.declared.borrowed.ValueRef.{ValueRef}
 use Rattle.batch_build.specs.laws.Ended.{ended}
 use Rattle.batch_build.proofs.boolean_bits.bits.Goals as goal
 

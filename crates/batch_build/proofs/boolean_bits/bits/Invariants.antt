@@ -1,6 +1,6 @@
 use Rattle.std.proofs.Common.{◌≡◌, ◌≤◌, ◌++◌, map, drop, length, vec_len, vec_capacity}
 use Rattle.columns.specs.Built.{is_set}
-use Rattle.values.specs.Borrowed.{borrowed_cell}
+use Rattle.columns.specs.Borrowed.{borrowed_cell}
 use Rattle.batch_build.proofs.boolean_bits.bits.Given as goal
 
 abbrev pub invariant-loop-cell : goal.invariant-loop-cell

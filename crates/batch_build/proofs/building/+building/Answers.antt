@@ -9,7 +9,7 @@ use Rattle.facts.specs.laws.Lists.{drop-item}
 use Rattle.cells.specs.Cell.{Cell}
 use Rattle.cells.specs.Dictionary.{part_list}
 use Rattle.columns.specs.Buildable.{can_build}
-use Rattle.values.specs.Borrowed.{borrowed_cell}
+use Rattle.columns.specs.Borrowed.{borrowed_cell}
 use Rattle.batch_build.specs.Nodes.{with_buffer}
 use Rattle.batch_build.specs.Batch.{PlainBatch, batch_in, built_at, built_below, dictionary_in, plain_column, with_arrays}
 use Rattle.batch_build.specs.laws.Arrays.{fixed_lists_are, lists_are, structs_are, timestamps_are}

@@ -4,7 +4,7 @@ use Rattle.arrow_schema.specs.View.{column_of}
 use Rattle.batch_build.specs.Batch.{batch_in, built_below, with_arrays}
 use Rattle.cells.specs.Dictionary.{part_list}
 use Rattle.columns.specs.Buildable.{can_build_parts}
-use Rattle.values.specs.Borrowed.{borrowed_cell}
+use Rattle.columns.specs.Borrowed.{borrowed_cell}
 use Rattle.batch_build.proofs.PartColumns.{rows_from, columns_from}
 use Rattle.batch_build.proofs.building.+building.Given as goal
 

@@ -7,7 +7,7 @@ use Rattle.arrow_schema.specs.View.{column_of}
 use Rattle.facts.specs.laws.Lists.{drop-item}
 use Rattle.cells.specs.Cell.{Cell}
 use Rattle.columns.specs.Buildable.{can_build, can_build_parts, has_each_part}
-use Rattle.values.specs.Borrowed.{borrowed_cell, borrowed_cells}
+use Rattle.columns.specs.Borrowed.{borrowed_cell, borrowed_cells}
 use Rattle.batch_build.specs.Batch.{PlainBatch, batch_in, built_at, built_below, with_arrays}
 use Rattle.batch_build.proofs.PartColumns.{rows_start, field_can, field_arrays, last_field}
 use Rattle.batch_build.proofs.building.build.Goals as goal

@@ -3,7 +3,7 @@ use Rattle.arrow_schema.specs.Column.{columns_of}
 use Rattle.arrow_schema.specs.View.{column_of}
 use Rattle.batch_build.specs.Batch.{batch_in, batch_of, built_below, with_arrays}
 use Rattle.columns.specs.Buildable.{can_build_parts}
-use Rattle.values.specs.Borrowed.{borrowed_cells}
+use Rattle.columns.specs.Borrowed.{borrowed_cells}
 use Rattle.batch_build.proofs.PartColumns.{rows_from, columns_from}
 use Rattle.batch_build.proofs.building.build.Given as goal
 

@@ -5,8 +5,8 @@ use Rattle.facts.specs.laws.Lists.{drop-item}
 use Rattle.byteorder.specs.Endian.{little_bytes}
 use Rattle.columns.specs.Built.{contents_of, sums_from}
 use Rattle.columns.specs.Offsets.{width_of}
-use Rattle.values.specs.Borrowed.{borrowed_cell}
-use Rattle.values.specs.declared.borrowed.ValueRef.{ValueRef}
+use Rattle.columns.specs.Borrowed.{borrowed_cell}
+use Rattle.columns.specs.declared.borrowed.ValueRef.{ValueRef}
 use Rattle.batch_build.specs.laws.Offsets.{last_offset}
 use Rattle.batch_build.proofs.content_bytes.content_offsets.Goals as goal
 

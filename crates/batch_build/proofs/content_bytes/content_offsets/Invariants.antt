@@ -3,7 +3,7 @@ use Rattle.std.specs.List.{flat_map}
 use Rattle.byteorder.specs.Endian.{little_bytes}
 use Rattle.columns.specs.Built.{contents_of, offsets_of, sums_from}
 use Rattle.columns.specs.Offsets.{width_of}
-use Rattle.values.specs.Borrowed.{borrowed_cell}
+use Rattle.columns.specs.Borrowed.{borrowed_cell}
 use Rattle.batch_build.proofs.content_bytes.content_offsets.Given as goal
 
 -- the offsets so far and the others, which end where all ends

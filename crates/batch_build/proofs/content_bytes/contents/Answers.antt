@@ -2,8 +2,8 @@ use Rattle.std.specs.List.{flat_map}
 use Rattle.std.proofs.Common.{◌∙◌, ◌+◌, List, map, drop, append_assoc, refl}
 use Rattle.facts.specs.laws.Lists.{drop-item}
 use Rattle.columns.specs.Built.{contents_of}
-use Rattle.values.specs.Borrowed.{borrowed_cell}
-use Rattle.values.specs.declared.borrowed.ValueRef.{ValueRef}
+use Rattle.columns.specs.Borrowed.{borrowed_cell}
+use Rattle.columns.specs.declared.borrowed.ValueRef.{ValueRef}
 use Rattle.batch_build.specs.laws.Ended.{ended}
 use Rattle.batch_build.proofs.content_bytes.contents.Goals as goal
 

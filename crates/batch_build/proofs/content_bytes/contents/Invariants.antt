@@ -1,7 +1,7 @@
 use Rattle.std.proofs.Common.{◌≡◌, ◌++◌, map, drop}
 use Rattle.std.specs.List.{flat_map}
 use Rattle.columns.specs.Built.{contents_of}
-use Rattle.values.specs.Borrowed.{borrowed_cell}
+use Rattle.columns.specs.Borrowed.{borrowed_cell}
 use Rattle.batch_build.proofs.content_bytes.contents.Given as goal
 
 abbrev pub invariant-loop-cell : goal.invariant-loop-cell

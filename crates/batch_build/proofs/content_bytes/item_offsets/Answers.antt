@@ -6,8 +6,8 @@ use Rattle.byteorder.specs.Endian.{little_bytes}
 use Rattle.cells.specs.Dictionary.{item_list}
 use Rattle.columns.specs.Built.{sums_from}
 use Rattle.columns.specs.Offsets.{width_of}
-use Rattle.values.specs.Borrowed.{borrowed_cell}
-use Rattle.values.specs.declared.borrowed.ValueRef.{ValueRef}
+use Rattle.columns.specs.Borrowed.{borrowed_cell}
+use Rattle.columns.specs.declared.borrowed.ValueRef.{ValueRef}
 use Rattle.batch_build.specs.laws.Offsets.{last_offset}
 use Rattle.batch_build.proofs.content_bytes.item_offsets.Goals as goal
 

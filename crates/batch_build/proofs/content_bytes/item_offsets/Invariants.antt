@@ -4,7 +4,7 @@ use Rattle.byteorder.specs.Endian.{little_bytes}
 use Rattle.cells.specs.Dictionary.{item_list}
 use Rattle.columns.specs.Built.{offsets_of, sums_from}
 use Rattle.columns.specs.Offsets.{width_of}
-use Rattle.values.specs.Borrowed.{borrowed_cell}
+use Rattle.columns.specs.Borrowed.{borrowed_cell}
 use Rattle.batch_build.proofs.content_bytes.item_offsets.Given as goal
 
 -- the offsets so far and the others, which end where all ends

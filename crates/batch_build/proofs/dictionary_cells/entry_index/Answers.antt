@@ -1,7 +1,7 @@
 use Rattle.std.proofs.Common.{◌∙◌, ap, map}
 use Rattle.cells.specs.Entry.{entry_cell}
 use Rattle.columns.specs.Built.{place_or_zero}
-use Rattle.values.specs.Borrowed.{borrowed_cell}
+use Rattle.columns.specs.Borrowed.{borrowed_cell}
 use Rattle.batch_build.proofs.Entries.{place_is, place_among, index_is}
 use Rattle.batch_build.proofs.dictionary_cells.entry_index.Goals as goal
 

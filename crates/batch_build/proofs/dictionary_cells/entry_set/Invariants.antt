@@ -1,7 +1,7 @@
 use Rattle.std.proofs.Common.{◌≡◌, map, drop}
 use Rattle.cells.specs.Dictionary.{with_entries, entries_of}
 use Rattle.cells.specs.Entry.{entry_cell}
-use Rattle.values.specs.Borrowed.{borrowed_cell}
+use Rattle.columns.specs.Borrowed.{borrowed_cell}
 use Rattle.batch_build.proofs.dictionary_cells.entry_set.Given as goal
 
 abbrev pub invariant-loop-cell : goal.invariant-loop-cell

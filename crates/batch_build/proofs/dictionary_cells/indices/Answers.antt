@@ -7,8 +7,8 @@ use Rattle.cells.specs.Cell.{Cell}
 use Rattle.cells.specs.Entry.{entry_cell}
 use Rattle.columns.specs.Built.{index_bytes}
 use Rattle.facts.specs.laws.Lists.{drop-item}
-use Rattle.values.specs.Borrowed.{borrowed_cell}
-use Rattle.values.specs.declared.borrowed.ValueRef.{ValueRef}
+use Rattle.columns.specs.Borrowed.{borrowed_cell}
+use Rattle.columns.specs.declared.borrowed.ValueRef.{ValueRef}
 use Rattle.batch_build.specs.laws.Ended.{ended}
 use Rattle.batch_build.specs.laws.Turns.{turned}
 use Rattle.batch_build.proofs.dictionary_cells.indices.Goals as goal

@@ -3,7 +3,7 @@ use Rattle.std.specs.List.{flat_map}
 use Rattle.arrow_schema.specs.View.{bits_of}
 use Rattle.cells.specs.Entry.{entry_cell}
 use Rattle.columns.specs.Built.{index_bytes}
-use Rattle.values.specs.Borrowed.{borrowed_cell}
+use Rattle.columns.specs.Borrowed.{borrowed_cell}
 use Rattle.batch_build.proofs.dictionary_cells.indices.Given as goal
 
 abbrev pub invariant-loop-cell : goal.invariant-loop-cell

@@ -1,7 +1,7 @@
 use Rattle.std.proofs.Common.{◌++◌, ◌+◌, ◌-◌, ◌∙◌, List, arith, ap, map, replicate}
 use Rattle.std.proofs.lemmas.List.{map-append}
 use Rattle.cells.specs.Cell.{Cell, null}
-use Rattle.values.specs.Borrowed.{borrowed_cell}
+use Rattle.columns.specs.Borrowed.{borrowed_cell}
 use Rattle.batch_build.proofs.Equals.{one_more}
 use Rattle.batch_build.proofs.item_cells.add_nulls.Goals as goal
 

@@ -1,6 +1,6 @@
 use Rattle.std.proofs.Common.{◌≡◌, ◌++◌, ◌-◌, map, replicate}
 use Rattle.cells.specs.Cell.{null}
-use Rattle.values.specs.Borrowed.{borrowed_cell}
+use Rattle.columns.specs.Borrowed.{borrowed_cell}
 use Rattle.batch_build.proofs.item_cells.add_nulls.Given as goal
 
 abbrev pub invariant-loop : goal.invariant-loop

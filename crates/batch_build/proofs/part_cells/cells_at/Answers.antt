@@ -2,8 +2,8 @@ use Rattle.std.proofs.Common.{◌∙◌, ◌+◌, ◌++◌, List, [], ◌∷◌,
 use Rattle.cells.specs.Cell.{Cell}
 use Rattle.columns.specs.Built.{first_cell}
 use Rattle.facts.specs.laws.Lists.{drop-item}
-use Rattle.values.specs.Borrowed.{borrowed_cell, borrowed_cells}
-use Rattle.values.specs.declared.borrowed.Values.{Values}
+use Rattle.columns.specs.Borrowed.{borrowed_cell, borrowed_cells}
+use Rattle.columns.specs.declared.borrowed.Values.{Values}
 use Rattle.batch_build.specs.laws.Ended.{ended}
 use Rattle.batch_build.specs.laws.Turns.{turned}
 use Rattle.batch_build.proofs.part_cells.cells_at.Goals as goal

@@ -1,6 +1,6 @@
 use Rattle.std.proofs.Common.{◌≡◌, ◌≤◌, ◌++◌, map, length, drop, vec_len, vec_capacity}
 use Rattle.columns.specs.Built.{first_cell}
-use Rattle.values.specs.Borrowed.{borrowed_cell, borrowed_cells}
+use Rattle.columns.specs.Borrowed.{borrowed_cell, borrowed_cells}
 use Rattle.batch_build.proofs.part_cells.cells_at.Given as goal
 
 abbrev pub invariant-loop-row : goal.invariant-loop-row

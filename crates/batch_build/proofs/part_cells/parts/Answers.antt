@@ -3,8 +3,8 @@ use Rattle.cells.specs.Cell.{Cell}
 use Rattle.cells.specs.Dictionary.{part_list}
 use Rattle.columns.specs.Built.{first_cell}
 use Rattle.facts.specs.laws.Lists.{drop-item}
-use Rattle.values.specs.Borrowed.{borrowed_cell}
-use Rattle.values.specs.declared.borrowed.ValueRef.{ValueRef}
+use Rattle.columns.specs.Borrowed.{borrowed_cell}
+use Rattle.columns.specs.declared.borrowed.ValueRef.{ValueRef}
 use Rattle.batch_build.specs.laws.Ended.{ended}
 use Rattle.batch_build.proofs.FirstCells.{one_pushed}
 use Rattle.batch_build.specs.laws.Turns.{turned}

@@ -1,7 +1,7 @@
 use Rattle.std.proofs.Common.{◌≡◌, ◌≤◌, ◌++◌, map, length, drop, vec_len, vec_capacity}
 use Rattle.cells.specs.Dictionary.{part_list}
 use Rattle.columns.specs.Built.{first_cell}
-use Rattle.values.specs.Borrowed.{borrowed_cell}
+use Rattle.columns.specs.Borrowed.{borrowed_cell}
 use Rattle.batch_build.proofs.part_cells.parts.Given as goal
 
 abbrev pub invariant-loop-cell : goal.invariant-loop-cell

@@ -7,10 +7,10 @@ use Rattle.std.proofs.lemmas.Result.{IfOk-weaker}
 use Rattle.bitmap.specs.Bits.{bytes_of, packed}
 use Rattle.columns.specs.Built.{validity_of}
 use Rattle.cells.specs.Cell.{Cell}
-use Rattle.values.specs.declared.borrowed.ValueRef.{ValueRef}
+use Rattle.columns.specs.declared.borrowed.ValueRef.{ValueRef}
 use Rattle.facts.specs.laws.Lists.{drop-item}
 use Rattle.cells.specs.Nulls.{is_there}
-use Rattle.values.specs.Borrowed.{borrowed_cell}
+use Rattle.columns.specs.Borrowed.{borrowed_cell}
 use Rattle.batch_build.proofs.valid_bits.validity.Goals as goal
 
 pub push_reserved-requires : goal.push_reserved-requires

@@ -1,6 +1,6 @@
 use Rattle.std.proofs.Common.{◌≡◌, ◌≤◌, ◌++◌, map, drop, length, vec_len, vec_capacity}
 use Rattle.cells.specs.Nulls.{is_there}
-use Rattle.values.specs.Borrowed.{borrowed_cell}
+use Rattle.columns.specs.Borrowed.{borrowed_cell}
 use Rattle.batch_build.proofs.valid_bits.validity.Given as goal
 
 abbrev pub invariant-loop-cell : goal.invariant-loop-cell

@@ -1,5 +1,5 @@
 use Rattle.std.proofs.Common.{◌∙◌, map}
-use Rattle.values.specs.Borrowed.{borrowed_cell}
+use Rattle.columns.specs.Borrowed.{borrowed_cell}
 use Rattle.batch_build.proofs.Low.{stored_values}
 use Rattle.batch_build.proofs.value_bytes.integer_values.Goals as goal
 

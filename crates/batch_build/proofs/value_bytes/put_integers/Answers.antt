@@ -7,7 +7,7 @@ use Rattle.std.proofs.lemmas.List.{length-map, take_all}
 use Rattle.byteorder.specs.Endian.{little_bytes}
 use Rattle.byteorder.specs.Numbers.{length-bytes_low_first}
 use Rattle.cells.specs.Cell.{Cell, null}
-use Rattle.values.specs.Borrowed.{borrowed_cell}
+use Rattle.columns.specs.Borrowed.{borrowed_cell}
 use Rattle.batch_build.specs.inner.Stored.{low_bytes_of}
 use Rattle.batch_build.proofs.Sized.{one_more}
 use Rattle.batch_build.proofs.value_bytes.put_integers.Goals as goal

@@ -1,6 +1,6 @@
 use Rattle.std.specs.List.{flat_map}
 use Rattle.std.proofs.Common.{◌≡◌, ◌*◌, take, map}
-use Rattle.values.specs.Borrowed.{borrowed_cell}
+use Rattle.columns.specs.Borrowed.{borrowed_cell}
 use Rattle.batch_build.specs.inner.Stored.{low_bytes_of}
 use Rattle.batch_build.proofs.value_bytes.put_integers.Given as goal
 

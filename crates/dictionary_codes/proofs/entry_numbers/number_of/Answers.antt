@@ -8,7 +8,7 @@ use Rattle.cells.specs.Dictionary.{is_entry, with_option}
 use Rattle.cells.specs.Entry.{entry_cell}
 use Rattle.cells.specs.declared.entry.Entry.{Entry}
 use Rattle.cells.specs.laws.EntryEquality.{entry_eq_is, put_is}
-use Rattle.values.specs.Borrowed.{borrowed_cell}
+use Rattle.columns.specs.Borrowed.{borrowed_cell}
 
 pub returns-in_ok-number-in-Some-clause-seen : goal.returns-in_ok-number-in-Some-clause-seen
 returns-in_ok-number-in-Some-clause-seen c =

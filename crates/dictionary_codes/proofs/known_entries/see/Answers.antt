@@ -6,7 +6,7 @@ use Rattle.dictionary_codes.proofs.Known.{keys_distinct}
 use Rattle.dictionary_codes.proofs.known_entries.see.Goals as goal
 use Rattle.cells.specs.Cell.{Cell, null}
 use Rattle.cells.specs.Entry.{entry_cell}
-use Rattle.values.specs.Borrowed.{borrowed_cell}
+use Rattle.columns.specs.Borrowed.{borrowed_cell}
 
 pub returns-then-len-clause-distinct : goal.returns-then-len-clause-distinct
 returns-then-len-clause-distinct c = λ distinct. keys_distinct c.number_of.new.seen.keys c.len-2.ensures.unique

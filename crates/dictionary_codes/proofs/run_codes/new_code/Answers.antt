@@ -11,7 +11,7 @@ use Rattle.cells.specs.Cell.{Cell}
 use Rattle.cells.specs.Dictionary.{with_entry}
 use Rattle.columns.specs.CellAt.{entry_at, index_at}
 use Rattle.columns.specs.View.{view_array}
-use Rattle.values.specs.Borrowed.{borrowed_cell}
+use Rattle.columns.specs.Borrowed.{borrowed_cell}
 
 pub returns-clause-known : goal.returns-clause-known
 returns-clause-known c =
@@ -19,12 +19,12 @@ returns-clause-known c =
     let after : List Cell = seen_cells c.number_of.new.self in
     let own : List Cell = own_entries c.args.field.now c.args.slots.view in
     let z : ℤ = index_at (index_of c.args.slots.spec) (view_array c.args.slots.view) c.args.i in
-    let cell : borrowed_cell c.slot_cell.result ≡ entry_at own z =
-    c.slot_cell.ensures ∙ valid_cell c.args.field.now c.args.slots.spec (view_array c.args.slots.view) c.args.i c.requires.slot.spec c.requires.valid in
+    let cell : borrowed_cell c.value.result ≡ entry_at own z =
+    c.value.ensures ∙ valid_cell c.args.field.now c.args.slots.spec (view_array c.args.slots.view) c.args.i c.requires.slot.spec c.requires.valid in
     let seen : after ≡ with_entry before (entry_at own z) = c.in_ok-number.ensures.seen ∙ ap (with_entry before) cell in
     let number : IsNumber (with_entry before (entry_at own z)) c.in_ok-number.number (entry_at own z) =
     subst (λ (x : Cell). IsNumber (with_entry before (entry_at own z)) c.in_ok-number.number x) cell
-    (subst (λ (xs : List Cell). IsNumber xs c.in_ok-number.number (borrowed_cell c.slot_cell.result)) seen c.in_ok-number.ensures.number) in
+    (subst (λ (xs : List Cell). IsNumber xs c.in_ok-number.number (borrowed_cell c.value.result)) seen c.in_ok-number.ensures.number) in
     let items = c.note_code.ensures ∙ ap (λ (place : Option ℕ). noted c.args.known.now place c.small_code.result) c.number-place.ensures in
     let small = small_number (with_entry before (entry_at own z)) (entry_at own z) c.in_ok-number.number c.small_code.result c.small_code.ensures number in
     let all = noted_known before own c.args.known.now z c.small_code.result c.requires.known small in

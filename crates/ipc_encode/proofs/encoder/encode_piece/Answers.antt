@@ -9,7 +9,7 @@ use Rattle.ipc_encode.specs.View.{joined_parts}
 use Rattle.ipc_encode.specs.inner.Stream.{stream_in}
 use Rattle.cells.specs.Cell.{Cell}
 use Rattle.ipc_write.specs.Written.{schema_message, end_of_stream}
-use Rattle.values.specs.Borrowed.{borrowed_cells}
+use Rattle.columns.specs.Borrowed.{borrowed_cells}
 use Rattle.ipc_encode.proofs.encoder.encode_piece.Goals as goal
 
 pub returns-clause-stream : goal.returns-clause-stream

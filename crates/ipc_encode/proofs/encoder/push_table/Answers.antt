@@ -13,7 +13,7 @@ use Rattle.ipc_encode.specs.View.{joined_parts, streams_behind, with_schema}
 use Rattle.cells.specs.Cell.{Cell, PlainTable}
 use Rattle.facts.specs.laws.Lists.{all_more}
 use Rattle.table_cut.specs.Cut.{pieces}
-use Rattle.values.specs.Borrowed.{borrowed_cells}
+use Rattle.columns.specs.Borrowed.{borrowed_cells}
 use Rattle.ipc_write.specs.Written.{schema_message}
 use Rattle.table_cut.specs.Piece.{within_piece}
 use Rattle.values.specs.TableView.{table_of}

@@ -11,8 +11,8 @@ use Rattle.ipc_encode.specs.inner.Stream.{stream_in}
 use Rattle.cells.specs.Cell.{Cell, PlainTable}
 use Rattle.table_cut.specs.Cut.{pieces}
 use Rattle.table_cut.specs.Piece.{within_piece}
-use Rattle.values.specs.Borrowed.{borrowed_cells}
-use Rattle.values.specs.declared.borrowed.Values.{Values}
+use Rattle.columns.specs.Borrowed.{borrowed_cells}
+use Rattle.columns.specs.declared.borrowed.Values.{Values}
 use Rattle.values.specs.TableView.{table_of}
 use Rattle.ipc_encode.proofs.encoder.write_rows.Goals as goal
 

@@ -8,7 +8,7 @@ use Rattle.arrow_schema.specs.declared.types.Field.{Field}
 use Rattle.ipc_encode.proofs.Steps.{PieceLaws, IsBuiltPiece, built_piece}
 use Rattle.batch_build.specs.Batch.{batch_of, built_below}
 use Rattle.cells.specs.Cell.{Cell}
-use Rattle.values.specs.Borrowed.{borrowed_cells}
+use Rattle.columns.specs.Borrowed.{borrowed_cells}
 use Rattle.ipc_encode.proofs.messages.build_piece.Goals as goal
 
 pub returns : goal.returns

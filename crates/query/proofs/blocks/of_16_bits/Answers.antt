@@ -11,5 +11,5 @@ returns c =
     let loaded = chunk (2 * first) 64 values in
     let bytes = below_from_Fits w8 loaded (chunk-fits w8 (2 * first) 64 values c.type_inv.values) in
     let lanes = lanes_are 2 32 64 (2 ^ 16) first values refl (λ j h. omega (arith, h)) (omega (arith, c.requires.room)) bytes in
-    block_is w16 2 32 first c.args.cut values (digits_l (2 ^ 16) 32 (number_l 256 loaded)) c.from-below.result c.from-equal.result c.from-above.result
+    block_is w16 2 32 first c.args.by_order values (digits_l (2 ^ 16) 32 (number_l 256 loaded)) c.from-below.result c.from-equal.result c.from-above.result
     c.from-below.ensures c.from-equal.ensures c.from-above.ensures (omega arith) lanes

@@ -2,7 +2,7 @@ use mir.Val.{SFits}
 use Rattle.std.specs.Int.{w128}
 use Rattle.std.proofs.Common.{◌∙◌, rules}
 use Rattle.std.proofs.lemmas.Int.{to_z-of_z}
-use Rattle.query.proofs.Cuts.{folded_is}
+use Rattle.query.proofs.OrderAnswers.{folded_is}
 use Rattle.query.proofs.integer_slots.signed_number.Goals as goal
 
 pub returns : goal.returns

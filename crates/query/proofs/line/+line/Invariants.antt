@@ -1,8 +1,8 @@
 use Rattle.std.proofs.Common.{◌≡◌, ◌≤◌, ◌++◌}
 use Rattle.cells.specs.Cell.{cells_of}
-use Rattle.values.specs.Borrowed.{borrowed_cells, values_left}
+use Rattle.columns.specs.Borrowed.{borrowed_cells, values_left}
 use Rattle.query.specs.Line.{json_of_others}
-use Rattle.query.proofs.Nodes.{nodes_all, value_depth, array_depth, values_depth}
+use Rattle.columns.specs.laws.Nodes.{nodes_all, value_depth, array_depth, values_depth}
 use Rattle.query.proofs.line.+line.Given as goal
 
 abbrev pub decreases-push_value : goal.decreases-push_value

@@ -2,7 +2,7 @@
 use Rattle.std.proofs.Common.{◌≡◌, ◌++◌, map, drop}
 use Rattle.arrow_schema.specs.Parts.{name_of_column}
 use Rattle.arrow_schema.specs.View.{column_of}
-use Rattle.values.specs.Borrowed.{values_left}
+use Rattle.columns.specs.Borrowed.{values_left}
 use Rattle.query.specs.ObjectLine.{other_members}
 use Rattle.query.proofs.object_line.push_other_members.Given as goal
 

@@ -47,11 +47,11 @@ loop-next-preserved c =
           λ j above below. stop.ensures.alike (start + j) (omega (arith, here, above)) (omega (arith, below, here, size, stop.ensures.begins)) ∙ set in
           let run = run_rows cs c.front-run.result in
           let front : run ≡ take (stop.result - c.loop-next.next) (drop i xs) =
-          c.front-run.ensures.rows cs ∙ ap (take (stop.result - c.loop-next.next)) (c.behind.ensures.rows cs) in
+          c.front-run.ensures.rows cs ∙ ap (take (stop.result - c.loop-next.next)) (c.skip.ensures.rows cs) in
           let own = front_taken xs run (take n run) i (stop.result - c.loop-next.next) n front refl size in
           let added = c.in_ok-len.ensures.rows cs ∙ ap (λ (ys : List (List Cell)). runs_rows cs c.loop-next.kept.runs.items ++ ys) own in
           let more = kept_run cs most rows mask start xs i n c.loop-next.kept c.keep_front.new.kept inside alike (omega (arith, c.in_ok-len.ensures.count, c.in_ok-len.ensures.few)) (is.kept cs sound rows h) added
-          (c.in_ok-len.ensures.sound cs (is.kept cs sound rows h).sound (c.front-run.ensures.sound cs (c.behind.ensures.sound cs sound))) c.in_ok-len.ensures.count in
+          (c.in_ok-len.ensures.sound cs (is.kept cs sound rows h).sound (c.front-run.ensures.sound cs (c.skip.ensures.sound cs sound))) c.in_ok-len.ensures.count in
           kept_next cs most rows mask start xs (i + n) (found.result - start) _ (omega (arith, here, found.ensures.begins)) (omega (arith, found.ensures.ends, long, is.begins, found.ensures.begins))
           (λ j above below. found.ensures.unset (start + j) (omega (arith, here, above)) (omega (arith, below, found.ensures.begins, is.begins))) more;
     }

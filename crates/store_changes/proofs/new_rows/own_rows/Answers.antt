@@ -1,7 +1,7 @@
 use Rattle.std.proofs.Common.{◌∙◌, [], ◌∷◌, map, append_assoc}
 use Rattle.std.proofs.lemmas.List.{map-append}
 use Rattle.cells.specs.Row.{row_of}
-use Rattle.values.specs.Borrowed.{borrowed_cells}
+use Rattle.columns.specs.Borrowed.{borrowed_cells}
 use Rattle.store_changes.proofs.new_rows.own_rows.Goals as goal
 
 pub loop-row-preserved : goal.loop-row-preserved

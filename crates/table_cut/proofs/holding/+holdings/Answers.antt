@@ -9,7 +9,7 @@ use Rattle.cells.specs.Cell.{Cell}
 use Rattle.cells.specs.Dictionary.{Holding, own_holding, holdings, holdings_below, holdings_from, part_list, cells_at}
 use Rattle.table_cut.specs.inner.Seen.{LimitedCells, held_of, held_in}
 use Rattle.table_cut.proofs.SeenLemmas.{held_more}
-use Rattle.values.specs.Borrowed.{borrowed_cell}
+use Rattle.columns.specs.Borrowed.{borrowed_cell}
 use Rattle.table_cut.proofs.holding.+holdings.Goals as goal
 
 pub hold_below-returns-in-List : goal.hold_below-returns-in-List

@@ -3,7 +3,7 @@ use Rattle.arrow_schema.specs.Column.{columns_of}
 use Rattle.arrow_schema.specs.View.{column_of}
 use Rattle.cells.specs.Dictionary.{part_list, holdings_from}
 use Rattle.table_cut.specs.inner.Seen.{held_of, held_in}
-use Rattle.values.specs.Borrowed.{borrowed_cell}
+use Rattle.columns.specs.Borrowed.{borrowed_cell}
 use Rattle.table_cut.proofs.holding.+holdings.Given as goal
 
 abbrev pub invariant-hold_parts-loop-i : goal.invariant-hold_parts-loop-i

@@ -7,7 +7,7 @@ use Rattle.cells.specs.Cell.{Cell}
 use Rattle.cells.specs.Dictionary.{Holding, holdings, holdings_from, cells_at}
 use Rattle.table_cut.specs.inner.Seen.{LimitedCells, held_in}
 use Rattle.table_cut.proofs.SeenLemmas.{held_more}
-use Rattle.values.specs.Borrowed.{borrowed_cells}
+use Rattle.columns.specs.Borrowed.{borrowed_cells}
 use Rattle.table_cut.proofs.holding.held_in_row.Goals as goal
 
 pub loop-i-preserved : goal.loop-i-preserved

@@ -3,7 +3,7 @@ use Rattle.arrow_schema.specs.Column.{columns_of}
 use Rattle.arrow_schema.specs.View.{column_of}
 use Rattle.cells.specs.Dictionary.{holdings_from}
 use Rattle.table_cut.specs.inner.Seen.{held_of, held_in}
-use Rattle.values.specs.Borrowed.{borrowed_cells}
+use Rattle.columns.specs.Borrowed.{borrowed_cells}
 use Rattle.table_cut.proofs.holding.held_in_row.Given as goal
 
 abbrev pub invariant-loop-i : goal.invariant-loop-i

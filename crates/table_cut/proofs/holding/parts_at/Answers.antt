@@ -4,7 +4,7 @@ use Rattle.std.proofs.lemmas.List.{append-nil, drop_all}
 use Rattle.facts.specs.laws.Lists.{drop-item}
 use Rattle.cells.specs.Cell.{Cell}
 use Rattle.cells.specs.Dictionary.{part_list, cells_at}
-use Rattle.values.specs.Borrowed.{borrowed_cell}
+use Rattle.columns.specs.Borrowed.{borrowed_cell}
 use Rattle.table_cut.proofs.holding.parts_at.Goals as goal
 
 pub loop-cell-preserved : goal.loop-cell-preserved

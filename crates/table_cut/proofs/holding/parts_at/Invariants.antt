@@ -1,6 +1,6 @@
 use Rattle.std.proofs.Common.{◌≡◌, ◌++◌, map, drop}
 use Rattle.cells.specs.Dictionary.{part_list, cells_at}
-use Rattle.values.specs.Borrowed.{borrowed_cell}
+use Rattle.columns.specs.Borrowed.{borrowed_cell}
 use Rattle.table_cut.proofs.holding.parts_at.Given as goal
 
 abbrev pub invariant-loop-cell : goal.invariant-loop-cell

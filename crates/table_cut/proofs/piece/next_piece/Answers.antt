@@ -12,9 +12,9 @@ use Rattle.table_cut.specs.inner.Seen.{AreSeen, entries_in}
 use Rattle.arrow_schema.specs.View.{schema_of}
 use Rattle.cells.specs.Dictionary.{Holding, holdings_of, entries_of, dictionaries_fit}
 use Rattle.table_cut.proofs.SeenLemmas.{as_many_more, all_written}
-use Rattle.values.specs.Borrowed.{borrowed_cells}
+use Rattle.columns.specs.Borrowed.{borrowed_cells}
 use Rattle.values.specs.TableView.{table_of}
-use Rattle.values.specs.declared.borrowed.Values.{Values}
+use Rattle.columns.specs.declared.borrowed.Values.{Values}
 use Rattle.table_cut.proofs.piece.next_piece.Goals.{then-len-ge-MAX_PIECE_ROWS-via-then-len-ge-MAX_PIECE_ROWS, then-len-ge-MAX_PIECE_ROWS-via-else-len-ge-MAX_PIECE_ROWS+then-weight-gt-MAX_PIECE_WEIGHT}
 use Rattle.table_cut.proofs.piece.next_piece.Goals as goal
 

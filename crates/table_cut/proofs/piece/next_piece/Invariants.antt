@@ -5,7 +5,7 @@ use Rattle.cells.specs.Weight.{row_weight, capped_weight}
 use Rattle.table_cut.specs.Cut.{pieces, pieces_from}
 use Rattle.table_cut.specs.inner.Seen.{AreSeen, entries_in}
 use Rattle.table_cut.specs.Piece.{within_piece}
-use Rattle.values.specs.Borrowed.{borrowed_cells}
+use Rattle.columns.specs.Borrowed.{borrowed_cells}
 use Rattle.values.specs.TableView.{table_of}
 use Rattle.table_cut.proofs.piece.next_piece.Given as goal
 

@@ -20,5 +20,5 @@ row-requires-clause-texts c =
 
 pub returns : goal.returns
 returns c =
-    c.of_arrays.ensures ∙ c.row.ensures
+    c.row.ensures
     ∙ ap (λ (fields : List Field). row_at (fields_of fields) (arrays_of_run c.args.run) (c.args.run.from + c.args.i)) c.deref.ensures.value

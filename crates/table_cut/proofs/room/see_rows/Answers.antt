@@ -5,7 +5,7 @@ use Rattle.arrow_schema.specs.View.{schema_of}
 use Rattle.cells.specs.Cell.{Cell}
 use Rattle.table_cut.specs.Rows.{run_rows}
 use Rattle.table_cut.specs.SeenRows.{HaveSeen}
-use Rattle.values.specs.Borrowed.{borrowed_cells}
+use Rattle.columns.specs.Borrowed.{borrowed_cells}
 use Rattle.table_cut.proofs.RoomLemmas.{one_row_more, all_of_run}
 use Rattle.table_cut.proofs.room.see_rows.Goals as goal
 

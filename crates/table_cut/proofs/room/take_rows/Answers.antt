@@ -6,7 +6,7 @@ use Rattle.cells.specs.Cell.{Cell}
 use Rattle.cells.specs.Dictionary.{dictionaries_fit}
 use Rattle.table_cut.specs.Rows.{run_rows}
 use Rattle.table_cut.specs.SeenRows.{HaveSeen}
-use Rattle.values.specs.Borrowed.{borrowed_cells}
+use Rattle.columns.specs.Borrowed.{borrowed_cells}
 use Rattle.table_cut.proofs.RoomLemmas.{one_row_more, all_of_run, all_room}
 use Rattle.table_cut.proofs.room.take_rows.Goals as goal
 

@@ -5,7 +5,7 @@ use Rattle.cells.specs.Dictionary.{with_entries}
 use Rattle.cells.specs.Entry.{entry_cell}
 use Rattle.table_cut.specs.declared.holding.Held.{Held}
 use Rattle.table_cut.specs.inner.Seen.{held_in, entries_in, entries_held}
-use Rattle.values.specs.Borrowed.{borrowed_cell}
+use Rattle.columns.specs.Borrowed.{borrowed_cell}
 use Rattle.table_cut.proofs.seen.begin.Goals as goal
 
 pub loop-column-preserved : goal.loop-column-preserved

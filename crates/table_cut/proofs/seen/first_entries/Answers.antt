@@ -6,7 +6,7 @@ use Rattle.cells.specs.Cell.{Cell}
 use Rattle.cells.specs.Dictionary.{holdings_from, holdings_of}
 use Rattle.table_cut.specs.inner.Seen.{held_in, held_of, entries_held}
 use Rattle.table_cut.proofs.SeenLemmas.{held_entries}
-use Rattle.values.specs.Borrowed.{borrowed_cells}
+use Rattle.columns.specs.Borrowed.{borrowed_cells}
 use Rattle.table_cut.proofs.seen.first_entries.Goals as goal
 
 pub returns : goal.returns

@@ -6,7 +6,7 @@ use Rattle.cells.specs.Cell.{Cell}
 use Rattle.cells.specs.Dictionary.{holdings_from, holdings_of, entries_of}
 use Rattle.table_cut.specs.inner.Seen.{LimitedCells, held_in, held_of, entries_in, entries_held, are_within}
 use Rattle.table_cut.proofs.SeenLemmas.{held_entries, row_fits}
-use Rattle.values.specs.Borrowed.{borrowed_cells}
+use Rattle.columns.specs.Borrowed.{borrowed_cells}
 use Rattle.table_cut.proofs.seen.fits_dictionaries.Goals as goal
 
 pub are_within-requires : goal.are_within-requires

@@ -1,7 +1,7 @@
 use Rattle.std.proofs.Common.{◌≡◌, map, drop}
 use Rattle.cells.specs.Dictionary.{with_entries}
 use Rattle.table_cut.specs.inner.Seen.{entries_in}
-use Rattle.values.specs.Borrowed.{borrowed_cell}
+use Rattle.columns.specs.Borrowed.{borrowed_cell}
 use Rattle.table_cut.proofs.seen.note_all.Given as goal
 
 abbrev pub invariant-loop-value : goal.invariant-loop-value

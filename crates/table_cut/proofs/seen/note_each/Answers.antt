@@ -6,7 +6,7 @@ use Rattle.cells.specs.Dictionary.{with_entries}
 use Rattle.table_cut.specs.declared.holding.Held.{Held}
 use Rattle.table_cut.specs.inner.Seen.{held_in, entries_in, with_all}
 use Rattle.table_cut.proofs.SeenLemmas.{one_noted}
-use Rattle.values.specs.Borrowed.{borrowed_cell}
+use Rattle.columns.specs.Borrowed.{borrowed_cell}
 use Rattle.table_cut.proofs.seen.note_each.Goals as goal
 
 pub loop-i-preserved : goal.loop-i-preserved

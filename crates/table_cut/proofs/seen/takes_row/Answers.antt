@@ -7,7 +7,7 @@ use Rattle.cells.specs.Dictionary.{holdings_from, holdings_of}
 use Rattle.table_cut.specs.inner.Seen.{LimitedCells, held_of, held_in, entries_in, with_all, are_within}
 use Rattle.table_cut.proofs.SeenLemmas.{row_more, row_fits, same_count, length_with_all}
 use Rattle.cells.specs.laws.Unlimited.{unlimited_fit}
-use Rattle.values.specs.Borrowed.{borrowed_cells}
+use Rattle.columns.specs.Borrowed.{borrowed_cells}
 use Rattle.table_cut.proofs.seen.takes_row.Goals as goal
 
 pub returns-then-not-limited-clause-fits : goal.returns-then-not-limited-clause-fits

@@ -3,7 +3,7 @@ use Rattle.std.proofs.lemmas.List.{drop_all}
 use Rattle.arrow_schema.specs.Column.{PlainSchema}
 use Rattle.arrow_schema.specs.View.{schema_of}
 use Rattle.cells.specs.Cell.{Cell, PlainTable}
-use Rattle.values.specs.Borrowed.{borrowed_cells}
+use Rattle.columns.specs.Borrowed.{borrowed_cells}
 use Rattle.values.specs.TableView.{table_of}
 use Rattle.table_cut.proofs.CutSteps.{row_before}
 use Rattle.table_cut.proofs.RowsTaken.{unfit_from, unfit_first, unfit_here, unfit_later, taken_by, all_taken}

@@ -6,7 +6,7 @@ use Rattle.arrow_schema.specs.View.{kind_of, column_of}
 use Rattle.arrow_schema.specs.declared.types.Field.{Field}
 use Rattle.cells.specs.Cell.{Cell, null, no_cell, cells_of}
 use Rattle.cells.specs.Weight.{weight, kind_weight, parts_weight, sum_of, items_in, fixed_sum, parts_in, capped_weight}
-use Rattle.values.specs.Borrowed.{borrowed_cell, borrowed_cells}
+use Rattle.columns.specs.Borrowed.{borrowed_cell, borrowed_cells}
 use Rattle.table_cut.proofs.WeightLemmas.{next_part}
 use Rattle.table_cut.proofs.weigh.+weight.Goals as goal
 

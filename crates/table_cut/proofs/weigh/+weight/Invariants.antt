@@ -3,7 +3,7 @@ use Rattle.arrow_schema.specs.Column.{columns_of}
 use Rattle.arrow_schema.specs.View.{column_of}
 use Rattle.cells.specs.Cell.{cells_of, no_cell}
 use Rattle.cells.specs.Weight.{weight, parts_weight, sum_of, capped_weight}
-use Rattle.values.specs.Borrowed.{borrowed_cells, values_left}
+use Rattle.columns.specs.Borrowed.{borrowed_cells, values_left}
 use Rattle.table_cut.proofs.weigh.+weight.Given as goal
 
 abbrev pub invariant-items_weight-loop-value : goal.invariant-items_weight-loop-value

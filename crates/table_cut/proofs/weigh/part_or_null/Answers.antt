@@ -2,7 +2,7 @@ use Rattle.std.specs.Prelude.{option_map, unwrap_or}
 use Rattle.std.proofs.Common.{sym, ap, ◌∙◌}
 use Rattle.std.proofs.lemmas.Option.{unwrap_or-slice_get}
 use Rattle.cells.specs.Cell.{null}
-use Rattle.values.specs.Borrowed.{borrowed_cell, borrowed_cells}
+use Rattle.columns.specs.Borrowed.{borrowed_cell, borrowed_cells}
 use Rattle.table_cut.proofs.weigh.part_or_null.Goals as goal
 
 pub returns-in-None : goal.returns-in-None

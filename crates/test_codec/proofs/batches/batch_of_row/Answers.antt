@@ -4,7 +4,7 @@ use Rattle.arrow_schema.specs.View.{column_of}
 use Rattle.arrow_schema.specs.declared.types.Field.{Field}
 use Rattle.cells.specs.Cell.{Cell}
 use Rattle.columns.specs.Buildable.{can_build_rows}
-use Rattle.values.specs.Borrowed.{borrowed_cells}
+use Rattle.columns.specs.Borrowed.{borrowed_cells}
 use Rattle.values.specs.TableView.{table_of}
 use Rattle.test_codec.proofs.FirstRow.{first_can_be_built}
 use Rattle.test_codec.proofs.batches.batch_of_row.Goals as goal

@@ -13,9 +13,9 @@ pub loop-i-preserved : goal.loop-i-preserved
 loop-i-preserved c =
     let i = c.loop-i.i in
     let f = c.index-fields-i.result in
-    let t = c.field_text-text.result.now in
+    let t = c.record_field-text.result.now in
     let item = drop-item c.args.fields.now i f c.loop-i-test.true c.index-fields-i.is in
-    let text : drop i (fields_of c.args.row.now) ≡ t ∷ drop (i + 1) (fields_of c.args.row.now) = rw c.field_text-text.ensures (drop_more (fields_of c.args.row.now) i [] (omega arith)) in
+    let text : drop i (fields_of c.args.row.now) ≡ t ∷ drop (i + 1) (fields_of c.args.row.now) = rw c.record_field-text.ensures (drop_more (fields_of c.args.row.now) i [] (omega arith)) in
     let kept = rw (item, text) at c.loop-i.invariant in
     let cell : is_refused (field_cell c.args.null_text.now (column_of f) t) ≡ false = sym (c.in_ok-is_refused.ensures (field_cell c.args.null_text.now (column_of f) t) c.field_cell.ensures) ∙ c.if-branch.false in
     sym (field_passed c.args.null_text.now (column_of f) (map column_of (drop (i + 1) c.args.fields.now)) t (drop (i + 1) (fields_of c.args.row.now)) cell) ∙ kept
@@ -24,9 +24,9 @@ pub returns-then-branch : goal.returns-then-branch
 returns-then-branch c =
     let i = c.loop-i.i in
     let f = c.index-fields-i.result in
-    let t = c.field_text-text.result.now in
+    let t = c.record_field-text.result.now in
     let item = drop-item c.args.fields.now i f c.loop-i-test.true c.index-fields-i.is in
-    let text : drop i (fields_of c.args.row.now) ≡ t ∷ drop (i + 1) (fields_of c.args.row.now) = rw c.field_text-text.ensures (drop_more (fields_of c.args.row.now) i [] (omega arith)) in
+    let text : drop i (fields_of c.args.row.now) ≡ t ∷ drop (i + 1) (fields_of c.args.row.now) = rw c.record_field-text.ensures (drop_more (fields_of c.args.row.now) i [] (omega arith)) in
     let kept = rw (item, text) at c.loop-i.invariant in
     let cell : is_refused (field_cell c.args.null_text.now (column_of f) t) ≡ true = sym (c.in_ok-is_refused.ensures (field_cell c.args.null_text.now (column_of f) t) c.field_cell.ensures) ∙ c.if-branch.true in
     ap Some c.in_ok-field_part.ensures

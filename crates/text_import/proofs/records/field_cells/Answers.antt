@@ -11,9 +11,9 @@ pub loop-i-preserved : goal.loop-i-preserved
 loop-i-preserved c =
     let i = c.loop-i.i in
     let f = c.index-fields-i.result in
-    let t = c.field_text.result.now in
+    let t = c.record_field.result.now in
     let item = drop-item c.args.fields.now i f c.loop-i-test.true c.index-fields-i.is in
-    let text : drop i (fields_of c.args.row.now) ≡ t ∷ drop (i + 1) (fields_of c.args.row.now) = rw c.field_text.ensures (drop_more (fields_of c.args.row.now) i [] (omega arith)) in
+    let text : drop i (fields_of c.args.row.now) ≡ t ∷ drop (i + 1) (fields_of c.args.row.now) = rw c.record_field.ensures (drop_more (fields_of c.args.row.now) i [] (omega arith)) in
     let kept = rw (item, text) at c.loop-i.invariant.cells in
     let more =
     field_more

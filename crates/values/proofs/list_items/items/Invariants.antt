@@ -1,7 +1,7 @@
 use Rattle.std.proofs.Common.{◌≡◌, ◌++◌, map, drop}
 use Rattle.std.specs.List.{flat_map}
 use Rattle.cells.specs.Dictionary.{item_list}
-use Rattle.values.specs.Borrowed.{borrowed_cell}
+use Rattle.columns.specs.Borrowed.{borrowed_cell}
 use Rattle.values.proofs.list_items.items.Given as goal
 
 abbrev pub invariant-loop-cell : goal.invariant-loop-cell

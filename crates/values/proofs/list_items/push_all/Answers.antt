@@ -4,7 +4,7 @@ use Rattle.std.proofs.lemmas.Iterator.Adapters.{fact_from_extend}
 use Rattle.std.proofs.lemmas.Iterator.Consumers.{YieldsList-from_first}
 use Rattle.std.proofs.lemmas.List.{map-append, take_at}
 use Rattle.cells.specs.Cell.{Cell}
-use Rattle.values.specs.Borrowed.{borrowed_cell, borrowed_cells, values_left}
+use Rattle.columns.specs.Borrowed.{borrowed_cell, borrowed_cells, values_left}
 use Rattle.values.proofs.list_items.push_all.Goals as goal
 
 pub returns-in-Ok-clause-ok : goal.returns-in-Ok-clause-ok

@@ -140,7 +140,7 @@ returns-then-room-run-clause-front c =
     let new : List (List Cell) = runs_rows cs c.push_run.new.runs.items in
     let lt : next < length items = omega (arith, c.loop-self.self.runs.ok.0, c.len.ensures, c.loop-self-test.true) in
     let taken : new ≡ before ++ take k (run_rows cs run) = c.in_ok-push_run.ensures.rows cs ∙ ap (λ (xs : List (List Cell)). before ++ xs) (c.front.ensures.rows cs) in
-    cut_front cs items next run c.behind.result (rows_left cs c.args.self.now) before new k lt c.index-run.ensures is.front taken (c.behind.ensures.rows cs)
+    cut_front cs items next run c.skip.result (rows_left cs c.args.self.now) before new k lt c.index-run.ensures is.front taken (c.skip.ensures.rows cs)
 
 pub returns-then-room-run-clause-piece : goal.returns-then-room-run-clause-piece
 returns-then-room-run-clause-piece c =
@@ -156,11 +156,11 @@ returns-then-room-run-clause-piece c =
     let all : List (List Cell) = rows_left cs c.args.self.now in
     let before : List (List Cell) = runs_rows cs c.loop-self.runs.items in
     let new : List (List Cell) = runs_rows cs c.push_run.new.runs.items in
-    let rest : List (List Cell) = runs_rows cs (drop next (set items next c.behind.result)) in
+    let rest : List (List Cell) = runs_rows cs (drop next (set items next c.skip.result)) in
     let row : List Cell = row_at cs (arrays_of_run run) (run.from + k) in
     let lt : next < length items = omega (arith, c.loop-self.self.runs.ok.0, c.len.ensures, c.loop-self-test.true) in
     let taken : new ≡ before ++ take k (run_rows cs run) = c.in_ok-push_run.ensures.rows cs ∙ ap (λ (xs : List (List Cell)). before ++ xs) (c.front.ensures.rows cs) in
-    let front : all ≡ new ++ rest = cut_front cs items next run c.behind.result all before new k lt c.index-run.ensures is.front taken (c.behind.ensures.rows cs) in
+    let front : all ≡ new ++ rest = cut_front cs items next run c.skip.result all before new k lt c.index-run.ensures is.front taken (c.skip.ensures.rows cs) in
     let room : HasRoomBelow s before run t k = front_room s before run most t k c.front-most.ensures.len (c.front-most.ensures.rows cs) c.front-most.ensures.arrays c.front-most.ensures.from
     (subst (λ (runs : List RowRun). HasRoom s (runs_rows cs runs) most k) c.deref.ensures.value c.in_ok-room.ensures.room) in
     let took = has_taken s before new run k (omega (arith, c.if-room-run.true)) taken in
@@ -177,7 +177,7 @@ returns-then-room-run-clause-piece c =
             | inr heavy ↦ inr (omega (arith, heavy, weight, is.weight, took.weight, heavier, next_row))
           ])
     ] in
-    let full : IsFull s new rest = cut_full s items next run c.behind.result new k lt (c.behind.ensures.rows cs) c.if-room-run.true past in
+    let full : IsFull s new rest = cut_full s items next run c.skip.result new k lt (c.skip.ensures.rows cs) c.if-room-run.true past in
     let some : 1 ≤ length new = some_taken s all new rest front c.requires.rows c.requires.some full in
     cut_here c.longest_fronts_are_pieces.ensures.next s all new rest front some
     (omega (arith, took.count, is.count, room.within, c.fitting-taken.ensures.few, c.if-rows-lt-MAX_PIECE_ROWS.true))
@@ -199,7 +199,7 @@ returns-then-room-run-clause-left c =
     let next : ℕ = c.loop-self.self.next in
     let lt : next < length items = omega (arith, c.loop-self.self.runs.ok.0, c.len.ensures, c.loop-self-test.true) in
     let sound = sound_first cs items next c.index-run.result.now lt c.index-run.ensures c.loop-self.invariant.left in
-    ap (are_runs_sound cs) (drop_set items next c.behind.result lt) ∙ and_from _ _ (c.behind.ensures.sound cs sound.0) sound.1
+    ap (are_runs_sound cs) (drop_set items next c.skip.result lt) ∙ and_from _ _ (c.skip.ensures.sound cs sound.0) sound.1
 
 pub returns-clause-front : goal.returns-clause-front
 returns-clause-front c = c.loop-self.invariant.front

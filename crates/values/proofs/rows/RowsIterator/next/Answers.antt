@@ -1,6 +1,6 @@
 use Rattle.std.proofs.Common.{length, ap, sym, arith}
 use Rattle.std.proofs.lemmas.Option.{slice_get_within}
-use Rattle.values.specs.Borrowed.{borrowed_cells}
+use Rattle.columns.specs.Borrowed.{borrowed_cells}
 use Rattle.values.specs.TableView.{table_of}
 use Rattle.facts.specs.laws.Lists.{none_left, next_left}
 use Rattle.values.proofs.ContentLemmas.{few_rows}

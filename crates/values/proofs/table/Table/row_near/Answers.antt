@@ -2,10 +2,7 @@ use Rattle.std.proofs.Common.{◌<◌, ◌∙◌, List, Some, ap, sym, arith}
 use Rattle.std.specs.Prelude.{slice_get}
 use Rattle.cells.specs.Cell.{Cell}
 use Rattle.values.specs.Content.{table_with}
-use Rattle.values.specs.declared.borrowed.Form.{Form}
-use Rattle.values.specs.Borrowed.{form_cells}
 use Rattle.values.proofs.ContentLemmas.{length_content, none_past, given_within, rows_given, parts_filled, rows_of_parts, texts_in_table}
-use Rattle.values.proofs.table.Table.row_near.Goals.{in-Rows, in-Batches}
 use Rattle.values.proofs.table.Table.row_near.Goals as goal
 
 pub returns-then-i-len : goal.returns-then-i-len
@@ -19,18 +16,17 @@ given_row-requires c =
     let within : c.args.i < c.args.self.now.rows = omega (arith, count, c.len.ensures, c.if-i-len.false) in
     rw c.deref.ensures.value (given_within c.args.self.now.schema c.args.self.now.rows c.args.self.now.content c.in-Rows.rows c.args.i c.in-Rows.is c.args.self.now.filled within)
 
-pub returns : goal.returns
-returns c =
-    let count = length_content c.args.self.now.schema c.args.self.now.rows c.args.self.now.content c.args.self.now.filled in
-    let within : c.args.i < c.args.self.now.rows = omega (arith, count, c.len.ensures, c.if-i-len.false) in
-    elim c.match-self.branch [
-      | in-Rows w ↦ (let there = rows_given c.args.self.now.schema c.args.self.now.content w.in-Rows.rows w.in-Rows.is in
-          let row = rw w.deref.ensures.value at w.given_row.ensures in
-          ap (λ (f : Form). Some (form_cells f)) w.form-is ∙ (row ∙ ap (λ (rows : List (List Cell)). slice_get rows c.args.i) (sym there)))
-      | in-Batches w ↦ (let there = rows_of_parts c.args.self.now.schema c.args.self.now.content w.in-Batches.batches w.in-Batches.is in
-          let row = rw w.deref-in-Batches.ensures.value at w.row.ensures in
-          ap (λ (f : Form). Some (form_cells f)) w.form-is ∙ (row ∙ ap (λ (rows : List (List Cell)). slice_get rows c.args.i) (sym there)))
-    ]
+pub returns-in-Rows : goal.returns-in-Rows
+returns-in-Rows c =
+    let there = rows_given c.args.self.now.schema c.args.self.now.content c.in-Rows.rows c.in-Rows.is in
+    let row = rw c.deref.ensures.value at c.given_row.ensures in
+    ap Some c.of_cells.ensures ∙ row ∙ ap (λ (rows : List (List Cell)). slice_get rows c.args.i) (sym there)
+
+pub returns-in-Batches : goal.returns-in-Batches
+returns-in-Batches c =
+    let there = rows_of_parts c.args.self.now.schema c.args.self.now.content c.in-Batches.batches c.in-Batches.is in
+    let row = rw c.deref-in-Batches.ensures.value at c.row.ensures in
+    row ∙ ap (λ (rows : List (List Cell)). slice_get rows c.args.i) (sym there)
 
 pub find-place-requires : goal.find-place-requires
 find-place-requires c =
