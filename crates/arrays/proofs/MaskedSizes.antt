@@ -1,13 +1,14 @@
 -- Bytes of slots whose bits are set, by their runs.
 use Rattle.std.specs.Prelude.{◌==◌, if◌then◌else◌}
 use Rattle.std.specs.Int.{bit_at}
-use Rattle.std.proofs.Common.{◌≡◌, ℕ, zero, suc, ◌+◌, ◌-◌, ◌/◌, ◌^◌, ◌≤◌, ◌<◌, false, ap, arith, sym, ◌∙◌}
+use Rattle.std.proofs.Common.{◌≡◌, ℕ, zero, suc, ◌+◌, ◌-◌, ◌^◌, ◌≤◌, ◌<◌, false, inl, inr, ap, arith, ◌∙◌}
+use Rattle.std.proofs.lemmas.Bool.{cases_lt}
 use Rattle.std.proofs.lemmas.Nat.Bits.{bit_at-zero}
 use Rattle.columns.specs.Array.{Array, offsets_in, slots_in}
 use Rattle.columns.specs.CellAt.{number_at, span_size}
 use Rattle.columns.specs.Tests.{are_unordered}
 use Rattle.columns.specs.laws.Offsets.{offsets_ascend}
-use Rattle.arrays.proofs.NextBits.{moved}
+use Rattle.arrays.proofs.NextBits.{ends_below}
 use Rattle.arrays.proofs.SpanWeights.{each_more, each_same, next, split}
 use Rattle.arrays.specs.inner.Weights.{chosen_sizes, sum_from}
 
@@ -34,51 +35,70 @@ spans width most a start (suc n) up within =
     let whole = next (λ (size : ℕ). size) (span_size width a) start n in
     rw e (omega (arith, first, others, rest, whole))
 
--- the offsets where slots whose bits are not set end, and others whose bits are
-pub run_ascends : (width most : ℕ) (a : Array) (at unset set end : ℕ) → are_unordered width most a ≡ false → 0 < set → at + (unset + set) ≤ end → end ≤ slots_in a
-    → (number_at width (offsets_in a) at ≤ number_at width (offsets_in a) (at + unset)) × (number_at width (offsets_in a) (at + unset) ≤ number_at width (offsets_in a) (at + (unset + set)))
-run_ascends width most a at unset set end up some high most_slots =
-    let e : at + unset + set ≡ at + (unset + set) = omega arith in (
-      offsets_ascend width most a at unset up (omega (arith, some, high, most_slots)) (omega (arith, high, most_slots)),
-      rw e at (offsets_ascend width most a (at + unset) set up (omega (arith, some, high, most_slots)) (omega (arith, high, most_slots))),
-    )
-
--- what these slots have, and what is left
-pub next_run : (width most bits from : ℕ) (a : Array) (at unset set end : ℕ) → are_unordered width most a ≡ false → from ≤ at → at + (unset + set) ≤ end → end ≤ slots_in a
-    → ((j : ℕ) → j < unset → bit_at bits (at - from + j) ≡ 0) → ((j : ℕ) → j < set → bit_at bits (at - from + (unset + j)) ≡ 1)
-    → chosen_sizes width bits from a at (end - at)
-    ≡ number_at width (offsets_in a) (at + (unset + set)) - number_at width (offsets_in a) (at + unset) + chosen_sizes width bits from a (at + (unset + set)) (end - (at + (unset + set)))
-next_run width most bits from a at unset set end up low high most_slots none all =
-    let f : ℕ → ℕ = λ i. if bit_at bits (i - from) == 1 then span_size width a i else 0 in
-    let start : ℕ = at + unset in
-    let next : ℕ = at + (unset + set) in
-    let first : start - at ≡ unset = omega arith in
-    let second : next - start ≡ set = omega arith in
-    let last : start + set ≡ next = omega arith in
-    let hidden = each_same (λ (size : ℕ). size) f 0 at unset (λ i le lt.
-    let place : i - from ≡ at - from + (i - at) = omega (arith, le, low) in
-    let here : bit_at bits (i - from) ≡ 0 = ap (bit_at bits) place ∙ none (i - at) (omega (arith, le, lt)) in
-    rw here (omega arith)) in
-    let shown = each_more (λ (size : ℕ). size) f (λ (size : ℕ). size) (span_size width a) 0 start set (λ i le lt.
-    let place : i - from ≡ at - from + (unset + (i - start)) = omega (arith, le, low) in
-    let here : bit_at bits (i - from) ≡ 1 = ap (bit_at bits) place ∙ all (i - start) (omega (arith, le, lt)) in
-    rw here (omega arith)) in
-    let sizes = rw last at (spans width most a start set up (omega (arith, high, most_slots))) in
-    let front = rw first at (sizes_more f at start end (omega arith) (omega (arith, high))) in
-    let back = rw second at (sizes_more f start next end (omega arith) high) in
-    omega (arith, front, back, hidden, shown, sizes)
-
--- where none is left
-pub no_run : (width bits from : ℕ) (a : Array) (at n : ℕ) → from ≤ at → 0 ≡ bits / 2 ^ (at - from) → chosen_sizes width bits from a at n ≡ 0
-no_run width bits from a at n low is =
-    let hidden = each_same (λ (size : ℕ). size) (λ i. if bit_at bits (i - from) == 1 then span_size width a i else 0) 0 at n (λ i le lt.
-    let place : i - from ≡ at - from + (i - at) = omega (arith, le, low) in
-    let here : bit_at bits (i - from) ≡ 0 = ap (bit_at bits) place ∙ sym (moved bits (at - from) (i - at)) ∙ ap (λ (x : ℕ). bit_at x (i - at)) (sym is) ∙ bit_at-zero (i - at) in
-    rw here (omega arith)) in
-    omega (arith, hidden)
-
 -- two sums of the same
 pub sizes_same : (f g : ℕ → ℕ) (start n : ℕ) → ((i : ℕ) → start ≤ i → i < start + n → f i ≡ g i) → sum_from (λ (size : ℕ). size) f start n ≡ sum_from (λ (size : ℕ). size) g start n
 sizes_same f g start n same =
     let each = each_more (λ (size : ℕ). size) f (λ (size : ℕ). size) g 0 start n (λ i le lt. omega (arith, same i le lt)) in
     omega (arith, each)
+
+ascends : (width most : ℕ) (a : Array) (i j : ℕ) → are_unordered width most a ≡ false → 0 < slots_in a → i ≤ j → j ≤ slots_in a → number_at width (offsets_in a) i ≤ number_at width (offsets_in a) j
+ascends width most a i j up some le within =
+    let e : i + (j - i) ≡ j = omega (arith, le) in
+    rw e at (offsets_ascend width most a i (j - i) up some (omega (arith, le, within)))
+
+-- a run of set bits: it ends among the slots, and what was added before it stands before its offsets
+pub run_fits : (width most left from total at begin end count : ℕ) (a : Array) → are_unordered width most a ≡ false → left < 2 ^ count → from + count ≤ slots_in a → begin < end
+    → ((j : ℕ) → begin ≤ j → j < end → bit_at left j ≡ 1) → ((j : ℕ) → j < at → bit_at left j ≡ 0) → total + number_at width (offsets_in a) from ≤ number_at width (offsets_in a) (from + at)
+    → (end ≤ count) × (total + number_at width (offsets_in a) from ≤ number_at width (offsets_in a) (from + begin))
+    × (number_at width (offsets_in a) (from + begin) ≤ number_at width (offsets_in a) (from + end))
+run_fits width most left from total at begin end count a up small within some set none fits =
+    let ends : begin + (end - begin) ≤ count = ends_below left count begin (end - begin) small (omega (arith, some)) (λ j lt. set (begin + j) (omega arith) (omega (arith, lt))) in
+    let high : end ≤ count = omega (arith, ends, some) in
+    let one : bit_at left begin ≡ 1 = set begin (omega arith) some in
+    let low : at ≤ begin = elim (cases_lt begin at) [
+      | inl lt ↦ absurd (omega (arith, one, none begin lt))
+      | inr le ↦ le
+    ] in
+    let before = ascends width most a (from + at) (from + begin) up (omega (arith, high, some, within)) (omega (arith, low)) (omega (arith, high, some, within)) in
+    (high, omega (arith, fits, before), ascends width most a (from + begin) (from + end) up (omega (arith, high, some, within)) (omega (arith, some)) (omega (arith, high, within)))
+
+-- what its slots have, and the bits after it
+pub next_run : (width most bits rest from begin end count : ℕ) (a : Array) → are_unordered width most a ≡ false → begin < end → end ≤ count → from + count ≤ slots_in a
+    → ((j : ℕ) → j < begin → bit_at bits j ≡ 0) → ((j : ℕ) → begin ≤ j → j < end → bit_at bits j ≡ 1)
+    → ((j : ℕ) → j < end → bit_at rest j ≡ 0) → ((j : ℕ) → end ≤ j → bit_at rest j ≡ bit_at bits j)
+    → chosen_sizes width bits from a from count
+    ≡ number_at width (offsets_in a) (from + end) - number_at width (offsets_in a) (from + begin) + chosen_sizes width rest from a from count
+next_run width most bits rest from begin end count a up some high within none all before after =
+    let f : ℕ → ℕ = λ i. if bit_at bits (i - from) == 1 then span_size width a i else 0 in
+    let g : ℕ → ℕ = λ i. if bit_at rest (i - from) == 1 then span_size width a i else 0 in
+    let start : ℕ = from + begin in
+    let next : ℕ = from + end in
+    let to : ℕ = from + count in
+    let first : start - from ≡ begin = omega arith in
+    let second : next - start ≡ end - begin = omega arith in
+    let both : next - from ≡ end = omega arith in
+    let whole : to - from ≡ count = omega arith in
+    let last : start + (end - begin) ≡ next = omega (arith, some) in
+    let hidden = each_same (λ (size : ℕ). size) f 0 from begin (λ i le lt.
+    let here : bit_at bits (i - from) ≡ 0 = none (i - from) (omega (arith, le, lt)) in
+    rw here (omega arith)) in
+    let shown = each_more (λ (size : ℕ). size) f (λ (size : ℕ). size) (span_size width a) 0 start (end - begin) (λ i le lt.
+    let here : bit_at bits (i - from) ≡ 1 = all (i - from) (omega (arith, le)) (omega (arith, le, lt, some)) in
+    rw here (omega arith)) in
+    let gone = each_same (λ (size : ℕ). size) g 0 from end (λ i le lt.
+    let here : bit_at rest (i - from) ≡ 0 = before (i - from) (omega (arith, le, lt)) in
+    rw here (omega arith)) in
+    let same = sizes_same g f next (to - next) (λ i le lt. ap (λ (b : ℕ). if b == 1 then span_size width a i else 0) (after (i - from) (omega (arith, le)))) in
+    let sizes = rw last at (spans width most a start (end - begin) up (omega (arith, some, high, within))) in
+    let front = rw (first, whole) at (sizes_more f from start to (omega arith) (omega (arith, some, high))) in
+    let back = rw second at (sizes_more f start next to (omega (arith, some)) (omega (arith, high))) in
+    let others = rw (both, whole) at (sizes_more g from next to (omega arith) (omega (arith, high))) in
+    omega (arith, front, back, others, hidden, shown, gone, same, sizes)
+
+-- where no bit is set
+pub no_run : (width bits from n : ℕ) (a : Array) → bits ≡ 0 → chosen_sizes width bits from a from n ≡ 0
+no_run width bits from n a is =
+    let hidden = each_same (λ (size : ℕ). size) (λ i. if bit_at bits (i - from) == 1 then span_size width a i else 0) 0 from n (λ i le lt.
+    let here : bit_at bits (i - from) ≡ 0 = ap (λ (x : ℕ). bit_at x (i - from)) is ∙ bit_at-zero (i - from) in
+    rw here (omega arith)) in
+    omega (arith, hidden)

@@ -75,19 +75,24 @@ fn joined_bits(slots: SizedSlots<'_>, mask: ValidSlots<'_>, from: usize, count: 
     both % (1 << count)
 }
 
-// How many bits are below the lowest that is set, and how many from there on are set.
+// The first run of bits that are set: where it begins and where it ends, and the bits after it.
 #[inline]
-fn first_run(bits: u64) -> (usize, usize)
+fn first_run(bits: u64) -> (usize, usize, u64)
     requires some { 0 < bits }
     requires few { bits < 2 ^ SLOTS_AT_ONCE }
     ensures unset { (j : ℕ) → j < result.0 → bit_at bits j ≡ 0 }
-    ensures set { (j : ℕ) → j < result.1 → bit_at bits (result.0 + j) ≡ 1 }
-    ensures some { 0 < result.1 }
-    ensures within { result.0 + result.1 ≤ SLOTS_AT_ONCE }
+    ensures set { (j : ℕ) → result.0 ≤ j → j < result.1 → bit_at bits j ≡ 1 }
+    ensures some { result.0 < result.1 }
+    ensures before { (j : ℕ) → j < result.1 → bit_at result.2 j ≡ 0 }
+    ensures after { (j : ℕ) → result.1 ≤ j → bit_at result.2 j ≡ bit_at bits j }
+    ensures fewer { result.2 < bits }
 {
-    let unset = bits.trailing_zeros() as usize;
-    let set = (bits >> unset).trailing_ones() as usize;
-    (unset, set)
+    // with the bits below the run set too, one more is carried to its end
+    let filled = bits | (bits - 1);
+    let carried = filled + 1;
+    let begin = bits.trailing_zeros() as usize;
+    let end = carried.trailing_zeros() as usize;
+    (begin, end, bits & carried)
 }
 
 // The bytes of the slots whose bits are set, from one slot on: those of a run are between two offsets.
@@ -101,15 +106,13 @@ fn sizes_of(slots: SizedSlots<'_>, bits: u64, from: usize, count: usize) -> u64
     // a number of the code is below 2^64, so that the sum is too
     let _slots = slots.slots();
     let mut left = bits;
-    let mut at = from;
     let mut total = 0;
     while left != 0 {
-        let (unset, set) = first_run(left);
-        let first = slots.offset(at + unset);
-        at += unset + set;
-        let last = slots.offset(at);
+        let (begin, end, rest) = first_run(left);
+        let first = slots.offset(from + begin);
+        let last = slots.offset(from + end);
         total += last - first;
-        left >>= unset + set;
+        left = rest;
     }
     total
 }

@@ -38,20 +38,33 @@ fn any_slot(test: SlotTest, field: &Field, view: ArrayView<'_>, from: usize, cou
     }
 }
 
-// Whether a test finds nothing in a span, hidden slots included, as far as that costs no more than a few visible slots do.
-fn finds_none(test: SlotTest, field: &Field, view: ArrayView<'_>, from: usize, count: usize) -> bool
+// The same of each of some spans. The loops over slots are compiled into this one, since nothing else calls `any_slot`.
+fn any_slot_in(test: SlotTest, field: &Field, view: ArrayView<'_>, spans: &[SlotSpan]) -> bool
     requires sound { is_sound (column_of field.now) (view_array view) ≡ true }
-    requires within { from + count ≤ slots_in (view_array view) }
-    ensures { result ≡ true → any_slot (finds test) (column_of field.now) (view_array view.entry) from count ≡ false }
+    requires within { are_within (slots_in (view_array view)) spans.now ≡ true }
+    ensures { result ≡ any_slot_of (finds test) (column_of field.now) (view_array view.entry) spans.now }
+{
+    for span in spans {
+        if any_slot(test, field, view, span.from, span.count) {
+            return true;
+        }
+    }
+    false
+}
+
+// Whether a test finds nothing in a span, hidden slots included, as far as that costs no more than a few visible slots do.
+fn finds_none(test: SlotTest, field: &Field, view: ArrayView<'_>, whole: SlotSpan) -> bool
+    requires sound { is_sound (column_of field.now) (view_array view) ≡ true }
+    requires within { whole.from + whole.count ≤ slots_in (view_array view) }
+    ensures { result ≡ true → any_slot (finds test) (column_of field.now) (view_array view.entry) whole.from whole.count ≡ false }
 {
     match test {
-        SlotTest::NoEntry => !any_past_entry(field, view, from, count),
-        SlotTest::NotUtf8 => are_short_texts(field, view, from, count),
-        SlotTest::Forbidden => !any_forbidden(field, view, from, count),
+        SlotTest::NotUtf8 => are_short_texts(field, view, whole.from, whole.count),
+        SlotTest::NoEntry | SlotTest::Forbidden => !any_slot_in(test, field, view, &[whole]),
     }
 }
 
-// The same of several spans.
+// A test of the slots of several spans, as one span first where that is cheap.
 fn any_slot_of(test: SlotTest, field: &Field, view: ArrayView<'_>, spans: &[SlotSpan]) -> bool
     requires sound { is_sound (column_of field.now) (view_array view) ≡ true }
     requires within { are_within (slots_in (view_array view)) spans.now ≡ true }
@@ -62,16 +75,11 @@ fn any_slot_of(test: SlotTest, field: &Field, view: ArrayView<'_>, spans: &[Slot
         return false;
     }
     if let Some(whole) = joined_span(view, spans) {
-        if finds_none(test, field, view, whole.from, whole.count) {
+        if finds_none(test, field, view, whole) {
             return false;
         }
     }
-    for span in spans {
-        if any_slot(test, field, view, span.from, span.count) {
-            return true;
-        }
-    }
-    false
+    any_slot_in(test, field, view, spans)
 }
 
 fn has_below(field: &Field) -> bool

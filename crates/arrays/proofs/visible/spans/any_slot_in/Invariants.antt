@@ -4,7 +4,7 @@ use Rattle.columns.specs.Array.{slots_in}
 use Rattle.columns.specs.View.{view_array}
 use Rattle.arrays.specs.inner.SpanLists.{any_slot_of, are_within}
 use Rattle.arrays.specs.inner.VisibleSpans.{finds}
-use Rattle.arrays.proofs.visible.spans.any_slot_of.Given as goal
+use Rattle.arrays.proofs.visible.spans.any_slot_in.Given as goal
 
 -- the spans that are left decide
 abbrev pub invariant-loop-span : goal.invariant-loop-span
