@@ -237,16 +237,17 @@ impl<'a> KnownEntries<'a> {
         }
     }
 
-    /// The place of an entry of this number, if it is named.
+    /// The place of an entry of this number, if it is named. The list of places is given, so that a loop that writes keeps it in a register.
     #[inline]
-    pub(crate) fn named_place(&self, number: usize) -> Option<usize>
-        requires { number < length (seen_cells self.now) }
+    pub(crate) fn named_place(&self, places: &[Option<usize>], number: usize) -> Option<usize>
+        requires places { places.now ≡ self.now.places.items }
+        requires within { number < length (seen_cells self.now) }
         ensures named { IfSome result (λ place. (c : Cell) → is_entry c (get_or (seen_cells self.now) number null) ≡ true
             → named_cells self.now ≡ with_entry (named_cells self.now) c) }
         ensures place { IfSome result (λ place. (c : Cell) → is_entry c (get_or (seen_cells self.now) number null) ≡ true
             → Some place ≡ code_in (named_cells self.now) c) }
     {
-        self.places[number]
+        places[number]
     }
 
     /// How many entries are named.

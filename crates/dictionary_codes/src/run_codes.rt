@@ -202,11 +202,13 @@ fn put_slot_code<'a, const SIZE: usize, const SIGNED: bool>(
 #[inline]
 fn named_code<const SIZE: usize, const SIGNED: bool>(
     entries: &KnownEntries<'_>,
+    places: &[Option<usize>],
     known: &StampedNumbers,
     field: &Field,
     slots: CodedSlots<'_>,
     i: usize,
 ) -> Option<usize>
+    requires places { places.now ≡ entries.now.places.items }
     requires size { SIZE ≡ (index_of slots.spec).bits / 8 }
     requires signed { SIGNED ≡ (index_of slots.spec).signed }
     requires slot { IsCodedSlot field.now slots i }
@@ -217,7 +219,7 @@ fn named_code<const SIZE: usize, const SIGNED: bool>(
 {
     let number = slots.number_below::<SIZE, SIGNED>(i, known.len() as u64);
     match known_code(known, number) {
-        Some(number) => entries.named_place(number),
+        Some(number) => entries.named_place(places, number),
         None => None,
     }
 }
@@ -226,6 +228,7 @@ fn named_code<const SIZE: usize, const SIGNED: bool>(
 #[inline]
 fn put_named_code<const SIZE: usize, const SIGNED: bool>(
     entries: &KnownEntries<'_>,
+    places: &[Option<usize>],
     known: &StampedNumbers,
     indices: &mut [u8],
     valid: &mut [bool],
@@ -234,6 +237,7 @@ fn put_named_code<const SIZE: usize, const SIGNED: bool>(
     i: usize,
     place: usize,
 ) -> bool
+    requires places { places.now ≡ entries.now.places.items }
     requires size { SIZE ≡ (index_of slots.spec).bits / 8 }
     requires signed { SIGNED ≡ (index_of slots.spec).signed }
     requires slot { IsCodedSlot field.now slots i }
@@ -251,7 +255,7 @@ fn put_named_code<const SIZE: usize, const SIGNED: bool>(
         put_at::<SIZE>(indices, valid, place, None);
         return true;
     }
-    match named_code::<SIZE, SIGNED>(entries, known, field, slots, i) {
+    match named_code::<SIZE, SIGNED>(entries, places, known, field, slots, i) {
         Some(code) => {
             put_index::<SIZE>(indices, place, Some(code));
             true
@@ -291,9 +295,11 @@ fn put_named_codes<const SIZE: usize, const SIGNED: bool>(
         → IsPartWritten SIZE start all entries (cells_from cells first (to - first)) indices.old valid.old (first - from)
         → IsPartWritten SIZE start all entries (cells_from cells result (to - result)) indices.new valid.new (result - from) }
 {
+    let places = entries.places.as_slice();
     for i in first..to {
         if !put_named_code::<SIZE, SIGNED>(
             entries,
+            places,
             known,
             indices,
             valid,
@@ -547,7 +553,8 @@ fn put_run_codes<'a>(
 }
 
 /// Writes the indices of the cells of runs under a mask, each the place of a cell among the entries of the dictionary, to which they are added, and whether
-/// each slot has one, where there is room for just these.
+/// each slot has one, where there is room for just these. It is compiled by itself: within a large function the loop over slots has too few registers.
+#[inline(never)]
 pub(crate) fn put_codes<'a>(
     alloc: Global,
     entries: &mut KnownEntries<'a>,

@@ -1,4 +1,5 @@
 mod WeightLemmas
+pub mod Bounds
 mod CutSteps
 mod Unlimited
 mod SeenLemmas

@@ -1,4 +1,5 @@
 pub mod Seen
+pub mod Bounds
 pub mod Columns
 pub mod Filling
 pub mod Fit

@@ -3,9 +3,11 @@ ghost use Rattle.std.specs.Prelude.{◌≡◌, ◌+◌, ◌<◌, ◌≤◌, ◌�
 ghost use Rattle.arrow_schema.specs.View.{schema_of};
 ghost use Rattle.arrow_schema.specs.Column.{columns_of};
 ghost use Rattle.cells.specs.Weight.{capped_weight};
-ghost use Rattle.table_cut.specs.Rows.{is_run_sound};
-ghost use Rattle.table_cut.specs.inner.Weights.{front_weight, weight_at};
+ghost use Rattle.table_cut.specs.Rows.{are_runs_sound, is_run_sound};
+ghost use Rattle.table_cut.specs.inner.Bounds.{Weighs};
+ghost use Rattle.table_cut.specs.inner.Weights.{front_weight, piece_weight, weight_at};
 
+use crate::bound::{Weighed, front_bound};
 use crate::row_run::RowRun;
 use arrays::row_span_weight;
 use arrow_schema::Schema;
@@ -15,7 +17,7 @@ use cells::{MAX_PIECE_WEIGHT, add_weights};
 #[derive(Clone, Copy)]
 pub(crate) struct Taken {
     pub(crate) rows: usize,
-    pub(crate) weight: u64,
+    pub(crate) weight: Weighed,
 }
 
 // The first n rows of a run.
@@ -50,33 +52,99 @@ fn weight_at(schema: &Schema, run: RowRun<'_>, i: usize) -> u64
     )
 }
 
-/// The rows of a run that a piece has room for, which may have n rows more and weighs so much before them: all of them together, or else one after
-/// another.
-pub(crate) fn fitting(schema: &Schema, run: RowRun<'_>, room: usize, before: u64) -> Taken
+// The rows of a run that a piece has room for, which may have n rows more and weighs just so much before them: all of them together, or else one after
+// another.
+fn fitting_exactly(schema: &Schema, run: RowRun<'_>, room: usize, before: u64) -> Taken
     requires sound { is_run_sound (columns_of (schema_of schema.now).columns) run ≡ true }
     requires light { before ≤ MAX_PIECE_WEIGHT }
     ensures within { result.rows ≤ run.entry.len }
     ensures few { result.rows ≤ room }
-    ensures weight { result.weight ≡ before + front_weight (schema_of schema.now) run.entry result.rows }
-    ensures light { result.weight ≤ MAX_PIECE_WEIGHT }
-    ensures full { let more = weight_at (schema_of schema.now) run.entry result.rows in
-        result.rows < run.entry.len → (result.rows ≡ room) ⊎ (MAX_PIECE_WEIGHT < result.weight + more) }
+    ensures weight { Weighs result.weight (before + front_weight (schema_of schema.now) run.entry result.rows) }
+    ensures light { before + front_weight (schema_of schema.now) run.entry result.rows ≤ MAX_PIECE_WEIGHT }
+    ensures full { let weight = before + front_weight (schema_of schema.now) run.entry result.rows in
+        let more = weight_at (schema_of schema.now) run.entry result.rows in
+        result.rows < run.entry.len → (result.rows ≡ room) ⊎ (MAX_PIECE_WEIGHT < weight + more) }
 {
     let most = run.len.min(room);
     let together = add_weights(before, front_weight(schema, run, most));
     if together <= MAX_PIECE_WEIGHT {
         return Taken {
             rows: most,
-            weight: together,
+            weight: Weighed::Exactly(together),
         };
     }
     let mut weight = before;
     for i in 0..most {
         let more = add_weights(weight, weight_at(schema, run, i));
         if more > MAX_PIECE_WEIGHT {
-            return Taken { rows: i, weight };
+            return Taken {
+                rows: i,
+                weight: Weighed::Exactly(weight),
+            };
         }
         weight = more;
     }
-    Taken { rows: most, weight }
+    Taken {
+        rows: most,
+        weight: Weighed::Exactly(weight),
+    }
+}
+
+// What the rows of some runs weigh, as weights are reported.
+fn runs_weight(schema: &Schema, runs: &[RowRun<'_>]) -> u64
+    requires { are_runs_sound (columns_of (schema_of schema.now).columns) runs.now ≡ true }
+    ensures { result ≡ capped_weight (piece_weight (schema_of schema.now) runs.now) }
+{
+    let mut total = 0;
+    for run in runs {
+        total = add_weights(total, front_weight(schema, *run, run.len));
+    }
+    total
+}
+
+// What a piece weighs: where only a bound is known, its rows are weighed.
+fn exact_weight(schema: &Schema, piece: &[RowRun<'_>], known: Weighed) -> u64
+    requires sound { are_runs_sound (columns_of (schema_of schema.now).columns) piece.now ≡ true }
+    requires weighed { Weighs known (piece_weight (schema_of schema.now) piece.now) }
+    requires light { piece_weight (schema_of schema.now) piece.now ≤ MAX_PIECE_WEIGHT }
+    ensures { result ≡ piece_weight (schema_of schema.now) piece.now }
+{
+    match known {
+        Weighed::Exactly(weight) => weight,
+        Weighed::AtMost(_) => runs_weight(schema, piece),
+    }
+}
+
+/// The rows of a run that a piece has room for, which may have n rows more. While a bound shows that the piece is light enough, no slot of a dictionary is
+/// visited; from the first run on for which it does not, the rows are weighed.
+pub(crate) fn fitting(
+    schema: &Schema,
+    piece: &[RowRun<'_>],
+    run: RowRun<'_>,
+    room: usize,
+    before: Weighed,
+) -> Taken
+    requires sound { is_run_sound (columns_of (schema_of schema.now).columns) run ≡ true }
+    requires piece { are_runs_sound (columns_of (schema_of schema.now).columns) piece.now ≡ true }
+    requires weighed { Weighs before (piece_weight (schema_of schema.now) piece.now) }
+    requires light { piece_weight (schema_of schema.now) piece.now ≤ MAX_PIECE_WEIGHT }
+    ensures within { result.rows ≤ run.entry.len }
+    ensures few { result.rows ≤ room }
+    ensures weight { Weighs result.weight (piece_weight (schema_of schema.now) piece.now + front_weight (schema_of schema.now) run.entry result.rows) }
+    ensures light { piece_weight (schema_of schema.now) piece.now + front_weight (schema_of schema.now) run.entry result.rows ≤ MAX_PIECE_WEIGHT }
+    ensures full { let weight = piece_weight (schema_of schema.now) piece.now + front_weight (schema_of schema.now) run.entry result.rows in
+        let more = weight_at (schema_of schema.now) run.entry result.rows in
+        result.rows < run.entry.len → (result.rows ≡ room) ⊎ (MAX_PIECE_WEIGHT < weight + more) }
+{
+    if let Weighed::AtMost(weight) = before {
+        let most = run.len.min(room);
+        let together = add_weights(weight, front_bound(schema, run, most));
+        if together <= MAX_PIECE_WEIGHT {
+            return Taken {
+                rows: most,
+                weight: Weighed::AtMost(together),
+            };
+        }
+    }
+    fitting_exactly(schema, run, room, exact_weight(schema, piece, before))
 }

@@ -13,6 +13,7 @@ ghost use Rattle.table_cut.specs.Cut.{pieces};
 ghost use Rattle.table_cut.specs.Piece.{within_piece};
 ghost use Rattle.values.specs.Parts.{part_rows, parts_rows, is_batch_sound, are_parts_sound};
 
+use crate::bound::nothing_weighed;
 use crate::fitting::fitting;
 use crate::longest_fronts_are_pieces;
 use crate::room::{Seen, room_within};
@@ -128,11 +129,11 @@ impl<'a> RowsLeft<'a> {
         let limited = has_limits(schema);
         let mut runs = Vec::new(alloc);
         let mut rows = 0;
-        let mut weight = 0;
+        let mut weight = nothing_weighed(schema);
         let mut seen = Seen::Nothing;
         while self.next < self.runs.len() && rows < MAX_PIECE_ROWS {
             let run = self.runs[self.next];
-            let taken = fitting(schema, run, MAX_PIECE_ROWS - rows, weight);
+            let taken = fitting(schema, &runs, run, MAX_PIECE_ROWS - rows, weight);
             let most = run.front(taken.rows);
             let room = room_within(alloc, schema, limited, seen, &runs, most)?;
             push_run(&mut runs, run.front(room.rows))?;

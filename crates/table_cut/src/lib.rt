@@ -11,8 +11,8 @@
 //! ```
 //!
 //! [`RowsLeft`] cuts a table that is kept in record batches into the same pieces, as runs of its rows, and [`column_runs`] gives what each column has of
-//! them. Where a piece ends is found from the weights of spans of rows ([`arrays::row_span_weight`]). Where a piece has rows under several dictionaries
-//! of 8 or 16 bit indices, the end is the least row over its columns for whose entry a dictionary has no room ([`dictionary_codes::name_slots`]). Rows are
+//! them. Where a piece ends is found from the weights of spans of rows ([`arrays::row_span_weight`]), unless a bound shows that all rows that it may have
+//! are light enough (`bound.rt`). Where a piece has rows under several dictionaries of 8 or 16 bit indices, the end is the least row over its columns for whose entry a dictionary has no room ([`dictionary_codes::name_slots`]). Rows are
 //! borrowed only where there are lists or structs besides, or many such dictionaries in one piece.
 //!
 //! ```ignore
@@ -22,6 +22,7 @@
 //! ```
 #![tactic(auto)]
 
+mod bound;
 mod columns_of_runs;
 mod columns_room;
 mod filling;

@@ -1,9 +1,9 @@
 -- What the rows of a run weigh.
-use Rattle.std.specs.Prelude.{ℕ, ◌+◌, take}
+use Rattle.std.specs.Prelude.{ℕ, ◌+◌, List, take}
 use Rattle.arrow_schema.specs.Column.{PlainSchema, columns_of}
 use Rattle.cells.specs.Weight.{row_weight, table_weight}
 use Rattle.columns.specs.CellAt.{row_at}
-use Rattle.table_cut.specs.Rows.{arrays_of_run, run_rows}
+use Rattle.table_cut.specs.Rows.{arrays_of_run, run_rows, runs_rows}
 use Rattle.table_cut.specs.declared.row_run.RowRun.{RowRun}
 
 -- the first n of them
@@ -13,3 +13,7 @@ front_weight s run rows = table_weight s (take rows (run_rows (columns_of s.colu
 -- the one at a place
 abbrev pub weight_at : PlainSchema → RowRun → ℕ → ℕ
 weight_at s run i = row_weight s (row_at (columns_of s.columns) (arrays_of_run run) (run.from + i))
+
+-- the rows of some runs
+abbrev pub piece_weight : PlainSchema → List RowRun → ℕ
+piece_weight s runs = table_weight s (runs_rows (columns_of s.columns) runs)

@@ -18,7 +18,10 @@ named_place-requires g c =
     let own : List Cell = own_entries c.args.field.now c.args.slots.view in
     let z : ℤ = index_at (index_of c.args.slots.spec) (view_array c.args.slots.view) c.args.i in
     let found = known_named c.args.known.now (named_number z) c.number_below-number.result c.in-Some.number c.number_below-number.ensures.named (sym c.in-Some.is ∙ c.known_code.ensures) in
-    is_within (seen_cells c.args.entries.now) (entry_at own z) c.in-Some.number (is_known (seen_cells c.args.entries.now) own c.args.known.now z c.in-Some.number c.requires.known found)
+    record {
+      places = c.requires.places;
+      within = is_within (seen_cells c.args.entries.now) (entry_at own z) c.in-Some.number (is_known (seen_cells c.args.entries.now) own c.args.known.now z c.in-Some.number c.requires.known found);
+    }
 
 pub returns-in-Some-clause-entries : goal.returns-in-Some-clause-entries
 returns-in-Some-clause-entries g c =

@@ -5,6 +5,7 @@ use Rattle.cells.specs.Dictionary.{dictionaries_fit}
 use Rattle.cells.specs.Weight.{table_weight}
 use Rattle.table_cut.specs.Left.{runs_left, rows_left}
 use Rattle.table_cut.specs.Rows.{runs_rows, are_runs_sound}
+use Rattle.table_cut.specs.inner.Bounds.{Weighs}
 use Rattle.table_cut.specs.inner.Room.{IsSeenWithin}
 use Rattle.table_cut.proofs.left.RowsLeft.next_piece.Given as goal
 
@@ -18,8 +19,8 @@ invariant-loop-self l =
       front : rows_left columns l.fn.self ≡ taken ++ rows_left columns l.self;
       count : l.rows ≡ length taken;
       few : l.rows ≤ 4096;
-      weight : l.weight ≡ table_weight s taken;
-      light : l.weight ≤ 16777216;
+      weight : Weighs l.weight (table_weight s taken);
+      light : table_weight s taken ≤ 16777216;
       sound : are_runs_sound columns l.runs.items ≡ true;
       left : are_runs_sound columns (runs_left l.self) ≡ true;
       fits : dictionaries_fit s taken ≡ true;

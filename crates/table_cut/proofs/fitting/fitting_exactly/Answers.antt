@@ -2,7 +2,7 @@ use Rattle.std.proofs.Common.{arith}
 use Rattle.arrow_schema.specs.View.{schema_of}
 use Rattle.table_cut.specs.Rows.{arrays_of_run}
 use Rattle.table_cut.proofs.SpanWeights.{next_weighs}
-use Rattle.table_cut.proofs.fitting.fitting.Goals as goal
+use Rattle.table_cut.proofs.fitting.fitting_exactly.Goals as goal
 
 pub loop-i-preserved : goal.loop-i-preserved
 loop-i-preserved c =

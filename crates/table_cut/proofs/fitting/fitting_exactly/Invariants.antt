@@ -1,7 +1,7 @@
 use Rattle.std.proofs.Common.{◌≡◌, ◌+◌, ◌≤◌}
 use Rattle.arrow_schema.specs.View.{schema_of}
 use Rattle.table_cut.specs.inner.Weights.{front_weight}
-use Rattle.table_cut.proofs.fitting.fitting.Given as goal
+use Rattle.table_cut.proofs.fitting.fitting_exactly.Given as goal
 
 -- the rows so far fit, and weigh this much
 abbrev pub invariant-loop-i : goal.invariant-loop-i
