@@ -231,7 +231,7 @@ impl FreeMap {
         ensures memory { IsErrOf result EnterError.OutOfMemory → IsOnDevice self.old.size run × IsFree self.old.size (IsUsedIn self.old.entries) run }
         ensures err { OnErr result (self.new ≡ self.old) }
     {
-        if !is_on_device(run, self.size) {
+        if !run.is_on_device(self.size) {
             return Err(EnterError::Range);
         }
         if !is_apart(&self.entries, run) {
@@ -254,11 +254,4 @@ impl FreeMap {
         self.entries.insert(place, UsageEntry { run, usage })?;
         Ok(())
     }
-}
-
-// Returns whether the run lies on a device of this size, after the commit sectors.
-fn is_on_device(run: Run, size: u64) -> bool
-    ensures { IsTrue result ↔ IsOnDevice size run }
-{
-    run.start >= 2 && run.count >= 1 && run.start <= size && run.count <= size - run.start
 }

@@ -13,11 +13,11 @@ use crate::{Piece, PiecePart};
 use sector_dev::{DevError, SECTOR_BYTES, SectorDevice};
 
 // Returns the sector that starts with these bytes and is otherwise zero.
-fn filled_sector(bytes: &[u8]) -> [u8; 512]
+fn filled_sector(bytes: &[u8]) -> [u8; SECTOR_BYTES]
     requires { length bytes.now ≤ 512 }
     ensures { result ≡ filled bytes.now }
 {
-    let mut sector = [0u8; 512];
+    let mut sector = [0u8; SECTOR_BYTES];
     sector[..bytes.len()].copy_from_slice(bytes);
     sector
 }
