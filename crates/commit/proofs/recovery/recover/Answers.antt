@@ -4,7 +4,7 @@ use Rattle.std.proofs.lemmas.Bool.{false≢true}
 use Rattle.std.proofs.lemmas.Result.{err_from_is_err_and}
 use Rattle.sector_dev.specs.Disk.{now, shown_image, flushed}
 use Rattle.sector_dev.specs.laws.Time.{stays, weaken, goes_on, passed, two, now_read, only_read, read_on}
-use Rattle.commit.specs.Opening.{CountsOpen, IsOpening, SyncsOnce}
+use Rattle.commit.specs.Opening.{CountsOpen, IsOpening}
 use Rattle.commit.specs.declared.reading.OpenError.{OpenError}
 use Rattle.commit.specs.declared.reading.OpenError.TheVariants.{Device}
 use Rattle.commit.specs.laws.Frame.{stands_on_no_device}
