@@ -62,7 +62,7 @@ impl Segment {
         ensures { result ≡ is_segment self }
     {
         self.place.bytes >= 1
-            && self.place.run.count == self.place.bytes.div_ceil(512)
+            && self.place.fills_its_run()
             && self.rows >= 1
             && self.rows <= MAX_SEGMENT_ROWS
             && is_digest(self.digest)
@@ -85,7 +85,7 @@ fn is_page(page: Option<Extent>) -> bool
     ensures { result ≡ is_page page }
 {
     match page {
-        Some(page) => page.bytes >= 8 && page.run.count == page.bytes.div_ceil(512),
+        Some(page) => page.bytes >= 8 && page.fills_its_run(),
         None => true,
     }
 }

@@ -1,8 +1,9 @@
 -- What opening a store finds, counts and reports.
 use Rattle.std.specs.Prelude.{◌≡◌, ◌⊎◌, ◌+◌, ◌-◌, ◌^◌, ℕ, min, List, Result, Ok, Err}
-use Rattle.sector_dev.specs.Disk.{Disk, Story, now, shown_image, flushed}
+use Rattle.sector_dev.specs.Disk.{Disk, Story, now, shown_image, flushed, Flushes}
+use Rattle.sector_dev.specs.Time.{OnlyReads}
 use Rattle.segments.specs.declared.errors.EnterError.{EnterError}
-use Rattle.segments.specs.declared.errors.EnterError.TheVariants.{Range as RangeError, Overlap as OverlapError, TooManyPins as PinsError, OutOfMemory as MemoryError}
+use Rattle.segments.specs.declared.errors.EnterError.TheVariants.{Range as RangeError, Overlap as OverlapError, OutOfMemory as MemoryError}
 use Rattle.segments.specs.declared.extent.Extent.{Extent}
 use Rattle.commit.specs.declared.cause.Cause.{Cause}
 use Rattle.commit.specs.declared.cause.Cause.TheVariants.{RunRange, RunOverlap}
@@ -23,7 +24,6 @@ CountsOpen before after (Err OutOfMemory) = after ≡ before
 abbrev pub open_error : EnterError → OpenError
 open_error RangeError = Damaged RunRange
 open_error OverlapError = Damaged RunOverlap
-open_error PinsError = Damaged RunOverlap
 open_error MemoryError = OutOfMemory
 
 -- the bytes of an extent with at least `least` bytes, as reads return them
@@ -62,3 +62,9 @@ TellsStanding OutOfMemory found = Unit {0}
 -- at a moment of opening: the disk is unchanged, or what reads returned is synced
 abbrev pub IsOpening : Disk → Disk → Type 0
 IsOpening before d = (d ≡ before) ⊎ (d ≡ flushed before)
+
+-- calls that only read, and then one sync
+pub record SyncsOnce (old new : Story) : Type 0 where
+  pub read : Story
+  pub reads : OnlyReads old read
+  pub sync : Flushes read new

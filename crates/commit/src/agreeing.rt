@@ -7,7 +7,7 @@ ghost use Rattle.commit.specs.Agreeing.{content_at, is_next, agree, commits_agre
 
 use crate::Commit;
 use crate::sector::commit_in;
-use sector_dev::{DevError, SectorDevice};
+use sector_dev::{DevError, SECTOR_BYTES, SectorDevice};
 
 // The content of a commit sector.
 #[derive(Clone, Copy)]
@@ -20,13 +20,13 @@ enum CommitSector {
 }
 
 // Returns the content of these bytes in the sector with this number.
-fn content_in(n: u64, sector: &[u8; 512]) -> CommitSector
+fn content_in(n: u64, sector: &[u8; SECTOR_BYTES]) -> CommitSector
     ensures { result ≡ content_at n (Some sector.now) }
 {
     match commit_in(n, sector) {
         Some(commit) => CommitSector::Holds(commit),
         None => {
-            if *sector == [0u8; 512] {
+            if *sector == [0u8; SECTOR_BYTES] {
                 CommitSector::Empty
             } else {
                 CommitSector::Changed
@@ -44,7 +44,7 @@ fn read_content<D: SectorDevice>(device: &mut D, n: u64) -> Result<CommitSector,
     ensures moments { D.tells ≡ true → OnlyReads (D.story device.old) (D.story device.new) }
     ensures found { IfOk result (λ content. D.tells ≡ true → content_at n (shown_image (now (D.story device.old)) n) ≡ content) }
 {
-    let mut sector = [0u8; 512];
+    let mut sector = [0u8; SECTOR_BYTES];
     match device.read(n, &mut sector) {
         Ok(()) => Ok(content_in(n, &sector)),
         Err(DevError::Unreadable) => Ok(CommitSector::Empty),

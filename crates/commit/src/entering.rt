@@ -4,7 +4,6 @@ ghost use Rattle.commit.specs.Placing.{Uses};
 ghost use Rattle.commit.specs.Standing.{is_on_device, all_on_device, runs_fault};
 ghost use Rattle.commit.specs.laws.Apart.{HasEntered};
 
-use crate::reading::is_on_device;
 use crate::{Cause, OpenError};
 use segments::{EnterError, FreeMap, Run};
 use std::alloc::{AllocError, Global};
@@ -13,7 +12,7 @@ fn are_on_device(size: u64, runs: &[Run]) -> bool
     ensures { result ≡ all_on_device size runs.now }
 {
     for run in runs {
-        if !is_on_device(size, *run) {
+        if !run.is_on_device(size) {
             return false;
         }
     }
@@ -95,7 +94,7 @@ impl From<EnterError> for OpenError {
     fn from(error: EnterError) -> Self {
         match error {
             EnterError::Range => OpenError::Damaged(Cause::RunRange),
-            EnterError::Overlap | EnterError::TooManyPins => OpenError::Damaged(Cause::RunOverlap),
+            EnterError::Overlap => OpenError::Damaged(Cause::RunOverlap),
             EnterError::OutOfMemory => OpenError::OutOfMemory,
         }
     }

@@ -12,7 +12,7 @@ ghost use Rattle.commit.specs.inner.Prepared.{IsPrepared, HasZeros, HasFirst, Be
 use crate::opening::read_ruling;
 use crate::sector::commit_sector;
 use crate::{CatalogueKind, Cause, Commit, FormatVersion};
-use sector_dev::{DevError, LEAST_SECTORS, MOST_SECTORS, SectorDevice};
+use sector_dev::{DevError, LEAST_SECTORS, MOST_SECTORS, SECTOR_BYTES, SectorDevice};
 use segments::{Extent, FreeMap, Run};
 use std::alloc::Global;
 use thiserror::Error;
@@ -61,7 +61,7 @@ fn prepare<D: SectorDevice>(device: &mut D) -> Result<(), DevError>
     ensures begun { OnOk result (D.tells ≡ true → (now (D.story device.old)).writes ≤ (now (D.story device.new)).writes) }
     ensures zeros { OnOk result (D.tells ≡ true → HasZeros (shown_image (now (D.story device.old))) (shown_image (now (D.story device.new)))) }
 {
-    let zeros = [0u8; 512];
+    let zeros = [0u8; SECTOR_BYTES];
     device.write(0, &zeros)?;
     device.write(2, &zeros)?;
     device.sync()?;

@@ -7,7 +7,7 @@ ghost use Rattle.commit.specs.Ruling.{newer, ruling};
 
 use crate::Commit;
 use crate::sector::commit_in;
-use sector_dev::{DevError, SectorDevice};
+use sector_dev::{DevError, SECTOR_BYTES, SectorDevice};
 
 // Reads the commit in the sector with this number. A sector that can't be read has none.
 fn read_commit<D: SectorDevice>(device: &mut D, n: u64) -> Result<Option<Commit>, DevError>
@@ -18,7 +18,7 @@ fn read_commit<D: SectorDevice>(device: &mut D, n: u64) -> Result<Option<Commit>
     ensures moments { D.tells ≡ true → OnlyReads (D.story device.old) (D.story device.new) }
     ensures found { IfOk result (λ commit. D.tells ≡ true → commit_at n (shown_image (now (D.story device.old)) n) ≡ commit) }
 {
-    let mut sector = [0u8; 512];
+    let mut sector = [0u8; SECTOR_BYTES];
     match device.read(n, &mut sector) {
         Ok(()) => Ok(commit_in(n, &sector)),
         Err(DevError::Unreadable) => Ok(None),

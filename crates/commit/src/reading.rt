@@ -2,12 +2,12 @@
 ghost use Rattle.std.specs.Prelude.{◌≡◌, ◌≢◌, ◌≤◌, ◌+◌, ◌*◌, ◌<◌, ◌^◌, true, false, Ok, Err, OnOk, IfOk, IfErr};
 ghost use Rattle.sector_dev.specs.Time.{OnlyReads};
 ghost use Rattle.sector_dev.specs.declared.file.TheConstants.{MOST_SECTORS};
-ghost use Rattle.commit.specs.Standing.{is_on_device, is_extent};
+ghost use Rattle.commit.specs.Standing.{is_extent};
 ghost use Rattle.commit.specs.Opening.{CountsOpen, extent_shown, text_shown, TellsCause};
 
 use crate::{Cause, Commit};
-use sector_dev::{DevError, SECTOR_BYTES, SectorDevice};
-use segments::{Extent, ReadError, Run, read_run};
+use sector_dev::{DevError, SectorDevice};
+use segments::{Extent, ReadError, read_run};
 use std::alloc::{AllocError, Global};
 use thiserror::Error;
 
@@ -27,21 +27,11 @@ pub enum OpenError {
     OutOfMemory,
 }
 
-// Returns whether the run has at least one sector, starts after the commit sectors and ends on the device.
-pub(crate) fn is_on_device(size: u64, run: Run) -> bool
-    ensures { result ≡ is_on_device size run }
-{
-    run.start >= 2 && run.count >= 1 && run.start <= size && run.count <= size - run.start
-}
-
 // Returns whether the extent lies on the device, has at least `least` bytes, and exactly the sectors that they need.
 fn is_extent(size: u64, least: u64, extent: Extent) -> bool
-    requires { size ≤ MOST_SECTORS }
     ensures { result ≡ is_extent size least extent }
 {
-    extent.bytes >= least
-        && extent.run.count == extent.bytes.div_ceil(SECTOR_BYTES as u64)
-        && is_on_device(size, extent.run)
+    extent.bytes >= least && extent.fills_its_run() && extent.run.is_on_device(size)
 }
 
 /// Reads the bytes of an extent, which must be at least `least`. Changes nothing.

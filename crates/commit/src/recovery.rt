@@ -4,7 +4,7 @@ ghost use Rattle.sector_dev.specs.Disk.{now, flushed, Flushes, Passes};
 ghost use Rattle.sector_dev.specs.Time.{Grows, OnlyReads};
 ghost use Rattle.commit.specs.Placing.{Uses};
 ghost use Rattle.commit.specs.Standing.{is_size, is_on_device, used_runs, runs_fault, rules, Stands};
-ghost use Rattle.commit.specs.Opening.{CountsOpen, IsOpening, named_shown, standing_shown, TellsCause, TellsStanding};
+ghost use Rattle.commit.specs.Opening.{CountsOpen, IsOpening, SyncsOnce, named_shown, standing_shown, TellsCause, TellsStanding};
 
 use crate::entering::occupy_runs;
 use crate::opening::read_ruling;
@@ -112,7 +112,7 @@ fn make_safe<C: ReadCatalogue, D: SectorDevice>(
 ///
 /// # Errors
 /// `NotAStore` if no commit rules; `Damaged` with the first cause; `Device` if the device failed; `OutOfMemory`. A device whose size no store has is
-/// reported before any read. After any error but `Device` nothing has changed.
+/// reported before any read. After any error nothing has changed.
 pub fn recover<C: ReadCatalogue, D: SectorDevice>(
     alloc: Global,
     device: &mut D,
@@ -125,6 +125,9 @@ pub fn recover<C: ReadCatalogue, D: SectorDevice>(
     ensures found { IfOk result
         (λ store. D.tells ≡ true → standing_shown C.reading (D.size device.old) (D.story device.old) ≡ rules store.commit (C.plain_of store.catalogue)) }
     ensures synced { OnOk result (D.tells ≡ true → now (D.story device.new) ≡ flushed (now (D.story device.old))) }
+    // One sync succeeds, after all reads, or none does.
+    ensures once { OnOk result (D.tells ≡ true → SyncsOnce (D.story device.old) (D.story device.new)) }
+    ensures unsynced { OnErr result (D.tells ≡ true → OnlyReads (D.story device.old) (D.story device.new)) }
     ensures stands { IfOk result
         (λ store. D.tells ≡ true → Stands C.reading (D.size device.old) (now (D.story device.new)) store.commit (C.plain_of store.catalogue)) }
     ensures refused { IfErr result (λ e. D.tells ≡ true → TellsStanding e (standing_shown C.reading (D.size device.old) (D.story device.old))) }

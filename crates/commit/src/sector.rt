@@ -5,6 +5,7 @@ ghost use Rattle.commit.specs.Sector.{version_number, kind_number, commit_text, 
 ghost use Rattle.commit.specs.laws.Sectors.{IsFoundAt};
 
 use byteorder::{ByteOrder, LittleEndian};
+use sector_dev::SECTOR_BYTES;
 use segments::{Extent, Run};
 
 /// How the catalogue that a commit names is stored.
@@ -63,7 +64,7 @@ impl CatalogueKind {
 }
 
 // Appends a field to the sector.
-fn put(sector: &mut [u8; 512], at: usize, bytes: &[u8])
+fn put(sector: &mut [u8; SECTOR_BYTES], at: usize, bytes: &[u8])
     requires { at + length bytes.now ≤ 512 }
     ensures { (front : List ℕ) → length front ≡ at → sector.old ≡ filled front → sector.new ≡ filled (front ++ bytes.now) }
 {
@@ -71,10 +72,10 @@ fn put(sector: &mut [u8; 512], at: usize, bytes: &[u8])
 }
 
 // Returns the text of a commit.
-pub(crate) fn commit_sector(commit: Commit) -> [u8; 512]
+pub(crate) fn commit_sector(commit: Commit) -> [u8; SECTOR_BYTES]
     ensures { result ≡ commit_text commit }
 {
-    let mut sector = [0u8; 512];
+    let mut sector = [0u8; SECTOR_BYTES];
     put(&mut sector, 0, &LETTERS);
     put(&mut sector, 8, &commit.epoch.to_le_bytes());
     put(&mut sector, 16, &commit.catalogue.run.start.to_le_bytes());
@@ -86,14 +87,14 @@ pub(crate) fn commit_sector(commit: Commit) -> [u8; 512]
     sector
 }
 
-fn u64_at(sector: &[u8; 512], at: usize) -> u64
+fn u64_at(sector: &[u8; SECTOR_BYTES], at: usize) -> u64
     requires { at + 8 ≤ 512 }
     ensures { result ≡ u64_at at sector.now }
 {
     LittleEndian::read_u64(&sector[at..])
 }
 
-fn u32_at(sector: &[u8; 512], at: usize) -> u32
+fn u32_at(sector: &[u8; SECTOR_BYTES], at: usize) -> u32
     requires { at + 4 ≤ 512 }
     ensures { result ≡ u32_at at sector.now }
 {
@@ -101,7 +102,7 @@ fn u32_at(sector: &[u8; 512], at: usize) -> u32
 }
 
 // Returns the version with the number in the sector. Any other number is rejected later, when the sector is compared with the text of the commit.
-fn version(sector: &[u8; 512]) -> FormatVersion
+fn version(sector: &[u8; SECTOR_BYTES]) -> FormatVersion
     ensures { result ≡ version_in sector.now }
 {
     if u32_at(sector, 48) == 2 {
@@ -112,7 +113,7 @@ fn version(sector: &[u8; 512]) -> FormatVersion
 }
 
 // Returns the kind with the number in the sector. Any other number is rejected later, when the sector is compared with the text of the commit.
-fn kind(sector: &[u8; 512]) -> CatalogueKind
+fn kind(sector: &[u8; SECTOR_BYTES]) -> CatalogueKind
     ensures { result ≡ kind_in sector.now }
 {
     if u32_at(sector, 52) == 1 {
@@ -123,7 +124,7 @@ fn kind(sector: &[u8; 512]) -> CatalogueKind
 }
 
 // Returns the commit of the sector's fields, if the sector is the text of one.
-fn fields(sector: &[u8; 512]) -> Commit
+fn fields(sector: &[u8; SECTOR_BYTES]) -> Commit
     ensures { result ≡ fields_of sector.now }
 {
     let start = u64_at(sector, 16);
@@ -142,7 +143,7 @@ fn fields(sector: &[u8; 512]) -> Commit
 }
 
 // Returns the commit in the sector with this number, if there is one.
-pub(crate) fn commit_in(n: u64, sector: &[u8; 512]) -> Option<Commit>
+pub(crate) fn commit_in(n: u64, sector: &[u8; SECTOR_BYTES]) -> Option<Commit>
     ensures { result ≡ commit_at n (Some sector.now) }
 {
     let commit = fields(sector);

@@ -1,4 +1,3 @@
 -- Laws that the crates above use.
-pub mod Changes
 pub mod Ids
 pub mod Kept

@@ -5,13 +5,14 @@ ghost use Rattle.std.specs.Bool.{OnTrue, OnFalse};
 ghost use Rattle.sector_dev.specs.Buffer.{content_in};
 ghost use Rattle.sector_dev.specs.Rows.{content_from};
 
+use crate::SECTOR_BYTES;
 use std::alloc::Global;
 
 // The contents of the sectors from `start` on.
 #[derive(Drop)]
 pub(crate) struct SectorBuffer {
     pub(crate) start: u64,
-    pub(crate) contents: Vec<[u8; 512]>,
+    pub(crate) contents: Vec<[u8; SECTOR_BYTES]>,
 }
 
 // 256 KiB: longer runs were not faster to write or to read
@@ -35,7 +36,7 @@ impl SectorBuffer {
     }
 
     // Returns the content of a sector, if it is in the buffer.
-    pub(crate) fn get(&self, n: u64) -> Option<&[u8; 512]>
+    pub(crate) fn get(&self, n: u64) -> Option<&[u8; SECTOR_BYTES]>
         ensures { option_copied result ≡ content_in self.now n }
     {
         if n < self.start {
@@ -69,7 +70,7 @@ impl SectorBuffer {
     }
 
     // Appends sectors, or starts with them if the buffer is empty. Returns `false` if they lie elsewhere, are too many, or memory was refused.
-    pub(crate) fn append(&mut self, n: u64, contents: &[[u8; 512]]) -> bool
+    pub(crate) fn append(&mut self, n: u64, contents: &[[u8; SECTOR_BYTES]]) -> bool
         ensures appended { OnTrue result ((k : ℕ) → content_in self.new k ≡ option_or (content_from n contents.now k) (content_in self.old k)) }
         ensures same { OnFalse result (self.new.contents.items ≡ self.old.contents.items) }
         ensures place { OnFalse result ((self.new.start ≡ self.old.start) ⊎ (self.old.contents.items ≡ [])) }

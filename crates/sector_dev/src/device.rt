@@ -44,7 +44,7 @@ pub trait SectorDevice {
     ///
     /// # Errors
     /// `Failed` if the device failed, and `Unreadable` if a crash left the sector unreadable.
-    fn read(&mut self, n: u64, to: &mut [u8; 512]) -> Result<(), DevError>
+    fn read(&mut self, n: u64, to: &mut [u8; SECTOR_BYTES]) -> Result<(), DevError>
         requires { n < size self.old }
         ensures size { size self.new ≡ size self.old }
         ensures count { Counts (failed self.old) (failed self.new) result }
@@ -57,7 +57,7 @@ pub trait SectorDevice {
     ///
     /// # Errors
     /// `Failed` only: reads then return the new content, or what they returned before, but always the same one.
-    fn write(&mut self, n: u64, from: &[u8; 512]) -> Result<(), DevError>
+    fn write(&mut self, n: u64, from: &[u8; SECTOR_BYTES]) -> Result<(), DevError>
         requires { n < size self.old }
         ensures size { size self.new ≡ size self.old }
         ensures count { Counts (failed self.old) (failed self.new) result }
@@ -69,7 +69,7 @@ pub trait SectorDevice {
     ///
     /// # Errors
     /// `Failed` only: the sectors before one of them were written, this one failed as in `write`, and those after it are untouched.
-    fn write_sectors(&mut self, start: u64, contents: &[[u8; 512]]) -> Result<(), DevError>
+    fn write_sectors(&mut self, start: u64, contents: &[[u8; SECTOR_BYTES]]) -> Result<(), DevError>
         requires within { start + length contents.now ≤ size self.old }
         requires countable { start + length contents.now < 2 ^ 64 }
         ensures size { size self.new ≡ size self.old }

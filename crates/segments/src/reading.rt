@@ -47,7 +47,7 @@ pub fn read_run<D: SectorDevice>(
 {
     let count = byte_count.div_ceil(SECTOR_BYTES);
     let mut bytes = Vec::with_capacity(alloc, count * SECTOR_BYTES)?;
-    let mut sector = [0u8; 512];
+    let mut sector = [0u8; SECTOR_BYTES];
     for i in 0..count {
         device.read(start + i as u64, &mut sector)?;
         bytes.extend_from_slice(&sector).unwrap();

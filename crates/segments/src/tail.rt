@@ -1,11 +1,13 @@
 // The bytes of a run that do not fill a sector yet.
 ghost use Rattle.std.specs.Prelude.{◌≤◌};
 
+use sector_dev::SECTOR_BYTES;
+
 // The bytes after the last whole sector, and the sector that they go into.
 #[derive(Drop)]
 pub(crate) struct Tail {
     pub(crate) start: u64,
-    sector: [u8; 512],
+    sector: [u8; SECTOR_BYTES],
     count: usize,
     ghost within: { count ≤ 512 },
 }
@@ -21,7 +23,7 @@ impl Tail {
     {
         Tail {
             start,
-            sector: [0; 512],
+            sector: [0; SECTOR_BYTES],
             count: 0,
         }
     }
@@ -38,19 +40,19 @@ impl Tail {
         ensures taken { result ≡ min (512 - length (tail_bytes self.old)) (length bytes.now) }
         ensures bytes { tail_bytes self.new ≡ tail_bytes self.old ++ take result bytes.now }
     {
-        let taken = (512 - self.count).min(bytes.len());
+        let taken = (SECTOR_BYTES - self.count).min(bytes.len());
         self.sector[self.count..self.count + taken].copy_from_slice(&bytes[..taken]);
         self.count += taken;
         taken
     }
 
     // Returns the sector if it is full.
-    pub(crate) fn full(&self) -> Option<&[u8; 512]>
+    pub(crate) fn full(&self) -> Option<&[u8; SECTOR_BYTES]>
         ensures some { IfSome result (λ sector. sector.now ≡ tail_bytes self.now) }
         ensures whole { IfSome result (λ sector. length sector.now ≡ 512) }
         ensures none { result ≡ None → length (tail_bytes self.now) < 512 }
     {
-        if self.count == 512 {
+        if self.count == SECTOR_BYTES {
             Some(&self.sector)
         } else {
             None

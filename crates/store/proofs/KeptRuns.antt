@@ -1,7 +1,7 @@
 -- The runs that open exports keep beside those in use.
 use Rattle.std.specs.Prelude.{nat_le, not, sum_by}
 use Rattle.std.proofs.Common.{◌≡◌, ◌≤◌, ◌+◌, ◌++◌, ◌&&◌, ◌||◌, ◌==◌, ◌∙◌, ℕ, Bool, true, false, List, [], ◌∷◌, length, None, refl, sym, ap, subst, append-nil, append_assoc, arith}
-use Rattle.std.proofs.lemmas.Bool.{and_parts, and_from, eqb-true, leb-true, le-leb}
+use Rattle.std.proofs.lemmas.Bool.{and_parts, and_from, eqb-true, leb-true}
 use Rattle.std.proofs.lemmas.List.Sums.{sum_by-cons, sum_by-append, sum_by_push}
 use Rattle.segments.specs.declared.run.Run.{Run}
 use Rattle.segments.specs.declared.entries.Usage.{Usage}
@@ -10,7 +10,7 @@ use Rattle.segments.specs.Usages.{Space, TAKEN, usage_of, same_run, IsUsedIn, Ch
 use Rattle.segments.specs.laws.Usages.{same_run_is, among_both, among_more}
 use Rattle.commit.specs.Placing.{is_among, Uses}
 use Rattle.commit.specs.Standing.{is_size, is_on_device, all_on_device, are_apart, runs_fault}
-use Rattle.commit.specs.laws.Apart.{HasEntered, entered_more}
+use Rattle.commit.specs.laws.Apart.{HasEntered, entered_more, is_on_device_from}
 use Rattle.commit.specs.laws.Frame.{fault_none}
 use Rattle.store.specs.Summary.{CountsKept}
 use Rattle.store_changes.specs.laws.Shrinking.{on_both}
@@ -79,14 +79,11 @@ kept_same size used done next run map count is taken so = record {
   counts = so.counts;
 }
 
-on_device : (size : ℕ) (r : Run) → IsOnDevice size r → is_on_device size r ≡ true
-on_device size r on = and_from _ _ (le-leb 2 r.start on.above) (and_from _ _ (le-leb 1 r.count on.some) (le-leb (r.start + r.count) size on.within))
-
 -- it is counted
 pub kept_more : (size : ℕ) (used done next : List Run) (run : Run) (map more : Space) (count : ℕ) → next ≡ done ++ run ∷ [] → (usage_of map.entries run).taken ≡ false → IsOnDevice map.size run → IsFree map.size (IsUsedIn map.entries) run → Changes map more run TAKEN
     → KeptSoFar size used done map count → KeptSoFar size used next more (count + run.count)
 kept_more size used done next run map more count is untaken on free changes so =
-    let here : is_on_device size run ≡ true = on_device size run (subst (λ (n : ℕ). IsOnDevice n run) so.entered.size_is on) in
+    let here : is_on_device size run ≡ true = is_on_device_from size run (subst (λ (n : ℕ). IsOnDevice n run) so.entered.size_is on) in
     record {
       runs = so.runs ++ run ∷ [];
       each = λ other.

@@ -15,7 +15,6 @@ ghost use Rattle.query.specs.Selection.{selection};
 ghost use Rattle.tables.specs.Commands.{PlainCommand, create, append_stream, append_rows, save_as, rename, drop_table};
 ghost use Rattle.tables.specs.Commands.{changed_names, BringsTables, BringTables};
 ghost use Rattle.tables.specs.Verdict.{verdict, step, after, joined, empty_table};
-ghost use Rattle.tables.specs.Refusals.{origin_of, by_tables};
 ghost use Rattle.tables.specs.View.{command_of};
 
 use crate::command::Command;
@@ -36,11 +35,6 @@ pub fn a_command_changes_its_names_alone()
 /// Executing a list of commands is executing its first part and then the rest.
 pub fn commands_in_turn()
     ensures { (t : Tables) (cs ds : List PlainCommand) → after t (cs ++ ds) ≡ after (after t cs) ds }
-{}
-
-/// If the tables alone refuse a command, its refusal is of the origin `by_tables`.
-pub fn refusals_of_the_tables()
-    ensures { (t : Tables) (c : PlainCommand) (r : Refusal) → verdict t c ≡ Err r → origin_of r ≡ by_tables }
 {}
 
 /// The weight of joined rows is the sum of their weights.

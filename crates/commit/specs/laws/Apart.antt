@@ -1,7 +1,7 @@
 -- Runs that are entered one by one into a free map share no sector.
-use Rattle.std.specs.Prelude.{◌≡◌, ◌<◌, ◌+◌, ◌&&◌, ◌||◌, ℕ, Bool, true, false, nat_le, if◌then◌else◌, List, [], ◌∷◌, ◌++◌, zero, suc, length, get_or, Some, None, refl}
+use Rattle.std.specs.Prelude.{◌≡◌, ◌↔◌, ◌<◌, ◌+◌, ◌&&◌, ◌||◌, ℕ, Bool, true, false, nat_le, if◌then◌else◌, List, [], ◌∷◌, ◌++◌, zero, suc, length, get_or, Some, None, IsTrue, refl}
 use Rattle.std.proofs.Common.{inl, inr, sym, ap, ◌∙◌, subst, arith}
-use Rattle.std.proofs.lemmas.Bool.{and_from, and_parts, or_right, false_from_ne_true, leb-true, le-leb}
+use Rattle.std.proofs.lemmas.Bool.{and_from, and_parts, or_right, false_from_ne_true, true≢false, leb-true, le-leb}
 use Rattle.segments.specs.declared.run.Run.{Run}
 use Rattle.segments.specs.Runs.{IsApart, IsOnDevice, IsFree}
 use Rattle.segments.specs.Usages.{is_used, TAKEN, same_run, usage_of, IsUsedIn, Changes, Space}
@@ -104,6 +104,14 @@ on_device_is size r is =
     let low = and_parts (nat_le 2 r.start) (nat_le 1 r.count && nat_le (r.start + r.count) size) is in
     let rest = and_parts (nat_le 1 r.count) (nat_le (r.start + r.count) size) low.1 in
     record { above = leb-true _ _ low.0; some = leb-true _ _ rest.0; within = leb-true _ _ rest.1 }
+
+pub is_on_device_from : (size : ℕ) (r : Run) → IsOnDevice size r → is_on_device size r ≡ true
+is_on_device_from size r on = and_from _ _ (le-leb _ _ on.above) (and_from _ _ (le-leb _ _ on.some) (le-leb _ _ on.within))
+
+-- a test whether a run lies on the device
+pub on_device_test : (size : ℕ) (r : Run) (t : Bool) → IsTrue t ↔ IsOnDevice size r → t ≡ is_on_device size r
+on_device_test size r true test = sym (is_on_device_from size r (test.0 refl))
+on_device_test size r false test = sym (false_from_ne_true (is_on_device size r) (λ is. true≢false (sym (test.1 (on_device_is size r is)))))
 
 pub all_at : (size : ℕ) (rs : List Run) (i : ℕ) (d : Run) → all_on_device size rs ≡ true → i < length rs → is_on_device size (get_or rs i d) ≡ true
 all_at size [] i d is lt = absurd (omega arith)

@@ -4,6 +4,7 @@ use Rattle.std.specs.Global.{Vec}
 use Rattle.std.proofs.Common.{inl, inr, sym, ap, ◌∙◌, subst, arith, append-nil}
 use Rattle.std.proofs.lemmas.Bool.{and_parts, and_from, and_right, or_right, leb-true, le-leb, eq-eqb}
 use Rattle.std.proofs.lemmas.List.{length-map, map-append}
+use Rattle.sector_dev.specs.declared.file.TheConstants.{LEAST_SECTORS, MOST_SECTORS}
 use Rattle.segments.specs.declared.run.Run.{Run}
 use Rattle.segments.specs.declared.piece.PiecePart.{PiecePart}
 use Rattle.segments.specs.Pieces.{PlainPiece, bytes_of_parts, plain_pieces}
@@ -66,7 +67,7 @@ plan_of old new counts front run text pieces k version kind limits device epoch 
     let took : Took old.size (IsUsedIn old.entries) (map sectors_of (contents_of pieces)) (runs_of pieces) = subst (λ (ns : List ℕ). Took old.size (IsUsedIn old.entries) ns (runs_of pieces)) counted all.took in
     let fit : AllFit old.size pieces = took_fit old.size (IsUsedIn old.entries) pieces took in
     let last = fit_last old.size front (record { run = run; bytes = text }) (subst (λ (ps : List PlainPiece). AllFit old.size ps) is fit) in
-    let most : old.size ≤ 4194304 = leb-true _ _ (and_parts (nat_le 16 old.size) (nat_le old.size 4194304) limits).1 in
+    let most : old.size ≤ MOST_SECTORS = leb-true _ _ (and_parts (nat_le LEAST_SECTORS old.size) (nat_le old.size MOST_SECTORS) limits).1 in
     record {
       limits = limits;
       fit = fit;

@@ -4,6 +4,7 @@ ghost use Rattle.sector_dev.specs.View.{sectors_of, failures_of, IsDeviceLength,
 ghost use Rattle.sector_dev.specs.Written.{IsEmpty};
 
 use super::{FileDevice, FileError, LEAST_SECTORS, LockFile, MOST_SECTORS};
+use crate::SECTOR_BYTES;
 use crate::buffer::SectorBuffer;
 use std::alloc::Global;
 use std::fs::{self, File, OpenFile, OpenOptions};
@@ -22,7 +23,7 @@ fn is_size(sectors: u64) -> bool
 fn is_length(bytes: u64) -> bool
     ensures { IsTrue result ↔ IsDeviceLength bytes }
 {
-    bytes % 512 == 0 && is_size(bytes / 512)
+    bytes % SECTOR_BYTES as u64 == 0 && is_size(bytes / SECTOR_BYTES as u64)
 }
 
 // Returns the directory that contains a path.
@@ -60,7 +61,7 @@ fn prepare<F: OpenFile + LockFile, R: Files<File = F>>(
     requires { sectors ≤ MOST_SECTORS }
 {
     file.lock_to_write()?;
-    file.set_len(sectors * 512)?;
+    file.set_len(sectors * SECTOR_BYTES as u64)?;
     file.sync_all()?;
     sync_name(rt, path)
 }
@@ -182,7 +183,7 @@ impl<F: Read + Write + Seek + OpenFile + Drop> FileDevice<F> {
         if !is_length(bytes) {
             return Err(FileError::BadSize);
         }
-        Ok(FileDevice::over(alloc, file, bytes / 512))
+        Ok(FileDevice::over(alloc, file, bytes / SECTOR_BYTES as u64))
     }
 
     // Creates a device of a file with this number of sectors.

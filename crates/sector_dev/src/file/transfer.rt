@@ -8,24 +8,32 @@ ghost use Rattle.sector_dev.specs.declared.file.TheConstants.{MOST_SECTORS};
 ghost use Rattle.sector_dev.specs.Written.{Writes, buffered, IsEmpty, Empties, Buffers, BuffersAnew, LosesNone};
 
 use super::FileDevice;
-use crate::DevError;
 use crate::buffer::SectorBuffer;
+use crate::{DevError, SECTOR_BYTES};
 use std::fs::OpenFile;
 use std::io::{self, Read, Seek, SeekFrom, Write};
 use std::slice;
 
-fn read_at<F: Read + Seek>(file: &mut F, start: u64, contents: &mut [[u8; 512]]) -> io::Result<()>
+fn read_at<F: Read + Seek>(
+    file: &mut F,
+    start: u64,
+    contents: &mut [[u8; SECTOR_BYTES]],
+) -> io::Result<()>
     requires { start < MOST_SECTORS }
 {
-    file.seek(SeekFrom::Start(start * 512))?;
+    file.seek(SeekFrom::Start(start * SECTOR_BYTES as u64))?;
     file.read_exact(contents.as_flattened_mut())
 }
 
-fn write_at<F: Write + Seek>(file: &mut F, start: u64, contents: &[[u8; 512]]) -> io::Result<()>
+fn write_at<F: Write + Seek>(
+    file: &mut F,
+    start: u64,
+    contents: &[[u8; SECTOR_BYTES]],
+) -> io::Result<()>
     requires { start ≤ MOST_SECTORS }
     ensures { OnOk result (Writes ⟦<F as Write>⟧ ⟦<F as Seek>⟧ (start * 512) contents.now file.old file.new) }
 {
-    file.seek(SeekFrom::Start(start * 512))?;
+    file.seek(SeekFrom::Start(start * SECTOR_BYTES as u64))?;
     file.write_all(contents.as_flattened())
 }
 
@@ -52,7 +60,7 @@ fn read_ahead<F: Read + Seek>(file: &mut F, ahead: &mut SectorBuffer, n: u64, mo
 {
     let count = ahead.count_from(n).min(most as usize);
     ahead.start = n;
-    if ahead.contents.resize(count, [0; 512]).is_err()
+    if ahead.contents.resize(count, [0; SECTOR_BYTES]).is_err()
         || read_at(file, n, &mut ahead.contents).is_err()
     {
         ahead.clear();
@@ -60,14 +68,23 @@ fn read_ahead<F: Read + Seek>(file: &mut F, ahead: &mut SectorBuffer, n: u64, mo
 }
 
 // Returns the content of a sector, if it is buffered or was read ahead.
-fn in_memory<'a>(writes: &'a SectorBuffer, ahead: &'a SectorBuffer, n: u64) -> Option<&'a [u8; 512]>
+fn in_memory<'a>(
+    writes: &'a SectorBuffer,
+    ahead: &'a SectorBuffer,
+    n: u64,
+) -> Option<&'a [u8; SECTOR_BYTES]>
     ensures { option_copied result ≡ option_or (content_in writes.now n) (content_in ahead.now n) }
 {
     writes.get(n).or(ahead.get(n))
 }
 
 // Copies the content of such a sector. Returns `false` if it is not in memory.
-fn copy_from_memory(writes: &SectorBuffer, ahead: &SectorBuffer, n: u64, to: &mut [u8; 512]) -> bool
+fn copy_from_memory(
+    writes: &SectorBuffer,
+    ahead: &SectorBuffer,
+    n: u64,
+    to: &mut [u8; SECTOR_BYTES],
+) -> bool
     ensures there { OnTrue result (option_or (content_in writes.now n) (content_in ahead.now n) ≡ Some to.new) }
     ensures absent { OnFalse result (option_or (content_in writes.now n) (content_in ahead.now n) ≡ None) }
 {
@@ -98,7 +115,7 @@ impl<F: Read + Write + Seek + OpenFile + Drop> FileDevice<F> {
     }
 
     // Buffers these sectors, or writes them after the buffered ones.
-    pub(super) fn put(&mut self, start: u64, contents: &[[u8; 512]]) -> io::Result<()>
+    pub(super) fn put(&mut self, start: u64, contents: &[[u8; SECTOR_BYTES]]) -> io::Result<()>
         requires { start + length contents.now ≤ self.old.sectors }
         ensures sectors { self.new.sectors ≡ self.old.sectors }
         ensures failed { self.new.failed ≡ self.old.failed }
@@ -117,7 +134,7 @@ impl<F: Read + Write + Seek + OpenFile + Drop> FileDevice<F> {
         write_at(&mut self.file, start, contents)
     }
 
-    pub(super) fn get(&mut self, n: u64, to: &mut [u8; 512]) -> io::Result<()>
+    pub(super) fn get(&mut self, n: u64, to: &mut [u8; SECTOR_BYTES]) -> io::Result<()>
         requires { n < self.old.sectors }
         ensures sectors { self.new.sectors ≡ self.old.sectors }
         ensures failed { self.new.failed ≡ self.old.failed }

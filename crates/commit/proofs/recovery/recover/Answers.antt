@@ -3,7 +3,7 @@ use Rattle.std.proofs.Common.{◌≡◌, ◌≢◌, ◌∙◌, ℕ, refl, sym, a
 use Rattle.std.proofs.lemmas.Bool.{false≢true}
 use Rattle.std.proofs.lemmas.Result.{err_from_is_err_and}
 use Rattle.sector_dev.specs.Disk.{now, shown_image, flushed}
-use Rattle.sector_dev.specs.laws.Time.{stays, weaken, goes_on, passed, two, now_read}
+use Rattle.sector_dev.specs.laws.Time.{stays, weaken, goes_on, passed, two, now_read, only_read, read_on}
 use Rattle.commit.specs.Opening.{CountsOpen, IsOpening}
 use Rattle.commit.specs.declared.reading.OpenError.{OpenError}
 use Rattle.commit.specs.declared.reading.OpenError.TheVariants.{Device}
@@ -29,6 +29,15 @@ kept_safe P (Err e) x is safe f = tt
 in_both : {T E A B G : Type 0} (r : Result T E) → OnOk r A → OnErr r B → (A → G) → (B → G) → G
 in_both (Ok x) safe failed f g = f safe
 in_both (Err e) safe failed f g = g failed
+
+-- after it was made safe, and after it was not
+on_safe : {T E A B : Type 0} (r : Result T E) → OnOk r A → (A → B) → OnOk r B
+on_safe (Ok x) safe f = f safe
+on_safe (Err e) safe f = tt
+
+on_failed : {T E A B : Type 0} (r : Result T E) → OnErr r A → (A → B) → OnErr r B
+on_failed (Ok x) failed f = tt
+on_failed (Err e) failed f = f failed
 
 -- the one error that is reported then
 told_device : {T : Type 0} (P : OpenError → Type 0) (r : Result T OpenError) → IfErr r (λ e. e ≡ Device) → P Device → IfErr r P
@@ -68,6 +77,12 @@ returns-in_err-store-clause-found g c = rw (err_from_is_err_and c.from_residual.
 pub returns-in_err-store-clause-synced : goal.returns-in_err-store-clause-synced
 returns-in_err-store-clause-synced g c = rw (err_from_is_err_and c.from_residual.result c.from_residual.ensures.1).1 tt
 
+pub returns-in_err-store-clause-once : goal.returns-in_err-store-clause-once
+returns-in_err-store-clause-once g c = rw (err_from_is_err_and c.from_residual.result c.from_residual.ensures.1).1 tt
+
+pub returns-in_err-store-clause-unsynced : goal.returns-in_err-store-clause-unsynced
+returns-in_err-store-clause-unsynced g c = rw (err_from_is_err_and c.from_residual.result c.from_residual.ensures.1).1 c.read_store.ensures.moments
+
 pub returns-in_err-store-clause-stands : goal.returns-in_err-store-clause-stands
 returns-in_err-store-clause-stands g c = rw (err_from_is_err_and c.from_residual.result c.from_residual.ensures.1).1 tt
 
@@ -94,6 +109,9 @@ returns-then-sectors-lt-LEAST_SECTORS-clause-limits g c = λ other. (refl, refl)
 
 pub returns-then-sectors-lt-LEAST_SECTORS-clause-moments : goal.returns-then-sectors-lt-LEAST_SECTORS-clause-moments
 returns-then-sectors-lt-LEAST_SECTORS-clause-moments g c = λ told. let story = g.D.SectorDevice.story c.args.device.now in stays (IsOpening (now story)) story
+
+pub returns-then-sectors-lt-LEAST_SECTORS-clause-unsynced : goal.returns-then-sectors-lt-LEAST_SECTORS-clause-unsynced
+returns-then-sectors-lt-LEAST_SECTORS-clause-unsynced g c = λ told. let story = g.D.SectorDevice.story c.args.device.now in stays (λ d. d ≡ now story) story
 
 pub returns-then-sectors-lt-LEAST_SECTORS-clause-quiet : goal.returns-then-sectors-lt-LEAST_SECTORS-clause-quiet
 returns-then-sectors-lt-LEAST_SECTORS-clause-quiet g c = λ other told. refl
@@ -122,6 +140,12 @@ returns-clause-found g c = kept _ c.make_safe.result c.in_ok-store.store c.make_
 pub returns-clause-synced : goal.returns-clause-synced
 returns-clause-synced g c = kept_safe _ c.make_safe.result c.in_ok-store.store c.make_safe.ensures.kept c.make_safe.ensures.synced
     (λ safe told. ap now (safe told) ∙ ap flushed (now_read _ _ (c.read_store.ensures.moments told)))
+
+pub returns-clause-once : goal.returns-clause-once
+returns-clause-once g c = on_safe c.make_safe.result c.make_safe.ensures.synced (λ safe told. record { read = _; reads = c.read_store.ensures.moments told; sync = safe told })
+
+pub returns-clause-unsynced : goal.returns-clause-unsynced
+returns-clause-unsynced g c = on_failed c.make_safe.result c.make_safe.ensures.err (λ same told. read_on _ _ _ (c.read_store.ensures.moments told) (only_read _ _ (same told)))
 
 pub returns-clause-stands : goal.returns-clause-stands
 returns-clause-stands g c = kept_safe _ c.make_safe.result c.in_ok-store.store c.make_safe.ensures.kept c.make_safe.ensures.synced (λ safe told.
