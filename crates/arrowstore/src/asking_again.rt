@@ -3,7 +3,7 @@
 use crate::Failures;
 use crate::copying_files::open_to_read;
 use crate::failed_file::KeptFile;
-use crate::failing::{is_of_failure, told_failure};
+use crate::failing::{is_of_failure, report_of_failure};
 use crate::in_place_of_store::file_in_place_of_store;
 use crate::input_again::{FoundField, field_of_no_table, field_with_fault};
 use crate::script_again::line_of_script;
@@ -126,7 +126,7 @@ fn found_of<F: Read + Write + Seek + OpenFile + LockFile + Drop, H: Files<File =
 ) -> Option<AskedAgain> {
     if is_of_failure(refusal) {
         if let Some(failure) = served.failures.take() {
-            return told_failure(rt, request, &failure);
+            return report_of_failure(rt, request, &failure);
         }
     }
     match refusal {

@@ -23,7 +23,7 @@ pub(crate) fn is_of_failure(refusal: &Refusal) -> bool {
 }
 
 // A long path that a script names is not shown: it could hide the rest of the line.
-fn is_told(request: &StoreRequest<'_>, path: &str) -> bool {
+fn may_be_shown(request: &StoreRequest<'_>, path: &str) -> bool {
     match request {
         StoreRequest::Replay(words) => path == words.script || path.len() <= MOST_SHOWN,
         _ => true,
@@ -74,7 +74,7 @@ fn reason_of<H: Files + AllocGlobal>(
 }
 
 /// Returns what to report of a failed call, or `None` if its path can't be shown or memory is refused.
-pub(crate) fn told_failure<H: Files + AllocGlobal>(
+pub(crate) fn report_of_failure<H: Files + AllocGlobal>(
     rt: &H,
     request: &StoreRequest<'_>,
     failure: &Failure,
@@ -83,7 +83,7 @@ pub(crate) fn told_failure<H: Files + AllocGlobal>(
         Failure::Input(error) => Some(AskedAgain::Input(system_text(rt.alloc(), error)?)),
         Failure::Output(error) => Some(AskedAgain::Output(system_text(rt.alloc(), error)?)),
         Failure::File { path, call, error } => {
-            if !is_told(request, path) {
+            if !may_be_shown(request, path) {
                 return None;
             }
             let reason = reason_of(rt, request, path, *call, error)?;
