@@ -4,7 +4,7 @@ use crate::Failures;
 use crate::copying_files::open_to_read;
 use crate::failed_file::KeptFile;
 use crate::failing::{is_of_failure, report_of_failure};
-use crate::in_place_of_store::file_in_place_of_store;
+use crate::in_place_of_store::{file_in_place_of_store, file_of_bad_size};
 use crate::input_again::{FoundField, field_of_no_table, field_with_fault};
 use crate::script_again::line_of_script;
 use cli_refusals::Refusal;
@@ -130,8 +130,12 @@ fn found_of<F: Read + Write + Seek + OpenFile + LockFile + Drop, H: Files<File =
         }
     }
     match refusal {
-        Refusal::Io | Refusal::BadSize => {
+        Refusal::Io => {
             let file = file_in_place_of_store(rt, request)?;
+            Some(AskedAgain::File(file))
+        }
+        Refusal::BadSize => {
+            let file = file_of_bad_size(rt, request)?;
             Some(AskedAgain::File(file))
         }
         Refusal::BadScript(number) => {
