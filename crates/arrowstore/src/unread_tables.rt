@@ -1,6 +1,8 @@
 // Finds the names of tables that can't be read, for a terminal: a refusal of the store does not carry them.
 use crate::copying_files::open_to_read;
+use cli_refusals::{Hinted, Refusal, report_table};
 use cli_requests::{StoreCommand, StoreRequest};
+use cli_texts::Audience;
 use sector_dev::{LockFile, SectorDevice};
 use std::alloc::Global;
 use std::fs::OpenFile;
@@ -80,5 +82,76 @@ pub(crate) fn unread_table<
             only_unread(rt.alloc(), &mut store, place)
         }
         _ => None,
+    }
+}
+
+fn is_of_segment(refusal: &tables::Refusal) -> bool {
+    matches!(
+        refusal,
+        tables::Refusal::SegmentUnread(_) | tables::Refusal::SegmentDamaged(_)
+    )
+}
+
+// Returns a sentence for each table after `first` that can't be read.
+fn sentences_after<D: SectorDevice>(
+    alloc: Global,
+    store: &mut Store<D>,
+    first: &str,
+) -> Option<String> {
+    let mut sentences = String::new(alloc);
+    let mut is_after = false;
+    for table in &store.tables(alloc).ok()? {
+        let name = table.0.as_str();
+        if is_after {
+            match store.read(alloc, name) {
+                Ok(_) => {}
+                Err(refusal) if is_of_segment(&refusal) => report_table(&mut sentences, name).ok()?,
+                Err(_) => return None,
+            }
+        }
+        is_after = is_after || name == first;
+    }
+    Some(sentences)
+}
+
+fn others_of_check<
+    F: Read + Write + Seek + OpenFile + LockFile + Drop,
+    H: Files<File = F> + AllocGlobal,
+>(rt: &H, request: &StoreRequest<'_>, hinted: &Option<Hinted>) -> Option<String> {
+    match (request, hinted) {
+        (
+            StoreRequest::Command {
+                path,
+                command: StoreCommand::Check,
+            },
+            Some(Hinted::Table(first)),
+        ) => {
+            let mut store = open_to_read(rt, path).ok()?;
+            sentences_after(rt.alloc(), &mut store, first.as_str())
+        }
+        _ => None,
+    }
+}
+
+/// Returns the sentences about the tables that can't be read after the one that a check hints at, if a person reads them.
+pub(crate) fn report_of_others<
+    F: Read + Write + Seek + OpenFile + LockFile + Drop,
+    H: Files<File = F> + AllocGlobal,
+>(
+    rt: &H,
+    request: &StoreRequest<'_>,
+    hinted: &Option<Hinted>,
+    done: &Result<(), Refusal>,
+    audience: Audience,
+) -> String {
+    let sentences = match (audience, done) {
+        (Audience::Terminal, Err(Refusal::Store(refusal))) if is_of_segment(refusal) => {
+            others_of_check(rt, request, hinted)
+        }
+        _ => None,
+    };
+    match sentences {
+        Some(sentences) => sentences,
+        None => String::new(rt.alloc()),
     }
 }

@@ -22,6 +22,7 @@ use crate::asking_again::{AskedAgain, Served, ask_again};
 use crate::ending::end_whole_or_partly;
 use crate::kept_start::Input;
 use crate::serving::serve;
+use crate::unread_tables::report_of_others;
 use crate::{Failures, run};
 use cli_refusals::{Hint, Hinted, Refusal};
 use cli_requests::{Mistake, StoreRequest, ask_for_help, is_of_store, refused_word, request_of};
@@ -38,13 +39,13 @@ use std::rt::Files;
 use store::LeftOut;
 use values::Table;
 
-// Returns the hint that the command itself gave.
-fn hint_of(hinted: &Option<Hinted>) -> Option<Hint<'_>>
+// Returns the hint that the command itself gave. If it is a table, `others` has sentences about other tables.
+fn hint_of<'a>(hinted: &'a Option<Hinted>, others: &'a str) -> Option<Hint<'a>>
     ensures { hinted_of result ≡ hinted.now }
 {
     match hinted {
         Some(Hinted::Part(part)) => Some(Hint::Part(part)),
-        Some(Hinted::Table(name)) => Some(Hint::Table(name)),
+        Some(Hinted::Table(name)) => Some(Hint::Table { name, others }),
         None => None,
     }
 }
@@ -132,7 +133,8 @@ fn serve_and_report<
     let mut left_out = Vec::new(rt.alloc());
     let done = serve(rt, request, input, output, &mut hinted, &mut left_out);
     let audience = audience_after_output(audience, output);
-    match hint_of(&hinted) {
+    let others = report_of_others(rt, request, &hinted, &done, audience);
+    match hint_of(&hinted, others.as_str()) {
         Some(hint) => end_whole_or_partly(done, &left_out, Some(hint), audience, errors),
         None => {
             let served = Served {
