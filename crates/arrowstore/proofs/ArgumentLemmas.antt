@@ -93,12 +93,12 @@ long_rest word a p one (Some []) two e = absurd (none-some p e)
 long_rest word a p one (Some (x ∷ xs)) two e =
     record { rest = x ∷ xs; word_is = one ∙ ap (λ (t : Text). 45 ∷ t) (hyphen 45 a (x ∷ xs) two); parts = same_Some (name_and_value (x ∷ xs)) p e }
 
-long_behind : (word : Text) (p : Text × Option Text) (a : Option Text) → strip_byte 45 word ≡ a → option_and_then long_of_rest (option_and_then (strip_byte 45) a) ≡ Some p → IsLong word p
-long_behind word p None one e = absurd (none-some p e)
-long_behind word p (Some a) one e = long_rest word a p (hyphen 45 word a one) (strip_byte 45 a) refl e
+long_after : (word : Text) (p : Text × Option Text) (a : Option Text) → strip_byte 45 word ≡ a → option_and_then long_of_rest (option_and_then (strip_byte 45) a) ≡ Some p → IsLong word p
+long_after word p None one e = absurd (none-some p e)
+long_after word p (Some a) one e = long_rest word a p (hyphen 45 word a one) (strip_byte 45 a) refl e
 
 long_parts : (word : Text) (p : Text × Option Text) → long_of word ≡ Some p → IsLong word p
-long_parts word p e = long_behind word p (strip_byte 45 word) refl e
+long_parts word p e = long_after word p (strip_byte 45 word) refl e
 
 no_byte : (b : Bool) (v : Text) → (if b then Some v else None) ≡ None → b ≡ false
 no_byte true v e = absurd (none-some v (sym e))
@@ -129,10 +129,10 @@ not_hyphen : (b : Bool) (xs ys : Text) → (if b then None else Some xs) ≡ Som
 not_hyphen true xs ys e = absurd (none-some ys e)
 not_hyphen false xs ys e = same_Some xs ys e
 
-short_behind : (word flags : Text) (a : Option Text) → strip_byte 45 word ≡ a → option_and_then short_of_rest a ≡ Some flags → word ≡ 45 ∷ flags
-short_behind word flags None one e = absurd (none-some flags e)
-short_behind word flags (Some []) one e = absurd (none-some flags e)
-short_behind word flags (Some (x ∷ xs)) one e = hyphen 45 word (x ∷ xs) one ∙ ap (λ (t : Text). 45 ∷ t) (not_hyphen (x == 45) (x ∷ xs) flags e)
+short_after : (word flags : Text) (a : Option Text) → strip_byte 45 word ≡ a → option_and_then short_of_rest a ≡ Some flags → word ≡ 45 ∷ flags
+short_after word flags None one e = absurd (none-some flags e)
+short_after word flags (Some []) one e = absurd (none-some flags e)
+short_after word flags (Some (x ∷ xs)) one e = hyphen 45 word (x ∷ xs) one ∙ ap (λ (t : Text). 45 ∷ t) (not_hyphen (x == 45) (x ∷ xs) flags e)
 
 -- ---- each word that is read for flags
 
@@ -155,7 +155,7 @@ letter_reads stray word x xs e None is = strays (letters_are stray x xs word e �
 letter_reads stray word x xs e (Some c) is =
     let first = letters_are stray x xs word e ∙ ap (λ l. letter_kinds stray l (length xs) (x ∷ xs) word) is in
     elim (letter_found c (104 == c) refl) [
-      | inl found ↦ asks (short (x ∷ xs) (short_behind word (x ∷ xs) (strip_byte 45 word) refl e) (is ∙ ap Some (sym found.1)))
+      | inl found ↦ asks (short (x ∷ xs) (short_after word (x ∷ xs) (strip_byte 45 word) refl e) (is ∙ ap Some (sym found.1)))
           (first ∙ ap (λ f. found_kinds stray f c (length xs) (x ∷ xs) word) found.0)
       | inr none ↦ unknown (first ∙ ap (λ f. found_kinds stray f c (length xs) (x ∷ xs) word) none)
     ]

@@ -3,19 +3,18 @@
 use crate::Failures;
 use crate::copying_files::open_to_read;
 use crate::failed_file::KeptFile;
-use crate::failing::{is_of_failure, told_failure};
-use crate::in_place_of_store::file_in_place_of_store;
+use crate::failing::{is_of_failure, report_of_failure};
+use crate::in_place_of_store::{file_in_place_of_store, file_of_bad_size};
 use crate::input_again::{FoundField, field_of_no_table, field_with_fault};
 use crate::script_again::line_of_script;
+use crate::unread_tables::unread_table;
 use cli_refusals::Refusal;
 use cli_requests::{StoreCommand, StoreRequest};
 use cli_texts::Audience;
-use sector_dev::{LockFile, SectorDevice};
-use std::alloc::Global;
+use sector_dev::LockFile;
 use std::fs::OpenFile;
 use std::io::{Read, Seek, Write};
 use std::rt::Files;
-use store::Store;
 use values::Table;
 
 /// What a hint on a terminal can name.
@@ -71,53 +70,6 @@ fn queried_table<
     }
 }
 
-// Returns the path of the store if the request reads tables or segments that it does not name. `check` hints at the table itself.
-fn read_whole<'a>(request: &StoreRequest<'a>) -> Option<&'a str> {
-    match request {
-        StoreRequest::Copy { path, .. }
-        | StoreRequest::Command {
-            path,
-            command: StoreCommand::Compact | StoreCommand::Upgrade,
-        } => Some(path),
-        _ => None,
-    }
-}
-
-fn is_of_segment(refusal: &tables::Refusal) -> bool {
-    matches!(
-        refusal,
-        tables::Refusal::SegmentUnread(_) | tables::Refusal::SegmentDamaged(_)
-    )
-}
-
-// Returns the name of the first table that is refused for this very reason.
-fn first_unread<D: SectorDevice>(
-    alloc: Global,
-    store: &mut Store<D>,
-    refusal: tables::Refusal,
-) -> Option<String> {
-    let tables = store.tables(alloc).ok()?;
-    for table in &tables {
-        let name = table.0.as_str();
-        match store.read(alloc, name) {
-            Ok(_) => {}
-            Err(found) if found == refusal => return String::from_str(alloc, name).ok(),
-            Err(found) if is_of_segment(&found) => {}
-            Err(_) => return None,
-        }
-    }
-    None
-}
-
-fn unread_table<
-    F: Read + Write + Seek + OpenFile + LockFile + Drop,
-    H: Files<File = F> + AllocGlobal,
->(rt: &H, request: &StoreRequest<'_>, refusal: tables::Refusal) -> Option<String> {
-    let path = read_whole(request)?;
-    let mut store = open_to_read(rt, path).ok()?;
-    first_unread(rt.alloc(), &mut store, refusal)
-}
-
 fn found_of<F: Read + Write + Seek + OpenFile + LockFile + Drop, H: Files<File = F> + AllocGlobal>(
     rt: &H,
     request: &StoreRequest<'_>,
@@ -126,12 +78,16 @@ fn found_of<F: Read + Write + Seek + OpenFile + LockFile + Drop, H: Files<File =
 ) -> Option<AskedAgain> {
     if is_of_failure(refusal) {
         if let Some(failure) = served.failures.take() {
-            return told_failure(rt, request, &failure);
+            return report_of_failure(rt, request, &failure);
         }
     }
     match refusal {
-        Refusal::Io | Refusal::BadSize => {
+        Refusal::Io => {
             let file = file_in_place_of_store(rt, request)?;
+            Some(AskedAgain::File(file))
+        }
+        Refusal::BadSize => {
+            let file = file_of_bad_size(rt, request)?;
             Some(AskedAgain::File(file))
         }
         Refusal::BadScript(number) => {
@@ -142,8 +98,11 @@ fn found_of<F: Read + Write + Seek + OpenFile + LockFile + Drop, H: Files<File =
             let table = queried_table(rt, request)?;
             Some(AskedAgain::Queried(table))
         }
-        Refusal::Store(refusal) if is_of_segment(refusal) => {
-            let name = unread_table(rt, request, *refusal)?;
+        Refusal::Store(
+            refusal @ (tables::Refusal::SegmentUnread(place)
+            | tables::Refusal::SegmentDamaged(place)),
+        ) => {
+            let name = unread_table(rt, request, *refusal, *place)?;
             Some(AskedAgain::Unread(name))
         }
         Refusal::Store(tables::Refusal::Import(fault)) => {

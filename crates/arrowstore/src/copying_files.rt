@@ -3,7 +3,7 @@ ghost use Rattle.std.specs.Prelude.{◌≡◌, ◌≢◌, ◌≤◌, Ok, IfOk, I
 ghost use Rattle.sector_dev.specs.declared.file.TheConstants.{MOST_SECTORS};
 ghost use Rattle.arrowstore.specs.OnFiles.{IsOpenedFile, OpensStore, FailsToOpen, CopiesInto, FailsToCopy, CopiesStore};
 
-use crate::serving::{device_to_read, format_new, or_removed, take_places_of_streams};
+use crate::serving::{device_to_read, format_new, remove_on_error, reserve_standard_descriptors};
 use cli_commands::copy_tables;
 use cli_refusals::{Refusal, write_whole};
 use sector_dev::{FileDevice, LockFile, SectorDevice};
@@ -69,12 +69,12 @@ fn copy_into_file<
     ensures refused { IfErr result (FailsToCopy ⟦<FileDevice<F> as SectorDevice>⟧ sectors from.old) }
 {
     let device = FileDevice::create(rt, path, sectors)?;
-    let file = or_removed(rt, path, mark_unfinished(rt, path, sectors))?;
+    let file = remove_on_error(rt, path, mark_unfinished(rt, path, sectors))?;
     let mut to = format_new(rt, path, device, from.version())?;
     match copy_tables(rt.alloc(), from, &mut to) {
         // The commit point of the copy: from here on the file opens as a store.
-        Ok(()) => or_removed(rt, path, mark_finished(&file, sectors)),
-        Err(refusal) => or_removed(rt, path, Err(Refusal::Store(refusal))),
+        Ok(()) => remove_on_error(rt, path, mark_finished(&file, sectors)),
+        Err(refusal) => remove_on_error(rt, path, Err(Refusal::Store(refusal))),
     }
 }
 
@@ -88,7 +88,7 @@ pub(crate) fn serve_copy<
     ensures copies { CopiesStore ⟦<FileDevice<F> as SectorDevice>⟧ IsOpenedFile W.contents sectors output.old output.new result }
     ensures silent { IfErr result (λ refusal. refusal ≢ Refusal.Io → output.new ≡ output.old) }
 {
-    let _places = take_places_of_streams(rt)?;
+    let _places = reserve_standard_descriptors(rt)?;
     let mut from = open_to_read(rt, path)?;
     copy_into_file(rt, &mut from, new, sectors)?;
     write_whole(output, b"ok\n")

@@ -7,6 +7,7 @@ use cli_refusals::{MOST_SHOWN, Refusal};
 use cli_requests::StoreRequest;
 use commit::OpeningRefusal;
 use std::alloc::Global;
+use std::fs;
 use std::io::{self, ErrorKind};
 use std::rt::Files;
 
@@ -23,7 +24,7 @@ pub(crate) fn is_of_failure(refusal: &Refusal) -> bool {
 }
 
 // A long path that a script names is not shown: it could hide the rest of the line.
-fn is_told(request: &StoreRequest<'_>, path: &str) -> bool {
+fn may_be_shown(request: &StoreRequest<'_>, path: &str) -> bool {
     match request {
         StoreRequest::Replay(words) => path == words.script || path.len() <= MOST_SHOWN,
         _ => true,
@@ -73,17 +74,31 @@ fn reason_of<H: Files + AllocGlobal>(
     }
 }
 
+// Returns whether standard input is closed: nothing is at its path then, though something is at that of standard error.
+fn is_input_closed<H: Files>(rt: &H) -> bool {
+    fs::metadata(rt, "/dev/stdin").is_err() && fs::metadata(rt, "/dev/stderr").is_ok()
+}
+
+// The system's reason of a closed input would be that of the folder in its place.
+fn reason_of_input<H: Files + AllocGlobal>(rt: &H, error: &io::Error) -> Option<String> {
+    if is_input_closed(rt) {
+        String::from_str(rt.alloc(), "it is closed").ok()
+    } else {
+        system_text(rt.alloc(), error)
+    }
+}
+
 /// Returns what to report of a failed call, or `None` if its path can't be shown or memory is refused.
-pub(crate) fn told_failure<H: Files + AllocGlobal>(
+pub(crate) fn report_of_failure<H: Files + AllocGlobal>(
     rt: &H,
     request: &StoreRequest<'_>,
     failure: &Failure,
 ) -> Option<AskedAgain> {
     match failure {
-        Failure::Input(error) => Some(AskedAgain::Input(system_text(rt.alloc(), error)?)),
+        Failure::Input(error) => Some(AskedAgain::Input(reason_of_input(rt, error)?)),
         Failure::Output(error) => Some(AskedAgain::Output(system_text(rt.alloc(), error)?)),
         Failure::File { path, call, error } => {
-            if !is_told(request, path) {
+            if !may_be_shown(request, path) {
                 return None;
             }
             let reason = reason_of(rt, request, path, *call, error)?;

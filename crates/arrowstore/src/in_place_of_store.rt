@@ -1,7 +1,8 @@
-// What is found at the path of a store if it is neither a regular file nor a block device.
+// What is found at the path of a store if it is neither a regular file nor a block device, or has a length that no store has.
 use crate::failed_file::{KeptFile, Reason};
 use crate::serving::has_sectors;
 use cli_requests::StoreRequest;
+use sector_dev::{LEAST_SECTORS, MOST_SECTORS};
 use std::fs;
 use std::rt::Files;
 
@@ -46,4 +47,32 @@ pub(crate) fn file_in_place_of_store<H: Files + AllocGlobal>(
 ) -> Option<KeptFile> {
     let path = store_of(request)?;
     KeptFile::new(rt.alloc(), path, reason_of_kind(rt, path)?)
+}
+
+// Returns whether the file of a store may have this length.
+fn is_length_of_store(bytes: u64) -> bool {
+    bytes % 512 == 0 && (LEAST_SECTORS..=MOST_SECTORS).contains(&(bytes / 512))
+}
+
+fn reason_of_length<H: Files>(rt: &H, path: &str) -> Option<Reason> {
+    let found = fs::metadata(rt, path).ok()?;
+    // The length of a block device is not among its metadata.
+    if found.is_file() && !is_length_of_store(found.len()) {
+        Some(Reason::Length(found.len()))
+    } else {
+        None
+    }
+}
+
+/// Returns the file at the path of the request's store, if a file of its kind or of its length can't be a store.
+pub(crate) fn file_of_bad_size<H: Files + AllocGlobal>(
+    rt: &H,
+    request: &StoreRequest<'_>,
+) -> Option<KeptFile> {
+    let path = store_of(request)?;
+    let reason = match reason_of_kind(rt, path) {
+        Some(reason) => reason,
+        None => reason_of_length(rt, path)?,
+    };
+    KeptFile::new(rt.alloc(), path, reason)
 }

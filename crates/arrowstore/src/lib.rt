@@ -29,6 +29,7 @@ mod script_again;
 mod serving;
 mod serving_device;
 mod serving_open;
+mod unread_tables;
 mod with_files;
 
 pub use cli_texts::{Audience, Ended, Output, WatchedOutput, report_unreadable_arguments};

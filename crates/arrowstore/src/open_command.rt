@@ -1,16 +1,14 @@
 // The commands of an open store, made from the words of a command line.
 ghost use Rattle.std.specs.Prelude.{◌≡◌, map, string_bytes, Some, IfOk, IfErr};
 ghost use Rattle.query.specs.View.{query_in};
-ghost use Rattle.tables.specs.Commands as plain;
 ghost use Rattle.tables.specs.View.{command_of};
-ghost use Rattle.cli_refusals.specs.declared.refusal.Refusal.TheVariants.{OutOfMemory};
 ghost use Rattle.cli_commands.specs.Changing.{RefusesFields};
 ghost use Rattle.cli_commands.specs.Selecting.{RefusesWords};
 ghost use Rattle.cli_requests.specs.Asked.{command_word};
 ghost use Rattle.cli_requests.specs.StoreWords.{takes_input_word};
 ghost use Rattle.arrowstore.specs.OpenCommands.{query_stated, StatesTable, StatesSaving, States, RefusesStating, reads_input};
 
-use cli_commands::{new_table, query_of};
+use cli_commands::{drop_table, new_table, query_of, rename_table};
 use cli_refusals::Refusal;
 use cli_requests::{QueryWords, StoreCommand};
 use query::{Query, RowForm};
@@ -71,25 +69,6 @@ fn create(alloc: Global, name: &str, fields: &[&str]) -> Result<Command, Refusal
     Ok(Command::Create(new_table(alloc, name, fields)?))
 }
 
-fn rename(alloc: Global, from: &str, to: &str) -> Result<Command, Refusal>
-    ensures stated { IfOk result (λ c. command_of c ≡ plain.rename from.now to.now) }
-    ensures refused { IfErr result (λ refusal. refusal ≡ OutOfMemory) }
-{
-    Ok(Command::Rename {
-        from: String::from_str(alloc, from)?,
-        to: String::from_str(alloc, to)?,
-    })
-}
-
-fn drop_table(alloc: Global, name: &str) -> Result<Command, Refusal>
-    ensures stated { IfOk result (λ c. command_of c ≡ plain.drop_table name.now) }
-    ensures refused { IfErr result (λ refusal. refusal ≡ OutOfMemory) }
-{
-    Ok(Command::Drop {
-        name: String::from_str(alloc, name)?,
-    })
-}
-
 fn query(alloc: Global, words: &QueryWords<'_>) -> Result<Query, Refusal>
     ensures stated { IfOk result (λ q. query_stated words.now ≡ Some (query_in q)) }
     ensures refused { IfErr result (RefusesWords (query_stated words.now)) }
@@ -141,7 +120,9 @@ pub fn stated<'a>(alloc: Global, command: &StoreCommand<'a>) -> Result<OpenComma
         StoreCommand::SaveAs { from, to, query } => {
             Ok(OpenCommand::Change(save_as(alloc, from, to, query)?))
         }
-        StoreCommand::Rename { from, to } => Ok(OpenCommand::Change(rename(alloc, from, to)?)),
+        StoreCommand::Rename { from, to } => Ok(OpenCommand::Change(rename_table(
+            alloc, from, to,
+        )?)),
         StoreCommand::Drop { name } => Ok(OpenCommand::Change(drop_table(alloc, name)?)),
         StoreCommand::Tables => Ok(OpenCommand::Tables),
         StoreCommand::Schema { name } => Ok(OpenCommand::Schema { name }),

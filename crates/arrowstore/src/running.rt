@@ -6,7 +6,7 @@ ghost use Rattle.arrowstore.specs.Running.{Recodes};
 ghost use Rattle.cli_texts.specs.Ending.{GivesSome, GivesText, HasReported, IsIo};
 ghost use Rattle.cli_texts.specs.OwnTexts.{is_own, own_text};
 ghost use Rattle.cli_texts.specs.Reported.{IsWrong};
-ghost use Rattle.cli_texts.specs.Told.{heard};
+ghost use Rattle.cli_texts.specs.Told.{audience_after_output};
 ghost use Rattle.cli_texts.specs.declared.status.Status.TheVariants.{Done};
 
 use crate::command_line::{Action, action_of};
@@ -41,7 +41,8 @@ pub fn run<S: AsStr, R: Read, W: Write + Output, E: Write>(
     ensures only_recode_reads { AreRecode (map S.text arguments.now) ⊎ (input.new ≡ input.old) }
     // `errors` gets the report of a refusal for this audience, and nothing on success; nor, at a terminal, the failure of an output whose reader is
     // gone.
-    ensures reports { HasReported E.contents (heard audience (W.unread output.new)) None [] IsIo output.old output.new errors.old errors.new result }
+    ensures reports { HasReported E.contents (audience_after_output audience (W.unread output.new)) None [] IsIo output.old output.new errors.old
+        errors.new result }
 {
     if is_own(arguments) {
         let written = write_own_text(alloc, arguments, output);

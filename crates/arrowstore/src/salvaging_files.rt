@@ -5,7 +5,7 @@ ghost use Rattle.cli_commands.specs.Salvaging.{IsBrokenOff};
 ghost use Rattle.arrowstore.specs.OnFiles.{IsOpenedFile, SalvagesFile};
 
 use crate::copying_files::open_to_read;
-use crate::serving::take_places_of_streams;
+use crate::serving::reserve_standard_descriptors;
 use cli_commands::salvage_table;
 use cli_refusals::Refusal;
 use sector_dev::{FileDevice, LockFile, SectorDevice};
@@ -30,7 +30,7 @@ pub(crate) fn serve_salvage<
         (plain_left left_out.old.items) (plain_left left_out.new.items) result }
     ensures silent { IfErr result (λ refusal. ¬ IsBrokenOff refusal → output.new ≡ output.old) }
 {
-    let _places = take_places_of_streams(rt)?;
+    let _places = reserve_standard_descriptors(rt)?;
     let mut store = open_to_read(rt, path)?;
     match salvage_table(rt.alloc(), &mut store, name, output) {
         Ok(segments) => {

@@ -50,7 +50,7 @@ fn open_placeholder<F: OpenFile, H: Files<File = F>>(rt: &H) -> io::Result<F> {
 
 // If a standard stream is closed, the next file opened takes its descriptor, and what is printed would go into the store. Placeholders that are opened
 // first take these descriptors.
-pub(crate) fn take_places_of_streams<
+pub(crate) fn reserve_standard_descriptors<
     F: Read + Write + Seek + OpenFile + LockFile + Drop,
     H: Files<File = F> + AllocGlobal,
 >(rt: &H) -> Result<(F, F, F), FileError>
@@ -106,7 +106,7 @@ fn device_of<F: Read + Write + Seek + OpenFile + LockFile + Drop, H: Files<File 
 }
 
 /// Returns `done`, and removes the new file if it is an error. The file's device still holds its lock, so nobody else has written to it.
-pub(crate) fn or_removed<T: Drop, H: Files>(
+pub(crate) fn remove_on_error<T: Drop, H: Files>(
     rt: &H,
     path: &str,
     done: Result<T, Refusal>,
@@ -135,7 +135,7 @@ pub(crate) fn format_new<
 {
     match format_on(rt.alloc(), device, version) {
         Ok(store) => Ok(store),
-        Err((refusal, _device)) => or_removed(rt, path, Err(refusal)),
+        Err((refusal, _device)) => remove_on_error(rt, path, Err(refusal)),
     }
 }
 
@@ -160,7 +160,7 @@ fn serve_format<
     ensures formats { Formats ⟦<FileDevice<F> as SectorDevice>⟧ W.contents sectors version output.old output.new result }
     ensures silent { IfErr result (λ refusal. refusal ≢ Refusal.Io → output.new ≡ output.old) }
 {
-    let _places = take_places_of_streams(rt)?;
+    let _places = reserve_standard_descriptors(rt)?;
     let _store = format_file(rt, path, sectors, version)?;
     write_whole(output, b"ok\n")
 }
@@ -186,7 +186,7 @@ fn serve_command<
 {
     let only_reads = command.only_reads();
     let command = stated(rt.alloc(), command)?;
-    let _places = take_places_of_streams(rt)?;
+    let _places = reserve_standard_descriptors(rt)?;
     let device = device_of(rt, path, only_reads)?;
     let (done, _device) = serve_device(rt.alloc(), device, command, input, output, hint);
     done

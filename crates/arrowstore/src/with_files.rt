@@ -9,7 +9,7 @@ ghost use Rattle.arrowstore.specs.Running.{Recodes};
 ghost use Rattle.cli_texts.specs.Ending.{GivesSome, GivesText, HasReported, IsIo, TellsRefusal};
 ghost use Rattle.cli_texts.specs.LeftOut.{left_out_text};
 ghost use Rattle.cli_texts.specs.OwnTexts.{is_own, own_text};
-ghost use Rattle.cli_texts.specs.Told.{heard, told};
+ghost use Rattle.cli_texts.specs.Told.{audience_after_output, told};
 ghost use Rattle.cli_requests.specs.Asked.{request_word};
 ghost use Rattle.cli_requests.specs.StoreWords.{first_word, is_of_store, takes_input, takes_input_word};
 ghost use Rattle.cli_texts.specs.Reported.{IsWrong};
@@ -22,11 +22,13 @@ use crate::asking_again::{AskedAgain, Served, ask_again};
 use crate::ending::end_whole_or_partly;
 use crate::kept_start::Input;
 use crate::serving::serve;
+use crate::unread_tables::report_of_others;
 use crate::{Failures, run};
 use cli_refusals::{Hint, Hinted, Refusal};
 use cli_requests::{Mistake, StoreRequest, ask_for_help, is_of_store, refused_word, request_of};
 use cli_texts::{
-    Audience, Ended, Output, heard, report_arguments, report_signed_number, report_wrong_arguments,
+    Audience, Ended, Output, audience_after_output, report_arguments, report_signed_number,
+    report_wrong_arguments,
 };
 use sector_dev::{FileDevice, LockFile, ModelDevice, SectorDevice};
 use std::alloc::Global;
@@ -37,13 +39,13 @@ use std::rt::Files;
 use store::LeftOut;
 use values::Table;
 
-// Returns the hint that the command itself gave.
-fn hint_of(hinted: &Option<Hinted>) -> Option<Hint<'_>>
+// Returns the hint that the command itself gave. If it is a table, `others` has sentences about other tables.
+fn hint_of<'a>(hinted: &'a Option<Hinted>, others: &'a str) -> Option<Hint<'a>>
     ensures { hinted_of result ≡ hinted.now }
 {
     match hinted {
         Some(Hinted::Part(part)) => Some(Hint::Part(part)),
-        Some(Hinted::Table(name)) => Some(Hint::Table(name)),
+        Some(Hinted::Table(name)) => Some(Hint::Table { name, others }),
         None => None,
     }
 }
@@ -123,15 +125,16 @@ fn serve_and_report<
 ) -> Ended
     ensures serves { ServesTold ⟦<FileDevice<F> as SectorDevice>⟧ IsOpenedFile R.remaining W.contents
         (Replays ⟦<ModelDevice as SectorDevice>⟧ F.remaining ⟦<Empty as Read>⟧.remaining W.contents) E.contents
-        (heard audience (W.unread output.new)) request.now
+        (audience_after_output audience (W.unread output.new)) request.now
         (ends_of input.old output.old errors.old) (ends_of input.new output.new errors.new) result }
     ensures unread { (takes_input_word (request_word request.now) ≡ true) ⊎ (input.new ≡ input.old) }
 {
     let mut hinted = None;
     let mut left_out = Vec::new(rt.alloc());
     let done = serve(rt, request, input, output, &mut hinted, &mut left_out);
-    let audience = heard(audience, output);
-    match hint_of(&hinted) {
+    let audience = audience_after_output(audience, output);
+    let others = report_of_others(rt, request, &hinted, &done, audience);
+    match hint_of(&hinted, others.as_str()) {
         Some(hint) => end_whole_or_partly(done, &left_out, Some(hint), audience, errors),
         None => {
             let served = Served {
@@ -163,7 +166,8 @@ fn report_mistake<W: Write + Output, E: Write>(
 ) -> Ended
     ensures none { GivesHelpOrWrong W.contents asks_for_help output.old output.new result.status }
     ensures memory { kind_of error.now ≡ kinds.OutOfMemory → result.status ≡ Refused refusals.OutOfMemory }
-    ensures reports { HasReported E.contents (heard audience (W.unread output.new)) None [] IsIo output.old output.new errors.old errors.new result }
+    ensures reports { HasReported E.contents (audience_after_output audience (W.unread output.new)) None [] IsIo output.old output.new errors.old
+        errors.new result }
 {
     if asks_for_help {
         report_arguments(alloc, error, output, errors, audience)
@@ -192,7 +196,7 @@ fn run_on_store<
     requires { is_of_store (map S.text arguments.now) ≡ true }
     ensures serves { RunsOnStore ⟦<FileDevice<F> as SectorDevice>⟧ IsOpenedFile R.remaining W.contents
         (Replays ⟦<ModelDevice as SectorDevice>⟧ F.remaining ⟦<Empty as Read>⟧.remaining W.contents) E.contents
-        (heard audience (W.unread output.new)) (map S.text arguments.now)
+        (audience_after_output audience (W.unread output.new)) (map S.text arguments.now)
         (ends_of input.old output.old errors.old) (ends_of input.new output.new errors.new) result }
     ensures input { (takes_input (map S.text arguments.now) ≡ true) ⊎ (input.new ≡ input.old) }
 {
@@ -248,7 +252,7 @@ pub fn run_with_files<
     ensures serves { is_of_store (map S.text arguments.now) ≡ true
         → RunsOnStore ⟦<FileDevice<F> as SectorDevice>⟧ IsOpenedFile R.remaining W.contents
         (Replays ⟦<ModelDevice as SectorDevice>⟧ F.remaining ⟦<Empty as Read>⟧.remaining W.contents) E.contents
-        (heard audience (W.unread output.new)) (map S.text arguments.now)
+        (audience_after_output audience (W.unread output.new)) (map S.text arguments.now)
         (ends_of input.old output.old errors.old) (ends_of input.new output.new errors.new) result }
     // If no command is done, help that was asked for is written, and nothing else.
     ensures helps { result.status ≡ Done → AreRecode (map S.text arguments.now) ⊎ (is_own (map S.text arguments.now) ≡ true)
@@ -257,8 +261,8 @@ pub fn run_with_files<
     // whose reader is gone. Only commands of a store have further hints or leave something out.
     ensures reports { (hint : Option Hint) × (left : List (ℕ × ℕ))
         × ((is_of_store (map S.text arguments.now) ≡ true) ⊎ ((hint ≡ None) × (left ≡ [])))
-        × HasTold E.contents (heard audience (W.unread output.new)) (first_word (map S.text arguments.now)) left output.old output.new errors.old
-        errors.new result hint }
+        × HasTold E.contents (audience_after_output audience (W.unread output.new)) (first_word (map S.text arguments.now)) left output.old output.new
+        errors.old errors.new result hint }
 {
     if is_of_store(arguments) {
         return run_on_store(rt, arguments, input, output, errors, failures, audience);

@@ -29,7 +29,7 @@ mod upgrading;
 pub use changing::{append_input, apply_command, import_input};
 pub use compacting::compact_tables;
 pub use copying::copy_tables;
-pub use creating::new_table;
+pub use creating::{drop_table, new_table, rename_table};
 pub use input::LARGEST_INPUT;
 pub use printing::{lines_of_tables, print_schema, print_tables};
 pub use reading::{check_tables, export_table};

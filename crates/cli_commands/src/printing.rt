@@ -1,13 +1,12 @@
 // Prints the tables of an open store, and the fields of one, as lines.
 ghost use Rattle.std.specs.Prelude.{◌≡◌, ◌≢◌, ◌++◌, map, option_map, string_bytes, false, Some, IfSome, IsSome, IfOk, IfErr, OnOk};
-ghost use Rattle.std.specs.Fmt.{decimal};
 ghost use Rattle.std.specs.Io.KnownBytes.{Appends};
 ghost use Rattle.arrow_schema.specs.Column.{Column};
 ghost use Rattle.arrow_schema.specs.View.{column_of, schema_of};
 ghost use Rattle.catalogue.specs.Edits.{entry_of, tables_of};
 ghost use Rattle.store.specs.Fits.{listed_in, is_halted};
 ghost use Rattle.store.specs.Listing.{RefusesTables, RefusesSchema};
-ghost use Rattle.cli_commands.specs.Printed.{tables_text, schema_text, RefusesPrinting};
+ghost use Rattle.cli_commands.specs.Printed.{numbered, tables_text, schema_text, RefusesPrinting};
 
 use arrow_schema::Field;
 use cli_refusals::{Refusal, write_whole};
@@ -18,10 +17,11 @@ use std::fmt::Write as _;
 use std::io::Write;
 use store::Store;
 
-fn push_number(text: &mut String, number: u64) -> Result<(), AllocError>
-    ensures { OnOk result (string_bytes text.new ≡ string_bytes text.old ++ decimal number) }
+/// Appends a text, then a number.
+pub(crate) fn push_number(text: &mut String, before: &str, number: u64) -> Result<(), AllocError>
+    ensures { OnOk result (string_bytes text.new ≡ string_bytes text.old ++ numbered before.now number) }
 {
-    write!(text, "{number}")
+    write!(text, "{before}{number}")
 }
 
 /// Returns a line for each of these tables: its name and its number of rows.
@@ -34,8 +34,7 @@ pub fn lines_of_tables(alloc: Global, tables: &[(String, u64)]) -> Result<String
     let mut text = String::new(alloc);
     for table in tables {
         text.push_str(table.0.as_str())?;
-        text.push_str(" ")?;
-        push_number(&mut text, table.1)?;
+        push_number(&mut text, " ", table.1)?;
         text.push_str("\n")?;
     }
     Ok(text)

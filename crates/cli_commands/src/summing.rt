@@ -6,22 +6,15 @@ ghost use Rattle.store.specs.Fits.{device_of, is_halted};
 ghost use Rattle.store.specs.Agreeing.{SaysAgreement};
 ghost use Rattle.store.specs.Reading.{OnlyReadsStore};
 ghost use Rattle.store.specs.Summary.{IsSummary};
-ghost use Rattle.cli_commands.specs.Printed.{flagged, numbered, summary_lines, summary_object, summary_text, RefusesPrinting, RefusesSummary};
+ghost use Rattle.cli_commands.specs.Printed.{flagged, summary_lines, summary_object, summary_text, RefusesPrinting, RefusesSummary};
 ghost use Rattle.cli_commands.specs.Reading.{store_ended};
 
+use crate::printing::push_number;
 use cli_refusals::{Refusal, write_whole};
 use sector_dev::SectorDevice;
 use std::alloc::{AllocError, Global};
-use std::fmt::Write as _;
 use std::io::Write;
 use store::{Store, Summary};
-
-// Appends a text, then a number.
-fn push_number(text: &mut String, before: &str, number: u64) -> Result<(), AllocError>
-    ensures { OnOk result (string_bytes text.new ≡ string_bytes text.old ++ numbered before.now number) }
-{
-    write!(text, "{before}{number}")
-}
 
 // Appends a text, then a truth value.
 fn push_flag(text: &mut String, before: &str, flag: bool) -> Result<(), AllocError>

@@ -12,6 +12,8 @@ pub enum FileReason<'a> {
     Folder,
     /// It is a named pipe or something else without stored bytes.
     NotRegular,
+    /// It has this number of bytes, which no store has.
+    Length(u64),
     /// It could not be opened or made, with the system's reason.
     Unopened(&'a str),
     /// It could not be read, with the system's reason.
@@ -34,6 +36,7 @@ impl fmt::Display for FileReason<'_> {
             FileReason::Exists => f.write_str("exists already"),
             FileReason::Folder => f.write_str("is a folder"),
             FileReason::NotRegular => f.write_str("is not a regular file"),
+            FileReason::Length(bytes) => write!(f, "has {bytes} bytes"),
             FileReason::Unopened(text) => write!(f, "cannot be opened: {text}"),
             FileReason::Unread(text) => write!(f, "cannot be read: {text}"),
             FileReason::Unwritten(text) => write!(f, "cannot be written: {text}"),

@@ -1,11 +1,13 @@
 // What is refused, if more of it is known than the refusal carries.
-ghost use Rattle.std.specs.Prelude.{◌≡◌, option_map};
+ghost use Rattle.std.specs.Prelude.{◌≡◌, ◌++◌, option_map, string_bytes, OnOk};
+ghost use Rattle.cli_refusals.specs.Hint.{table_text};
 ghost use Rattle.cli_refusals.specs.Shown.{shown};
 
 use crate::part_shown::{Counts, FieldShown, LineShown, OtherFieldShown, PartShown};
 use crate::shown::shown;
 use crate::{FailedFile, Word};
-use std::fmt;
+use std::alloc::AllocError;
+use std::fmt::{self, Write as _};
 use text_import::RefusedPart;
 
 /// What a command itself hints at, if it finds more than its refusal carries.
@@ -30,8 +32,12 @@ pub enum Hint<'a> {
     Output(&'a str),
     /// A part of the input. Each of its strings is printed if a terminal may be shown it.
     Part(&'a RefusedPart),
-    /// The name of a table that a command hints at, printed if a terminal may be shown it.
-    Table(&'a String),
+    /// The name of a table that a command hints at, printed if a terminal may be shown it; and sentences about other tables, as [`report_table`]
+    /// writes them, printed as they are.
+    Table {
+        name: &'a String,
+        others: &'a str,
+    },
     /// The name of a table that was found unreadable after the command, printed if a terminal may be shown it.
     UnreadTable(&'a str),
     /// A line of a script, printed if a terminal may be shown it.
@@ -82,6 +88,16 @@ impl fmt::Display for TableShown<'_> {
     }
 }
 
+/// Appends the sentence that reports a table, with a space after it, if a terminal may be shown its name.
+///
+/// # Errors
+/// `AllocError` if memory is refused.
+pub fn report_table(text: &mut String, name: &str) -> Result<(), AllocError>
+    ensures { OnOk result (string_bytes text.new ≡ string_bytes text.old ++ table_text (shown name.now)) }
+{
+    write!(text, "{}", TableShown::new(name))
+}
+
 /// Prints a sentence for each refused thing, each with a space after it, or nothing if none of it can be shown.
 impl fmt::Display for Hint<'_> {
     ghost use Rattle.std.specs.Prelude.{Some};
@@ -97,7 +113,9 @@ impl fmt::Display for Hint<'_> {
             Hint::Input(reason) => write!(f, "The input cannot be read: {reason}. "),
             Hint::Output(reason) => write!(f, "The output cannot be written: {reason}. "),
             Hint::Part(part) => write!(f, "{}", PartShown { part }),
-            Hint::Table(name) => write!(f, "{}", TableShown::new(name.as_str())),
+            Hint::Table { name, others } => {
+                write!(f, "{}{others}", TableShown::new(name.as_str()))
+            }
             Hint::UnreadTable(name) => write!(f, "{}", TableShown::new(name)),
             Hint::ScriptLine(text) => write!(f, "{}", LineShown { text: shown(text) }),
             Hint::Field(name) => write!(f, "{}", FieldShown::of_name(name)),

@@ -20,7 +20,7 @@ mod remedies;
 mod shown;
 
 pub use failed_file::{FailedFile, FileReason};
-pub use hint::{Hint, Hinted};
+pub use hint::{Hint, Hinted, report_table};
 pub use output::write_whole;
 pub use page::{REFUSALS, refusals_page};
 pub use refusal::Refusal;

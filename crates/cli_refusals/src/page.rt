@@ -261,8 +261,8 @@ appended. If no advice follows a refusal, the cause is that record.
 - S12 Query REASON: the query of `query --save` is refused for this reason (Q).
 - S13 SegmentUnread N: segment N of the table, counted from 0, can't be read: its bytes were changed.
   `check` reads all tables, in byte order of their names, and reports the first that can't be read. On a
-  terminal that table is named, also if `copy`, `compact` or `upgrade` can't read it. Otherwise an `export`
-  of each table shows which one it is.
+  terminal it names each of them. There `copy`, `compact` and `upgrade` name the table that they can't
+  read, if only one is possible. Otherwise an `export` of each table shows which one it is.
   ",
     IMPORT_AGAIN,
     "

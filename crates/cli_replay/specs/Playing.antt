@@ -2,6 +2,7 @@
 use Rattle.std.specs.Prelude.{◌≡◌, ◌++◌, ℕ, Bool, true, false, List, [], ◌∷◌, length, take, codes, Option, Some, None}
 use Rattle.sector_dev.specs.declared.device.SectorDevice.{Ghosts}
 use Rattle.tables.specs.Tables.{Tables}
+use Rattle.tables.specs.declared.refusal.Refusal.TheVariants.{OutOfMemory}
 use Rattle.store.specs.declared.call.Call.{Call}
 use Rattle.store.specs.declared.call.StoreOrDevice.{StoreOrDevice}
 use Rattle.store.specs.declared.call.Reply.{Reply}
@@ -76,6 +77,24 @@ replies_text (reply ∷ replies) = reply_text reply ++ replies_text replies
 abbrev pub stop_text : Bool → List ℕ
 stop_text true = codes "stopped\n"
 stop_text false = []
+
+-- the replies that an opening has
+abbrev pub IsOfOpening : PlainReply → Type 0
+IsOfOpening done = Unit {0}
+IsOfOpening (shut_by refusal) = Unit {0}
+IsOfOpening _ = ⊥
+
+-- the replies that a list of the tables of an open store has: it fails only if memory is refused
+abbrev pub IsOfListing : PlainReply → Type 0
+IsOfListing (counts tables) = Unit {0}
+IsOfListing (refused refusal) = refusal ≡ OutOfMemory
+IsOfListing _ = ⊥
+
+-- the replies to an opening and to the list of tables after it
+abbrev pub AreOfListing : PlainReply → PlainReply → Type 0
+AreOfListing done listing = IsOfListing listing
+AreOfListing (shut_by refusal) listing = Unit {0}
+AreOfListing _ listing = ⊥
 
 -- of an opening and the list of tables after it: that list, or why the store was not opened
 abbrev pub FoundText : PlainReply → PlainReply → List ℕ → Type 0

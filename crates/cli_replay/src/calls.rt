@@ -9,7 +9,7 @@ ghost use Rattle.cli_replay.specs.Replay.{IsCallOfLine, AreCallsOfLines, IsOfRea
 
 use crate::ScriptLine;
 use crate::files::named_input;
-use cli_commands::new_table;
+use cli_commands::{drop_table, new_table, rename_table};
 use cli_refusals::Refusal;
 use std::alloc::{AllocError, Global};
 use std::fs::OpenFile;
@@ -26,23 +26,6 @@ fn create(alloc: Global, name: &str, fields: &[&str]) -> Result<Command, AllocEr
         Ok(new) => Ok(Command::Create(new)),
         Err(_) => Err(AllocError),
     }
-}
-
-fn rename(alloc: Global, from: &str, to: &str) -> Result<Command, AllocError>
-    ensures { IfOk result (λ c. command_of c ≡ commands.rename from.now to.now) }
-{
-    Ok(Command::Rename {
-        from: String::from_str(alloc, from)?,
-        to: String::from_str(alloc, to)?,
-    })
-}
-
-fn drop_table(alloc: Global, name: &str) -> Result<Command, AllocError>
-    ensures { IfOk result (λ c. command_of c ≡ commands.drop_table name.now) }
-{
-    Ok(Command::Drop {
-        name: String::from_str(alloc, name)?,
-    })
 }
 
 fn call_of<F: Read + OpenFile + Drop, H: Files<File = F> + AllocGlobal>(
@@ -62,7 +45,7 @@ fn call_of<F: Read + OpenFile + Drop, H: Files<File = F> + AllocGlobal>(
             let (name, bytes) = named_input(rt, name, file)?;
             Command::AppendStream { name, bytes }
         }
-        ScriptLine::Rename { from, to } => rename(rt.alloc(), from, to)?,
+        ScriptLine::Rename { from, to } => rename_table(rt.alloc(), from, to)?,
         ScriptLine::Drop { name } => drop_table(rt.alloc(), name)?,
         ScriptLine::Compact => return Ok(Call::Compact),
         ScriptLine::Upgrade => return Ok(Call::Upgrade),

@@ -8,7 +8,7 @@ ghost use Rattle.store.specs.Beginning.{IsLeftOf};
 ghost use Rattle.store_runs.specs.Calls.{done};
 ghost use Rattle.store.specs.Answering.{AnswersCall};
 ghost use Rattle.store.specs.Places.{reply_in};
-ghost use Rattle.cli_replay.specs.Playing.{FoundText};
+ghost use Rattle.cli_replay.specs.Playing.{AreOfListing, FoundText, IsOfListing};
 ghost use Rattle.commit.specs.Standing.{is_size};
 ghost use Rattle.cli_replay.specs.Replay.{IsEmptyStore, IsFound, after_opening, FailsToFormat, IsOfPlaying};
 ghost use Rattle.store.specs.declared.call.StoreOrDevice.TheVariants.{Shut};
@@ -73,6 +73,7 @@ pub(crate) fn with_faults(device: ModelDevice, fail: u64, stop: u64) -> ModelDev
 }
 
 /// Opens the store on a device.
+#[tactic(auto, using(crate::proofs::Opening::opening_answers))]
 pub(crate) fn open(
     alloc: Global,
     device: ModelDevice,
@@ -88,25 +89,38 @@ pub(crate) fn open(
     match reply {
         Reply::Done => Ok(place),
         Reply::NotOpened(refusal) => Err(Refusal::Opening(refusal)),
-        // An opening has no other answer.
-        _ => Err(Refusal::OutOfMemory),
+        _ => unreachable!(),
+    }
+}
+
+// Returns a line for each table that was listed.
+fn listed_text(alloc: Global, listing: &Reply) -> Result<String, Refusal>
+    requires { IsOfListing (reply_in listing.now) }
+    ensures found { IfOk result (λ text. FoundText done (reply_in listing.now) (string_bytes text)) }
+    ensures told { IfErr result (λ refusal. refusal ≡ Refusal.OutOfMemory) }
+{
+    match listing {
+        Reply::Tables(tables) => Ok(lines_of_tables(alloc, tables)?),
+        // Listing the tables of an open store fails only if memory is refused.
+        Reply::Refused(_) => Err(Refusal::OutOfMemory),
+        _ => unreachable!(),
     }
 }
 
 // Returns what is printed of an opening and of the list of tables after it.
 fn found_text(alloc: Global, opened: &Reply, listing: &Reply) -> Result<String, Refusal>
+    requires { AreOfListing (reply_in opened.now) (reply_in listing.now) }
     ensures found { IfOk result (λ text. FoundText (reply_in opened.now) (reply_in listing.now) (string_bytes text)) }
     ensures told { IfErr result (λ refusal. refusal ≡ Refusal.OutOfMemory) }
 {
-    match (opened, listing) {
-        (Reply::Done, Reply::Tables(tables)) => Ok(lines_of_tables(alloc, tables)?),
-        (Reply::NotOpened(refusal), _) => {
+    match opened {
+        Reply::Done => listed_text(alloc, listing),
+        Reply::NotOpened(refusal) => {
             let mut text = String::new(alloc);
             push_refusal(&mut text, Refusal::Opening(*refusal))?;
             Ok(text)
         }
-        // Listing the tables of an open store fails only if memory is refused.
-        _ => Err(Refusal::OutOfMemory),
+        _ => unreachable!(),
     }
 }
 

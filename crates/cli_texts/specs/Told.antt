@@ -26,6 +26,6 @@ told Terminal hint refusal = refusal_line refusal ++ remedy_line hint refusal
 told Departed hint refusal = if is_io refusal then [] else refusal_line refusal
 
 -- who reads the report of a run: at a terminal, somebody who has departed if the reader of its output is gone
-abbrev pub heard : Audience → (is_unread : Bool) → Audience
-heard Terminal true = Departed
-heard audience _ = audience
+abbrev pub audience_after_output : Audience → (is_unread : Bool) → Audience
+audience_after_output Terminal true = Departed
+audience_after_output audience _ = audience

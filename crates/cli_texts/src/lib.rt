@@ -28,6 +28,6 @@ pub use reports::{
     end, end_output, report_arguments, report_signed_number, report_wrong_arguments,
 };
 pub use status::{Ended, Status};
-pub use telling::{Audience, Output, heard};
+pub use telling::{Audience, Output, audience_after_output};
 pub use unreadable::report_unreadable_arguments;
 pub use watched::WatchedOutput;

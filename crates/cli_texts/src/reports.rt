@@ -3,9 +3,9 @@ ghost use Rattle.std.specs.Prelude.{◌≡◌, ◌≢◌, ◌⊎◌, [], None, I
 ghost use Rattle.clap.specs.Words.{kind_of};
 ghost use Rattle.cli_texts.specs.Reported.{IsRequest, IsWrong};
 ghost use Rattle.cli_texts.specs.Ending.{GivesSome, IsIo, IsOfOutput, TellsRefusal, HasReported};
-ghost use Rattle.cli_texts.specs.Told.{heard, told};
+ghost use Rattle.cli_texts.specs.Told.{audience_after_output, told};
 
-use crate::telling::{heard, tell};
+use crate::telling::{audience_after_output, tell};
 use crate::{Audience, Ended, Output, Status};
 use clap::error::ErrorKind;
 use cli_refusals::{Hint, Refusal, write_whole};
@@ -37,7 +37,8 @@ pub fn report_arguments<W: Write + Output, E: Write>(
     // Help that was asked for is written, and nothing else.
     ensures helps { result.status ≡ Status.Done → GivesSome (W.contents output.old) (W.contents output.new) }
     ensures memory { kind_of error.now ≡ ErrorKind.OutOfMemory → (result.status ≡ Status.Refused Refusal.OutOfMemory) × (output.new ≡ output.old) }
-    ensures reports { HasReported E.contents (heard audience (W.unread output.new)) None [] IsIo output.old output.new errors.old errors.new result }
+    ensures reports { HasReported E.contents (audience_after_output audience (W.unread output.new)) None [] IsIo output.old output.new errors.old
+        errors.new result }
 {
     match error.kind() {
         ErrorKind::DisplayHelp | ErrorKind::DisplayVersion => {
@@ -57,7 +58,7 @@ pub fn report_wrong_arguments<W: Output, E: Write>(
 ) -> Ended
     ensures wrong { IsWrong result.status }
     ensures memory { kind_of error.now ≡ ErrorKind.OutOfMemory → result.status ≡ Status.Refused Refusal.OutOfMemory }
-    ensures line { TellsRefusal (told (heard audience (W.unread output.now)) None) result (E.contents errors.old) (E.contents errors.new) }
+    ensures line { TellsRefusal (told (audience_after_output audience (W.unread output.now)) None) result (E.contents errors.old) (E.contents errors.new) }
 {
     match error.kind() {
         ErrorKind::OutOfMemory => {
@@ -90,9 +91,10 @@ pub fn end_output<W: Output, E: Write>(
 ) -> Ended
     ensures done { IsOk done → (result.status ≡ Status.Done) × (errors.new ≡ errors.old) × IsTrue result.is_reported }
     ensures refused { IfErr done (λ refusal. result.status ≡ Status.Refused refusal) }
-    ensures line { TellsRefusal (told (heard audience (W.unread output.now)) hint.entry) result (E.contents errors.old) (E.contents errors.new) }
+    ensures line { TellsRefusal (told (audience_after_output audience (W.unread output.now)) hint.entry) result (E.contents errors.old)
+        (E.contents errors.new) }
 {
-    end(done, hint, heard(audience, output), errors)
+    end(done, hint, audience_after_output(audience, output), errors)
 }
 
 /// Reports how a run ended: a refusal, with a hint at what is refused if there is one.

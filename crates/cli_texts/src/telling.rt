@@ -2,7 +2,7 @@
 ghost use Rattle.std.specs.Prelude.{◌≡◌, Bool, [], if◌then◌else◌, OnOk};
 ghost use Rattle.std.specs.Io.KnownBytes.{Appends};
 ghost use Rattle.cli_texts.specs.Reported.{refusal_line};
-ghost use Rattle.cli_texts.specs.Told.{heard, is_io, told};
+ghost use Rattle.cli_texts.specs.Told.{audience_after_output, is_io, told};
 
 use cli_refusals::{Hint, Refusal};
 use std::io::{self, IsTerminal, Write};
@@ -41,8 +41,8 @@ pub trait Output {
 }
 
 /// Returns who reads the report of a run that has written to an output: a person who has closed it, as by `head`, knows that it failed.
-pub fn heard<W: Output>(audience: Audience, output: &W) -> Audience
-    ensures { result ≡ heard audience (W.unread output.now) }
+pub fn audience_after_output<W: Output>(audience: Audience, output: &W) -> Audience
+    ensures { result ≡ audience_after_output audience (W.unread output.now) }
 {
     match (audience, output.is_unread()) {
         (Audience::Terminal, true) => Audience::Departed,

@@ -13,7 +13,7 @@ pub use reader::ProgressReader;
 pub use writer::ProgressWriter;
 
 // Fewer bytes would be shown as 0 MB.
-const LEAST_TOLD: u64 = 1_000_000;
+const LEAST_SHOWN: u64 = 1_000_000;
 
 // This many bytes are reported however fast they were read: what is made of them may take longer.
 const LONG_WORK: u64 = 32_000_000;
@@ -41,7 +41,7 @@ pub struct ProgressLine<'a, C: Clock, T> {
     clock: &'a C,
     terminal: T,
     // When the work began or the line was last written.
-    last_told: Cell<Instant>,
+    last_written: Cell<Instant>,
     shown: Cell<Option<Stage>>,
 }
 
@@ -55,7 +55,7 @@ impl<'a, C: Clock, T: Write + Copy> ProgressLine<'a, C, T> {
         Some(ProgressLine {
             clock,
             terminal,
-            last_told: Cell::new(now),
+            last_written: Cell::new(now),
             shown: Cell::new(None),
         })
     }
@@ -85,7 +85,7 @@ impl<'a, C: Clock, T: Write + Copy> ProgressLine<'a, C, T> {
     // Returns whether a second has passed since the line was last written.
     fn is_due(&self) -> bool {
         match Instant::now(self.clock) {
-            Ok(now) => now.duration_since(self.last_told.get()).as_secs() > 0,
+            Ok(now) => now.duration_since(self.last_written.get()).as_secs() > 0,
             Err(_) => false,
         }
     }
@@ -94,7 +94,7 @@ impl<'a, C: Clock, T: Write + Copy> ProgressLine<'a, C, T> {
         if self.shown.get() != Some(stage) {
             self.write_blanks()?;
         }
-        self.last_told.set(Instant::now(self.clock)?);
+        self.last_written.set(Instant::now(self.clock)?);
         self.shown.set(Some(stage));
         let mut terminal = self.terminal;
         match stage {

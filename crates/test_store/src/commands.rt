@@ -3,7 +3,7 @@ use crate::made::{NotMade, assert_no_row};
 use crate::playing::{Slot, WAYS, Way, new_slot, play, shut};
 use crate::shown::is_laid_out;
 use crate::steps::Steps;
-use crate::{lowest_runs, paged_catalogues, read_tables, refused_commands, room_told};
+use crate::{lowest_runs, no_room, paged_catalogues, read_tables, refused_commands};
 use std::alloc::Global;
 
 /// The number of sectors of a device, the steps, and the final layout of the store. The rows are split into parts, since the cost to prove a
@@ -56,7 +56,7 @@ fn rows(topic: Topic, part: usize) -> Option<&'static [Row]> {
     match topic {
         Topic::Places => lowest_runs::part(part),
         Topic::Pages => paged_catalogues::part(part),
-        Topic::Room => room_told::part(part),
+        Topic::Room => no_room::part(part),
         Topic::Read => read_tables::part(part),
         Topic::Refused => refused_commands::part(part),
     }

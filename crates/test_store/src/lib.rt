@@ -26,6 +26,8 @@ mod lowest_runs;
 #[cfg(test)]
 mod made;
 #[cfg(test)]
+mod no_room;
+#[cfg(test)]
 mod openings;
 #[cfg(test)]
 mod paged_catalogues;
@@ -39,8 +41,6 @@ mod playing;
 mod read_tables;
 #[cfg(test)]
 mod refused_commands;
-#[cfg(test)]
-mod room_told;
 #[cfg(test)]
 mod salvages;
 #[cfg(test)]

@@ -1,7 +1,7 @@
 // Shows how much of a long input was read.
 ghost use Rattle.std.specs.Prelude.{◌≡◌};
 
-use super::{LEAST_TOLD, LONG_WORK, ProgressLine, Stage};
+use super::{LEAST_SHOWN, LONG_WORK, ProgressLine, Stage};
 use std::io::{self, IsTerminal, Read, Write};
 use std::time::Clock;
 
@@ -48,7 +48,7 @@ impl<C: Clock, T: Write + Copy, R: Read> Read for ProgressReader<'_, C, T, R> {
 
 // Shows the end of an input of this many bytes.
 fn tell_end<C: Clock, T: Write + Copy>(line: &ProgressLine<'_, C, T>, bytes: u64) {
-    if bytes >= LONG_WORK || (bytes >= LEAST_TOLD && line.is_long()) {
+    if bytes >= LONG_WORK || (bytes >= LEAST_SHOWN && line.is_long()) {
         line.show(Stage::Working, bytes);
     } else {
         line.clear();

@@ -1,7 +1,7 @@
 // Shows how much of a long output was written; an output on the terminal itself does not share a line with that.
 ghost use Rattle.std.specs.Prelude.{◌≡◌};
 
-use super::{LEAST_TOLD, ProgressLine, Stage};
+use super::{LEAST_SHOWN, ProgressLine, Stage};
 use std::io::{self, IsTerminal, Write};
 use std::time::Clock;
 
@@ -49,7 +49,7 @@ impl<C: Clock, T: Write + Copy, W: Write> Write for ProgressWriter<'_, C, T, W> 
         if let Ok(count) = &written {
             self.bytes_written = self.bytes_written.saturating_add(*count as u64);
             // The answer of a command, as `ok`, is not worth reporting.
-            if self.bytes_written >= LEAST_TOLD {
+            if self.bytes_written >= LEAST_SHOWN {
                 line.tell(Stage::Writing, self.bytes_written);
             }
         }

@@ -14,7 +14,7 @@ returns-in_err-device-clause-refused g c =
 pub returns-in_err-file-clause-refused : goal.returns-in_err-file-clause-refused
 returns-in_err-file-clause-refused g c =
     let p = err_from_is_err_and c.from_residual-in_err-file.result c.from_residual-in_err-file.ensures.1 in
-    rw (p.1, p.2) (of_change _ c.args.sectors c.args.from.now _ _ c.in_err-file.field-0.0 c.or_removed.ensures c.mark_unfinished.ensures c.in_err-file.was)
+    rw (p.1, p.2) (of_change _ c.args.sectors c.args.from.now _ _ c.in_err-file.field-0.0 c.remove_on_error.ensures c.mark_unfinished.ensures c.in_err-file.was)
 
 pub returns-in_err-to-clause-refused : goal.returns-in_err-to-clause-refused
 returns-in_err-to-clause-refused g c =
@@ -27,7 +27,7 @@ pub returns-in-Ok-clause-copied : goal.returns-in-Ok-clause-copied
 returns-in-Ok-clause-copied g c =
     let d = c.in_ok-device in
     let to = c.in_ok-to.to in
-    on_ok c.or_removed-in-Ok.result (record {
+    on_ok c.remove_on_error-in-Ok.result (record {
       made = to;
       new = subst (λ (v : FormatVersion). IsNewStore c.args.sectors v to) c.version.ensures
           (subst (λ (n : ℕ). IsNewStore n c.version.result to) d.ensures.size c.in_ok-to.ensures.made);
@@ -39,13 +39,13 @@ returns-in-Ok-clause-copied g c =
 
 pub returns-in-Ok-clause-refused : goal.returns-in-Ok-clause-refused
 returns-in-Ok-clause-refused g c =
-    of_last_change _ c.args.sectors c.args.from.now _ _ c.or_removed-in-Ok.ensures c.mark_finished.ensures
+    of_last_change _ c.args.sectors c.args.from.now _ _ c.remove_on_error-in-Ok.ensures c.mark_finished.ensures
 
 pub returns-clause-refused : goal.returns-clause-refused
 returns-clause-refused g c =
     let d = c.in_ok-device in
     let to = c.in_ok-to.to in
-    rw c.or_removed-in-Err.ensures (inr (
+    rw c.remove_on_error-in-Err.ensures (inr (
       c.in-Err.refusal,
       refl,
       record {

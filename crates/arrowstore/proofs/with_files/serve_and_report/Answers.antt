@@ -12,7 +12,7 @@ returns-in-Some-clause-serves g c = let e = c.end_whole_or_partly.ensures in rec
   ends = rw (← c.deref.ensures.value) e.ends;
   hint = Some c.in-Some.hint;
   hints = c.in-Some.ensures;
-  told = rw (← c.deref.ensures.value, ← c.heard-audience.ensures) (has_reported _ _ _ _ _ _ _ _ _ c.serve-done.result c.end_whole_or_partly.result e.ends c.serve-done.ensures.silent e.silent e.lines e.line);
+  told = rw (← c.deref.ensures.value, ← c.audience_after_output-audience.ensures) (has_reported _ _ _ _ _ _ _ _ _ c.serve-done.result c.end_whole_or_partly.result e.ends c.serve-done.ensures.silent e.silent e.lines e.line);
 }
 
 pub returns-clause-serves : goal.returns-clause-serves
@@ -24,5 +24,5 @@ returns-clause-serves g c = let e = c.end_of_request.ensures in record {
   ends = rw (← c.deref-in-None.ensures.value) e.ends;
   hint = e.line.0;
   hints = e.line.1 ∙ c.in-None.ensures;
-  told = rw (← c.deref-in-None.ensures.value, ← c.heard-audience.ensures) (has_reported _ _ _ _ _ _ _ _ _ c.serve-done.result c.end_of_request.result e.ends c.serve-done.ensures.silent e.silent e.lines e.line.2);
+  told = rw (← c.deref-in-None.ensures.value, ← c.audience_after_output-audience.ensures) (has_reported _ _ _ _ _ _ _ _ _ c.serve-done.result c.end_of_request.result e.ends c.serve-done.ensures.silent e.silent e.lines e.line.2);
 }

@@ -1,8 +1,15 @@
 use Rattle.std.specs.Prelude.{string_bytes}
 use Rattle.store.specs.Places.{reply_in}
 use Rattle.cli_replay.specs.Playing.{FoundText}
+use Rattle.cli_replay.proofs.Opening.{listing_answers}
 use Rattle.cli_replay.proofs.Results.{ok_with}
 use Rattle.cli_replay.proofs.device.found_on.Goals as goal
+
+pub found_text-requires : goal.found_text-requires
+found_text-requires c =
+    let opened = c.answer-place in
+    let listed = c.answer-place-2 in
+    listing_answers c.args.device opened.result.1 opened.result.0 opened.ensures listed.result.1 listed.result.0 listed.ensures
 
 pub returns-clause-found : goal.returns-clause-found
 returns-clause-found c =
