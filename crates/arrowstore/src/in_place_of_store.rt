@@ -2,7 +2,7 @@
 use crate::failed_file::{KeptFile, Reason};
 use crate::serving::has_sectors;
 use cli_requests::StoreRequest;
-use sector_dev::{LEAST_SECTORS, MOST_SECTORS};
+use sector_dev::{LEAST_SECTORS, MOST_SECTORS, SECTOR_BYTES};
 use std::fs;
 use std::rt::Files;
 
@@ -51,7 +51,8 @@ pub(crate) fn file_in_place_of_store<H: Files + AllocGlobal>(
 
 // Returns whether the file of a store may have this length.
 fn is_length_of_store(bytes: u64) -> bool {
-    bytes % 512 == 0 && (LEAST_SECTORS..=MOST_SECTORS).contains(&(bytes / 512))
+    let sector = SECTOR_BYTES as u64;
+    bytes % sector == 0 && (LEAST_SECTORS..=MOST_SECTORS).contains(&(bytes / sector))
 }
 
 fn reason_of_length<H: Files>(rt: &H, path: &str) -> Option<Reason> {
