@@ -29,7 +29,7 @@ pub returns-in_ok-save_as-in-SaveAs-clause-reads : goal.returns-in_ok-save_as-in
 unfolding takes_input_word
 returns-in_ok-save_as-in-SaveAs-clause-reads c = rw c.in-SaveAs.is refl
 
-pub returns-in_ok-rename_table-in-Rename-clause-reads : goal.returns-in_ok-rename-in-Rename-clause-reads
+pub returns-in_ok-rename_table-in-Rename-clause-reads : goal.returns-in_ok-rename_table-in-Rename-clause-reads
 unfolding takes_input_word
 returns-in_ok-rename_table-in-Rename-clause-reads c = rw c.in-Rename.is refl
 
