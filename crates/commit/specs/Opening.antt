@@ -3,7 +3,7 @@ use Rattle.std.specs.Prelude.{◌≡◌, ◌⊎◌, ◌+◌, ◌-◌, ◌^◌, �
 use Rattle.sector_dev.specs.Disk.{Disk, Story, now, shown_image, flushed, Flushes}
 use Rattle.sector_dev.specs.Time.{OnlyReads}
 use Rattle.segments.specs.declared.errors.EnterError.{EnterError}
-use Rattle.segments.specs.declared.errors.EnterError.TheVariants.{Range as RangeError, Overlap as OverlapError, OutOfMemory as MemoryError}
+use Rattle.segments.specs.declared.errors.EnterError.TheVariants.{Range as RangeError, Overlap as OverlapError, TooManyPins as PinsError, OutOfMemory as MemoryError}
 use Rattle.segments.specs.declared.extent.Extent.{Extent}
 use Rattle.commit.specs.declared.cause.Cause.{Cause}
 use Rattle.commit.specs.declared.cause.Cause.TheVariants.{RunRange, RunOverlap}
@@ -24,6 +24,7 @@ CountsOpen before after (Err OutOfMemory) = after ≡ before
 abbrev pub open_error : EnterError → OpenError
 open_error RangeError = Damaged RunRange
 open_error OverlapError = Damaged RunOverlap
+open_error PinsError = Damaged RunOverlap
 open_error MemoryError = OutOfMemory
 
 -- the bytes of an extent with at least `least` bytes, as reads return them

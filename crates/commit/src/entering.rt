@@ -94,7 +94,7 @@ impl From<EnterError> for OpenError {
     fn from(error: EnterError) -> Self {
         match error {
             EnterError::Range => OpenError::Damaged(Cause::RunRange),
-            EnterError::Overlap => OpenError::Damaged(Cause::RunOverlap),
+            EnterError::Overlap | EnterError::TooManyPins => OpenError::Damaged(Cause::RunOverlap),
             EnterError::OutOfMemory => OpenError::OutOfMemory,
         }
     }

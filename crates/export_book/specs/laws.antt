@@ -1,3 +1,4 @@
 -- Laws that the crates above use.
+pub mod Changes
 pub mod Ids
 pub mod Kept

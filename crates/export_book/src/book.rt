@@ -76,7 +76,7 @@ impl ExportBook {
     {
         let mut runs = Vec::new(alloc);
         for export in &self.exports {
-            runs.extend_from_slice(&export.runs)?;
+            runs.extend_from_slice(&export.entry.runs(alloc)?)?;
         }
         Ok(runs)
     }
@@ -94,11 +94,9 @@ impl ExportBook {
         ensures err { OnErr result (book_of self.new ≡ book_of self.old) }
     {
         let id = self.next.unwrap();
-        let runs = entry.runs(*self.exports.allocator())?;
         let export = OpenExport {
             id,
             entry,
-            runs,
             given: 0,
         };
         self.exports.push(export)?;

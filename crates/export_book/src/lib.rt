@@ -16,4 +16,4 @@ mod laws;
 
 pub use book::{ExportBook, MAX_EXPORTS};
 pub use export::OpenExport;
-pub use laws::{ids_are_given_once, runs_are_kept_few_times};
+pub use laws::{ids_are_given_once, kept_runs_after_changes, runs_are_kept_few_times};

@@ -160,6 +160,19 @@ changed run u (e ∷ es) (suc k) d place lt is =
     let here : suc k ≡ 0 = place ∙ cond-false (ltb e.run.start run.start) (suc (place_of run.start es)) 0 f in absurd (omega arith))
     (cases_Bool (ltb e.run.start run.start))
 
+-- without an entry nothing changes
+pub unchanged : (run : Run) (from : ℕ) (es : List UsageEntry) → Ordered from es → usage_of es run ≡ UNUSED → with_usage run UNUSED es ≡ es
+unchanged run from [] o none = refl
+unchanged run from (e ∷ es) o none =
+    cond_both (ltb e.run.start run.start) (e ∷ with_usage run UNUSED es) (cond (same_run e.run run) es (e ∷ es)) (λ (es' : List UsageEntry). es' ≡ e ∷ es)
+    (λ t.
+    let lt = ltb-true e.run.start run.start t in
+    ap (λ (es' : List UsageEntry). e ∷ es') (unchanged run (e.run.start + e.run.count) es o.3
+    (sym (cond-false (same_run e.run run) e.usage (usage_of es run) (starts_differ e.run run (λ is. omega arith))) ∙ none)))
+    (λ _. cond_both (same_run e.run run) es (e ∷ es) (λ (es' : List UsageEntry). es' ≡ e ∷ es)
+    (λ same. absurd (true≢false (sym o.2 ∙ ap is_used (sym (cond-true (same_run e.run run) e.usage (usage_of es run) same) ∙ none))))
+    (λ _. refl))
+
 -- a device whose runs are sound stays so
 pub sound_with : (size : ℕ) (es : List UsageEntry) (run : Run) (u : Usage) → IsSound (record { size = size; entries = es }) → IsOnDevice size run → Fits run es → IsSound (with_run (record { size = size; entries = es }) run u)
 sound_with size es run u sound on fits = record { ordered = ordered_with run u 2 es sound.ordered on.above on.some fits; within = ends_with run u size es sound.within on.within }
@@ -170,6 +183,10 @@ changes_with size es run u sound some fits = record { size = refl; this = usage_
 -- a used run is on the device
 pub on_device : (size : ℕ) (es : List UsageEntry) (run : Run) → IsSound (record { size = size; entries = es }) → IsUsedIn es run → IsOnDevice size run
 on_device size es run sound used = let low = used_within 2 es run sound.ordered used in record { above = low.0; some = low.1; within = used_ends size es run sound.within used }
+
+-- a run without an entry stays without one
+pub changes_none : (size : ℕ) (es : List UsageEntry) (run : Run) → IsSound (record { size = size; entries = es }) → usage_of es run ≡ UNUSED → with_run (record { size = size; entries = es }) run UNUSED ≡ record { size = size; entries = es }
+changes_none size es run sound none i = record { size = size; entries = unchanged run 2 es sound.ordered none i }
 
 -- the run of an entry is used
 pub used_at : (from : ℕ) (es : List UsageEntry) (k : ℕ) (d : UsageEntry) → Ordered from es → k < length es → is_used (get_or es k d).usage ≡ true

@@ -4,7 +4,7 @@ use Rattle.std.proofs.lemmas.Bool.{cond-true, cond-false}
 use Rattle.std.proofs.lemmas.Bool.Decides.{nat_tests}
 use Rattle.segments.specs.declared.run.Run.{Run}
 use Rattle.segments.specs.declared.entries.Usage.{Usage}
-use Rattle.segments.specs.Usages.{Space, is_used, usage_of, is_among, times_among, same_run, pinned, pinned_times, IsUsedIn, Changes, PinsAll}
+use Rattle.segments.specs.Usages.{Space, UNUSED, is_used, usage_of, is_among, times_among, same_run, pinned, pinned_times, IsUsedIn, Changes, PinsAll}
 use Rattle.segments.specs.laws.Usages.{same_itself, same_or_not, times_both}
 use Rattle.segments.proofs.Placed.{same_run-false}
 
@@ -39,16 +39,9 @@ pinned_used times usage used = by_parts usage.taken usage.pins used
     by_parts false zero used = absurd cc
     by_parts false (suc pins) used = grind (arith, nat_tests)
 
-pub still_used : (old mid : Space) (runs : List Run) (run : Run) → PinsAll old mid runs → IsUsedIn old.entries run → IsUsedIn mid.entries run
-still_used old mid runs run all used = ap is_used (all.usages run) ∙ pinned_used (times_among runs run) (usage_of old.entries run) used
-
--- with one pin more a run is in use
-pub one_used : (usage : Usage) → is_used (pinned usage) ≡ true
-one_used usage = by_parts usage.taken usage.pins
-  where
-    by_parts : (taken : Bool) (pins : ℕ) → is_used (record { taken = taken; pins = pins + 1 }) ≡ true
-    by_parts true pins = refl
-    by_parts false pins = grind (arith, nat_tests)
+pub still_used : (old mid : Space) (runs : List Run) (run : Run) → PinsAll old mid runs → IsUsedIn old.entries run → usage_of mid.entries run ≢ UNUSED
+still_used old mid runs run all used none =
+    let is : is_used UNUSED ≡ true = ap is_used (sym none ∙ all.usages run) ∙ pinned_used (times_among runs run) (usage_of old.entries run) used in absurd cc
 
 -- one more
 pinned_more : (times : ℕ) (same : Bool) (was : Usage) → cond same (pinned (pinned_times times was)) (pinned_times times was) ≡ pinned_times (times + (cond same 1 0 + 0)) was

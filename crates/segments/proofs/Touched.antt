@@ -79,6 +79,11 @@ moments_failed runs (w ∷ ws) a b inside (inl here) = write_failed runs (now a)
 moments_failed runs (w ∷ ws) a b inside (inr later) =
     written_on runs a later.0 b (write_done runs (now a) a later.0 w.sector w.content (Some w.content) inside.0 (writes_none runs (now a)) later.1) (moments_failed runs ws later.0 b inside.1 later.2)
 
+-- whichever way they ended
+pub moments_of : {T E : Type 0} {P : Type 0} (r : Result T E) (runs : List Run) (ws : List SectorWrite) (a b : Story) → AreIn runs ws → OnOk r (P → GrowsBy ws a b) → OnErr r (P → FailsAmong ws a b) → P → Grows (WritesOnly runs (now a)) a b
+moments_of (Ok x) runs ws a b inside done failed p = moments_done runs ws a b inside (done p)
+moments_of (Err e) runs ws a b inside done failed p = moments_failed runs ws a b inside (failed p)
+
 pub in_both : (runs : List Run) (ws vs : List SectorWrite) → AreIn runs ws → AreIn runs vs → AreIn runs (ws ++ vs)
 in_both runs [] vs first second = second
 in_both runs (w ∷ ws) vs first second = (first.0, in_both runs ws vs first.1 second)

@@ -42,6 +42,13 @@ usage_of (e ∷ es) run = if same_run e.run run then e.usage else usage_of es ru
 abbrev pub IsUsedIn : List UsageEntry → Run → Type 0
 IsUsedIn es run = is_used (usage_of es run) ≡ true
 
+-- the run is not in use, but is not free either
+abbrev pub Overlaps : Space → Run → Type 0
+Overlaps space run = (usage_of space.entries run ≡ UNUSED) × (IsFree space.size (IsUsedIn space.entries) run → ⊥)
+
+abbrev pub IsUnused : Space → Run → Type 0
+IsUnused space run = (usage_of space.entries run ≡ UNUSED) × IsFree space.size (IsUsedIn space.entries) run
+
 -- each free run that starts before the cursor has at most `widest` sectors
 abbrev pub IsSearched : Space → SearchCursor → Type 0
 IsSearched space searched = (run : Run) → searched.widest < run.count → IsFree space.size (IsUsedIn space.entries) run → searched.start ≤ run.start

@@ -1,5 +1,5 @@
 -- What writing runs may change, and the writes that it makes.
-use Rattle.std.specs.Prelude.{◌≡◌, ◌⊎◌, ◌≤◌, ◌<◌, ◌+◌, ℕ, List, [], ◌∷◌, length, map, Some}
+use Rattle.std.specs.Prelude.{◌≡◌, ◌⊎◌, ◌≤◌, ◌<◌, ◌+◌, ℕ, List, [], ◌∷◌, length, map}
 use Rattle.std.specs.List.{flat_map}
 use Rattle.sector_dev.specs.Disk.{Disk, Story, Image, now, moment, LeftSince, MayHold}
 use Rattle.sector_dev.specs.Rows.{SectorWrite, writes_from}
@@ -7,7 +7,11 @@ use Rattle.sector_dev.specs.Time.{Grows}
 use Rattle.segments.specs.declared.run.Run.{Run}
 use Rattle.segments.specs.Pieces.{PlainPiece}
 use Rattle.segments.specs.Runs.{OutOf}
-use Rattle.segments.specs.Sectors.{sector_count, sector_of, Holds, bytes_at}
+use Rattle.segments.specs.Sectors.{sector_count, sector_of, Holds}
+
+-- the run that these bytes occupy from a sector on
+abbrev pub run_for : ℕ → List ℕ → Run
+run_for start bytes = record { start = start; count = sector_count (length bytes) }
 
 -- while these runs are written: no other sector has changed, and none at all before a write began
 pub record WritesOnly (runs : List Run) (old d : Disk) : Type 0 where
@@ -34,11 +38,6 @@ AllFit size (p ∷ ps) = (p.run.start + p.run.count ≤ size) × (sector_count (
 abbrev pub HoldsEach : Image → List PlainPiece → Type 0
 HoldsEach image [] = Unit {0}
 HoldsEach image (p ∷ ps) = Holds image p.run.start p.bytes × HoldsEach image ps
-
--- each run is read as its bytes
-abbrev pub ReadsEach : Image → List PlainPiece → Type 0
-ReadsEach image [] = Unit {0}
-ReadsEach image (p ∷ ps) = (bytes_at image p.run.start (length p.bytes) ≡ Some p.bytes) × ReadsEach image ps
 
 -- the writes of a run that is to hold these bytes
 abbrev pub run_writes : ℕ → List ℕ → List SectorWrite

@@ -1,7 +1,7 @@
 // The runs in use as a sorted list.
 ghost use Rattle.std.specs.Prelude.{◌≡◌, ◌≤◌, ◌↔◌, ℕ, IsTrue, IfNone, IfSome, length};
 ghost use Rattle.segments.specs.Runs.{IsLowest};
-ghost use Rattle.segments.specs.Usages.{is_used, usage_of, UNUSED, Ordered, EndBy, IsUsedIn, IsSearched};
+ghost use Rattle.segments.specs.Usages.{is_used, usage_of, with_usage, UNUSED, Ordered, EndBy, IsUsedIn, IsSearched};
 ghost use Rattle.segments.specs.inner.Places.{place_of, end_before, without, without_each, ApartEach, Ascending, HasEntryAt, LetGoAmong};
 
 use crate::gap_buffer::GapBuffer;
@@ -148,6 +148,19 @@ pub(crate) fn lowest(
         Some(Run { start, count })
     } else {
         None
+    }
+}
+
+// Changes the usage of the run, whose entry is at this place.
+pub(crate) fn change(entries: &mut GapBuffer, run: Run, place: usize, usage: Usage)
+    requires place { place ≡ place_of run.start entries.old }
+    requires found { HasEntryAt entries.old run place }
+    ensures { entries.new ≡ with_usage run usage entries.old }
+{
+    if usage.is_used() {
+        entries.set(place, UsageEntry { run, usage });
+    } else {
+        entries.remove(place);
     }
 }
 

@@ -21,6 +21,9 @@ pub enum EnterError {
     /// The run meets another run in use.
     #[error("a run over another one")]
     Overlap,
+    /// The run has as many pins as can be counted.
+    #[error("a run pinned too often")]
+    TooManyPins,
     #[error("out of memory")]
     OutOfMemory,
 }

@@ -1,5 +1,5 @@
 // A list of entries with fast insertion at neighbouring places.
-ghost use Rattle.std.specs.Prelude.{◌≡◌, ◌≤◌, ◌<◌, ◌+◌, ◌++◌, ◌∷◌, [], OnOk, OnErr, filter, insert, length, reverse, slice_index_or, slice_set, vec_capacity, vec_len};
+ghost use Rattle.std.specs.Prelude.{◌≡◌, ◌≤◌, ◌<◌, ◌+◌, ◌++◌, ◌∷◌, [], OnOk, OnErr, filter, insert, length, remove, reverse, slice_index_or, slice_set, vec_capacity, vec_len};
 ghost use Rattle.segments.specs.Usages.{is_used};
 
 use crate::UsageEntry;
@@ -74,6 +74,15 @@ impl GapBuffer {
     {
         settle(&mut self.before, &mut self.behind);
         self.before[place] = entry;
+    }
+
+    /// Removes the entry at a place. Allocates no memory.
+    pub(crate) fn remove(&mut self, place: usize)
+        requires { place < length self.old }
+        ensures { self.new ≡ remove self.old place }
+    {
+        settle(&mut self.before, &mut self.behind);
+        self.before.remove(place);
     }
 
     /// Keeps only the entries that are used. Allocates no memory.

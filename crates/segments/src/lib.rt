@@ -4,9 +4,9 @@
 //! as its bytes. `read_run` returns the bytes of a run, and distinguishes an unreadable sector from a device failure.
 //!
 //! ```
-//! let run = free_map.take_onward(3, &mut SearchCursor::nothing())?;
-//! write_runs(&mut device, &[Piece { run, parts }])?;
-//! let same = read_run(alloc, &mut device, run.start, byte_count)?;
+//! let run = free_map.take(3)?;
+//! write_run(&mut device, run.start, &bytes)?;
+//! let same = read_run(alloc, &mut device, run.start, bytes.len())?;
 //! ```
 #![tactic(auto)]
 
@@ -30,4 +30,4 @@ pub use piece::{Piece, PiecePart, byte_count};
 pub use reading::{ReadError, read_run};
 pub use run::Run;
 pub use search_cursor::SearchCursor;
-pub use writing::write_runs;
+pub use writing::{write_run, write_runs};

@@ -1,11 +1,11 @@
 // Writes runs of sectors.
-ghost use Rattle.std.specs.Prelude.{◌≡◌, ◌+◌, ◌++◌, ◌*◌, ◌/◌, ◌≤◌, ◌<◌, ◌^◌, length, true, OnOk, OnErr, IfErr};
+ghost use Rattle.std.specs.Prelude.{◌≡◌, ◌+◌, ◌++◌, ◌*◌, ◌/◌, ◌≤◌, ◌<◌, ◌^◌, ◌∷◌, [], length, true, OnOk, OnErr, IfErr, Some};
 ghost use Rattle.sector_dev.specs.Disk.{now, shown_image, Counts};
 ghost use Rattle.sector_dev.specs.Rows.{GrowsBy, FailsAmong};
 ghost use Rattle.segments.specs.Pieces.{bytes_of_parts, plain_pieces};
 ghost use Rattle.segments.specs.Runs.{AreApart};
-ghost use Rattle.segments.specs.Sectors.{sector_count, filled};
-ghost use Rattle.segments.specs.Writing.{runs_of, OnlyWrites, LeavesOthers, AllFit, HoldsEach, ReadsEach, run_writes, piece_writes};
+ghost use Rattle.segments.specs.Sectors.{sector_count, filled, Holds, bytes_at};
+ghost use Rattle.segments.specs.Writing.{run_for, runs_of, OnlyWrites, LeavesOthers, AllFit, HoldsEach, run_writes, piece_writes};
 ghost use Rattle.segments.specs.inner.Tails.{tail_bytes, whole_bytes, rest_bytes};
 
 use crate::tail::Tail;
@@ -92,7 +92,27 @@ fn write_parts<D: SectorDevice>(
     write_tail(device, &tail)
 }
 
-/// Writes each piece into its run, in order: the bytes in ascending sectors, zero-filled to the end of the last one.
+/// Writes the bytes from this sector on, in ascending sectors, zero-filled to the end of the last one.
+///
+/// # Errors
+/// `Failed` only: the device failed.
+pub fn write_run<D: SectorDevice>(device: &mut D, start: u64, bytes: &[u8]) -> Result<(), DevError>
+    requires within { start + sector_count (length bytes.now) ≤ D.size device.old }
+    requires countable { 512 * D.size device.old < 2 ^ 64 }
+    ensures size { D.size device.new ≡ D.size device.old }
+    ensures count { Counts (D.failed device.old) (D.failed device.new) result }
+    ensures error { IfErr result (λ e. e ≡ DevError.Failed) }
+    ensures moments { D.tells ≡ true → OnlyWrites (run_for start bytes.now ∷ []) (D.story device.old) (D.story device.new) }
+    ensures others { D.tells ≡ true → LeavesOthers (run_for start bytes.now ∷ []) (D.story device.old) (D.story device.new) }
+    ensures holds { OnOk result (D.tells ≡ true → Holds (shown_image (now (D.story device.new))) start bytes.now) }
+    ensures reads { OnOk result (D.tells ≡ true → bytes_at (shown_image (now (D.story device.new))) start (length bytes.now) ≡ Some bytes.now) }
+    ensures order { OnOk result (D.tells ≡ true → GrowsBy (run_writes start bytes.now) (D.story device.old) (D.story device.new)) }
+    ensures cut_short { OnErr result (D.tells ≡ true → FailsAmong (run_writes start bytes.now) (D.story device.old) (D.story device.new)) }
+{
+    write_parts(device, start, &[PiecePart::Borrowed(bytes)])
+}
+
+/// Writes each piece into its run, in order.
 ///
 /// # Errors
 /// `Failed` only: the device failed.
@@ -106,7 +126,6 @@ pub fn write_runs<D: SectorDevice>(device: &mut D, pieces: &[Piece<'_>]) -> Resu
     ensures moments { D.tells ≡ true → OnlyWrites (runs_of (plain_pieces pieces.now)) (D.story device.old) (D.story device.new) }
     ensures others { D.tells ≡ true → LeavesOthers (runs_of (plain_pieces pieces.now)) (D.story device.old) (D.story device.new) }
     ensures holds { OnOk result (D.tells ≡ true → HoldsEach (shown_image (now (D.story device.new))) (plain_pieces pieces.now)) }
-    ensures reads { OnOk result (D.tells ≡ true → ReadsEach (shown_image (now (D.story device.new))) (plain_pieces pieces.now)) }
     ensures order { OnOk result (D.tells ≡ true → GrowsBy (piece_writes (plain_pieces pieces.now)) (D.story device.old) (D.story device.new)) }
     ensures cut_short { OnErr result (D.tells ≡ true → FailsAmong (piece_writes (plain_pieces pieces.now)) (D.story device.old) (D.story device.new)) }
 {

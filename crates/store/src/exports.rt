@@ -7,7 +7,8 @@ ghost use Rattle.arrow_schema.specs.View.{schema_of};
 ghost use Rattle.values.specs.TableView.{table_of};
 ghost use Rattle.ipc_write.specs.Written.{schema_message, end_of_stream};
 ghost use Rattle.ipc_canonical.specs.Canonical.{rows_messages};
-ghost use Rattle.catalogue.specs.Entries.{is_segment, plain_entry};
+ghost use Rattle.segments.specs.Usages.{UnpinsAll};
+ghost use Rattle.catalogue.specs.Entries.{is_segment, plain_entry, runs_in_segments};
 ghost use Rattle.commit.specs.Standing.{is_size, is_on_device};
 ghost use Rattle.export_book.specs.Plain.{plain_export};
 ghost use Rattle.store.specs.Exported.{IsExportable};
@@ -24,7 +25,7 @@ use ipc_canonical::joined_parts_mean_their_table;
 use ipc_encode::encode_messages;
 use ipc_write::{encode_schema, write_end};
 use sector_dev::SectorDevice;
-use segments::Run;
+use segments::{FreeMap, Run};
 use std::alloc::{AllocError, Global};
 use store_changes::{read_segment, table_laws};
 use tables::{Limit, Refusal};
@@ -152,6 +153,15 @@ fn copy_entry(alloc: Global, entry: &TableEntry) -> Result<Snapshot, AllocError>
         entry: entry.copy()?,
         runs: entry.runs(alloc)?,
     })
+}
+
+// Removes one pin from the run of each of these segments.
+fn unpin_segments(map: &mut FreeMap, segments: &[Segment])
+    ensures { UnpinsAll map.old map.new (runs_in_segments segments.now) }
+{
+    for segment in segments {
+        map.unpin(segment.place.run);
+    }
 }
 
 impl<D: SectorDevice> Store<D> {
@@ -315,7 +325,7 @@ impl<D: SectorDevice> Store<D> {
         }
         match self.book.close(id) {
             Some(export) => {
-                self.opened.map.unpin_each(&export.runs);
+                unpin_segments(&mut self.opened.map, export.entry.segments());
                 Ok(())
             }
             None => Err(Refusal::NoExport),

@@ -93,9 +93,9 @@ fn is_published(device: &mut ModelDevice, store: &mut Opened<Few>, plan: &Plan<'
     if publish(device, store, plan).is_err() {
         return false;
     }
-    store.map.give_each(&[store.commit.catalogue.run]);
+    store.map.give(store.commit.catalogue.run);
     if let Few::One(run) = store.catalogue {
-        store.map.give_each(&[run]);
+        store.map.give(run);
     }
     store.commit = plan.commit;
     store.catalogue = plan.catalogue;

@@ -1,7 +1,4 @@
 // Worked rows of the free map, and one with many runs.
-ghost use Rattle.std.specs.Prelude.{◌≡◌};
-ghost use Rattle.segments.specs.Usages.{is_used};
-
 use segments::{EnterError, FreeMap, Run, SearchCursor, TakeError, Usage};
 use std::alloc::Global;
 
@@ -16,8 +13,7 @@ enum Step {
     Give(u64, u64),
     GiveBoth((u64, u64), (u64, u64)),
     Occupy(u64, u64, Option<EnterError>),
-    // a run in use
-    Pin(u64, u64),
+    Pin(u64, u64, Option<EnterError>),
     Unpin(u64, u64),
     // whether a run is taken, and how often it is pinned
     Used(u64, u64, bool, u32),
@@ -36,22 +32,6 @@ fn run_of(run: Option<(u64, u64)>) -> Option<Run> {
     Some(Run { start, count })
 }
 
-fn is_used(usage: Usage) -> bool
-    ensures { result ≡ is_used usage }
-{
-    usage.taken || usage.pins > 0
-}
-
-// Pins a run, and returns whether it was in use.
-fn is_pinned(map: &mut FreeMap, run: Run) -> bool {
-    let usage = map.usage(run);
-    if !is_used(usage) || usage.pins == u32::MAX {
-        return false;
-    }
-    map.pin_each(&[run]);
-    true
-}
-
 // Makes the call, and returns whether its result is right.
 fn answers(alloc: Global, map: &mut FreeMap, step: Step) -> bool {
     match step {
@@ -59,11 +39,10 @@ fn answers(alloc: Global, map: &mut FreeMap, step: Step) -> bool {
         Find(count, want) => map.find(count.max(1)) == run_of(want),
         Take(count, want) => {
             let count = count.max(1);
-            map.take_onward(count, &mut SearchCursor::nothing())
-                == run_of(want).ok_or(TakeError::NoRoom(count))
+            map.take(count) == run_of(want).ok_or(TakeError::NoRoom(count))
         }
         Give(start, count) => {
-            map.give_each(&[Run { start, count }]);
+            map.give(Run { start, count });
             true
         }
         GiveBoth(one, other) => {
@@ -75,9 +54,9 @@ fn answers(alloc: Global, map: &mut FreeMap, step: Step) -> bool {
             true
         }
         Occupy(start, count, want) => map.occupy(Run { start, count }).err() == want,
-        Pin(start, count) => is_pinned(map, Run { start, count }),
+        Pin(start, count, want) => map.pin(Run { start, count }).err() == want,
         Unpin(start, count) => {
-            map.unpin_each(&[Run { start, count }]);
+            map.unpin(Run { start, count });
             true
         }
         Used(start, count, taken, pins) => {
@@ -133,7 +112,7 @@ const SNAPSHOT_KEEPS_ITS_SEGMENT: [Step; 11] = [
     Take(5, Some((3, 5))),
     Take(1, Some((8, 1))),
     Give(2, 1),
-    Pin(3, 5),
+    Pin(3, 5, None),
     // the table is dropped
     Take(1, Some((2, 1))),
     Give(3, 5),
@@ -146,7 +125,7 @@ const SNAPSHOT_KEEPS_ITS_SEGMENT: [Step; 11] = [
 ];
 
 // Runs are tested when they are entered.
-const ENTERED_RUNS_ARE_TESTED: [Step; 17] = [
+const ENTERED_RUNS_ARE_TESTED: [Step; 25] = [
     Occupy(1, 1, Some(Range)),
     Occupy(3, 0, Some(Range)),
     Occupy(15, 2, Some(Range)),
@@ -155,19 +134,27 @@ const ENTERED_RUNS_ARE_TESTED: [Step; 17] = [
     Occupy(2, 3, Some(Overlap)),
     Occupy(5, 4, None),
     Occupy(2, 4, Some(Overlap)),
+    Pin(2, 2, Some(Overlap)),
     Occupy(3, 4, Some(Overlap)),
+    Pin(3, 2, None),
     Occupy(4, 4, Some(Overlap)),
+    Pin(4, 2, Some(Overlap)),
     Occupy(5, 4, Some(Overlap)),
+    Pin(5, 2, Some(Overlap)),
     Occupy(6, 4, Some(Overlap)),
+    Pin(6, 2, Some(Overlap)),
     Occupy(7, 4, Some(Overlap)),
+    Pin(7, 2, Some(Overlap)),
     Occupy(8, 4, Some(Overlap)),
+    Pin(8, 2, Some(Overlap)),
+    Unpin(3, 2),
     Occupy(3, 2, None),
     Occupy(9, 7, None),
     Find(1, None),
 ];
 
 // Runs are taken before others, and each call is made with entries on both sides of the last one that was entered.
-const RUNS_ARE_TAKEN_IN_FRONT_OF_OTHERS: [Step; 41] = [
+const RUNS_ARE_TAKEN_IN_FRONT_OF_OTHERS: [Step; 39] = [
     Occupy(10, 1, None),
     Occupy(12, 1, None),
     Occupy(14, 1, None),
@@ -181,13 +168,11 @@ const RUNS_ARE_TAKEN_IN_FRONT_OF_OTHERS: [Step; 41] = [
     Find(1, Some((5, 1))),
     Find(5, Some((5, 5))),
     Find(6, None),
-    Pin(12, 1),
+    Pin(12, 1, None),
     Used(12, 1, true, 1),
     Take(2, Some((5, 2))),
-    // a run is kept by its pin alone
-    Occupy(11, 1, None),
-    Pin(11, 1),
-    Give(11, 1),
+    // a free run is pinned
+    Pin(11, 1, None),
     Used(11, 1, false, 1),
     Take(3, Some((7, 3))),
     Take(1, Some((13, 1))),
@@ -252,8 +237,8 @@ fn worked_rows_are_answered_also_without_memory(rt: HostRuntime) {
 // A free run is searched for after the last one, unless it may fit into an earlier gap. The sectors 3 to 4, 6 to 8 and 11 to 15 are free.
 fn takes_onward(map: &mut FreeMap) -> bool {
     let mut searched = SearchCursor::nothing();
-    let after_two = map.take_onward(3, &mut searched) == Ok(Run { start: 6, count: 3 });
-    let after_three = map.take_onward(3, &mut searched)
+    let behind_two = map.take_onward(3, &mut searched) == Ok(Run { start: 6, count: 3 });
+    let behind_three = map.take_onward(3, &mut searched)
         == Ok(Run {
             start: 11,
             count: 3,
@@ -265,7 +250,7 @@ fn takes_onward(map: &mut FreeMap) -> bool {
             count: 2,
         });
     let full = map.take_onward(1, &mut searched) == Err(TakeError::NoRoom(1));
-    after_two && after_three && from_the_front && last && full
+    behind_two && behind_three && from_the_front && last && full
 }
 
 const TAKEN: &[Step] = &[Occupy(2, 1, None), Occupy(5, 1, None), Occupy(9, 2, None)];

@@ -1,7 +1,7 @@
 // Runs on a device in memory.
 use crate::calls::are_same;
 use sector_dev::{ModelDevice, SectorDevice};
-use segments::{Piece, PiecePart, Run, byte_count, read_run, write_runs};
+use segments::{Piece, PiecePart, Run, byte_count, read_run, write_run, write_runs};
 use std::alloc::{AllocError, Global};
 
 const BYTES: [u8; 1100] = [7; 1100];
@@ -27,7 +27,7 @@ fn parts_of<'a>(alloc: Global, bytes: &'a [u8]) -> Result<Vec<PiecePart<'a>>, Al
     Ok(parts)
 }
 
-// Writes the parts as a piece.
+// Writes the bytes, and writes them as a piece.
 fn are_written(device: &mut ModelDevice, parts: Vec<PiecePart<'_>>) -> bool {
     let Some(count) = byte_count(&parts) else {
         return false;
@@ -35,13 +35,16 @@ fn are_written(device: &mut ModelDevice, parts: Vec<PiecePart<'_>>) -> bool {
     if device.sectors() != 16 || count != 1100 {
         return false;
     }
+    let written = write_run(device, 2, &BYTES).is_ok();
     let run = Run { start: 5, count: 3 };
-    write_runs(device, &[Piece { run, parts }]).is_ok()
+    write_runs(device, &[Piece { run, parts }]).is_ok() && written
 }
 
 fn are_read_back(alloc: Global, device: &mut ModelDevice) -> bool {
     match parts_of(alloc, &BYTES) {
-        Ok(parts) => are_written(device, parts) && are_read(alloc, device, 5),
+        Ok(parts) => {
+            are_written(device, parts) && are_read(alloc, device, 2) && are_read(alloc, device, 5)
+        }
         Err(_) => false,
     }
 }

@@ -4,7 +4,7 @@ use Rattle.std.proofs.Common.{⊎_elim, sym, ap, ◌∙◌, arith, length-take, 
 use Rattle.std.proofs.lemmas.Bool.{cases_eq}
 use Rattle.sector_dev.specs.Disk.{Image}
 use Rattle.segments.specs.Runs.{StartFrom}
-use Rattle.segments.specs.Writing.{runs_of, HoldsEach, ReadsEach}
+use Rattle.segments.specs.Writing.{runs_of, HoldsEach}
 use Rattle.segments.specs.Pieces.{PlainPiece}
 use Rattle.segments.specs.Sectors.{sector_count, sector_of, Holds, appended, joined, bytes_at}
 
@@ -60,11 +60,6 @@ read_back image start bytes holds =
     ap (option_map (take (length bytes))) (joined_front image start bytes count (omega arith) holds)
     ∙ ap (λ front. Some (take (length bytes) (front ++ replicate (512 * count - length bytes) 0))) (take_all (512 * count) bytes whole)
     ∙ ap Some (take_at bytes (replicate (512 * count - length bytes) 0) (length bytes) refl)
-
--- so is each of several runs
-pub each_read_back : (image : Image) (pieces : List PlainPiece) → HoldsEach image pieces → ReadsEach image pieces
-each_read_back image [] holds = tt
-each_read_back image (p ∷ ps) holds = (read_back image p.run.start p.bytes holds.0, each_read_back image ps holds.1)
 
 -- if a sector can't be read, neither can the bytes
 pub none_joined : (image : Image) (start count j : ℕ) → j < count → image (start + j) ≡ None → joined image start count ≡ None

@@ -3,7 +3,7 @@ use Rattle.std.proofs.lemmas.List.{take_more, drop_more, take-append-drop}
 use Rattle.std.proofs.lemmas.Result.{err_from_is_err_and}
 use Rattle.segments.specs.declared.run.Run.{Run}
 use Rattle.segments.specs.declared.errors.EnterError.{EnterError}
-use Rattle.segments.specs.declared.errors.EnterError.TheVariants.{Range as RangeError, Overlap as OverlapError, OutOfMemory as MemoryError}
+use Rattle.segments.specs.declared.errors.EnterError.TheVariants.{Range as RangeError, Overlap as OverlapError, TooManyPins as PinsError, OutOfMemory as MemoryError}
 use Rattle.segments.specs.Runs.{IsOnDevice, IsFree}
 use Rattle.segments.specs.Usages.{Space, IsUsedIn}
 use Rattle.commit.specs.declared.cause.Cause.{Cause}
@@ -19,14 +19,16 @@ abbrev none : Run
 none = record { start = 0; count = 0 }
 
 -- what an error of the map tells of the store
-told_damaged : (e : EnterError) (r : OpenError) (fault : Option Cause) → r ≡ open_error e → (e ≡ RangeError → ⊥) → (e ≡ OverlapError → fault ≡ Some RunOverlap) → (cause : Cause) → r ≡ Damaged cause → fault ≡ Some cause
-told_damaged RangeError r fault is range over cause damaged = absurd (range refl)
-told_damaged OverlapError r fault is range over cause damaged = let same : RunOverlap ≡ cause = cc (is, damaged) in over refl ∙ ap Some same
-told_damaged MemoryError r fault is range over cause damaged = absurd (cc (is, damaged))
+told_damaged : (e : EnterError) (r : OpenError) (fault : Option Cause) → r ≡ open_error e → (e ≡ RangeError → ⊥) → (e ≡ PinsError → ⊥) → (e ≡ OverlapError → fault ≡ Some RunOverlap) → (cause : Cause) → r ≡ Damaged cause → fault ≡ Some cause
+told_damaged RangeError r fault is range pins over cause damaged = absurd (range refl)
+told_damaged OverlapError r fault is range pins over cause damaged = let same : RunOverlap ≡ cause = cc (is, damaged) in over refl ∙ ap Some same
+told_damaged PinsError r fault is range pins over cause damaged = absurd (pins refl)
+told_damaged MemoryError r fault is range pins over cause damaged = absurd (cc (is, damaged))
 
 other_error : (e : EnterError) (r : OpenError) → r ≡ open_error e → (r ≢ NotAStore) × (r ≢ Device)
 other_error RangeError r is = (λ no. cc (is, no), λ no. cc (is, no))
 other_error OverlapError r is = (λ no. cc (is, no), λ no. cc (is, no))
+other_error PinsError r is = (λ no. cc (is, no), λ no. cc (is, no))
 other_error MemoryError r is = (λ no. cc (is, no), λ no. cc (is, no))
 
 -- a run that meets those before it
@@ -57,6 +59,7 @@ returns-in_err-occupy-clause-damaged c =
     subst (λ (r : _). IfErr r (λ e. (cause : Cause) → e ≡ Damaged cause → runs_fault size c.args.text runs ≡ Some cause)) (sym p.1)
     (told_damaged c.in_err-occupy.field-0.0 p.0 (runs_fault size c.args.text runs) p.2
     (λ is. c.occupy.ensures.range.0 (c.in_err-occupy.was ∙ ap Err is) here)
+    (λ is. c.occupy.ensures.pins (c.in_err-occupy.was ∙ ap Err is))
     (λ is. met size c.loop-run.map c.args.text runs i c.loop-run-test.true on c.loop-run.invariant (c.occupy.ensures.overlap (c.in_err-occupy.was ∙ ap Err is))))
 
 pub returns-in_err-occupy-clause-errors : goal.returns-in_err-occupy-clause-errors

@@ -3,7 +3,6 @@ use Rattle.sector_dev.specs.Rows.{GrowsBy}
 use Rattle.segments.specs.Pieces.{plain_piece, plain_pieces, bytes_of_parts}
 use Rattle.segments.specs.Writing.{runs_of, piece_writes}
 use Rattle.std.proofs.lemmas.List.{length-map}
-use Rattle.segments.specs.laws.ReadBack.{each_read_back}
 use Rattle.sector_dev.specs.laws.Rows.{on_err}
 use Rattle.segments.proofs.Order.{piece_done, piece_failed}
 use Rattle.segments.proofs.Pieces.{fit_of, number, plain_at, pieces_in, pieces_hold}
@@ -71,6 +70,3 @@ pub returns-clause-holds : goal.returns-clause-holds
 returns-clause-holds g c = λ told.
     let D = g.D.SectorDevice in
     pieces_hold (D.size c.args.device.now) (plain_pieces c.args.pieces.now) (D.story c.args.device.now) (D.story c.loop-piece.device) c.requires.fit c.requires.apart (returns-clause-order g c told)
-
-pub returns-clause-reads : goal.returns-clause-reads
-returns-clause-reads g c = λ told. each_read_back _ (plain_pieces c.args.pieces.now) (returns-clause-holds g c told)

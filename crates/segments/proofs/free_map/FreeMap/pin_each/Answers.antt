@@ -3,7 +3,7 @@ use Rattle.std.proofs.lemmas.List.{take_more}
 use Rattle.segments.specs.declared.run.Run.{Run}
 use Rattle.segments.specs.declared.entries.Usage.{Usage}
 use Rattle.segments.specs.Usages.{times_among, usage_of, pinned, PinsAll}
-use Rattle.segments.proofs.Pinned.{none_pinned, among_at, times_at, still_used, one_used, pinned_last}
+use Rattle.segments.proofs.Pinned.{none_pinned, among_at, times_at, still_used, pinned_last}
 use Rattle.segments.proofs.free_map.FreeMap.pin_each.Goals as goal
 
 abbrev none : Run
@@ -19,17 +19,14 @@ overflow_add-pins c =
     let run = get_or runs i none in
     let is : c.usage-usage.result.pins ≡ (usage_of c.args.self.now.entries run).pins + times_among (take i runs) run =
     ap (λ (u : Usage). u.pins) (c.usage-usage.ensures.usage ∙ c.loop-run.invariant.usages run) in
-    omega (arith, is, times_at runs i none c.loop-run-test.true, c.requires.few run (among_at runs i none c.loop-run-test.true))
+    omega (arith, is, times_at runs i none c.loop-run-test.true, c.requires.few run)
 
-pub set_usage-requires-clause-used : goal.set_usage-requires-clause-used
-set_usage-requires-clause-used c =
+pub set_usage-requires : goal.set_usage-requires
+set_usage-requires c = λ unused.
     let runs = c.args.runs.now in
     let i = c.loop-run.run-index in
     let run = get_or runs i none in
-    still_used c.args.self.now c.loop-run.self (take i runs) run c.loop-run.invariant (c.requires.used run (among_at runs i none c.loop-run-test.true))
-
-pub set_usage-requires-clause-still : goal.set_usage-requires-clause-still
-set_usage-requires-clause-still c = one_used c.usage-usage.result
+    absurd (still_used c.args.self.now c.loop-run.self (take i runs) run c.loop-run.invariant (c.requires.used run (among_at runs i none c.loop-run-test.true)) unused)
 
 pub loop-run-preserved : goal.loop-run-preserved
 loop-run-preserved c =
@@ -39,4 +36,4 @@ loop-run-preserved c =
     let i = c.loop-run.run-index in
     let run = get_or runs i none in
     subst (PinsAll old new) (sym (take_more runs i none c.loop-run-test.true))
-    (pinned_last old c.loop-run.self new (take i runs) run (pinned c.usage-usage.result) c.loop-run.invariant c.set_usage.ensures (ap pinned c.usage-usage.ensures.usage))
+    (pinned_last old c.loop-run.self new (take i runs) run (pinned c.usage-usage.result) c.loop-run.invariant c.set_usage.ensures.changes (ap pinned c.usage-usage.ensures.usage))

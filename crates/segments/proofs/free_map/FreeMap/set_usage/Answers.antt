@@ -1,46 +1,50 @@
-use Rattle.std.proofs.Common.{◌≡◌, ◌∙◌, List, ap, set, remove, sym, subst}
-use Rattle.std.proofs.lemmas.Bool.{cond-true}
-use Rattle.segments.specs.declared.entries.UsageEntry.{UsageEntry}
-use Rattle.segments.specs.Usages.{Space, UNUSED, is_used, usage_of, with_usage, with_run, IsSound, IsUsedIn, Changes}
-use Rattle.segments.proofs.Changed.{changed, fits_used, sound_with, changes_with, on_device}
+use Rattle.std.proofs.Common.{◌≡◌, ◌∙◌, ap, sym, refl, subst}
+use Rattle.segments.specs.declared.entries.Usage.{Usage}
+use Rattle.segments.specs.Usages.{Space, UNUSED, usage_of, with_run, Changes}
+use Rattle.segments.proofs.Changed.{fits_used, sound_with, changes_with, changes_none, on_device, used_has}
 use Rattle.segments.proofs.Placed.{ascending}
 use Rattle.segments.proofs.free_map.FreeMap.set_usage.Goals as goal
 
 pub place_of_run-requires : goal.place_of_run-requires
 place_of_run-requires c = ascending 2 c.self.inside.entries c.self.invariant.ordered
 
-pub set-requires : goal.set-requires
-set-requires c = c.in-Some.ensures.found.within
-
 pub invariant_of-self : goal.invariant_of-self
 invariant_of-self c =
     let es = c.self.inside.entries in
     let size = c.self.inside.size in
-    let e : UsageEntry = record { run = c.args.run; usage = c.args.usage } in
-    let now : c.set.new.self ≡ with_usage c.args.run c.args.usage es =
-    c.set.ensures ∙ sym (cond-true (is_used c.args.usage) (set es c.in-Some.place e) (remove es c.in-Some.place) c.requires.still)
-    ∙ changed c.args.run c.args.usage es c.in-Some.place (record { run = c.args.run; usage = UNUSED }) c.in-Some.ensures.place c.in-Some.ensures.found.within c.in-Some.ensures.found.is in
-    let used : IsUsedIn es c.args.run = subst (λ (s : Space). IsUsedIn s.entries c.args.run) (sym c.self.view_is) c.requires.used in
-    subst (λ (new : List UsageEntry). IsSound (record { size = size; entries = new })) (sym now)
-    (sound_with size es c.args.run c.args.usage c.self.invariant (on_device size es c.args.run c.self.invariant used) (fits_used 2 es c.args.run c.self.invariant.ordered used))
+    let has = c.in-Some.ensures.found in
+    let used = used_has es c.args.run c.in-Some.place c.self.invariant.ordered has in
+    rw c.change.ensures (sound_with size es c.args.run c.args.usage c.self.invariant (on_device size es c.args.run c.self.invariant used) (fits_used 2 es c.args.run c.self.invariant.ordered used))
 
-pub returns-in-Some : goal.returns-in-Some
-returns-in-Some c =
+pub returns-in-Some-clause-entries : goal.returns-in-Some-clause-entries
+returns-in-Some-clause-entries c =
+    (λ i. record { size = c.self.inside.size; entries = c.change.ensures i }) ∙ ap (λ (s : Space). with_run s c.args.run c.args.usage) c.self.view_is
+
+pub returns-in-Some-clause-changes : goal.returns-in-Some-clause-changes
+returns-in-Some-clause-changes c =
     let es = c.self.inside.entries in
     let size = c.self.inside.size in
-    let e : UsageEntry = record { run = c.args.run; usage = c.args.usage } in
-    let now : c.set.new.self ≡ with_usage c.args.run c.args.usage es =
-    c.set.ensures ∙ sym (cond-true (is_used c.args.usage) (set es c.in-Some.place e) (remove es c.in-Some.place) c.requires.still)
-    ∙ changed c.args.run c.args.usage es c.in-Some.place (record { run = c.args.run; usage = UNUSED }) c.in-Some.ensures.place c.in-Some.ensures.found.within c.in-Some.ensures.found.is in
-    let used : IsUsedIn es c.args.run = subst (λ (s : Space). IsUsedIn s.entries c.args.run) (sym c.self.view_is) c.requires.used in
-    let after : Space = record { size = size; entries = c.set.new.self } in
-    let is : with_run (record { size = size; entries = es }) c.args.run c.args.usage ≡ after = λ i. record { size = size; entries = sym now i } in
+    let has = c.in-Some.ensures.found in
+    let used = used_has es c.args.run c.in-Some.place c.self.invariant.ordered has in
+    let some = (on_device size es c.args.run c.self.invariant used).some in
+    let after : Space = record { size = size; entries = c.change.new.entries } in
+    let now : with_run (record { size = size; entries = es }) c.args.run c.args.usage ≡ after = λ i. record { size = size; entries = sym c.change.ensures i } in
     subst (λ (s : Space). Changes s after c.args.run c.args.usage) c.self.view_is
-    (subst (λ (s : Space). Changes (record { size = size; entries = es }) s c.args.run c.args.usage) is
-    (changes_with size es c.args.run c.args.usage c.self.invariant (on_device size es c.args.run c.self.invariant used).some (fits_used 2 es c.args.run c.self.invariant.ordered used)))
+    (subst (λ (s : Space). Changes (record { size = size; entries = es }) s c.args.run c.args.usage) now
+    (changes_with size es c.args.run c.args.usage c.self.invariant some (fits_used 2 es c.args.run c.self.invariant.ordered used)))
 
--- a run in use has an entry
-pub returns-in_default : goal.returns-in_default
-returns-in_default c =
-    let used : is_used (usage_of c.self.inside.entries c.args.run) ≡ _ = subst (λ (s : Space). IsUsedIn s.entries c.args.run) (sym c.self.view_is) c.requires.used in
-    absurd (cc (sym used ∙ ap is_used c.in_default.ensures.none))
+pub returns-in_default-clause-entries : goal.returns-in_default-clause-entries
+returns-in_default-clause-entries c =
+    let es = c.self.inside.entries in
+    let size = c.self.inside.size in
+    let none : usage_of es c.args.run ≡ UNUSED = c.in_default.ensures.none in
+    let still : c.args.usage ≡ UNUSED = c.requires (subst (λ (s : Space). usage_of s.entries c.args.run ≡ UNUSED) c.self.view_is none) in
+    subst (λ (s : Space). s ≡ with_run s c.args.run c.args.usage) c.self.view_is
+    (sym (changes_none size es c.args.run c.self.invariant none) ∙ ap (λ (u : Usage). with_run (record { size = size; entries = es }) c.args.run u) (sym still))
+
+pub returns-in_default-clause-changes : goal.returns-in_default-clause-changes
+returns-in_default-clause-changes c =
+    let es = c.self.inside.entries in
+    let none : usage_of es c.args.run ≡ UNUSED = c.in_default.ensures.none in
+    let here = subst (λ (s : Space). usage_of s.entries c.args.run ≡ UNUSED) c.self.view_is none in
+    record { size = refl; this = here ∙ sym (c.requires here); others = λ other _. refl }

@@ -50,7 +50,7 @@ pin_each-requires-clause-used g c = λ run is.
     (subst (λ (rs : List Run). is_among rs run ≡ true) runs is)
 
 pub pin_each-requires-clause-few : goal.pin_each-requires-clause-few
-pin_each-requires-clause-few g c = λ run _.
+pin_each-requires-clause-few g c = λ run.
     let s = c.args.self.now in
     let found = found_in s.halted (entry_of (listed_in s) c.args.name.now) (book_of s) c.in-Ok.snapshot c.in-Ok.ensures.found in
     let runs = ap (λ (rs : List Run). times_among rs run) (c.deref.ensures.value ∙ found.is.runs) in

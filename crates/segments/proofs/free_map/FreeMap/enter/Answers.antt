@@ -5,7 +5,7 @@ use Rattle.segments.specs.Runs.{IsFree, IsOnDevice}
 use Rattle.segments.specs.Usages.{Space, IsUsedIn}
 use Rattle.segments.specs.inner.Places.{ApartEach}
 use Rattle.segments.proofs.Changed.{free_apart, apart_free}
-use Rattle.segments.proofs.free_map.FreeMap.occupy.Goals as goal
+use Rattle.segments.proofs.free_map.FreeMap.enter.Goals as goal
 
 pub returns-then-not-is_apart-clause-overlap : goal.returns-then-not-is_apart-clause-overlap
 returns-then-not-is_apart-clause-overlap c = λ _ free.
