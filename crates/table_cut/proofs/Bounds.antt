@@ -1,7 +1,8 @@
 -- What rows weigh, column by column, and how long the entries of a dictionary are.
-use Rattle.std.specs.Prelude.{ℤ, pos, negsuc, Option, Some, get_or, nat_le, min, option_map, string_bytes, sum_by, if◌then◌else◌, ◌*◌}
-use Rattle.std.specs.List.{range_with_len}
+use Rattle.std.specs.Prelude.{ℤ, pos, negsuc, Option, Some, get_or, nat_le, nat_lt, min, not, option_map, string_bytes, sum_by, if◌then◌else◌, ◌*◌, ◌/◌, ◌==◌, ◌&&◌}
+use Rattle.std.specs.List.{list_all, range_with_len}
 use Rattle.std.proofs.Common.{◌≡◌, ℕ, zero, suc, ◌+◌, ◌-◌, ◌≤◌, ◌<◌, Bool, true, false, List, [], ◌∷◌, ◌++◌, map, length, take, drop, inl, inr, refl, sym, ap, subst, ◌∙◌, arith}
+use Rattle.std.proofs.lemmas.Bool.Decides.{nat_tests}
 use Rattle.std.proofs.lemmas.Bool.{and_from, and_parts, cases_lt, le-leb, leb-true}
 use Rattle.std.proofs.lemmas.List.{append-nil, drop_all, length-drop, take_all}
 use Rattle.std.proofs.lemmas.List.Sums.{sum_by-cons}
@@ -12,10 +13,11 @@ use Rattle.arrow_schema.specs.declared.types.Field.{Field}
 use Rattle.arrow_schema.specs.laws.Parts.{field_parts}
 use Rattle.cells.specs.Cell.{Cell, null, cells_of}
 use Rattle.cells.specs.Weight.{capped_weight, kind_weight, parts_weight, row_weight, table_weight, weight}
-use Rattle.columns.specs.Array.{Array, Arrays, arrays_of, first_array, other_arrays, contents_in, dictionary_in, slots_in}
+use Rattle.columns.specs.Array.{Array, Arrays, array_list, arrays_of, first_array, other_arrays, contents_in, dictionary_in, indices_in, offsets_in, slots_in}
 use Rattle.columns.specs.CellAt.{cell_at, cells_from, entries_of_kind, entry_at, index_at, is_valid, kind_cell, part_cells, row_at, span_size, span_start, unless_null}
 use Rattle.columns.specs.Offsets.{contents_width}
-use Rattle.columns.specs.Sound.{are_sound, is_sound}
+use Rattle.columns.specs.Sound.{are_sound, is_kind_sound, is_sound}
+use Rattle.columns.specs.Tests.{are_few, are_few_offsets, has_short_buffer, has_short_validity}
 use Rattle.columns.specs.View.{fields_of, placed_arrays}
 use Rattle.columns.specs.declared.array.PlacedArray.{PlacedArray}
 use Rattle.table_cut.specs.declared.row_run.RowRun.{RowRun}
@@ -100,10 +102,15 @@ column_light j c r n size h =
 
 -- ---- the entries of a dictionary in one array
 
-item_light : (w : Cell → ℕ) (f : ℕ → Cell) (b from n i : ℕ) → w null ≤ b → ((k : ℕ) → w (f k) ≤ b) → w (get_or (cells_from f from n) i null) ≤ b
+item_light : (w : Cell → ℕ) (f : ℕ → Cell) (b from n i : ℕ) → w null ≤ b → ((k : ℕ) → k < from + n → w (f k) ≤ b) → w (get_or (cells_from f from n) i null) ≤ b
 item_light w f b from zero i none h = none
-item_light w f b from (suc n) zero none h = h from
-item_light w f b from (suc n) (suc i) none h = item_light w f b (from + 1) n i none h
+item_light w f b from (suc n) zero none h = h from (omega arith)
+item_light w f b from (suc n) (suc i) none h = item_light w f b (from + 1) n i none (λ k lt. h k (omega arith))
+
+front_short : (n : ℕ) (xs : List ℕ) → length (take n xs) ≤ n
+front_short zero xs = omega arith
+front_short (suc n) [] = omega arith
+front_short (suc n) (x ∷ xs) = omega (arith, front_short n xs)
 
 front_few : (n : ℕ) (xs : List ℕ) → length (take n xs) ≤ length xs
 front_few zero xs = omega arith
@@ -158,19 +165,49 @@ kind_light (fixed_lists count item) w a i is = cc
 kind_light (structs columns) w a i is = cc
 
 -- an entry, or a null where there is none
-entry_light : (w : Cell → ℕ) (f : ℕ → Cell) (b n : ℕ) (z : ℤ) → w null ≤ b → ((k : ℕ) → w (f k) ≤ b) → w (entry_at (cells_from f 0 n) z) ≤ b
-entry_light w f b n (pos i) none h = item_light w f b 0 n i none h
+entry_light : (w : Cell → ℕ) (f : ℕ → Cell) (b n : ℕ) (z : ℤ) → w null ≤ b → ((k : ℕ) → k < n → w (f k) ≤ b) → w (entry_at (cells_from f 0 n) z) ≤ b
+entry_light w f b n (pos i) none h = item_light w f b 0 n i none (λ k lt. h k (omega arith))
 entry_light w f b n (negsuc i) none h = none
 
-pub entries_light : (a : Array) → AreNoLonger (length (contents_in a)) (arrays_of (a ∷ []))
-entries_light a = λ kind w z is.
+all_light : (kind : Kind) (a : Array) (b : ℕ) (z : ℤ) → kind_weight kind null ≤ b → ((k : ℕ) → k < slots_in a → kind_weight kind (kind_cell kind a k) ≤ b)
+    → kind_weight kind (entry_at (entries_of_kind kind (arrays_of (a ∷ []))) z) ≤ b
+all_light kind a b z none h =
     let f : ℕ → Cell = unless_null (kind_cell kind) a in
-    let size : ℕ = length (contents_in a) in
-    let none = none_light kind w size is in
     let all : entries_of_kind kind (arrays_of (a ∷ [])) ≡ cells_from f 0 (slots_in a) = append-nil (cells_from f 0 (slots_in a)) in
-    let light = entry_light (kind_weight kind) f (1 + size) (slots_in a) z none
-    (λ k. either_light (kind_weight kind) (is_valid a k) (kind_cell kind a k) (1 + size) (kind_light kind w a k is) none) in
-    subst (λ (cells : List Cell). kind_weight kind (entry_at cells z) ≤ 1 + size) (sym all) light
+    let light = entry_light (kind_weight kind) f b (slots_in a) z none (λ k lt. either_light (kind_weight kind) (is_valid a k) (kind_cell kind a k) b (h k lt) none) in
+    subst (λ (cells : List Cell). kind_weight kind (entry_at cells z) ≤ b) (sym all) light
+
+pub entries_light : (w : ℕ) (a : Array) → AreNoLonger w (length (contents_in a)) (arrays_of (a ∷ []))
+entries_light w a = λ kind z is.
+    let size : ℕ = length (contents_in a) in
+    all_light kind a (1 + size) z (none_light kind w size is) (λ k lt. kind_light kind w a k is)
+
+-- ---- entries whose offsets are no farther from each other than a bound
+
+span_few : (v w : ℕ) (a : Array) (i size : ℕ) → v ≡ w → span_size w a i ≤ size → length (take (span_size v a i) (drop (span_start v a i) (contents_in a))) ≤ size
+span_few v w a i size same few =
+    let own = subst (λ (n : ℕ). span_size n a i ≤ size) (sym same) few in
+    omega (arith, front_short (span_size v a i) (drop (span_start v a i) (contents_in a)), own)
+
+span_light : (kind : Kind) (w : ℕ) (a : Array) (i size : ℕ) → contents_width kind ≡ Some w → span_size w a i ≤ size → kind_weight kind (kind_cell kind a i) ≤ 1 + size
+unfolding kind_weight kind_cell
+span_light texts w a i size is few = let part = span_few 4 w a i size (cc) few in omega (arith, part)
+span_light large_texts w a i size is few = let part = span_few 8 w a i size (cc) few in omega (arith, part)
+span_light binaries w a i size is few = let part = span_few 4 w a i size (cc) few in omega (arith, part)
+span_light large_binaries w a i size is few = let part = span_few 8 w a i size (cc) few in omega (arith, part)
+span_light nulls w a i size is few = cc
+span_light booleans w a i size is few = cc
+span_light (integers bits signed) w a i size is few = cc
+span_light (dates unit) w a i size is few = cc
+span_light (timestamps unit timezone) w a i size is few = cc
+span_light (fixed_binaries width) w a i size is few = cc
+span_light (lists item) w a i size is few = cc
+span_light (large_lists item) w a i size is few = cc
+span_light (fixed_lists count item) w a i size is few = cc
+span_light (structs columns) w a i size is few = cc
+
+pub spans_light : (w : ℕ) (a : Array) (size : ℕ) → ((i : ℕ) → i < slots_in a → span_size w a i ≤ size) → AreNoLonger w size (arrays_of (a ∷ []))
+spans_light w a size h = λ kind z is. all_light kind a (1 + size) z (none_light kind w size is) (λ k lt. span_light kind w a k size is (h k lt))
 
 -- ---- a column with such a dictionary
 
@@ -179,16 +216,62 @@ coded_column f d is =
     field_parts f ∙ ap (λ (o : Option DictSpec). column (string_bytes f.name) f.nullable (kind_of f.data_type) (option_map index_of o) (map pair_of f.pairs.items)) is
 
 slot_light : (c : Column) (name : List ℕ) (nullable : Bool) (kind : Kind) (index : Index) (pairs : List Pair) (w : ℕ) (a : Array) (size i : ℕ) → c ≡ column name nullable kind (Some index) pairs
-    → contents_width kind ≡ Some w → AreNoLonger size (dictionary_in a) → weight c (cell_at c a i) ≤ 1 + size
+    → contents_width kind ≡ Some w → AreNoLonger w size (dictionary_in a) → weight c (cell_at c a i) ≤ 1 + size
 unfolding weight cell_at
 slot_light c name nullable kind index pairs w a size i same is few =
     subst (λ (d : Column). weight d (cell_at d a i) ≤ 1 + size) (sym same)
-    (either_light (kind_weight kind) (is_valid a i) (entry_at (entries_of_kind kind (dictionary_in a)) (index_at index a i)) (1 + size) (few kind w (index_at index a i) is) (none_light kind w size is))
+    (either_light (kind_weight kind) (is_valid a i) (entry_at (entries_of_kind kind (dictionary_in a)) (index_at index a i)) (1 + size) (few kind (index_at index a i) is) (none_light kind w size is))
 
-pub coded_light : (f : Field) (d : DictSpec) (w : ℕ) (a : Array) (size i : ℕ) → f.dictionary ≡ Some d → contents_width (kind_of f.data_type) ≡ Some w → AreNoLonger size (dictionary_in a)
+pub coded_light : (f : Field) (d : DictSpec) (w : ℕ) (a : Array) (size i : ℕ) → f.dictionary ≡ Some d → contents_width (kind_of f.data_type) ≡ Some w → AreNoLonger w size (dictionary_in a)
     → weight (column_of f) (cell_at (column_of f) a i) ≤ 1 + size
 coded_light f d w a size i is wide few =
     slot_light (column_of f) (string_bytes f.name) f.nullable (kind_of f.data_type) (index_of d) (map pair_of f.pairs.items) w a size i (coded_column f d is) wide few
+
+-- ---- the offsets of its entries
+
+short_offsets : (kind : Kind) (w : ℕ) (a : Array) → contents_width kind ≡ Some w → has_short_buffer kind a ≡ are_few_offsets w a
+short_offsets texts w a is = ap (λ (n : ℕ). are_few_offsets n a) (cc)
+short_offsets large_texts w a is = ap (λ (n : ℕ). are_few_offsets n a) (cc)
+short_offsets binaries w a is = ap (λ (n : ℕ). are_few_offsets n a) (cc)
+short_offsets large_binaries w a is = ap (λ (n : ℕ). are_few_offsets n a) (cc)
+short_offsets nulls w a is = cc
+short_offsets booleans w a is = cc
+short_offsets (integers bits signed) w a is = cc
+short_offsets (dates unit) w a is = cc
+short_offsets (timestamps unit timezone) w a is = cc
+short_offsets (fixed_binaries width) w a is = cc
+short_offsets (lists item) w a is = cc
+short_offsets (large_lists item) w a is = cc
+short_offsets (fixed_lists count item) w a is = cc
+short_offsets (structs columns) w a is = cc
+
+each_enough : (kind : Kind) (w : ℕ) (arrays : List Array) → contents_width kind ≡ Some w → list_all (is_kind_sound kind) arrays ≡ true → list_all (λ a. not (are_few_offsets w a)) arrays ≡ true
+each_enough kind w [] is sound = refl
+each_enough kind w (a ∷ arrays) is sound =
+    let both = and_parts (is_kind_sound kind a) (list_all (is_kind_sound kind) arrays) sound in
+    let rest = and_parts (not (has_short_validity a)) _ both.0 in
+    let own = and_parts (not (has_short_buffer kind a)) _ rest.1 in
+    and_from _ _ (ap not (sym (short_offsets kind w a is)) ∙ own.0) (each_enough kind w arrays is both.1)
+
+dictionary_sound : (c : Column) (name : List ℕ) (nullable : Bool) (kind : Kind) (index : Index) (pairs : List Pair) (a : Array) → c ≡ column name nullable kind (Some index) pairs
+    → is_sound c a ≡ true → list_all (is_kind_sound kind) (array_list (dictionary_in a)) ≡ true
+unfolding is_sound
+dictionary_sound c name nullable kind index pairs a same sound =
+    let rest = and_parts (not (has_short_validity a)) _ (sym (ap (λ (d : Column). is_sound d a) same) ∙ sound) in
+    (and_parts (not (are_few (index.bits / 8) a (indices_in a))) _ rest.1).1
+
+pub enough_offsets : (f : Field) (d : DictSpec) (w : ℕ) (a : Array) → f.dictionary ≡ Some d → contents_width (kind_of f.data_type) ≡ Some w → is_sound (column_of f) a ≡ true
+    → list_all (λ x. not (are_few_offsets w x)) (array_list (dictionary_in a)) ≡ true
+enough_offsets f d w a is wide sound =
+    each_enough (kind_of f.data_type) w (array_list (dictionary_in a)) wide
+    (dictionary_sound (column_of f) (string_bytes f.name) f.nullable (kind_of f.data_type) (index_of d) (map pair_of f.pairs.items) a (coded_column f d is) sound)
+
+enough_by : (n m k : ℕ) → 0 < n → not (not (n == 0) && nat_lt m k) ≡ true → k ≤ m
+enough_by zero m k some h = absurd (omega arith)
+enough_by (suc n) m k some h = grind (arith, nat_tests)
+
+pub offsets_there : (w : ℕ) (a : Array) → 0 < slots_in a → not (are_few_offsets w a) ≡ true → (slots_in a + 1) * w ≤ length (offsets_in a)
+offsets_there w a some h = enough_by (slots_in a) (length (offsets_in a)) ((slots_in a + 1) * w) some h
 
 pub only_item : {X : Type 0} (xs : List X) (x : X) → 1 ≤ length xs → length xs < 2 → x ≡ get_or xs 0 x → xs ≡ x ∷ []
 only_item [] x some few is = absurd (omega arith)
@@ -235,3 +318,13 @@ weighs_alone fields field r i low n w item is h =
     ∙ ap (λ (arrays : List PlacedArray). capped_weight (table_weight s (map (row_at (columns_of s.columns) (placed_arrays r.bytes.now r.dictionaries.now arrays)) (range_with_len r.from n))))
     (behind_all r.arrays.now i low is)
     ∙ ap capped_weight (rows_weigh s i r n ∙ ap (λ (v : ℕ). n + v) (one_column i (column_of field) r n))
+
+pub one_sound : (field : Field) (n : ℕ) (arrays : Arrays) → are_sound (fields_of (field ∷ [])) n arrays ≡ true → is_sound (column_of field) (first_array arrays) ≡ true
+unfolding are_sound
+one_sound field n arrays sound =
+    (and_parts (is_sound (column_of field) (first_array arrays)) _ (and_parts (nat_le n (slots_in (first_array arrays))) _ sound).1).0
+
+pub some_item : {X : Type 0} (xs : List X) (i : ℕ) (x : X) (rest : List X) → drop i xs ≡ x ∷ rest → 0 < length xs
+some_item [] zero x rest is = cc
+some_item [] (suc i) x rest is = cc
+some_item (y ∷ ys) i x rest is = omega arith

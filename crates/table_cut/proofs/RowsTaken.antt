@@ -1,7 +1,7 @@
 -- Rows of a table under another schema of its shape.
 use Rattle.std.specs.Prelude.{Option, Some, None, not, nat_le}
 use Rattle.std.specs.List.{list_all, position_from}
-use Rattle.std.proofs.Common.{◌≡◌, ◌+◌, ◌&&◌, ◌∷◌, [], ℕ, zero, suc, Bool, true, false, List, drop, sym, ap, ◌∙◌, refl}
+use Rattle.std.proofs.Common.{◌≡◌, ◌+◌, ◌&&◌, ◌∷◌, [], ℕ, zero, suc, Bool, true, false, List, drop, sym, ap, ◌∙◌, refl, arith}
 use Rattle.std.proofs.lemmas.Bool.{and_parts}
 use Rattle.std.proofs.lemmas.Iterator.Adapters.{position_from-zero}
 use Rattle.std.proofs.lemmas.List.Sums.{list_all-from_AllPass}
@@ -14,8 +14,8 @@ use Rattle.cells.specs.Row.{is_row, row_fits}
 use Rattle.cells.specs.Weight.{row_weight}
 use Rattle.cells.specs.laws.Shapes.{one_shape_fits, one_shape_weighs}
 use Rattle.values.specs.Table.{IsTable, first_unfit}
-use Rattle.table_cut.specs.inner.Filling.{can_row_fill}
-use Rattle.table_cut.proofs.FillingLemmas.{row_fills_none}
+use Rattle.table_cut.specs.inner.Filling.{can_rows_fill}
+use Rattle.table_cut.proofs.FillingLemmas.{rows_fill_none}
 
 -- which of the rows from this place on is the first that is not taken
 abbrev pub unfit_from : PlainSchema → ℕ → List (List Cell) → Option ℕ
@@ -55,11 +55,11 @@ pub taken_by : (s : PlainSchema) (t : PlainTable) → HaveOneShape s t.schema �
 taken_by s t same is i row next = row_by s t.schema same row (row_at_is (is_row t.schema) t.rows i row (list_all-from_AllPass (is_row t.schema) t.rows is.rows) next)
 
 -- where no row can fill a dictionary all are taken
-none_from : (s t : PlainSchema) → HaveOneShape s t → can_row_fill (columns_of s.columns) ≡ false → (i : ℕ) (rows : List (List Cell)) → list_all (is_row t) rows ≡ true → unfit_from s i rows ≡ None
+none_from : (s t : PlainSchema) → HaveOneShape s t → can_rows_fill 1 (columns_of s.columns) ≡ false → (i : ℕ) (rows : List (List Cell)) → list_all (is_row t) rows ≡ true → unfit_from s i rows ≡ None
 none_from s t same free i [] h = refl
 none_from s t same free i (row ∷ rows) h =
     let own = and_parts (is_row t row) (list_all (is_row t) rows) h in
-    unfit_later s i row rows (row_by s t same row own.0 ∙ row_fills_none s row free) ∙ none_from s t same free (i + 1) rows own.1
+    unfit_later s i row rows (row_by s t same row own.0 ∙ rows_fill_none 1 s (row ∷ []) free (omega arith)) ∙ none_from s t same free (i + 1) rows own.1
 
-pub all_taken : (s : PlainSchema) (t : PlainTable) → HaveOneShape s t.schema → IsTable t → can_row_fill (columns_of s.columns) ≡ false → first_unfit s t.rows ≡ None
+pub all_taken : (s : PlainSchema) (t : PlainTable) → HaveOneShape s t.schema → IsTable t → can_rows_fill 1 (columns_of s.columns) ≡ false → first_unfit s t.rows ≡ None
 all_taken s t same is free = unfit_first s t.rows ∙ none_from s t.schema same free 0 t.rows (list_all-from_AllPass (is_row t.schema) t.rows is.rows)

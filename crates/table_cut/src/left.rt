@@ -14,13 +14,14 @@ ghost use Rattle.table_cut.specs.Piece.{within_piece};
 ghost use Rattle.values.specs.Parts.{part_rows, parts_rows, is_batch_sound, are_parts_sound};
 
 use crate::bound::nothing_weighed;
+use crate::filling::can_rows_fill;
 use crate::fitting::fitting;
 use crate::longest_fronts_are_pieces;
 use crate::room::{Seen, room_within};
 use crate::row_run::RowRun;
 use arrays::shared_entries_fit;
 use arrow_schema::Schema;
-use cells::{MAX_PIECE_ROWS, has_limits};
+use cells::MAX_PIECE_ROWS;
 use columns::PlacedArray;
 use std::alloc::{AllocError, Global};
 use values::TablePart;
@@ -105,8 +106,8 @@ impl<'a> RowsLeft<'a> {
     }
 
     /// The rows of the next piece: the longest front of the rows that are left which is within the limits of a piece. It takes time linear in the runs of
-    /// the piece, and for a piece that is too heavy with one run more, in the rows of that run. If its rows have several dictionaries with 8 or 16 bit
-    /// indices, it also takes time linear in the cells of all its rows, for each of its first such runs anew.
+    /// the piece, and for a piece that is too heavy with one run more, in the rows of that run. If its rows have several dictionaries and can fill one,
+    /// with 8 bit indices, or below a list with 16 bit ones, it also takes time linear in the cells of all its rows, for each of its first such runs anew.
     ///
     /// # Errors
     /// `AllocError` where memory was refused. It is not promised then which rows are left: a caller that tries again begins with [`RowsLeft::new`].
@@ -126,7 +127,7 @@ impl<'a> RowsLeft<'a> {
     {
         longest_fronts_are_pieces();
         shared_entries_fit();
-        let limited = has_limits(schema);
+        let can_fill = can_rows_fill(schema, MAX_PIECE_ROWS);
         let mut runs = Vec::new(alloc);
         let mut rows = 0;
         let mut weight = nothing_weighed(schema);
@@ -135,7 +136,7 @@ impl<'a> RowsLeft<'a> {
             let run = self.runs[self.next];
             let taken = fitting(schema, &runs, run, MAX_PIECE_ROWS - rows, weight);
             let most = run.front(taken.rows);
-            let room = room_within(alloc, schema, limited, seen, &runs, most)?;
+            let room = room_within(alloc, schema, can_fill, seen, &runs, most)?;
             push_run(&mut runs, run.front(room.rows))?;
             rows += room.rows;
             weight = taken.weight;

@@ -12,8 +12,9 @@
 //!
 //! [`RowsLeft`] cuts a table that is kept in record batches into the same pieces, as runs of its rows, and [`column_runs`] gives what each column has of
 //! them. Where a piece ends is found from the weights of spans of rows ([`arrays::row_span_weight`]), unless a bound shows that all rows that it may have
-//! are light enough (`bound.rt`). Where a piece has rows under several dictionaries of 8 or 16 bit indices, the end is the least row over its columns for whose entry a dictionary has no room ([`dictionary_codes::name_slots`]). Rows are
-//! borrowed only where there are lists or structs besides, or many such dictionaries in one piece.
+//! are light enough (`bound.rt`). Only a dictionary of 8 bit indices, or one of 16 bit indices below a list, can be full within a piece (`filling.rt`). Where
+//! there is one, and a piece has rows under several dictionaries, the end is the least row over its columns for whose entry a dictionary has no room
+//! ([`dictionary_codes::name_slots`]). Rows are borrowed only where there are lists or structs besides, or many such dictionaries in one piece.
 //!
 //! ```ignore
 //! let mut left = RowsLeft::new(alloc, parts)?;

@@ -1,14 +1,16 @@
 // How many rows of a run the dictionaries of a piece have room for.
-ghost use Rattle.std.specs.Prelude.{◌≡◌, ◌<◌, ◌+◌, ◌++◌, [], true, List, IfOk, OnOk};
+ghost use Rattle.std.specs.Prelude.{◌≡◌, ◌<◌, ◌≤◌, ◌+◌, ◌++◌, [], true, List, length, IfOk, OnOk};
 ghost use Rattle.arrays.specs.Shared.{ShareEntries, AreRowsSharing};
 ghost use Rattle.arrow_schema.specs.Column.{columns_of};
 ghost use Rattle.arrow_schema.specs.Limits.{IsWithinLimits};
 ghost use Rattle.arrow_schema.specs.View.{schema_of};
 ghost use Rattle.cells.specs.Cell.{Cell};
 ghost use Rattle.cells.specs.Dictionary.{is_any_limited, dictionaries_fit};
+ghost use Rattle.cells.specs.declared.limits.TheConstants.{MAX_PIECE_ROWS};
 ghost use Rattle.columns.specs.CellAt.{row_at};
 ghost use Rattle.facts.specs.Bytes.{AreBytes};
 ghost use Rattle.table_cut.specs.Rows.{arrays_of_run, run_rows, runs_rows};
+ghost use Rattle.table_cut.specs.inner.Filling.{can_rows_fill};
 ghost use Rattle.table_cut.specs.inner.Fit.{are_flat};
 ghost use Rattle.table_cut.specs.inner.Room.{IsRunOf, AreRunsOf, IsRunBehind, IsSeen, IsSeenWithin, HasRoom, IsRoom};
 ghost use Rattle.table_cut.specs.SeenRows.{HaveSeen};
@@ -248,18 +250,19 @@ fn room_for<'a>(
     }
 }
 
-/// How many rows of a run the dictionaries of a piece have room for, after the rows that it has: where no dictionary has a limit, or the run has no row,
-/// nothing is asked.
+/// How many rows of a run the dictionaries of a piece have room for, after the rows that it has: where the rows of a piece can fill no dictionary, or the
+/// run has no row, nothing is asked.
 pub(crate) fn room_within<'a>(
     alloc: Global,
     schema: &'a Schema,
-    limited: bool,
+    can_fill: bool,
     seen: Seen<'a>,
     piece: &[RowRun<'a>],
     run: RowRun<'a>,
 ) -> Result<Room<'a>, AllocError>
-    requires limited { limited ≡ is_any_limited (columns_of (schema_of schema.now).columns) }
+    requires can_fill { can_fill ≡ can_rows_fill MAX_PIECE_ROWS (columns_of (schema_of schema.now).columns) }
     requires behind { IsRunBehind (schema_of schema.now) piece.now run }
+    requires few { length (runs_rows (columns_of (schema_of schema.now).columns) piece.now) + run.len ≤ MAX_PIECE_ROWS }
     requires seen { IsSeenWithin (schema_of schema.now) (runs_rows (columns_of (schema_of schema.now).columns) piece.now) seen }
     ensures room { IfOk result (λ room. let columns = columns_of (schema_of schema.now).columns in
         HasRoom (schema_of schema.now) (runs_rows columns piece.now) run.entry room.rows) }
@@ -269,7 +272,7 @@ pub(crate) fn room_within<'a>(
     if run.len == 0 {
         return Ok(Room { rows: 0, seen });
     }
-    if limited {
+    if can_fill {
         return room_for(alloc, schema, seen, piece, run);
     }
     Ok(Room {

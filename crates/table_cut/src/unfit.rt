@@ -5,7 +5,7 @@ ghost use Rattle.arrow_schema.specs.View.{schema_of};
 ghost use Rattle.values.specs.Table.{first_unfit};
 ghost use Rattle.values.specs.TableView.{table_of};
 
-use crate::filling::can_row_fill;
+use crate::filling::can_rows_fill;
 use crate::piece::row_at;
 use crate::seen::fits_dictionaries;
 use arrow_schema::Schema;
@@ -26,7 +26,7 @@ pub fn first_unfit_row(
     ensures { IfOk result (λ found. found ≡ first_unfit (schema_of schema.now) (table_of table.now).rows) }
 {
     table.schema();
-    if !can_row_fill(schema) {
+    if !can_rows_fill(schema, 1) {
         return Ok(None);
     }
     for place in 0..table.len() {

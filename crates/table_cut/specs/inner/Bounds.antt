@@ -24,6 +24,6 @@ unfoldable pub columns_weight : ℕ → Columns → RowRun → (rows : ℕ) → 
 columns_weight j no_column r rows = 0
 columns_weight j (and_column c cs) r rows = column_weight j c r rows + columns_weight (j + 1) cs r rows
 
--- of a dictionary's entries, read as texts or binaries, none has more bytes than these
-abbrev pub AreNoLonger : ℕ → Arrays → Type 0
-AreNoLonger size dictionary = (kind : Kind) (w : ℕ) (z : ℤ) → contents_width kind ≡ Some w → kind_weight kind (entry_at (entries_of_kind kind dictionary) z) ≤ 1 + size
+-- of a dictionary's entries, read as texts or binaries whose offsets have this width, none has more bytes than these
+abbrev pub AreNoLonger : (width : ℕ) → ℕ → Arrays → Type 0
+AreNoLonger width size dictionary = (kind : Kind) (z : ℤ) → contents_width kind ≡ Some width → kind_weight kind (entry_at (entries_of_kind kind dictionary) z) ≤ 1 + size

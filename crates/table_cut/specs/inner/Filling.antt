@@ -1,33 +1,40 @@
--- Which dictionaries a row by itself can fill: those with a limit that stand below a list. Any other has at most one value of a row.
-use Rattle.std.specs.Prelude.{Bool, true, false, ◌&&◌, ◌||◌}
-use Rattle.arrow_schema.specs.Column.{Kind, Column, Columns, nulls, booleans, integers, dates, timestamps, texts, large_texts, binaries, large_binaries, fixed_binaries, lists, large_lists, fixed_lists, structs, column, no_column, and_column}
-use Rattle.cells.specs.Dictionary.{has_limit}
+-- Which dictionaries some rows can fill: those whose indices name fewer entries than there can be values in these rows. That is at most one in each row,
+-- but below a list any number.
+use Rattle.std.specs.Prelude.{ℕ, Bool, false, not, is_some, Option, Some, None, ◌||◌}
+use Rattle.arrow_schema.specs.Column.{Index, Kind, Column, Columns, nulls, booleans, integers, dates, timestamps, texts, large_texts, binaries, large_binaries, fixed_binaries, lists, large_lists, fixed_lists, structs, column, no_column, and_column}
+use Rattle.cells.specs.Dictionary.{entry_limit, is_within}
+
+-- whether this many values, or any number of them, can be more than the indices of a dictionary name
+abbrev pub can_exceed : Option ℕ → Option Index → Bool
+can_exceed values None = false
+can_exceed None (Some i) = is_some (entry_limit i)
+can_exceed (Some n) (Some i) = not (is_within (entry_limit i) n)
 
 unfoldable mutual
-  -- whether there is one at or below a column, which may itself stand below a list
-  pub can_fill : Bool → Column → Bool
-  can_fill in_list (column name nullable kind dictionary pairs) = in_list && has_limit dictionary || can_kind_fill in_list kind
+  -- whether there is one at or below a column, which has so many values
+  pub can_fill : Option ℕ → Column → Bool
+  can_fill values (column name nullable kind dictionary pairs) = can_exceed values dictionary || can_kind_fill values kind
 
-  pub can_kind_fill : Bool → Kind → Bool
-  can_kind_fill in_list nulls = false
-  can_kind_fill in_list booleans = false
-  can_kind_fill in_list (integers bits signed) = false
-  can_kind_fill in_list (dates unit) = false
-  can_kind_fill in_list (timestamps unit timezone) = false
-  can_kind_fill in_list texts = false
-  can_kind_fill in_list large_texts = false
-  can_kind_fill in_list binaries = false
-  can_kind_fill in_list large_binaries = false
-  can_kind_fill in_list (fixed_binaries width) = false
-  can_kind_fill in_list (lists item) = can_fill true item
-  can_kind_fill in_list (large_lists item) = can_fill true item
-  can_kind_fill in_list (fixed_lists size item) = can_fill true item
-  can_kind_fill in_list (structs columns) = can_any_fill in_list columns
+  pub can_kind_fill : Option ℕ → Kind → Bool
+  can_kind_fill values nulls = false
+  can_kind_fill values booleans = false
+  can_kind_fill values (integers bits signed) = false
+  can_kind_fill values (dates unit) = false
+  can_kind_fill values (timestamps unit timezone) = false
+  can_kind_fill values texts = false
+  can_kind_fill values large_texts = false
+  can_kind_fill values binaries = false
+  can_kind_fill values large_binaries = false
+  can_kind_fill values (fixed_binaries width) = false
+  can_kind_fill values (lists item) = can_fill None item
+  can_kind_fill values (large_lists item) = can_fill None item
+  can_kind_fill values (fixed_lists size item) = can_fill None item
+  can_kind_fill values (structs columns) = can_any_fill values columns
 
-  pub can_any_fill : Bool → Columns → Bool
-  can_any_fill in_list no_column = false
-  can_any_fill in_list (and_column f fs) = can_fill in_list f || can_any_fill in_list fs
+  pub can_any_fill : Option ℕ → Columns → Bool
+  can_any_fill values no_column = false
+  can_any_fill values (and_column f fs) = can_fill values f || can_any_fill values fs
 
--- whether a row of these columns can fill one
-abbrev pub can_row_fill : Columns → Bool
-can_row_fill columns = can_any_fill false columns
+-- whether n rows of these columns can fill one
+abbrev pub can_rows_fill : ℕ → Columns → Bool
+can_rows_fill rows columns = can_any_fill (Some rows) columns

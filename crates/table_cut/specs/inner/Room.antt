@@ -5,8 +5,9 @@ use Rattle.arrays.specs.Shared.{AreRowsSharing}
 use Rattle.arrow_schema.specs.Column.{PlainSchema, columns_of}
 use Rattle.arrow_schema.specs.Limits.{IsWithinLimits}
 use Rattle.cells.specs.Cell.{Cell}
-use Rattle.cells.specs.Dictionary.{dictionaries_fit, is_any_limited}
+use Rattle.cells.specs.Dictionary.{dictionaries_fit}
 use Rattle.cells.specs.Row.{is_row}
+use Rattle.cells.specs.declared.limits.TheConstants.{MAX_PIECE_ROWS}
 use Rattle.columns.specs.CellAt.{row_at}
 use Rattle.table_cut.specs.Rows.{arrays_of_run, run_rows, runs_rows, is_run_sound, are_runs_sound}
 use Rattle.table_cut.specs.declared.room.Room.{Room}
@@ -14,6 +15,7 @@ use Rattle.table_cut.specs.declared.room.Seen.{Seen}
 use Rattle.table_cut.specs.declared.room.Seen.TheVariants as seens
 use Rattle.table_cut.specs.declared.row_run.RowRun.{RowRun}
 use Rattle.table_cut.specs.SeenRows.{HaveSeen}
+use Rattle.table_cut.specs.inner.Filling.{can_rows_fill}
 
 -- a run of rows of this schema
 pub record IsRunOf (s : PlainSchema) (run : RowRun) : Type 0 where
@@ -38,9 +40,9 @@ IsSeen s rows (seens.Shared first) = AreRowsSharing (columns_of s.columns) (arra
 IsSeen s rows (seens.Columns tried) = Unit {0}
 IsSeen s rows (seens.Rows seen) = HaveSeen s rows seen
 
--- nothing is asked where no dictionary has a limit
+-- nothing is asked where the rows of a piece can fill no dictionary
 abbrev pub IsSeenWithin : PlainSchema → List (List Cell) → Seen → Type 0
-IsSeenWithin s rows seen = is_any_limited (columns_of s.columns) ≡ true → IsSeen s rows seen
+IsSeenWithin s rows seen = can_rows_fill MAX_PIECE_ROWS (columns_of s.columns) ≡ true → IsSeen s rows seen
 
 -- the row of a run at a place
 abbrev pub row_in : PlainSchema → RowRun → ℕ → List Cell

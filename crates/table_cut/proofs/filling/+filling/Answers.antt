@@ -12,8 +12,8 @@ unfolding can_any_fill
 can_any_fill-loop-field-preserved t c =
     let fields : List Field = c.args.fields.now in
     let i = c.loop-field.field-index in
-    let rest : Bool = can_any_fill c.args.in_list (columns_of (map column_of (drop (i + 1) fields))) in
-    let next = ap (λ (fs : List Field). can_any_fill c.args.in_list (columns_of (map column_of fs))) (drop-item fields i c.field-item.result c.loop-field-test.true c.field-item.is) in
+    let rest : Bool = can_any_fill c.args.values (columns_of (map column_of (drop (i + 1) fields))) in
+    let next = ap (λ (fs : List Field). can_any_fill c.args.values (columns_of (map column_of fs))) (drop-item fields i c.field-item.result c.loop-field-test.true c.field-item.is) in
     sym (next ∙ ap (λ (b : Bool). b || rest) (sym c.can_fill.ensures ∙ c.if-can_fill.false)) ∙ c.loop-field.invariant
 
 pub can_any_fill-returns-then-can_fill : goal.can_any_fill-returns-then-can_fill
@@ -21,6 +21,6 @@ unfolding can_any_fill
 can_any_fill-returns-then-can_fill t c =
     let fields : List Field = c.args.fields.now in
     let i = c.loop-field.field-index in
-    let rest : Bool = can_any_fill c.args.in_list (columns_of (map column_of (drop (i + 1) fields))) in
-    let next = ap (λ (fs : List Field). can_any_fill c.args.in_list (columns_of (map column_of fs))) (drop-item fields i c.field-item.result c.loop-field-test.true c.field-item.is) in
+    let rest : Bool = can_any_fill c.args.values (columns_of (map column_of (drop (i + 1) fields))) in
+    let next = ap (λ (fs : List Field). can_any_fill c.args.values (columns_of (map column_of fs))) (drop-item fields i c.field-item.result c.loop-field-test.true c.field-item.is) in
     sym (next ∙ ap (λ (b : Bool). b || rest) (sym c.can_fill.ensures ∙ c.if-can_fill.true)) ∙ c.loop-field.invariant

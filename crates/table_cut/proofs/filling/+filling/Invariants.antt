@@ -6,4 +6,4 @@ use Rattle.table_cut.proofs.filling.+filling.Given as goal
 
 abbrev pub invariant-can_any_fill-loop-field : goal.invariant-can_any_fill-loop-field
 invariant-can_any_fill-loop-field l =
-    can_any_fill l.in_list (columns_of (map column_of (drop l.field-index l.fields))) ≡ can_any_fill l.in_list (columns_of (map column_of l.fields))
+    can_any_fill l.values (columns_of (map column_of (drop l.field-index l.fields))) ≡ can_any_fill l.values (columns_of (map column_of l.fields))

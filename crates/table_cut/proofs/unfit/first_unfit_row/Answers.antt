@@ -9,8 +9,8 @@ use Rattle.table_cut.proofs.CutSteps.{row_before}
 use Rattle.table_cut.proofs.RowsTaken.{unfit_from, unfit_first, unfit_here, unfit_later, taken_by, all_taken}
 use Rattle.table_cut.proofs.unfit.first_unfit_row.Goals as goal
 
-pub returns-then-not-can_row_fill : goal.returns-then-not-can_row_fill
-returns-then-not-can_row_fill c = sym (all_taken (schema_of c.args.schema.now) (table_of c.args.table.now) c.requires c.schema.ensures.kept (sym c.can_row_fill.ensures ∙ c.if-not-can_row_fill.true))
+pub returns-then-not-can_rows_fill : goal.returns-then-not-can_rows_fill
+returns-then-not-can_rows_fill c = sym (all_taken (schema_of c.args.schema.now) (table_of c.args.table.now) c.requires c.schema.ensures.kept (sym c.can_rows_fill.ensures ∙ c.if-not-can_rows_fill.true))
 
 pub loop-place-init : goal.loop-place-init
 loop-place-init c = sym (unfit_first (schema_of c.args.schema.now) (table_of c.args.table.now).rows)

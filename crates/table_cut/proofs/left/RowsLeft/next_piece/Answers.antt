@@ -38,7 +38,7 @@ loop-self-init c =
       sound = ap (are_runs_sound cs) c.new-runs.ensures.items;
       left = c.requires.sound;
       fits = ap (dictionaries_fit s) none ∙ c.shared_entries_fit.ensures.fit s no_array [] c.requires.schema tt;
-      seen = λ limited. none;
+      seen = λ filled. none;
     }
 
 pub fitting-taken-requires-clause-piece : goal.fitting-taken-requires-clause-piece
@@ -53,8 +53,13 @@ fitting-taken-requires-clause-light c =
     let same = ap (piece_weight (schema_of c.args.schema.now)) c.deref.ensures.value in
     omega (arith, same, c.loop-self.invariant.light)
 
-pub room_within-requires-clause-limited : goal.room_within-requires-clause-limited
-room_within-requires-clause-limited c = c.has_limits-limited.ensures
+pub room_within-requires-clause-can_fill : goal.room_within-requires-clause-can_fill
+room_within-requires-clause-can_fill c = c.can_rows_fill-can_fill.ensures
+
+pub room_within-requires-clause-few : goal.room_within-requires-clause-few
+room_within-requires-clause-few c =
+    let same = ap (λ (runs : List RowRun). length (runs_rows (columns_of (schema_of c.args.schema.now).columns) runs)) c.deref-in-loop-self.ensures.value in
+    omega (arith, same, c.loop-self.invariant.count, c.front-most.ensures.len, c.fitting-taken.ensures.few, c.if-rows-lt-MAX_PIECE_ROWS.true)
 
 pub room_within-requires-clause-behind : goal.room_within-requires-clause-behind
 room_within-requires-clause-behind c =
