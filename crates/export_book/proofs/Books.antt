@@ -151,9 +151,9 @@ next_is id None none lower = by_most (cases_lt (id + 1) (2 ^ 64))
     by_most (inr last) = omega (arith, last, lower)
 next_is id (Some next) is lower = is.1
 
-pub opened_is : (es new : List OpenExport) (next after : Option ℕ) (e : OpenExport) → next ≡ Some e.id → new ≡ es ++ e ∷ [] → e.given ≡ 0 → SomeIff after (e.id + 1 < 2 ^ 64) (e.id + 1) → e.id < 2 ^ 64
+pub opened_is : (es new : List OpenExport) (next after : Option ℕ) (e : OpenExport) → new ≡ es ++ e ∷ [] → next ≡ Some e.id → e.given ≡ 0 → SomeIff after (e.id + 1 < 2 ^ 64) (e.id + 1) → e.id < 2 ^ 64
     → book_in new after ≡ with_open (plain_entry e.entry).schema (plain_entry e.entry).segments (book_in es next)
-opened_is es new next after e is more none counted lower =
+opened_is es new next after e more is none counted lower =
     let id : next_id next ≡ e.id = ap next_id is in
     let own : plain_export e ≡ record { id = next_id next; schema = (plain_entry e.entry).schema; segments = (plain_entry e.entry).segments; given = 0 } =
     λ i. record { id = sym id i; schema = (plain_entry e.entry).schema; segments = (plain_entry e.entry).segments; given = none i } in

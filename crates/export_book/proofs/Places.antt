@@ -1,11 +1,11 @@
 -- Where the export of an id stands.
-use Rattle.std.proofs.Common.{◌≡◌, ⊎_elim, ◌<◌, ◌+◌, ◌==◌, ℕ, suc, Bool, true, false, not, map, get_or, set, remove, length, List, [], ◌∷◌, Some, None, refl, sym, ap, subst, ◌∙◌, arith}
+use Rattle.std.proofs.Common.{◌≡◌, ⊎_elim, ◌<◌, ◌+◌, ◌==◌, ℕ, suc, Bool, true, false, not, map, get_or, set, remove, length, List, [], ◌∷◌, Option, Some, None, refl, sym, ap, subst, ◌∙◌, arith}
 use Rattle.std.specs.List.{find, position, position_from, AllByRecursion}
 use Rattle.std.proofs.lemmas.Bool.{cond-true, cond-false, cases_Bool, eqb-true}
 use Rattle.std.proofs.lemmas.Iterator.Adapters.{position_from-zero}
 use Rattle.export_book.specs.declared.export.OpenExport.{OpenExport}
-use Rattle.export_book.specs.Book.{PlainExport, AreRising, is_of, others_of, gave}
-use Rattle.export_book.specs.Plain.{plain_export}
+use Rattle.export_book.specs.Book.{PlainExport, AreRising, is_of, others_of, gave, with_given}
+use Rattle.export_book.specs.Plain.{plain_export, next_id, book_in}
 use Rattle.export_book.specs.laws.Ids.{other_id}
 
 abbrev pub has_id : ℕ → OpenExport → Bool
@@ -110,3 +110,10 @@ module _ (id : ℕ) where
       let is = from.is in
       let at : from.index ≡ place = omega (arith, is) in
       subst (Placed es) at from.placed
+
+  -- one more piece of the one at a place was given
+  pub given_at : (es : List OpenExport) (next : Option ℕ) (place : ℕ) (x new : OpenExport) → Placed es place → AreRising (map plain_export es) → x ≡ get_or es place x
+      → plain_export new ≡ record (plain_export x) { given = x.given + 1 } → book_in (set es place new) next ≡ with_given id (book_in es next)
+  given_at es next place x new p rising at is =
+      let exports = p.given rising x new (is ∙ ap (λ (e : OpenExport). record (plain_export e) { given = e.given + 1 }) at) in
+      λ i. record { exports = exports i; next = next_id next }

@@ -76,7 +76,7 @@ impl ExportBook {
     {
         let mut runs = Vec::new(alloc);
         for export in &self.exports {
-            runs.extend_from_slice(&export.entry.runs(alloc)?)?;
+            runs.extend_from_slice(&export.runs)?;
         }
         Ok(runs)
     }
@@ -85,7 +85,7 @@ impl ExportBook {
     ///
     /// # Errors
     /// `AllocError` if memory was refused; the book is then unchanged.
-    pub fn open(&mut self, entry: TableEntry) -> Result<u64, AllocError>
+    pub fn open(&mut self, alloc: Global, entry: TableEntry) -> Result<u64, AllocError>
         requires room { is_full (book_of self.old) ≡ false }
         requires short { length (plain_entry entry).segments ≤ MAX_SEGMENTS }
         requires once { (run : Run) → times_among (runs_in_segments (plain_entry entry).segments) run ≤ 1 }
@@ -94,9 +94,11 @@ impl ExportBook {
         ensures err { OnErr result (book_of self.new ≡ book_of self.old) }
     {
         let id = self.next.unwrap();
+        let runs = entry.runs(alloc)?;
         let export = OpenExport {
             id,
             entry,
+            runs,
             given: 0,
         };
         self.exports.push(export)?;

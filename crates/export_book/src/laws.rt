@@ -26,9 +26,11 @@ pub fn kept_runs_after_changes()
         ≡ times_among (runs_kept b.exports) run }
 {}
 
-/// The next id is that of no open export, it never decreases, and a closed export is never open again.
+/// The next id is that of no open export, and then that of the export that is opened. It never decreases, and a closed export is never open again.
 pub fn ids_are_given_once()
     ensures new { (b : PlainBook) → IsBook b → open_at b b.next ≡ None }
+    ensures opened { (b : PlainBook) (schema : PlainSchema) (segments : List Segment) → IsBook b
+        → open_at (with_open schema segments b) b.next ≡ Some (record { id = b.next; schema = schema; segments = segments; given = 0 }) }
     ensures up { (b : PlainBook) (later : List PlainBook) → AreSteps b later → AllByRecursion (λ c. b.next ≤ c.next) later }
     ensures once { (b : PlainBook) (later : List PlainBook) (id : ℕ) → AreSteps b later → id < b.next → open_at b id ≡ None
         → AllByRecursion (λ c. open_at c id ≡ None) later }

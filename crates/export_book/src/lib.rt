@@ -3,7 +3,7 @@
 //! An export has the state of its opening: whatever happens to the table, the pieces are those of the segments at that time. An id is used only once.
 //!
 //! ```
-//! let id = book.open(entry)?;
+//! let id = book.open(alloc, entry)?;
 //! let export = book.get(id)?;
 //! book.give(id);
 //! let closed = book.close(id);

@@ -11,10 +11,8 @@ use Rattle.catalogue.specs.Entries.{PlainEntry}
 use Rattle.export_book.specs.Book.{PlainExport, PlainBook, is_full, MayGive, with_given}
 use Rattle.tables.specs.declared.refusal.Refusal.{Refusal}
 use Rattle.tables.specs.declared.refusal.Refusal.TheVariants as refusals
-use Rattle.store.specs.declared.exports.Snapshot.{Snapshot}
 use Rattle.store.specs.declared.store.Store.{Store}
 use Rattle.store.specs.Exporting.{RefusesExport, RefusesRoom, OpensExport, OpensAt, OfSegment, PieceIs, GivesPiece, after_giving, RefusesSegment, RefusesNumber, RefusesPiece, RefusesClosing, ClosesExport, ClosesAt}
-use Rattle.store.specs.inner.Exporting.{IsSnapshot, FindsSnapshot}
 
 -- ---- opening
 
@@ -29,26 +27,6 @@ module _ (h : Bool) (o : Option PlainEntry) (book : PlainBook) where
   open_refused_at e full r off at is refuses =
       subst (λ (x : Bool). RefusesExport x o book r) (sym off)
       (subst (λ (x : Option PlainEntry). RefusesExport false x book r) (sym at) (subst (λ (x : Bool). RefusesRoom x r) (sym is) refuses))
-
-  pub snapshot_at : (e : PlainEntry) (s : Snapshot) → h ≡ false → o ≡ Some e → is_full book ≡ false → IsSnapshot e s → FindsSnapshot h o book s
-  snapshot_at e s off at room is =
-      subst (λ (x : Bool). FindsSnapshot x o book s) (sym off) (subst (λ (x : Option PlainEntry). FindsSnapshot false x book s) (sym at) (room, is))
-
-  -- what was found, of a store that is not halted
-  pub record Found (s : Snapshot) : Type 0 where
-    pub entry : PlainEntry
-    pub off : h ≡ false
-    pub at : o ≡ Some entry
-    pub room : is_full book ≡ false
-    pub is : IsSnapshot entry s
-
-  pub found_in : (s : Snapshot) → FindsSnapshot h o book s → Found s
-  found_in s finds = by_state h o refl refl finds
-    where
-      by_state : (x : Bool) (p : Option PlainEntry) → h ≡ x → o ≡ p → FindsSnapshot x p book s → Found s
-      by_state true p off at finds = absurd finds
-      by_state false None off at finds = absurd finds
-      by_state false (Some e) off at finds = record { entry = e; off = off; at = at; room = finds.0; is = finds.1 }
 
 pub opens_at : {D : Type 0} {g : Ghosts D} (h : Bool) (o : Option PlainEntry) (old : Store D g) (e : PlainEntry) (id : ℕ) (new : Store D g) → h ≡ false → o ≡ Some e → OpensExport old e id new → OpensAt h o old id new
 opens_at h o old e id new off at is = subst (λ (x : Bool). OpensAt x o old id new) (sym off) (subst (λ (x : Option PlainEntry). OpensAt false x old id new) (sym at) is)

@@ -18,15 +18,13 @@ use Rattle.ipc_stream.specs.Meaning.{meaning}
 use Rattle.table_cut.specs.CutRows.{joined}
 use Rattle.ipc_canonical.specs.Canonical.{stream_parts}
 use Rattle.catalogue.specs.declared.entry.Segment.{Segment}
-use Rattle.catalogue.specs.Entries.{PlainEntry, PlainCatalogue, IsCatalogue, is_entry, runs_in_segments}
+use Rattle.catalogue.specs.Entries.{PlainEntry, IsCatalogue, is_entry, runs_in_segments}
 use Rattle.catalogue.specs.Edits.{entry_of}
 use Rattle.catalogue.specs.View.{catalogue_of}
 use Rattle.catalogue.specs.laws.Changed.{found_passes}
 use Rattle.catalogue.specs.laws.Kept.{entry_is}
-use Rattle.commit.specs.declared.sector.Commit.{Commit}
 use Rattle.commit.specs.declared.recovery.Opened.{Opened}
 use Rattle.pages.specs.declared.stored.StoredCatalogue.{StoredCatalogue}
-use Rattle.commit.specs.Standing.{is_size, Stands}
 use Rattle.export_book.specs.declared.book.TheConstants.{MAX_EXPORTS}
 use Rattle.export_book.specs.Book as books
 use Rattle.export_book.specs.Book.{PlainExport, PlainBook, IsBook, is_full, open_at}
@@ -42,8 +40,7 @@ use Rattle.store_runs.specs.Calls.{PlainCall, open_export_call, export_next_call
 use Rattle.store_runs.specs.Machine.{Setting, Machine, Export, running, halted, tables_now, Allows, pinned_by, export_at, gave, is_of}
 use Rattle.store_runs.specs.Steps.{Step, IsExportOf}
 use Rattle.store_runs.specs.Runs.{TellsFound, TellsRoom}
-use Rattle.store_runs.specs.Held.{tables_held, table_held, rows_each, rows_held, pieces_held, segment_rows}
-use Rattle.pages.specs.Stored.{stored_reading}
+use Rattle.store_runs.specs.Held.{table_held, rows_each, rows_held, pieces_held, segment_rows}
 use Rattle.store.specs.Fits.{setting_of, StoreFits, IsSound, ExportFits, ExportsFit, book_of, commit_of, listed_in}
 use Rattle.store.specs.Applying.{GoesOn}
 use Rattle.store_runs.specs.Reading.{LacksRows, OnlyReadsDevice}
@@ -53,6 +50,7 @@ use Rattle.store_changes.specs.laws.Digests.{damaged_lacks}
 use Rattle.store_changes.specs.laws.Named.{entry_has, entry_lacks, held_has}
 use Rattle.store_changes.specs.laws.Spared.{each_joined}
 use Rattle.store_changes.specs.LawsBelow.{TableLaws}
+use Rattle.store.proofs.StillFits.{fits_unwritten}
 use Rattle.store.proofs.Asked.{is_running, not_running, refused_elsewhere}
 use Rattle.store_changes.specs.laws.ReadTables.{held_is_table}
 use Rattle.store_changes.specs.laws.Synced.{shown_is_synced}
@@ -163,7 +161,6 @@ module _ {D : Type 0} {g : Ghosts D} (size : D → ℕ) (story : D → Story) (f
   goes_by exports next_id call reply on answered found room step reads halts commit listed fit next =
       let moments = reads.moments told in
       let later : now (story new.device) ≡ now (story old.device) = now_read (story old.device) (story new.device) moments in
-      let sound = fits.sound (runs_on on) in
       let stood : LeavesOnly (Allows own m) (now (story new.device)) = subst (λ (d : Disk). LeavesOnly (Allows own m) d) (sym later) fits.device.allows in
       let allows : LeavesOnly (Allows own (changed exports next_id)) (now (story new.device)) = λ i may. stood i may in
       record {
@@ -179,27 +176,7 @@ module _ {D : Type 0} {g : Ghosts D} (size : D → ℕ) (story : D → Story) (f
           room = room;
           spares = λ needs. spared_reading m (story old.device) (story new.device) moments;
         };
-        fits = record {
-          phase = fits.phase ∙ ap (λ (b : Bool). if b then halted else running) (on ∙ sym halts);
-          started = fits.started;
-          device = record {
-            in_limits = subst (λ (n : ℕ). is_size n ≡ true) (sym reads.same) fits.device.in_limits;
-            allows = subst (λ (n : ℕ). LeavesOnly (Allows (setting_of n base) (changed exports next_id)) (now (story new.device))) (sym reads.same) allows;
-            fresh = λ early. let never = sym fits.started ∙ early in absurd (cc never);
-          };
-          sound = λ again. record {
-            stands =
-                subst (λ (n : ℕ). Stands stored_reading n (now (story new.device)) new.opened.commit (listed_in new)) (sym reads.same)
-                (subst (λ (d : Disk). Stands stored_reading (size old.device) d new.opened.commit (listed_in new)) (sym later)
-                (subst (λ (k : Commit). Stands stored_reading (size old.device) (now (story old.device)) k (listed_in new)) (sym commit)
-                (subst (λ (x : PlainCatalogue). Stands stored_reading (size old.device) (now (story old.device)) old.opened.commit x) (sym listed) sound.stands)));
-            tables = (λ i. tables_held (synced_image (later i)) (listed i)) ∙ sound.tables;
-            uses = new.uses;
-            none = sound.none;
-            exports = subst (λ (d : Disk). ExportsFit (synced_image d) (book_of new).exports exports) (sym later) fit;
-            next = next;
-          };
-        };
+        fits = fits_unwritten size story base m old new fits reads.same exports next_id (runs_on on) halts commit listed later fit next;
       }
 
   -- ---- an opening

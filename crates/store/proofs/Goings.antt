@@ -11,7 +11,7 @@ use Rattle.segments.specs.declared.run.Run.{Run}
 use Rattle.segments.specs.Usages.{IsUsedIn}
 use Rattle.catalogue.specs.Entries.{PlainCatalogue, IsCatalogue}
 use Rattle.catalogue.specs.laws.Kept.{catalogue_is}
-use Rattle.commit.specs.Standing.{is_size, rules, standing, used_runs, InSome, Stands}
+use Rattle.commit.specs.Standing.{is_size, rules, standing, used_runs, InSome}
 use Rattle.commit.specs.declared.sector.Commit.{Commit}
 use Rattle.export_book.specs.Book.{PlainBook}
 use Rattle.tables.specs.declared.refusal.Refusal.{Refusal}
@@ -38,6 +38,7 @@ use Rattle.store_changes.specs.OnDisk.{HasCarried, IsOldOrCarried, IsTaking, IsC
 use Rattle.store_changes.specs.laws.Frame.{held_is, same_tables}
 use Rattle.store_changes.specs.laws.Changed.{edited_held, placed_held}
 use Rattle.store.proofs.Asked.{not_less}
+use Rattle.store.proofs.StillFits.{fits_halted, fits_unwritten}
 use Rattle.store_changes.specs.laws.Synced.{shown_is_synced}
 use Rattle.store.proofs.Roomed.{carried_out, refused_out}
 use Rattle.store.proofs.Spares.{last_moment, spares_in, exports_on}
@@ -98,9 +99,6 @@ module _ (size : ℕ) (used : Run → Type 0) (k : Commit) (c : PlainCatalogue) 
 own_image : (d : Disk) → MayLeave d (synced_image d)
 unfolding MayLeave
 own_image d n = inl refl
-
-off_is_on : halted ≢ running
-off_is_on is = cc is
 
 memory_works : refusals.OutOfMemory ≢ refusals.Device
 memory_works is = cc is
@@ -226,16 +224,7 @@ module _ {D : Type 0} {g : Ghosts D} (size : D → ℕ) (story : D → Story) (f
           room = tt;
           spares = λ needs. spares_in size story base m old new sound book exportable change carries;
         };
-        fits = record {
-          phase = ap (λ (b : Bool). if b then halted else running) (sym stopped);
-          started = fits.started;
-          device = record {
-            in_limits = subst (λ (n : ℕ). is_size n ≡ true) (sym sized) fits.device.in_limits;
-            allows = subst (λ (n : ℕ). LeavesOnly (Allows (setting_of n base) next) s1) (sym sized) settles;
-            fresh = λ no. absurd (true≢false (sym fits.started ∙ no));
-          };
-          sound = λ again. absurd (off_is_on again);
-        };
+        fits = fits_halted size story base m old new fits sized (apply_call c) wrote stopped settles;
       }
 
   -- it was refused before anything was written
@@ -250,28 +239,8 @@ module _ {D : Type 0} {g : Ghosts D} (size : D → ℕ) (story : D → Story) (f
         same = sized;
         goes = subst (λ (t : Story). Goes s m (apply_call c) (refused r) (story old.device) t (failed old.device) (failed new.device) m) (sym same)
             (subst (λ (n : ℕ). Goes s m (apply_call c) (refused r) (story old.device) (story old.device) (failed old.device) n m) (sym count) stood);
-        fits = record {
-          phase = on ∙ sym (ap (λ (b : Bool). if b then halted else running) quiet);
-          started = fits.started;
-          device = record {
-            in_limits = subst (λ (n : ℕ). is_size n ≡ true) (sym sized) fits.device.in_limits;
-            allows = λ image may. subst (λ (n : ℕ). Allows (setting_of n base) m image) (sym sized) (fits.device.allows image (subst (λ (d : Disk). MayLeave d image) disk may));
-            fresh = λ no. absurd (true≢false (sym fits.started ∙ no));
-          };
-          sound = λ again. record {
-            stands =
-                subst (λ (n : ℕ). Stands stored_reading n (now (story new.device)) new.opened.commit (listed_in new)) (sym sized)
-                (subst (λ (d : Disk). Stands stored_reading (size old.device) d new.opened.commit (listed_in new)) (sym disk)
-                (subst (λ (k : Commit). Stands stored_reading (size old.device) (now (story old.device)) k (listed_in new)) (sym kept.0)
-                (subst (λ (x : PlainCatalogue). Stands stored_reading (size old.device) (now (story old.device)) old.opened.commit x) (sym kept.1) sound.stands)));
-            tables = (λ i. tables_held (synced_image (disk i)) (kept.1 i)) ∙ sound.tables;
-            uses = new.uses;
-            none = sound.none;
-            exports = subst (λ (b : PlainBook). ExportsFit (synced_image (now (story new.device))) b.exports m.exports) (sym book)
-                (subst (λ (d : Disk). ExportsFit (synced_image d) (book_of old).exports m.exports) (sym disk) sound.exports);
-            next = ap (λ (b : PlainBook). b.next) book ∙ sound.next;
-          };
-        };
+        fits = fits_unwritten size story base m old new fits sized m.exports m.next_id on quiet kept.0 kept.1 disk
+            (subst (λ (b : PlainBook). ExportsFit (synced_image (now (story old.device))) b.exports m.exports) (sym book) sound.exports) (ap (λ (b : PlainBook). b.next) book ∙ sound.next);
       }
 
   -- however it ended

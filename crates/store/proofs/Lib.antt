@@ -8,6 +8,7 @@ mod Carried
 mod Answered
 mod Began
 mod ReadsStore
+mod StillFits
 mod Roomed
 mod Applied
 mod Replied

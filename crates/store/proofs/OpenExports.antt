@@ -1,17 +1,17 @@
 -- Exports of a book and of the machine, and what becomes of both.
-use Rattle.std.specs.Prelude.{◌==◌, ◌&&◌, ◌||◌, slice_get, get_or, nat_le, nat_lt}
+use Rattle.std.specs.Prelude.{◌==◌, ◌&&◌, ◌||◌, slice_get, nat_le, nat_lt}
 use Rattle.std.specs.List.{filter, find, list_all, AllByRecursion}
-use Rattle.std.proofs.Common.{◌≡◌, ◌≢◌, ◌⊎◌, ◌≤◌, ◌<◌, ◌+◌, ◌-◌, ◌++◌, ℕ, suc, zero, Bool, true, false, cond, not, if◌then◌else◌, inl, inr, ⊎_elim, List, [], ◌∷◌, Option, Some, None, length, map, take, refl, sym, ap, ◌∙◌, subst, arith, append-nil, append_assoc, length-append}
-use Rattle.std.specs.Prelude.{option_map}
+use Rattle.std.proofs.Common.{◌≡◌, ◌≢◌, ◌⊎◌, ◌≤◌, ◌<◌, ◌+◌, ◌-◌, ◌++◌, ℕ, suc, zero, Bool, true, false, cond, not, if◌then◌else◌, ⊎_elim, List, [], ◌∷◌, Option, Some, None, length, map, refl, sym, ap, ◌∙◌, subst, arith, append-nil, append_assoc, length-append}
+use Rattle.std.specs.Prelude.{option_map, IsSome}
 use Rattle.std.proofs.lemmas.Bool.{eqb-true, eq-eqb, leb-true, and_parts, or_right, false_from_ne_true, cases_eq}
 use Rattle.std.proofs.lemmas.Option.{slice_get_past}
-use Rattle.std.proofs.lemmas.List.{length-map, take_more}
+use Rattle.std.proofs.lemmas.List.{length-map}
 use Rattle.std.proofs.lemmas.List.Sums.{sum_by-append}
 use Rattle.sector_dev.specs.Disk.{Image}
 use Rattle.segments.specs.declared.run.Run.{Run}
 use Rattle.segments.specs.declared.entries.UsageEntry.{UsageEntry}
-use Rattle.segments.specs.Usages.{Space, is_used, IsUsedIn, same_run, is_among, times_among, usage_of, unpinned, pinned_times, unpinned_times, Changes, PinsAll, UnpinsAll}
-use Rattle.segments.specs.laws.Usages.{same_itself, same_run_is, same_or_not, times_both}
+use Rattle.segments.specs.Usages.{Space, is_used, IsUsedIn, same_run, is_among, times_among, pinned_times, unpinned_times, PinsAll, UnpinsAll}
+use Rattle.segments.specs.laws.Usages.{times_both}
 use Rattle.arrow_schema.specs.Column.{PlainSchema}
 use Rattle.cells.specs.Cell.{Cell}
 use Rattle.ipc_write.specs.Written.{end_of_stream}
@@ -25,7 +25,10 @@ use Rattle.commit.specs.Standing.{all_on_device, is_apart, are_apart, runs_fault
 use Rattle.commit.specs.laws.Fit.{times_some, some_times, once, all_on}
 use Rattle.commit.specs.laws.Frame.{fault_none}
 use Rattle.export_book.specs.Book as books
-use Rattle.export_book.specs.Book.{PlainExport, AreRising, runs_kept}
+use Rattle.export_book.specs.declared.export.OpenExport.{OpenExport}
+use Rattle.export_book.specs.Book.{PlainExport, PlainBook, AreRising, IsBook, runs_kept, open_at, with_open}
+use Rattle.export_book.specs.Plain.{plain_export}
+use Rattle.export_book.specs.laws.Ids.{opened_at}
 use Rattle.store_runs.specs.Machine.{Export, is_of, export_at, gave}
 use Rattle.store.specs.Exported.{IsExportable, AreExportable}
 use Rattle.store_runs.specs.Held.{segment_rows, with_rows, rows_each, pieces_held}
@@ -266,43 +269,6 @@ piece_at image b pieces number piece held is = by_lists (rows_each b.schema b.se
     by_lists None each h = absurd (cc h)
     by_lists (Some lists) each h = let same : stream_parts b.schema lists ≡ pieces = cc h in by_number lists number each is ∙ ap (λ (ps : List (List ℕ)). slice_get ps number) same
 
--- ---- pins
-
-runs_of_more : (segments : List Segment) (segment : Segment) → runs_in_segments (segments ++ segment ∷ []) ≡ runs_in_segments segments ++ segment.place.run ∷ []
-runs_of_more [] segment = refl
-runs_of_more (x ∷ xs) segment = ap (λ (rs : List Run). x.place.run ∷ rs) (runs_of_more xs segment)
-
--- one segment more has its run unpinned
-pub unpin_more : (old mid new : Space) (segments : List Segment) (place : ℕ) (d : Segment) → place < length segments → UnpinsAll old mid (runs_in_segments (take place segments))
-    → Changes mid new (get_or segments place d).place.run (unpinned (usage_of mid.entries (get_or segments place d).place.run)) → UnpinsAll old new (runs_in_segments (take (place + 1) segments))
-unpin_more old mid new segments place d inside unpins changes = record { size = changes.size ∙ unpins.size; usages = usages }
-  where
-    segment : Segment
-    segment = get_or segments place d
-
-    first : List Run
-    first = runs_in_segments (take place segments)
-
-    listed : runs_in_segments (take (place + 1) segments) ≡ first ++ segment.place.run ∷ []
-    listed = ap runs_in_segments (take_more segments place d inside) ∙ runs_of_more (take place segments) segment
-
-    by_run : (run : Run) → (segment.place.run ≡ run) ⊎ (segment.place.run ≢ run) → usage_of new.entries run ≡ unpinned_times (times_among first run + times_among (segment.place.run ∷ []) run) (usage_of old.entries run)
-    by_run run (inl same) =
-        let once : times_among (segment.place.run ∷ []) run ≡ 1 = ap {B = ℕ} (λ (b : Bool). (if b then 1 else 0) + 0) (ap (λ (r : Run). same_run r run) same ∙ same_itself run) in
-        let was = unpins.usages run in
-        let now : usage_of new.entries run ≡ unpinned (usage_of mid.entries run) = subst (λ (r : Run). usage_of new.entries r ≡ unpinned (usage_of mid.entries r)) same changes.this in
-        let fewer : ((usage_of old.entries run).pins - times_among first run) - 1 ≡ (usage_of old.entries run).pins - (times_among first run + times_among (segment.place.run ∷ []) run) = omega (arith, once) in
-        now ∙ ap unpinned was ∙ ap (λ (n : ℕ). record { taken = (usage_of old.entries run).taken; pins = n }) fewer
-    by_run run (inr other) =
-        let none : times_among (segment.place.run ∷ []) run ≡ 0 = ap {B = ℕ} (λ (b : Bool). (if b then 1 else 0) + 0) (false_from_ne_true (same_run segment.place.run run) (λ is. other (same_run_is segment.place.run run is))) in
-        let same : times_among first run ≡ times_among first run + times_among (segment.place.run ∷ []) run = omega (arith, none) in
-        changes.others run (λ is. other (sym is)) ∙ unpins.usages run ∙ ap (λ (n : ℕ). unpinned_times n (usage_of old.entries run)) same
-
-    usages : (run : Run) → usage_of new.entries run ≡ unpinned_times (times_among (runs_in_segments (take (place + 1) segments)) run) (usage_of old.entries run)
-    usages run =
-        by_run run (same_or_not segment.place.run run)
-        ∙ ap (λ (n : ℕ). unpinned_times n (usage_of old.entries run)) (sym (times_both first (segment.place.run ∷ []) run) ∙ ap (λ (rs : List Run). times_among rs run) (sym listed))
-
 -- ---- the usages of a store's runs
 
 -- once an export is opened its runs are pinned once more
@@ -311,6 +277,21 @@ opened_uses old new ruling bs b uses pins run =
     let more : times_among (runs_kept bs) run + times_among (runs_in_segments b.segments) run ≡ times_among (runs_kept (bs ++ b ∷ [])) run =
     sym (times_both (runs_kept bs) (runs_in_segments b.segments) run) ∙ ap (λ (rs : List Run). times_among rs run) (sym (kept_more bs b)) in
     pins.usages run ∙ ap (pinned_times (times_among (runs_in_segments b.segments) run)) (uses run) ∙ ap (λ (n : ℕ). record { taken = is_among ruling run; pins = n }) more
+
+-- the export that is opened is found under its id, with the runs of the entry
+module _ (old new : PlainBook) (e : PlainEntry) (id : ℕ) (sound : IsBook old) (opened : new ≡ with_open e.schema e.segments old) (next : id ≡ old.next) where
+  found_opened : open_at new id ≡ Some (record { id = old.next; schema = e.schema; segments = e.segments; given = 0 })
+  found_opened = (λ i. open_at (opened i) (next i)) ∙ opened_at old e.schema e.segments sound
+
+  pub some_opened : {R : Type 0} (found : Option R) (plain : R → PlainExport) → option_map plain found ≡ open_at new id → IsSome found
+  some_opened None plain none = absurd (let is = none ∙ found_opened in cc is)
+  some_opened (Some x) plain is = refl
+
+  pub opened_runs : {R : Type 0} (found : Option R) (x : R) (now : R → OpenExport) → option_map (λ r. plain_export (now r)) found ≡ open_at new id → found ≡ Some x → (now x).runs.items ≡ runs_in_segments e.segments
+  opened_runs found x now is there =
+      let both = ap (option_map (λ r. plain_export (now r))) (sym there) ∙ is ∙ found_opened in
+      let same : plain_export (now x) ≡ record { id = old.next; schema = e.schema; segments = e.segments; given = 0 } = cc both in
+      (now x).listed ∙ ap (λ (p : PlainExport). runs_in_segments p.segments) same
 
 -- once one is closed they are pinned once less
 pub closed_uses : (old new : Space) (ruling : List Run) (bs : List PlainExport) (id : ℕ) (b : PlainExport) → AreRising bs → find (books.is_of id) bs ≡ Some b → Uses old.entries ruling (runs_kept bs)
@@ -329,13 +310,6 @@ none_left_out (b ∷ bs) id none = by_first (books.is_of id b) none (λ later. n
         → cond (not t) (b ∷ filter (λ (p : PlainExport). not (books.is_of id p)) bs) (filter (λ (p : PlainExport). not (books.is_of id p)) bs) ≡ b ∷ bs
     by_first true none later = absurd (cc none)
     by_first false none later = ap (λ (ps : List PlainExport). b ∷ ps) (later none)
-
--- no segment yet
-pub unpin_none : (space : Space) → UnpinsAll space space []
-unpin_none space = record {
-  size = refl;
-  usages = λ run. let u = usage_of space.entries run in let same : u.pins ≡ u.pins - 0 = omega arith in λ i. record { taken = u.taken; pins = same i };
-}
 
 -- ---- the runs of an entry
 

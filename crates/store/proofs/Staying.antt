@@ -11,11 +11,10 @@ use Rattle.segments.specs.declared.run.Run.{Run}
 use Rattle.segments.specs.Usages.{IsUsedIn}
 use Rattle.catalogue.specs.declared.entry.Segment.{Segment}
 use Rattle.catalogue.specs.declared.limits.TheConstants.{MAX_SEGMENTS}
-use Rattle.catalogue.specs.Entries.{PlainCatalogue, IsCatalogue, runs_of, segment_count}
+use Rattle.catalogue.specs.Entries.{IsCatalogue, runs_of, segment_count}
 use Rattle.catalogue.specs.laws.Kept.{catalogue_is}
 use Rattle.export_book.specs.Book.{PlainBook}
-use Rattle.commit.specs.Standing.{is_size, rules, standing, used_runs, InSome, Stands}
-use Rattle.commit.specs.declared.sector.Commit.{Commit}
+use Rattle.commit.specs.Standing.{is_size, rules, standing, used_runs, InSome}
 use Rattle.tables.specs.declared.refusal.Refusal.{Refusal}
 use Rattle.tables.specs.declared.refusal.Refusal.TheVariants as refusals
 use Rattle.tables.specs.declared.refusal.Limit.TheVariants as limits
@@ -38,6 +37,7 @@ use Rattle.store.specs.Applying.{GoesOn, EndsAs, IsKept, IsCarryingAtEachMoment,
 use Rattle.store_changes.specs.OnDisk.{HasCarried, IsOldOrCarried, IsCarrying}
 use Rattle.store_changes.specs.laws.Frame.{held_is, same_tables}
 use Rattle.store.proofs.Asked.{not_less}
+use Rattle.store.proofs.StillFits.{fits_halted, fits_unwritten}
 use Rattle.store.proofs.ReadsStore.{moments_read, spared_reading}
 use Rattle.store.proofs.Spares.{spares_in, exports_on}
 
@@ -45,9 +45,6 @@ use Rattle.store.proofs.Spares.{spares_in, exports_on}
 own_image : (d : Disk) → MayLeave d (synced_image d)
 unfolding MayLeave
 own_image d n = inl refl
-
-off_is_on : halted ≢ running
-off_is_on is = cc is
 
 -- a call that changes no table: it is in doubt at no moment, and where it is refused the machine stays or is halted
 pub record Staying (call : PlainCall) : Type 0 where
@@ -237,16 +234,7 @@ module _ {D : Type 0} {g : Ghosts D} (size : D → ℕ) (story : D → Story) (f
           room = staying.room s (pinned_by m) (refused refusals.Device) before s1;
           spares = λ needs. spares_in size story base m old new sound book exportable change carries;
         };
-        fits = record {
-          phase = ap (λ (b : Bool). if b then halted else running) (sym stopped);
-          started = fits.started;
-          device = record {
-            in_limits = subst (λ (n : ℕ). is_size n ≡ true) (sym sized) fits.device.in_limits;
-            allows = subst (λ (n : ℕ). LeavesOnly (Allows (setting_of n base) next) s1) (sym sized) settles;
-            fresh = λ no. absurd (true≢false (sym fits.started ∙ no));
-          };
-          sound = λ again. absurd (off_is_on again);
-        };
+        fits = fits_halted size story base m old new fits sized call wrote stopped settles;
       }
 
   refused_stays : (r : Refusal) → Step s m call (refused r) false m → is_device_reply (refused r) ≡ false → failed new.device ≡ failed old.device → new.halted ≡ false → IsKept old new
@@ -267,28 +255,8 @@ module _ {D : Type 0} {g : Ghosts D} (size : D → ℕ) (story : D → Story) (f
           room = staying.room s (pinned_by m) (refused r) before (now (story new.device));
           spares = λ needs. spared_reading m (story old.device) (story new.device) moments;
         };
-        fits = record {
-          phase = on ∙ sym (ap (λ (b : Bool). if b then halted else running) quiet);
-          started = fits.started;
-          device = record {
-            in_limits = subst (λ (n : ℕ). is_size n ≡ true) (sym sized) fits.device.in_limits;
-            allows = λ image may. subst (λ (n : ℕ). Allows (setting_of n base) m image) (sym sized) (fits.device.allows image (subst (λ (d : Disk). MayLeave d image) disk may));
-            fresh = λ no. absurd (true≢false (sym fits.started ∙ no));
-          };
-          sound = λ again. record {
-            stands =
-                subst (λ (n : ℕ). Stands stored_reading n (now (story new.device)) new.opened.commit (listed_in new)) (sym sized)
-                (subst (λ (d : Disk). Stands stored_reading (size old.device) d new.opened.commit (listed_in new)) (sym disk)
-                (subst (λ (k : Commit). Stands stored_reading (size old.device) before k (listed_in new)) (sym kept.0)
-                (subst (λ (x : PlainCatalogue). Stands stored_reading (size old.device) before old.opened.commit x) (sym kept.1) sound.stands)));
-            tables = (λ i. tables_held (synced_image (disk i)) (kept.1 i)) ∙ sound.tables;
-            uses = new.uses;
-            none = sound.none;
-            exports = subst (λ (b : PlainBook). ExportsFit (synced_image (now (story new.device))) b.exports m.exports) (sym book)
-                (subst (λ (d : Disk). ExportsFit (synced_image d) (book_of old).exports m.exports) (sym disk) sound.exports);
-            next = ap (λ (b : PlainBook). b.next) book ∙ sound.next;
-          };
-        };
+        fits = fits_unwritten size story base m old new fits sized m.exports m.next_id on quiet kept.0 kept.1 disk
+            (subst (λ (b : PlainBook). ExportsFit (synced_image (now (story old.device))) b.exports m.exports) (sym book) sound.exports) (ap (λ (b : PlainBook). b.next) book ∙ sound.next);
       }
 
   -- however it is refused

@@ -1,3 +1,2 @@
 pub mod Saving
-pub mod Exporting
 pub mod Salvaging

@@ -1,5 +1,5 @@
 // Exports that give the pieces of a table one after another, as the table was when the export was opened.
-ghost use Rattle.std.specs.Prelude.{◌≡◌, true, Some, None, if◌then◌else◌, option_map, IfOk, IfErr};
+ghost use Rattle.std.specs.Prelude.{◌≡◌, true, false, Some, None, if◌then◌else◌, option_map, IfOk, IfErr};
 ghost use Rattle.sector_dev.specs.Disk.{now, shown_image};
 ghost use Rattle.arrow_schema.specs.Column.{PlainSchema};
 ghost use Rattle.arrow_schema.specs.Limits.{IsWithinLimits};
@@ -7,14 +7,12 @@ ghost use Rattle.arrow_schema.specs.View.{schema_of};
 ghost use Rattle.values.specs.TableView.{table_of};
 ghost use Rattle.ipc_write.specs.Written.{schema_message, end_of_stream};
 ghost use Rattle.ipc_canonical.specs.Canonical.{rows_messages};
-ghost use Rattle.segments.specs.Usages.{UnpinsAll};
-ghost use Rattle.catalogue.specs.Entries.{is_segment, plain_entry, runs_in_segments};
+ghost use Rattle.catalogue.specs.Entries.{is_segment, plain_entry};
 ghost use Rattle.commit.specs.Standing.{is_size, is_on_device};
 ghost use Rattle.export_book.specs.Plain.{plain_export};
 ghost use Rattle.store.specs.Exported.{IsExportable};
 ghost use Rattle.store_runs.specs.Reading.{HasRows, LacksRows, OnlyReadsDevice, ended};
 ghost use Rattle.store.specs.Exporting.{PieceIs, RefusesNumber};
-ghost use Rattle.store.specs.inner.Exporting.{IsSnapshot};
 
 use crate::Store;
 use crate::reading::halts;
@@ -25,8 +23,7 @@ use ipc_canonical::joined_parts_mean_their_table;
 use ipc_encode::encode_messages;
 use ipc_write::{encode_schema, write_end};
 use sector_dev::SectorDevice;
-use segments::{FreeMap, Run};
-use std::alloc::{AllocError, Global};
+use std::alloc::Global;
 use store_changes::{read_segment, table_laws};
 use tables::{Limit, Refusal};
 use values::Table;
@@ -138,36 +135,10 @@ fn next_piece<D: SectorDevice>(
     }
 }
 
-// What an export keeps of a table: a copy of its entry, and its runs.
-#[derive(Drop)]
-struct Snapshot {
-    entry: TableEntry,
-    runs: Vec<Run>,
-}
-
-// Returns what an export keeps of the table of this entry.
-fn copy_entry(alloc: Global, entry: &TableEntry) -> Result<Snapshot, AllocError>
-    ensures { IfOk result (IsSnapshot (plain_entry entry.now)) }
-{
-    Ok(Snapshot {
-        entry: entry.copy()?,
-        runs: entry.runs(alloc)?,
-    })
-}
-
-// Removes one pin from the run of each of these segments.
-fn unpin_segments(map: &mut FreeMap, segments: &[Segment])
-    ensures { UnpinsAll map.old map.new (runs_in_segments segments.now) }
-{
-    for segment in segments {
-        map.unpin(segment.place.run);
-    }
-}
-
 impl<D: SectorDevice> Store<D> {
     ghost use Rattle.std.specs.Prelude.{OnOk, OnErr};
     ghost use Rattle.catalogue.specs.Edits.{entry_of};
-    ghost use Rattle.export_book.specs.Book.{open_at};
+    ghost use Rattle.export_book.specs.Book.{is_full, open_at};
     ghost use Rattle.tables.specs.Tables.{Tables};
     ghost use Rattle.store_runs.specs.Calls.{open_export_call, export_next_call, close_export_call, done, export_is, piece_is, refused};
     ghost use Rattle.store_runs.specs.Machine.{Machine};
@@ -175,11 +146,12 @@ impl<D: SectorDevice> Store<D> {
     ghost use Rattle.store.specs.Applying.{GoesOn};
     ghost use Rattle.store.specs.Exporting.{RefusesExport, OpensAt, GivesPiece, after_giving, RefusesPiece, ReadsForExport, RefusesClosing, ClosesAt};
     ghost use Rattle.store.specs.Reading.{OnlyReadsStore};
-    ghost use Rattle.store.specs.inner.Exporting.{FindsSnapshot};
 
-    // Returns what an export keeps of the table with this name, if one can be opened.
-    fn find_snapshot(&self, alloc: Global, name: &str) -> Result<Snapshot, Refusal>
-        ensures found { IfOk result (FindsSnapshot (is_halted self.now) (entry_of (listed_in self.now) name.now) (book_of self.now)) }
+    // Returns a copy of the entry of the table with this name, if an export of it can be opened.
+    fn entry_to_export(&self, name: &str) -> Result<TableEntry, Refusal>
+        ensures entry { IfOk result (λ e. entry_of (listed_in self.now) name.now ≡ Some (plain_entry e)) }
+        ensures room { OnOk result (is_full (book_of self.now) ≡ false) }
+        ensures on { OnOk result (is_halted self.now ≡ false) }
         ensures told { IfErr result (RefusesExport (is_halted self.now) (entry_of (listed_in self.now) name.now) (book_of self.now)) }
     {
         if self.halted {
@@ -191,8 +163,8 @@ impl<D: SectorDevice> Store<D> {
                 if full {
                     return Err(Refusal::TooMany(Limit::Exports));
                 }
-                match copy_entry(alloc, entry) {
-                    Ok(snapshot) => Ok(snapshot),
+                match entry.copy() {
+                    Ok(copy) => Ok(copy),
                     Err(_) => Err(Refusal::OutOfMemory),
                 }
             }
@@ -207,17 +179,15 @@ impl<D: SectorDevice> Store<D> {
         ensures kept { IfErr result (λ e. OnlyReadsStore D.size D.story D.failed D.tells (refused e) self.old self.new) }
         ensures device { device_of self.new ≡ device_of self.old }
     {
-        match self.find_snapshot(alloc, name) {
-            Ok(snapshot) => {
-                let Snapshot { entry, runs } = snapshot;
-                match self.book.open(entry) {
-                    Ok(id) => {
-                        self.opened.map.pin_each(&runs);
-                        Ok(id)
-                    }
-                    Err(_) => Err(Refusal::OutOfMemory),
+        match self.entry_to_export(name) {
+            Ok(entry) => match self.book.open(alloc, entry) {
+                Ok(id) => {
+                    let export = self.book.get(id).unwrap();
+                    self.opened.map.pin_each(&export.runs);
+                    Ok(id)
                 }
-            }
+                Err(_) => Err(Refusal::OutOfMemory),
+            },
             Err(refusal) => Err(refusal),
         }
     }
@@ -325,7 +295,7 @@ impl<D: SectorDevice> Store<D> {
         }
         match self.book.close(id) {
             Some(export) => {
-                unpin_segments(&mut self.opened.map, export.entry.segments());
+                self.opened.map.unpin_each(&export.runs);
                 Ok(())
             }
             None => Err(Refusal::NoExport),

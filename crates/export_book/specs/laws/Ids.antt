@@ -1,8 +1,10 @@
 -- The id of an export is used only once.
 use Rattle.std.proofs.Common.{◌≡◌, ◌≢◌, ◌≤◌, ◌<◌, ◌+◌, ◌++◌, ◌==◌, inl, inr, ℕ, Bool, true, false, cond, not, map, List, [], ◌∷◌, Option, Some, None, refl, ap, ◌∙◌, arith}
 use Rattle.std.specs.List.{filter, find, AllByRecursion}
-use Rattle.std.proofs.lemmas.Bool.{cond_both, cond-false, eqb-true, false_from_ne_true}
-use Rattle.export_book.specs.Book.{PlainExport, PlainBook, IsBook, is_of, open_at, gave}
+use Rattle.std.proofs.lemmas.Bool.{cond_both, cond-true, cond-false, eq-eqb, eqb-true, false_from_ne_true}
+use Rattle.arrow_schema.specs.Column.{PlainSchema}
+use Rattle.catalogue.specs.declared.entry.Segment.{Segment}
+use Rattle.export_book.specs.Book.{PlainExport, PlainBook, IsBook, is_of, open_at, with_open, gave}
 use Rattle.export_book.specs.Steps.{IsStep, AreSteps}
 
 -- an export with another id
@@ -47,6 +49,11 @@ module _ (id : ℕ) where
   none_more [] e none other = none_behind e [] other refl
   none_more (x ∷ xs) e none other = let parts = first_none (is_of id x) x (find (is_of id) xs) none in none_behind x (xs ++ e ∷ []) parts.0 (none_more xs e parts.1 other)
 
+  last_of : (es : List PlainExport) (e : PlainExport) → find (is_of id) es ≡ None → is_of id e ≡ true → find (is_of id) (es ++ e ∷ []) ≡ Some e
+  last_of [] e none own = cond-true (is_of id e) (Some e) None own
+  last_of (x ∷ xs) e none own =
+      let parts = first_none (is_of id x) x (find (is_of id) xs) none in cond-false (is_of id x) (Some x) (find (is_of id) (xs ++ e ∷ [])) parts.0 ∙ last_of xs e parts.1 own
+
   none_given : (given : ℕ) (es : List PlainExport) → find (is_of id) es ≡ None → find (is_of id) (map (gave given) es) ≡ None
   none_given given [] none = refl
   none_given given (x ∷ xs) none =
@@ -72,3 +79,8 @@ module _ (id : ℕ) where
   never_again b [] steps lower none = tt
   never_again b (c ∷ cs) steps lower none =
       let here = none_then b c steps.0 lower none in let up = step_up b c steps.0 in (here, never_again c cs steps.1 (omega (arith, lower, up)) here)
+
+-- an export that is opened is open under the next id
+pub opened_at : (b : PlainBook) (schema : PlainSchema) (segments : List Segment) → IsBook b
+    → open_at (with_open schema segments b) b.next ≡ Some (record { id = b.next; schema = schema; segments = segments; given = 0 })
+opened_at b schema segments is = last_of b.next b.exports (record { id = b.next; schema = schema; segments = segments; given = 0 }) (new_id b is) (eq-eqb b.next b.next refl)

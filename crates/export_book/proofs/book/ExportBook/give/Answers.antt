@@ -1,11 +1,11 @@
-use Rattle.std.proofs.Common.{◌≡◌, ◌∙◌, ◌≤◌, ◌<◌, ◌+◌, length, get_or, set, sym, ap, subst, arith}
+use Rattle.std.proofs.Common.{◌≡◌, ◌∙◌, ◌≤◌, ◌<◌, ◌+◌, length, get_or, refl, sym, ap, subst, arith}
 use Rattle.std.specs.List.{position}
 use Rattle.catalogue.specs.declared.limits.TheConstants.{MAX_SEGMENTS}
 use Rattle.export_book.specs.declared.export.OpenExport.{OpenExport}
 use Rattle.catalogue.specs.Entries.{plain_entry}
-use Rattle.export_book.specs.Book.{PlainExport, IsBook, MayGive, with_given}
-use Rattle.export_book.specs.Plain.{book_in, plain_export, next_id}
-use Rattle.export_book.proofs.Places.{has_id, placed, absent}
+use Rattle.export_book.specs.Book.{PlainExport, IsBook, MayGive}
+use Rattle.export_book.specs.Plain.{book_in, next_id}
+use Rattle.export_book.proofs.Places.{has_id, placed, given_at, absent}
 use Rattle.export_book.proofs.Books.{each_at, given_book}
 use Rattle.export_book.proofs.book.ExportBook.give.Goals as goal
 
@@ -33,9 +33,7 @@ invariant_of-self c =
     let found = ap (position (has_id c.args.id)) (sym c.deref.ensures.value) ∙ sym c.place_of.ensures ∙ c.in-Some.is in
     let p = placed c.args.id s.exports.items c.in-Some.place found in
     let x = c.index_mut-export.result.now in
-    let new : OpenExport = record { id = x.id; entry = x.entry; given = x.given + 1 } in
-    let exports = p.given s.sound.rising x new (ap (λ (e : OpenExport). record (plain_export e) { given = e.given + 1 }) c.index_mut-export.ensures.value) in
-    let is : book_in (set s.exports.items c.in-Some.place new) s.next ≡ with_given c.args.id (book_in s.exports.items s.next) = λ i. record { exports = exports i; next = next_id s.next } in
+    let is = given_at c.args.id s.exports.items s.next c.in-Some.place x _ p s.sound.rising c.index_mut-export.ensures.value refl in
     record { counted = s.counted; sound = subst IsBook (sym is) (given_book (book_in s.exports.items s.next) c.args.id s.sound) }
 
 pub returns-in-Some : goal.returns-in-Some
@@ -44,9 +42,7 @@ returns-in-Some c =
     let found = ap (position (has_id c.args.id)) (sym c.deref.ensures.value) ∙ sym c.place_of.ensures ∙ c.in-Some.is in
     let p = placed c.args.id s.exports.items c.in-Some.place found in
     let x = c.index_mut-export.result.now in
-    let new : OpenExport = record { id = x.id; entry = x.entry; given = x.given + 1 } in
-    let exports = p.given s.sound.rising x new (ap (λ (e : OpenExport). record (plain_export e) { given = e.given + 1 }) c.index_mut-export.ensures.value) in
-    λ i. record { exports = exports i; next = next_id s.next }
+    given_at c.args.id s.exports.items s.next c.in-Some.place x _ p s.sound.rising c.index_mut-export.ensures.value refl
 
 pub returns-in-None : goal.returns-in-None
 returns-in-None c =

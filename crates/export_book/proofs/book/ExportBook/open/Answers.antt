@@ -16,11 +16,10 @@ invariant_of-self c =
 pub invariant_of-self-2 : goal.invariant_of-self-2
 invariant_of-self-2 c =
     let s = c.args.self.now in
-    let e : OpenExport = record { id = c.unwrap-id.result; entry = c.args.entry; given = 0 } in
-    let lower : e.id < 2 ^ 64 = subst (λ (n : ℕ). n < 2 ^ 64) (ap next_id c.unwrap-id.ensures) (has_room (book_in s.exports.items s.next) c.requires.room).1 in
-    let is = opened_is s.exports.items c.push.new.self.items s.next c.checked_add-next.result e c.unwrap-id.ensures c.in_ok-push.ensures.items refl c.checked_add-next.ensures lower in
+    let lower : c.unwrap-id.result < 2 ^ 64 = subst (λ (n : ℕ). n < 2 ^ 64) (ap next_id c.unwrap-id.ensures) (has_room (book_in s.exports.items s.next) c.requires.room).1 in
+    let is = opened_is s.exports.items c.push.new.self.items s.next c.checked_add-next.result _ c.in_ok-push.ensures.items c.unwrap-id.ensures refl c.checked_add-next.ensures lower in
     record {
-      counted = counted_next e.id c.checked_add-next.result c.checked_add-next.ensures;
+      counted = counted_next c.unwrap-id.result c.checked_add-next.result c.checked_add-next.ensures;
       sound = subst IsBook (sym is) (open_book (book_in s.exports.items s.next) (plain_entry c.args.entry).schema (plain_entry c.args.entry).segments s.sound c.requires.room c.requires.short c.requires.once);
     }
 
@@ -30,9 +29,8 @@ returns-clause-id c = sym (ap next_id c.unwrap-id.ensures)
 pub returns-clause-opened : goal.returns-clause-opened
 returns-clause-opened c =
     let s = c.args.self.now in
-    let e : OpenExport = record { id = c.unwrap-id.result; entry = c.args.entry; given = 0 } in
-    let lower : e.id < 2 ^ 64 = subst (λ (n : ℕ). n < 2 ^ 64) (ap next_id c.unwrap-id.ensures) (has_room (book_in s.exports.items s.next) c.requires.room).1 in
-    opened_is s.exports.items c.push.new.self.items s.next c.checked_add-next.result e c.unwrap-id.ensures c.in_ok-push.ensures.items refl c.checked_add-next.ensures lower
+    let lower : c.unwrap-id.result < 2 ^ 64 = subst (λ (n : ℕ). n < 2 ^ 64) (ap next_id c.unwrap-id.ensures) (has_room (book_in s.exports.items s.next) c.requires.room).1 in
+    opened_is s.exports.items c.push.new.self.items s.next c.checked_add-next.result _ c.in_ok-push.ensures.items c.unwrap-id.ensures refl c.checked_add-next.ensures lower
 
 -- what holds holds of an error too
 holds_err : {A B : Type 0} (P : Type 0) (r : Result A B) → P → OnErr r P
@@ -41,5 +39,5 @@ holds_err P (Err e) holds = holds
 
 pub returns-in_err-push-clause-err : goal.returns-in_err-push-clause-err
 returns-in_err-push-clause-err c =
-    holds_err (book_in c.push.new.self.items c.args.self.now.next ≡ book_in c.args.self.now.exports.items c.args.self.now.next) c.from_residual.result
+    holds_err (book_in c.push.new.self.items c.args.self.now.next ≡ book_in c.args.self.now.exports.items c.args.self.now.next) c.from_residual-in_err-push.result
     (ap (λ (es : List OpenExport). book_in es c.args.self.now.next) c.in_err-push.ensures.items)

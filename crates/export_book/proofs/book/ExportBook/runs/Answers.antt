@@ -22,6 +22,6 @@ loop-export-preserved c =
     let e = c.export-item.result in
     let lt = subst (λ (xs : List OpenExport). c.loop-export.export-index < length xs) c.deref-export-items.ensures.value c.loop-export-test.true in
     let is = subst (λ (xs : List OpenExport). e ≡ get_or xs c.loop-export.export-index e) c.deref-export-items.ensures.value c.export-item.is in
-    c.in_ok-extend_from_slice.ensures.items ∙ ap (λ (rs : List Run). c.loop-export.runs.items ++ rs) (c.deref.ensures.value ∙ c.in_ok-runs.ensures)
+    c.in_ok-extend_from_slice.ensures.items ∙ ap (λ (rs : List Run). c.loop-export.runs.items ++ rs) (c.deref.ensures.value ∙ e.listed)
     ∙ ap (λ (rs : List Run). rs ++ runs_in_segments (plain_entry e.entry).segments) c.loop-export.invariant
     ∙ sym (more_kept c.args.self.now.exports.items c.loop-export.export-index e lt is)

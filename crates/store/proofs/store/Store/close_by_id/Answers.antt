@@ -1,7 +1,6 @@
 use Rattle.std.proofs.Common.{◌≡◌, ◌∷◌, refl, sym, ap, ◌∙◌, subst, List}
 use Rattle.segments.specs.Usages.{UnpinsAll}
 use Rattle.segments.specs.laws.Usages.{or_false}
-use Rattle.catalogue.specs.declared.entry.Segment.{Segment}
 use Rattle.catalogue.specs.Entries.{runs_of, runs_in_segments}
 use Rattle.commit.specs.Placing.{Uses}
 use Rattle.export_book.specs.Book.{PlainBook, PlainExport, runs_kept, open_at, without}
@@ -39,7 +38,7 @@ returns-in-Some-clause-closed g c =
     closes_at s.halted (open_at (book_of s) c.args.id) s c.args.id (plain_export c.in-Some.export) _ c.if-self.false (sym c.in-Some.ensures.export)
     (record {
       closed = c.close.ensures.closed;
-      pins = subst (λ (gs : List Segment). UnpinsAll s.opened.map c.unpin_segments.new.map (runs_in_segments gs)) c.segments.ensures c.unpin_segments.ensures;
+      pins = subst (UnpinsAll s.opened.map c.unpin_each.new.self) (c.deref.ensures.value ∙ c.in-Some.export.listed) c.unpin_each.ensures;
       commit = refl;
       listed = refl;
       on = c.if-self.false;
@@ -51,11 +50,11 @@ invariant_of-self g c =
     let size = g.D.SectorDevice.size s.device in
     let text = s.opened.commit.catalogue.run in
     let listed = listed_in s in
-    let new = c.unpin_segments.new.map in
-    let pins : UnpinsAll s.opened.map new (runs_in_segments (plain_export c.in-Some.export).segments) = subst (λ (gs : List Segment). UnpinsAll s.opened.map new (runs_in_segments gs)) c.segments.ensures c.unpin_segments.ensures in
+    let new = c.unpin_each.new.self in
+    let pins : UnpinsAll s.opened.map new (runs_in_segments (plain_export c.in-Some.export).segments) = subst (UnpinsAll s.opened.map new) (c.deref.ensures.value ∙ c.in-Some.export.listed) c.unpin_each.ensures in
     record {
       in_limits = s.in_limits;
-      same = c.unpin_segments.ensures.size ∙ s.same;
+      same = c.unpin_each.ensures.size ∙ s.same;
       own = s.own;
       fit = s.fit;
       placed = s.placed;
