@@ -11,6 +11,7 @@ pub mod Tables
 pub mod PlainText
 pub mod PlainRecords
 pub mod PlainRows
+pub mod ShortIntegers
 pub mod TokenCells
 pub mod MemberGrammar
 pub mod LineRows

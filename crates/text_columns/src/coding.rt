@@ -1,9 +1,11 @@
 // Columns with a dictionary: each value is looked up among the entries that were seen, and its index is written.
-ghost use Rattle.std.specs.Prelude.{◌≡◌, ◌+◌, ◌++◌, ◌/◌, ◌∷◌, [], true, position, bytes_eq, IfOk, IfSome, OnOk};
+ghost use Rattle.std.specs.Prelude.{◌≡◌, ◌+◌, ◌++◌, ◌/◌, ◌∷◌, [], ℕ, List, Some, true, position, bytes_eq, IfOk, IfSome, OnOk};
 ghost use Rattle.cells.specs.Dictionary.{entry_limit, is_within};
+ghost use Rattle.cells.specs.Typed.{typed_integer};
 ghost use Rattle.text_columns.specs.inner.Kept.{Codes, Places, TakesField, TakesNullCell, index_type, key_list};
 
 use crate::column_values::Values;
+use crate::short_integers::ShortInteger;
 use arrow_schema::IntegerType;
 use cells::entry_limit;
 use columns::push_index;
@@ -131,5 +133,20 @@ pub(crate) fn push_text(
     match coding {
         None => values.push_text(text),
         Some(coding) => coding.push_text(values, text),
+    }
+}
+
+/// Appends a number, where it is one of the type, and answers what it weighs; none where the column has a dictionary.
+pub(crate) fn push_short(
+    values: &mut Values,
+    coding: &mut Option<Coding>,
+    short: ShortInteger,
+) -> Result<Option<u64>, AllocError>
+    ensures { (text : List ℕ) → typed_integer text ≡ Some short.number
+        → IfOk result (λ taken. IfSome taken (λ heavy. TakesField text heavy values.old coding.old values.new coding.new)) }
+{
+    match coding {
+        None => values.push_short(short),
+        Some(_) => Ok(None),
     }
 }

@@ -1,11 +1,12 @@
 // The values of one column.
-ghost use Rattle.std.specs.Prelude.{◌≡◌, ◌++◌, ◌/◌, ◌∷◌, [], IfOk, IfSome, OnOk, Some, replicate};
+ghost use Rattle.std.specs.Prelude.{◌≡◌, ◌++◌, ◌/◌, ◌∷◌, [], ℕ, List, IfOk, IfSome, OnOk, Some, replicate};
 ghost use Rattle.arrow_schema.specs.View.{bits_of};
-ghost use Rattle.cells.specs.Typed.{typed_boolean};
+ghost use Rattle.cells.specs.Typed.{typed_boolean, typed_integer};
 ghost use Rattle.text_columns.specs.inner.Kept.{AppendsBoolean, Clears, HoldContents, TakesKey, TakesNull, TakesText, first_key, null_heavy, value_bytes};
 
 use crate::bytes::{push_bytes, push_fixed};
-use crate::integers::push_integer;
+use crate::integers::{push_integer, push_short};
+use crate::short_integers::ShortInteger;
 use crate::texts::{extend, push_contents};
 use arrow_schema::{BitWidth, IntegerType};
 use columns::{OffsetWidth, push_offset};
@@ -176,6 +177,16 @@ impl Values {
                 push_bytes(offsets, contents, *width, text)
             }
             Values::FixedBinaries(width, values) => push_fixed(values, *width, text),
+        }
+    }
+
+    /// Appends a number, where it is one of the type, and answers what it weighs.
+    pub(crate) fn push_short(&mut self, short: ShortInteger) -> Result<Option<u64>, AllocError>
+        ensures { (text : List ℕ) → typed_integer text ≡ Some short.number → IfOk result (λ taken. IfSome taken (λ heavy. TakesText text heavy self.old self.new)) }
+    {
+        match self {
+            Values::Integers(integer, values) => push_short(values, *integer, short),
+            _ => Ok(None),
         }
     }
 }

@@ -21,11 +21,11 @@ pub(crate) struct FlatBuilder {
 impl FlatBuilder {
     ghost use Rattle.std.specs.Prelude.{◌≡◌, ◌&&◌, bytes_eq};
 
-    // Whether the text of a field is a null of the column.
-    fn is_null(&self, null_text: &[u8], text: &[u8]) -> bool
+    /// Whether the text of a field is a null of the column.
+    pub(crate) fn is_null(&self, null_text: &[u8], text: &[u8]) -> bool
         ensures { result ≡ (self.now.nullable && bytes_eq text.now null_text.now) }
     {
-        self.nullable && text == null_text
+        self.nullable && text.len() == null_text.len() && text == null_text
     }
 
     /// Appends a null, where the column is nullable and a row may weigh as much, and answers what it weighs.

@@ -1,8 +1,10 @@
 // Integers as bytes.
-ghost use Rattle.std.specs.Prelude.{◌≡◌, ◌/◌, ◌++◌, true, false, IfOk, IfSome};
+ghost use Rattle.std.specs.Prelude.{◌≡◌, ◌/◌, ◌++◌, ℕ, List, Some, true, false, IfOk, IfSome};
 ghost use Rattle.arrow_schema.specs.View.{bits_of};
+ghost use Rattle.cells.specs.Typed.{typed_integer};
 ghost use Rattle.text_columns.specs.inner.Kept.{AppendsInteger, AppendsSpelled};
 
+use crate::short_integers::ShortInteger;
 use arrow_schema::{BitWidth, IntegerType};
 use std::alloc::AllocError;
 use text_import::spelled_integer;
@@ -87,6 +89,22 @@ pub(crate) fn push_integer(
         return Ok(None);
     };
     if push_number(values, integer, number)? {
+        Ok(Some(1))
+    } else {
+        Ok(None)
+    }
+}
+
+/// Appends the bytes of a number, where the type holds it, and answers what it weighs as the integer that a text spells.
+pub(crate) fn push_short(
+    values: &mut Vec<u8>,
+    integer: IntegerType,
+    short: ShortInteger,
+) -> Result<Option<u64>, AllocError>
+    ensures { (text : List ℕ) → typed_integer text ≡ Some short.number → IfOk result (λ taken. IfSome taken (λ heavy. (heavy ≡ 1)
+        × AppendsSpelled (bits_of integer.width) integer.signed text values.old.items values.new.items)) }
+{
+    if push_number(values, integer, i128::from(short.number))? {
         Ok(Some(1))
     } else {
         Ok(None)

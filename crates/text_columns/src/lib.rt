@@ -35,6 +35,7 @@ mod placing;
 mod plain;
 mod reading;
 mod records;
+mod short_integers;
 mod starting;
 mod table;
 mod texts;

@@ -7,7 +7,7 @@ ghost use Rattle.text_import.specs.Records.{record_row, records_of};
 ghost use Rattle.text_import.specs.Rows.{rows_from};
 ghost use Rattle.text_import.specs.Stands.{Left};
 ghost use Rattle.text_columns.specs.inner.Batches.{AddsRow, HasRows, HoldRows};
-ghost use Rattle.text_columns.specs.inner.Plain.{IsFieldAt, PushesPlain, SkipsEnds, SkipsRecord, begins_quoted, begins_with, ends_field, ends_line};
+ghost use Rattle.text_columns.specs.inner.Plain.{IsFieldAt, PushesField, PushesPlain, SkipsEnds, SkipsRecord, begins_quoted, begins_with, ends_field, ends_line};
 
 use crate::batches::Batches;
 use crate::builder::ColumnBuilder;
@@ -22,13 +22,20 @@ pub(crate) struct PlainRow {
     pub(crate) weight: u64,
 }
 
+/// Where a field ends, and what its cell weighs.
+#[derive(Clone, Copy)]
+pub(crate) struct PlainField {
+    pub(crate) end: usize,
+    pub(crate) weight: u64,
+}
+
 fn ends_line(byte: u8) -> bool
     ensures { result ≡ ends_line byte }
 {
     byte == b'\r' || byte == b'\n'
 }
 
-fn ends_field(byte: u8) -> bool
+pub(crate) fn ends_field(byte: u8) -> bool
     ensures { result ≡ ends_field byte }
 {
     byte == b',' || ends_line(byte)
@@ -121,6 +128,47 @@ fn behind_line(text: &[u8], end: usize) -> usize
     if end < text.len() { end + 1 } else { end }
 }
 
+// Appends the cell of the field that begins at a place, and answers where it ends and what it weighs; none where it does not go in, or a quote
+// begins it.
+fn push_any_field(
+    builder: &mut ColumnBuilder,
+    null_text: &[u8],
+    text: &[u8],
+    from: usize,
+) -> Result<Option<PlainField>, AllocError>
+    requires { from ≤ length text.now }
+    ensures { IfOk result (λ taken. IfSome taken (λ field. PushesField text.now null_text.now from field builder.old builder.new)) }
+{
+    if is_quoted(text, from) {
+        return Ok(None);
+    }
+    let end = field_end(text, from);
+    match builder.push_field(null_text, &text[from..end])? {
+        Some(weight) => Ok(Some(PlainField { end, weight })),
+        None => Ok(None),
+    }
+}
+
+// The same, where a field that is a short integer is read once.
+fn push_plain_field(
+    builder: &mut ColumnBuilder,
+    null_text: &[u8],
+    text: &[u8],
+    from: usize,
+) -> Result<Option<PlainField>, AllocError>
+    requires { from ≤ length text.now }
+    ensures { IfOk result (λ taken. IfSome taken (λ field. PushesField text.now null_text.now from field builder.old builder.new)) }
+{
+    let Some(short) = builder.short_integer(text, from) else {
+        return push_any_field(builder, null_text, text, from);
+    };
+    let end = short.end;
+    match builder.push_short(null_text, &text[from..end], short)? {
+        Some(weight) => Ok(Some(PlainField { end, weight })),
+        None => Ok(None),
+    }
+}
+
 // Appends the cells of a record, as many as columns, and answers where it ends and what its row weighs; none where it does not go in,
 // or a quote begins a field.
 fn push_plain(
@@ -136,18 +184,16 @@ fn push_plain(
     let mut at = from;
     let mut weight = 1;
     for i in 0..builders.len() {
-        if is_quoted(text, at) {
-            return Ok(None);
-        }
-        let end = field_end(text, at);
         let builder = &mut builders[i];
-        let Some(heavy) = builder.push_field(null_text, &text[at..end])? else {
+        let Some(field) = push_plain_field(builder, null_text, text, at)? else {
             return Ok(None);
         };
+        let heavy = field.weight;
         if heavy > MAX_ROW_WEIGHT - weight {
             return Ok(None);
         }
         weight += heavy;
+        let end = field.end;
         if !goes_on(text, end) {
             if i + 1 < builders.len() {
                 return Ok(None);

@@ -1,13 +1,18 @@
 -- Records without quotes, by where they stand in a text.
-use Rattle.std.specs.Prelude.{◌≡◌, ◌≤◌, ◌<◌, ◌+◌, ◌-◌, ◌==◌, ◌||◌, ℕ, Bool, false, true, not, List, [], ◌∷◌, length, drop, take, slice_index, Some}
+use Rattle.std.specs.Prelude.{◌≡◌, ◌≤◌, ◌<◌, ◌+◌, ◌-◌, ◌^◌, ◌==◌, ◌||◌, ℕ, Bool, false, true, not, List, [], ◌∷◌, length, drop, take, slice_index, Some}
 use Rattle.std.specs.List.{list_all}
+use Rattle.std.specs.Char.{is_ascii_digit}
+use Rattle.std.specs.Str.Parse.{digits_value}
+use Rattle.cells.specs.Typed.{typed_integer}
 use Rattle.csv.specs.Machine.{next_record}
 use Rattle.csv.specs.Reading.{default_config}
 use Rattle.csv.specs.declared.parser.State.{State}
 use Rattle.csv.specs.declared.parser.State.TheVariants as st
 use Rattle.text_columns.specs.declared.builder.ColumnBuilder.{ColumnBuilder}
+use Rattle.text_columns.specs.declared.plain.PlainField.{PlainField}
 use Rattle.text_columns.specs.declared.plain.PlainRow.{PlainRow}
-use Rattle.text_columns.specs.inner.Kept.{KeepsRecord}
+use Rattle.text_columns.specs.declared.short_integers.ShortInteger.{ShortInteger}
+use Rattle.text_columns.specs.inner.Kept.{KeepsField, KeepsRecord}
 
 abbrev pub ends_line : ℕ → Bool
 ends_line b = (b == 13) || (b == 10)
@@ -33,6 +38,26 @@ pub record IsFieldAt (text : List ℕ) (from end : ℕ) : Type 0 where
   pub high : end ≤ length text
   pub plain : AllBetween (λ b. not (ends_field b)) text from end
   pub stops : end < length text → ends_field (slice_index text end) ≡ true
+
+-- digits from a place up to another, and the number that they spell
+pub record AreDigits (text : List ℕ) (from end number : ℕ) : Type 0 where
+  pub low : from ≤ end
+  pub high : end ≤ length text
+  pub digits : AllBetween is_ascii_digit text from end
+  pub spelled : number ≡ digits_value 10 (take (end - from) (drop from text))
+  pub small : number < 10 ^ (end - from)
+
+-- the integer that a field is
+pub record IsShortInteger (text : List ℕ) (from : ℕ) (s : ShortInteger) : Type 0 where
+  pub field : IsFieldAt text from s.end
+  pub unquoted : begins_quoted (drop from text) ≡ false
+  pub spelled : typed_integer (take (s.end - from) (drop from text)) ≡ Some s.number
+
+-- a field without quotes, whose cell came behind those of a column
+pub record PushesField (text null_text : List ℕ) (from : ℕ) (f : PlainField) (old new : ColumnBuilder) : Type 0 where
+  pub field : IsFieldAt text from f.end
+  pub unquoted : begins_quoted (drop from text) ≡ false
+  pub keeps : KeepsField null_text (take (f.end - from) (drop from text)) f.weight old new
 
 -- line ends from a place up to another
 pub record SkipsEnds (text : List ℕ) (from next : ℕ) : Type 0 where

@@ -14,10 +14,10 @@ loop-i-preserved c =
     let b = c.index-builders-i.result in
     let within : i < length bs = omega (arith, c.loop-i-test.true, c.loop-i.auto.builders) in
     let here : slice_get bs i ≡ Some b = slice_get-get_or bs i b within ∙ ap Some (sym c.index-builders-i.is) in
-    let taken = rw (c.in-Some.is, ← c.index-builders-i.is) at c.in_ok-heavy.ensures in
+    let pushed = rw (c.in-Some.is, ← c.index-builders-i.is) at c.in_ok-field.ensures in
     let more =
-    begun_more c.args.text.now c.args.null_text.now c.args.from c.loop-i.at c.field_end-end.result i c.loop-i.weight c.in-Some.heavy c.args.builders.now bs b c.push_field.new.self c.loop-i.invariant.begun
-    c.field_end-end.ensures (sym c.is_quoted.ensures ∙ c.if-is_quoted.false) here taken (sym c.goes_on.ensures ∙ c.if-not-goes_on.false) in
+    begun_more c.args.text.now c.args.null_text.now c.args.from c.loop-i.at c.in-Some.field.end i c.loop-i.weight c.in-Some.field.weight c.args.builders.now bs b c.push_plain_field.new.builder c.loop-i.invariant.begun
+    pushed.field pushed.unquoted here pushed.keeps (sym c.goes_on.ensures ∙ c.if-not-goes_on.false) in
     record { some = omega (arith, c.loop-i.invariant.some); few = omega (arith, c.loop-i.invariant.few, c.if-heavy-weight.false); within = more.within; begun = more }
 
 pub returns-then-not-goes_on-clause-pushed : goal.returns-then-not-goes_on-clause-pushed
@@ -27,8 +27,8 @@ returns-then-not-goes_on-clause-pushed c =
     let b = c.index-builders-i.result in
     let within : i < length bs = omega (arith, c.loop-i-test.true, c.loop-i.auto.builders) in
     let here : slice_get bs i ≡ Some b = slice_get-get_or bs i b within ∙ ap Some (sym c.index-builders-i.is) in
-    let taken = rw (c.in-Some.is, ← c.index-builders-i.is) at c.in_ok-heavy.ensures in
-    ended c.args.text.now c.args.null_text.now c.args.from c.loop-i.at c.field_end-end.result i c.loop-i.weight c.in-Some.heavy c.args.builders.now bs b c.push_field.new.self c.loop-i.invariant.begun
-    c.field_end-end.ensures (sym c.is_quoted.ensures ∙ c.if-is_quoted.false) here taken
-    (record { next = c.behind_line-next.result; weight = c.loop-i.weight + c.in-Some.heavy })
-    (sym c.goes_on.ensures ∙ c.if-not-goes_on.true) refl (omega (arith, c.if-i-builders.false, length-set bs i c.push_field.new.self)) c.loop-i.auto.builders c.behind_line-next.ensures.within c.behind_line-next.ensures.rest
+    let pushed = rw (c.in-Some.is, ← c.index-builders-i.is) at c.in_ok-field.ensures in
+    ended c.args.text.now c.args.null_text.now c.args.from c.loop-i.at c.in-Some.field.end i c.loop-i.weight c.in-Some.field.weight c.args.builders.now bs b c.push_plain_field.new.builder c.loop-i.invariant.begun
+    pushed.field pushed.unquoted here pushed.keeps
+    (record { next = c.behind_line-next.result; weight = c.loop-i.weight + c.in-Some.field.weight })
+    (sym c.goes_on.ensures ∙ c.if-not-goes_on.true) refl (omega (arith, c.if-i-builders.false, length-set bs i c.push_plain_field.new.builder)) c.loop-i.auto.builders c.behind_line-next.ensures.within c.behind_line-next.ensures.rest
