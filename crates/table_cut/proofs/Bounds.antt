@@ -22,7 +22,7 @@ use Rattle.columns.specs.View.{fields_of, placed_arrays}
 use Rattle.columns.specs.declared.array.PlacedArray.{PlacedArray}
 use Rattle.table_cut.specs.declared.row_run.RowRun.{RowRun}
 use Rattle.table_cut.specs.inner.Bounds.{AreNoLonger, column_weight, columns_weight}
-use Rattle.table_cut.specs.inner.Columns.{arrays_behind, array_at}
+use Rattle.table_cut.specs.inner.Columns.{arrays_from_place, array_at}
 use Rattle.table_cut.proofs.ColumnLemmas.{arrays_next}
 
 -- ---- rows, column by column
@@ -50,11 +50,11 @@ first_weighs c cs arrays (i ∷ places) =
     omega (arith, all, own, rest, first_weighs c cs arrays places)
 
 columns_weigh : (j : ℕ) (cs : Columns) (r : RowRun) (n : ℕ)
-    → sum_by (rest_weight cs) (map (row_at cs (arrays_behind j r)) (range_with_len r.from n)) ≡ columns_weight j cs r n
+    → sum_by (rest_weight cs) (map (row_at cs (arrays_from_place j r)) (range_with_len r.from n)) ≡ columns_weight j cs r n
 unfolding columns_weight
-columns_weigh j no_column r n = none_weigh (arrays_behind j r) (range_with_len r.from n)
+columns_weigh j no_column r n = none_weigh (arrays_from_place j r) (range_with_len r.from n)
 columns_weigh j (and_column c cs) r n =
-    first_weighs c cs (arrays_behind j r) (range_with_len r.from n)
+    first_weighs c cs (arrays_from_place j r) (range_with_len r.from n)
     ∙ ap (λ (w : ℕ). column_weight j c r n + w)
     (ap (λ (arrays : Arrays). sum_by (rest_weight cs) (map (row_at cs arrays) (range_with_len r.from n))) (arrays_next j r) ∙ columns_weigh (j + 1) cs r n)
 
@@ -68,9 +68,9 @@ row_more s f from (suc n) =
 
 -- n rows weigh one each, and what the columns do
 pub rows_weigh : (s : PlainSchema) (j : ℕ) (r : RowRun) (n : ℕ)
-    → table_weight s (map (row_at (columns_of s.columns) (arrays_behind j r)) (range_with_len r.from n)) ≡ n + columns_weight j (columns_of s.columns) r n
+    → table_weight s (map (row_at (columns_of s.columns) (arrays_from_place j r)) (range_with_len r.from n)) ≡ n + columns_weight j (columns_of s.columns) r n
 rows_weigh s j r n =
-    row_more s (row_at (columns_of s.columns) (arrays_behind j r)) r.from n
+    row_more s (row_at (columns_of s.columns) (arrays_from_place j r)) r.from n
     ∙ ap (λ (w : ℕ). n + w) (columns_weigh j (columns_of s.columns) r n)
 
 pub one_column : (j : ℕ) (c : Column) (r : RowRun) (n : ℕ) → columns_weight j (and_column c no_column) r n ≡ column_weight j c r n
@@ -281,12 +281,12 @@ only_item (y ∷ z ∷ zs) x some few is = absurd (omega arith)
 -- ---- the column at a place, and those after it
 
 pub first_sound : (fields : List Field) (field : Field) (r : RowRun) (i n : ℕ) → drop i fields ≡ field ∷ drop (i + 1) fields → n ≤ r.len
-    → are_sound (fields_of (drop i fields)) (r.from + r.len) (arrays_behind i r) ≡ true
-    → (are_sound (fields_of (field ∷ [])) (r.from + n) (arrays_behind i r) ≡ true) × (are_sound (fields_of (drop (i + 1) fields)) (r.from + r.len) (arrays_behind (i + 1) r) ≡ true)
+    → are_sound (fields_of (drop i fields)) (r.from + r.len) (arrays_from_place i r) ≡ true
+    → (are_sound (fields_of (field ∷ [])) (r.from + n) (arrays_from_place i r) ≡ true) × (are_sound (fields_of (drop (i + 1) fields)) (r.from + r.len) (arrays_from_place (i + 1) r) ≡ true)
 unfolding are_sound
 first_sound fields field r i n item within sound =
-    let here : are_sound (fields_of (field ∷ drop (i + 1) fields)) (r.from + r.len) (arrays_behind i r) ≡ true =
-    sym (ap (λ (fs : List Field). are_sound (fields_of fs) (r.from + r.len) (arrays_behind i r)) item) ∙ sound in
+    let here : are_sound (fields_of (field ∷ drop (i + 1) fields)) (r.from + r.len) (arrays_from_place i r) ≡ true =
+    sym (ap (λ (fs : List Field). are_sound (fields_of fs) (r.from + r.len) (arrays_from_place i r)) item) ∙ sound in
     let long = and_parts (nat_le (r.from + r.len) (slots_in (array_at i r))) _ here in
     let parts = and_parts (is_sound (column_of field) (array_at i r)) _ long.1 in
     let most : r.from + r.len ≤ slots_in (array_at i r) = leb-true _ _ long.0 in (
@@ -299,8 +299,8 @@ front_item fields field i item =
     let one : i + 1 - i ≡ 1 = omega arith in
     sym (ap (λ (k : ℕ). map column_of (take k (drop i fields))) one ∙ ap (λ (fs : List Field). map column_of (take 1 fs)) item)
 
-behind_all : {X : Type 0} (xs : List X) (i low : ℕ) → low ≡ min i (length xs) → take (length xs - low) (drop low xs) ≡ drop i xs
-behind_all xs i low is =
+rest_all : {X : Type 0} (xs : List X) (i low : ℕ) → low ≡ min i (length xs) → take (length xs - low) (drop low xs) ≡ drop i xs
+rest_all xs i low is =
     let all = take_all (length xs - low) (drop low xs) (omega (arith, length-drop low xs)) in
     elim (cases_lt i (length xs)) [
       | inl lt ↦ (let same : low ≡ i = omega (arith, is, lt) in all ∙ ap (λ (k : ℕ). drop k xs) same)
@@ -316,7 +316,7 @@ weighs_alone fields field r i low n w item is h =
     let s : PlainSchema = record { columns = column_of field ∷ []; pairs = [] } in
     h s (front_item fields field i item)
     ∙ ap (λ (arrays : List PlacedArray). capped_weight (table_weight s (map (row_at (columns_of s.columns) (placed_arrays r.bytes.now r.dictionaries.now arrays)) (range_with_len r.from n))))
-    (behind_all r.arrays.now i low is)
+    (rest_all r.arrays.now i low is)
     ∙ ap capped_weight (rows_weigh s i r n ∙ ap (λ (v : ℕ). n + v) (one_column i (column_of field) r n))
 
 pub one_sound : (field : Field) (n : ℕ) (arrays : Arrays) → are_sound (fields_of (field ∷ [])) n arrays ≡ true → is_sound (column_of field) (first_array arrays) ≡ true

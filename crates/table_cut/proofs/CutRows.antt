@@ -75,8 +75,8 @@ one_cut within [] fronts longest = refl
 one_cut within ([] ∷ others) fronts longest = absurd (longest.0 refl)
 one_cut within ((row ∷ rows) ∷ others) fronts longest =
     let first : pieces_from within (row ∷ []) (rows ++ joined others) ≡ (row ∷ rows) ∷ pieces within (joined others) = filled within (row ∷ []) rows (joined others) fronts longest.1 longest.2 in
-    let behind : others ≡ pieces within (joined others) = one_cut within others fronts longest.3 in
-    ap (λ x. (row ∷ rows) ∷ x) behind ∙ sym first ∙ ap (pieces within) (sym (joined-cons (row ∷ rows) others))
+    let remaining : others ≡ pieces within (joined others) = one_cut within others fronts longest.3 in
+    ap (λ x. (row ∷ rows) ∷ x) remaining ∙ sym first ∙ ap (pieces within) (sym (joined-cons (row ∷ rows) others))
 
 only_cut : {A : Type 0} (within : List A → Bool) (rows : List A) (ps : List (List A)) → IsOfFronts within → IsCut within rows ps → ps ≡ pieces within rows
 only_cut within rows ps fronts cut = one_cut within ps fronts cut.longest ∙ ap (pieces within) cut.whole

@@ -31,10 +31,10 @@ use Rattle.columns.specs.laws.Rows.{first_cells, other_rows}
 use Rattle.dictionary_codes.specs.Room.{IsRoomFor}
 use Rattle.table_cut.specs.Rows.{run_rows, runs_rows}
 use Rattle.table_cut.specs.declared.row_run.RowRun.{RowRun}
-use Rattle.table_cut.specs.inner.Columns.{arrays_behind, array_at, rows_behind, cells_behind}
+use Rattle.table_cut.specs.inner.Columns.{arrays_from_place, array_at, rows_from_place, cells_at_place}
 use Rattle.table_cut.specs.inner.Fit.{is_flat, are_flat, column_fits, entries_fit, fit_with, is_column_coded, HasRoomFor, IsCounted, AreCounted}
 use Rattle.table_cut.specs.inner.Room.{AreRunsOf}
-use Rattle.table_cut.proofs.ColumnLemmas.{arrays_next, rows_first, rows_others, is_sound_behind, sound_own}
+use Rattle.table_cut.proofs.ColumnLemmas.{arrays_next, rows_first, rows_others, is_sound_from_place, sound_own}
 use Rattle.table_cut.proofs.RoomLemmas.{front_of_front}
 
 -- ---- one column
@@ -139,17 +139,17 @@ first_fit c cs ((x ∷ row) ∷ rows) h =
     let more = first_fit c cs rows both.1 in
     (and_from _ _ own.0 more.0, and_from _ _ own.1 more.1)
 
-pub all_counted : (j : ℕ) (cs : Columns) (runs : List RowRun) → are_flat cs ≡ true → list_all (is_sound_behind j cs) runs ≡ true
-    → list_all (fits_each cs) (flat_map (rows_behind j cs) runs) ≡ true → AreCounted j cs runs
+pub all_counted : (j : ℕ) (cs : Columns) (runs : List RowRun) → are_flat cs ≡ true → list_all (is_sound_from_place j cs) runs ≡ true
+    → list_all (fits_each cs) (flat_map (rows_from_place j cs) runs) ≡ true → AreCounted j cs runs
 unfolding are_flat AreCounted
 all_counted j no_column runs flat sound fit = tt
 all_counted j (and_column c cs) runs flat sound fit =
     let flats = and_parts (is_flat c) (are_flat cs) flat in
     let sounds = sound_own j c cs runs sound in
-    let parts = first_fit c cs (flat_map (rows_behind j (and_column c cs)) runs) fit in
-    let own : list_all (fits c) (flat_map (cells_behind j c) runs) ≡ true = sym (ap (list_all (fits c)) (rows_first j c cs runs)) ∙ parts.0 in
-    let rest : list_all (fits_each cs) (flat_map (rows_behind (j + 1) cs) runs) ≡ true = sym (ap (list_all (fits_each cs)) (rows_others j c cs runs)) ∙ parts.1 in
-    (record { flat = flats.0; sound = sounds.0; coded = column_coded c (flat_map (cells_behind j c) runs) flats.0 own }, all_counted (j + 1) cs runs flats.1 sounds.1 rest)
+    let parts = first_fit c cs (flat_map (rows_from_place j (and_column c cs)) runs) fit in
+    let own : list_all (fits c) (flat_map (cells_at_place j c) runs) ≡ true = sym (ap (list_all (fits c)) (rows_first j c cs runs)) ∙ parts.0 in
+    let rest : list_all (fits_each cs) (flat_map (rows_from_place (j + 1) cs) runs) ≡ true = sym (ap (list_all (fits_each cs)) (rows_others j c cs runs)) ∙ parts.1 in
+    (record { flat = flats.0; sound = sounds.0; coded = column_coded c (flat_map (cells_at_place j c) runs) flats.0 own }, all_counted (j + 1) cs runs flats.1 sounds.1 rest)
 
 rows_fit : (s : PlainSchema) (rows : List (List Cell)) → list_all (is_row s) rows ≡ true → list_all (fits_each (columns_of s.columns)) rows ≡ true
 unfolding is_row
@@ -198,40 +198,40 @@ unfolding part_cells
 span_cells c cs arrays from zero = refl
 span_cells c cs arrays from (suc n) = span_cells c cs arrays (from + 1) n
 
-have_cells : (j : ℕ) (c : Column) (cs : Columns) (runs : List RowRun) → list_all has_cell (flat_map (rows_behind j (and_column c cs)) runs) ≡ true
+have_cells : (j : ℕ) (c : Column) (cs : Columns) (runs : List RowRun) → list_all has_cell (flat_map (rows_from_place j (and_column c cs)) runs) ≡ true
 have_cells j c cs [] = refl
 have_cells j c cs (r ∷ runs) =
-    list_all-append has_cell (rows_behind j (and_column c cs) r) (flat_map (rows_behind j (and_column c cs)) runs)
-    ∙ and_from _ _ (span_cells c cs (arrays_behind j r) r.from r.len) (have_cells j c cs runs)
+    list_all-append has_cell (rows_from_place j (and_column c cs) r) (flat_map (rows_from_place j (and_column c cs)) runs)
+    ∙ and_from _ _ (span_cells c cs (arrays_from_place j r) r.from r.len) (have_cells j c cs runs)
 
 -- the rows from a place on of a piece and of the first rows of a run
 abbrev rows_with : ℕ → Columns → List RowRun → RowRun → ℕ → List (List Cell)
-rows_with j cs piece run k = flat_map (rows_behind j cs) piece ++ take k (rows_behind j cs run)
+rows_with j cs piece run k = flat_map (rows_from_place j cs) piece ++ take k (rows_from_place j cs run)
 
 first_with : (j : ℕ) (c : Column) (cs : Columns) (piece : List RowRun) (run : RowRun) (k : ℕ)
-    → map first_cell (rows_with j (and_column c cs) piece run k) ≡ flat_map (cells_behind j c) piece ++ take k (cells_behind j c run)
+    → map first_cell (rows_with j (and_column c cs) piece run k) ≡ flat_map (cells_at_place j c) piece ++ take k (cells_at_place j c run)
 first_with j c cs piece run k =
-    let rows : List (List Cell) = rows_behind j (and_column c cs) run in
-    let own : map first_cell (take k rows) ≡ take k (cells_behind j c run) =
-    sym (take-map first_cell k rows) ∙ ap (take k) (first_cells c cs (arrays_behind j run) (range_with_len run.from run.len)) in
-    map-append first_cell (flat_map (rows_behind j (and_column c cs)) piece) (take k rows)
+    let rows : List (List Cell) = rows_from_place j (and_column c cs) run in
+    let own : map first_cell (take k rows) ≡ take k (cells_at_place j c run) =
+    sym (take-map first_cell k rows) ∙ ap (take k) (first_cells c cs (arrays_from_place j run) (range_with_len run.from run.len)) in
+    map-append first_cell (flat_map (rows_from_place j (and_column c cs)) piece) (take k rows)
     ∙ λ i. rows_first j c cs piece i ++ own i
 
 others_with : (j : ℕ) (c : Column) (cs : Columns) (piece : List RowRun) (run : RowRun) (k : ℕ) → map other_cells (rows_with j (and_column c cs) piece run k) ≡ rows_with (j + 1) cs piece run k
 others_with j c cs piece run k =
-    let rows : List (List Cell) = rows_behind j (and_column c cs) run in
-    let next : map other_cells rows ≡ rows_behind (j + 1) cs run =
-    other_rows c cs (arrays_behind j run) (range_with_len run.from run.len) ∙ ap (λ (arrays : Arrays). map (row_at cs arrays) (range_with_len run.from run.len)) (arrays_next j run) in
-    let own : map other_cells (take k rows) ≡ take k (rows_behind (j + 1) cs run) = sym (take-map other_cells k rows) ∙ ap (take k) next in
-    map-append other_cells (flat_map (rows_behind j (and_column c cs)) piece) (take k rows)
+    let rows : List (List Cell) = rows_from_place j (and_column c cs) run in
+    let next : map other_cells rows ≡ rows_from_place (j + 1) cs run =
+    other_rows c cs (arrays_from_place j run) (range_with_len run.from run.len) ∙ ap (λ (arrays : Arrays). map (row_at cs arrays) (range_with_len run.from run.len)) (arrays_next j run) in
+    let own : map other_cells (take k rows) ≡ take k (rows_from_place (j + 1) cs run) = sym (take-map other_cells k rows) ∙ ap (take k) next in
+    map-append other_cells (flat_map (rows_from_place j (and_column c cs)) piece) (take k rows)
     ∙ λ i. rows_others j c cs piece i ++ own i
 
 have_with : (j : ℕ) (c : Column) (cs : Columns) (piece : List RowRun) (run : RowRun) (k : ℕ) → list_all has_cell (rows_with j (and_column c cs) piece run k) ≡ true
 have_with j c cs piece run k =
-    let rows : List (List Cell) = rows_behind j (and_column c cs) run in
-    let whole : list_all has_cell (take k rows ++ drop k rows) ≡ true = ap (list_all has_cell) (take-append-drop k rows) ∙ span_cells c cs (arrays_behind j run) run.from run.len in
+    let rows : List (List Cell) = rows_from_place j (and_column c cs) run in
+    let whole : list_all has_cell (take k rows ++ drop k rows) ≡ true = ap (list_all has_cell) (take-append-drop k rows) ∙ span_cells c cs (arrays_from_place j run) run.from run.len in
     let own = and_parts (list_all has_cell (take k rows)) (list_all has_cell (drop k rows)) (sym (list_all-append has_cell (take k rows) (drop k rows)) ∙ whole) in
-    list_all-append has_cell (flat_map (rows_behind j (and_column c cs)) piece) (take k rows)
+    list_all-append has_cell (flat_map (rows_from_place j (and_column c cs)) piece) (take k rows)
     ∙ and_from _ _ (have_cells j c cs piece) own.0
 
 -- the columns of the rows from a place on have room just where their cells have
@@ -241,7 +241,7 @@ unfolding holdings_from fit_with
 fits_from j no_column piece run k rows are = refl
 fits_from j (and_column c cs) piece run k rows are =
     let have : list_all has_cell (map (drop j) rows) ≡ true = ap (list_all has_cell) are ∙ have_with j c cs piece run k in
-    let own : cells_at j rows ≡ flat_map (cells_behind j c) piece ++ take k (cells_behind j c run) = cells_first j rows have ∙ ap (map first_cell) are ∙ first_with j c cs piece run k in
+    let own : cells_at j rows ≡ flat_map (cells_at_place j c) piece ++ take k (cells_at_place j c run) = cells_first j rows have ∙ ap (map first_cell) are ∙ first_with j c cs piece run k in
     let others : map (drop (j + 1)) rows ≡ rows_with (j + 1) cs piece run k = sym (rows_next j rows) ∙ ap (map other_cells) are ∙ others_with j c cs piece run k in
     let rest : list_all has_few_entries (holdings_from (j + 1) cs rows) ≡ fit_with (j + 1) cs piece run k = fits_from (j + 1) cs piece run k rows others in
     list_all-append has_few_entries (holdings c (cells_at j rows)) (holdings_from (j + 1) cs rows)
@@ -262,7 +262,7 @@ first_counted fields i f runs item are = subst (λ (fs : List Field). AreCounted
 
 pub next_fits : (fields : List Field) (i : ℕ) (f : Field) (piece : List RowRun) (run : RowRun) (k : ℕ) → drop i fields ≡ f ∷ drop (i + 1) fields
     → fit_with i (fields_of (drop i fields)) piece run k
-    ≡ (column_fits (column_of f) (flat_map (cells_behind i (column_of f)) piece ++ take k (cells_behind i (column_of f) run)) && fit_with (i + 1) (fields_of (drop (i + 1) fields)) piece run k)
+    ≡ (column_fits (column_of f) (flat_map (cells_at_place i (column_of f)) piece ++ take k (cells_at_place i (column_of f) run)) && fit_with (i + 1) (fields_of (drop (i + 1) fields)) piece run k)
 unfolding fit_with
 next_fits fields i f piece run k item = ap (λ (fs : List Field). fit_with i (fields_of fs) piece run k) item
 
@@ -277,11 +277,11 @@ field_coded f spec cells is h =
 -- ---- how many cells there are
 
 pub cells_more : (j : ℕ) (c : Column) (runs : List RowRun) (i : ℕ) (run : RowRun) → i < length runs → run ≡ get_or runs i run
-    → length (flat_map (cells_behind j c) (take (i + 1) runs)) ≡ length (flat_map (cells_behind j c) (take i runs)) + run.len
+    → length (flat_map (cells_at_place j c) (take (i + 1) runs)) ≡ length (flat_map (cells_at_place j c) (take i runs)) + run.len
 cells_more j c runs i run lt is =
     let size = length-map-range_with_len (cell_at c (array_at j run)) run.from run.len in
-    let long = length-append (flat_map (cells_behind j c) (take i runs)) (cells_behind j c run) in
-    let joined = ap length (flat_map-item (cells_behind j c) runs i run lt is) in
+    let long = length-append (flat_map (cells_at_place j c) (take i runs)) (cells_at_place j c run) in
+    let joined = ap length (flat_map-item (cells_at_place j c) runs i run lt is) in
     omega (arith, size, long, joined)
 
 -- ---- for how many cells there is room
@@ -328,7 +328,7 @@ pub same_room : (f g : List Cell → Bool) (before own : List Cell) (n : ℕ) �
 same_room f g before own n same room = record { within = room.within; room = λ k le. sym (same (before ++ take k own)) ∙ room.room k le }
 
 -- how many cells the column at a place has in a run
-pub run_counted : (j : ℕ) (c : Column) (run : RowRun) → length (cells_behind j c run) ≡ run.len
+pub run_counted : (j : ℕ) (c : Column) (run : RowRun) → length (cells_at_place j c run) ≡ run.len
 run_counted j c run = length-map-range_with_len (cell_at c (array_at j run)) run.from run.len
 
 -- there is room for a number where there is room for it in a column and in those before it
@@ -343,11 +343,11 @@ least_room k m n r rest low other least = elim (cases_lt m k) [
 
 -- the cells of a piece before a run, in it, and after it
 pub piece_at : (j : ℕ) (c : Column) (piece : List RowRun) (i : ℕ) (run : RowRun) → i < length piece → run ≡ get_or piece i run
-    → flat_map (cells_behind j c) piece ≡ (flat_map (cells_behind j c) (take i piece) ++ cells_behind j c run) ++ flat_map (cells_behind j c) (drop (i + 1) piece)
+    → flat_map (cells_at_place j c) piece ≡ (flat_map (cells_at_place j c) (take i piece) ++ cells_at_place j c run) ++ flat_map (cells_at_place j c) (drop (i + 1) piece)
 piece_at j c piece i run lt is =
-    ap (flat_map (cells_behind j c)) (sym (take-append-drop (i + 1) piece))
-    ∙ flat_map-append (cells_behind j c) (take (i + 1) piece) (drop (i + 1) piece)
-    ∙ ap (λ (cells : List Cell). cells ++ flat_map (cells_behind j c) (drop (i + 1) piece)) (flat_map-item (cells_behind j c) piece i run lt is)
+    ap (flat_map (cells_at_place j c)) (sym (take-append-drop (i + 1) piece))
+    ∙ flat_map-append (cells_at_place j c) (take (i + 1) piece) (drop (i + 1) piece)
+    ∙ ap (λ (cells : List Cell). cells ++ flat_map (cells_at_place j c) (drop (i + 1) piece)) (flat_map-item (cells_at_place j c) piece i run lt is)
 
 pub all_of_part : (test : Cell → Bool) (all xs ys zs : List Cell) → all ≡ (xs ++ ys) ++ zs → list_all test all ≡ true → list_all test ys ≡ true
 all_of_part test all xs ys zs is h =

@@ -88,15 +88,15 @@ some_taken s rows [] (row ∷ rest) is are there full =
 abbrev pub IsPastLimits : PlainSchema → List (List Cell) → List Cell → Type 0
 IsPastLimits s piece row = ((4096 ≤ length piece) ⊎ (16777216 < table_weight s piece + row_weight s row)) ⊎ (dictionaries_fit s (piece ++ row ∷ []) ≡ false)
 
-behind_full : (s : PlainSchema) (piece : List (List Cell)) (arrays : Arrays) (from n : ℕ) (more : List (List Cell)) → 0 < n
+first_full : (s : PlainSchema) (piece : List (List Cell)) (arrays : Arrays) (from n : ℕ) (more : List (List Cell)) → 0 < n
     → IsPastLimits s piece (row_at (columns_of s.columns) arrays from) → IsFull s piece (map (row_at (columns_of s.columns) arrays) (range_with_len from n) ++ more)
-behind_full s piece arrays from zero more some full = absurd (omega arith)
-behind_full s piece arrays from (suc n) more some full = full
+first_full s piece arrays from zero more some full = absurd (omega arith)
+first_full s piece arrays from (suc n) more some full = full
 
 pub run_full : (s : PlainSchema) (piece : List (List Cell)) (arrays : Arrays) (from n k : ℕ) (more : List (List Cell)) → k < n
     → IsPastLimits s piece (row_at (columns_of s.columns) arrays (from + k))
     → IsFull s piece (map (row_at (columns_of s.columns) arrays) (range_with_len (from + k) (n - k)) ++ more)
-run_full s piece arrays from n k more lt full = behind_full s piece arrays (from + k) (n - k) more (omega arith) full
+run_full s piece arrays from n k more lt full = first_full s piece arrays (from + k) (n - k) more (omega arith) full
 
 pub drop_set : {X : Type 0} (xs : List X) (i : ℕ) (x : X) → i < length xs → drop i (set xs i x) ≡ x ∷ drop (i + 1) xs
 drop_set [] i x lt = absurd (omega arith)

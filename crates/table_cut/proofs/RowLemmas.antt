@@ -21,6 +21,6 @@ drop_range f a (suc n) (suc k) le =
 pub front_rows : (cs : Columns) (arrays : Arrays) (from n k : ℕ) → k ≤ n → map (row_at cs arrays) (range_with_len from k) ≡ take k (map (row_at cs arrays) (range_with_len from n))
 front_rows cs arrays from n k le = sym (take-map-range_with_len (row_at cs arrays) from n k le)
 
-pub rows_behind : (cs : Columns) (arrays : Arrays) (from n k : ℕ) → k ≤ n
+pub rows_after : (cs : Columns) (arrays : Arrays) (from n k : ℕ) → k ≤ n
     → map (row_at cs arrays) (range_with_len (from + k) (n - k)) ≡ drop k (map (row_at cs arrays) (range_with_len from n))
-rows_behind cs arrays from n k le = sym (drop_range (row_at cs arrays) from n k le)
+rows_after cs arrays from n k le = sym (drop_range (row_at cs arrays) from n k le)

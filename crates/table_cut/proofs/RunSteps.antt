@@ -17,7 +17,7 @@ use Rattle.columns.specs.declared.array.PlacedArray.{PlacedArray}
 use Rattle.table_cut.specs.declared.row_run.RowRun.{RowRun}
 use Rattle.table_cut.specs.Rows.{arrays_of_run, run_rows, runs_rows, is_run_sound, are_runs_sound}
 use Rattle.table_cut.proofs.PieceLemmas.{IsFull, IsPastLimits, run_full, drop_set}
-use Rattle.table_cut.proofs.RowLemmas.{rows_behind}
+use Rattle.table_cut.proofs.RowLemmas.{rows_after}
 use Rattle.table_cut.specs.laws.Runs.{run_size}
 
 pub front_size : (cs : Columns) (run : RowRun) (k : ℕ) → k ≤ run.len → length (take k (run_rows cs run)) ≡ k
@@ -63,31 +63,31 @@ taken_front cs items next run all before new k lt is whole taken =
     ∙ ap (λ (xs : List (List Cell)). xs ++ (drop k rows ++ rest)) (sym taken)
 
 -- what is left after them
-pub left_behind : (cs : Columns) (items : List RowRun) (next : ℕ) (run behind : RowRun) (k : ℕ) → next < length items → run_rows cs behind ≡ drop k (run_rows cs run)
-    → runs_rows cs (drop next (set items next behind)) ≡ drop k (run_rows cs run) ++ runs_rows cs (drop (next + 1) items)
-left_behind cs items next run behind k lt is =
-    ap (runs_rows cs) (drop_set items next behind lt)
-    ∙ flat_map-cons (run_rows cs) behind (drop (next + 1) items)
+pub left_after : (cs : Columns) (items : List RowRun) (next : ℕ) (run remaining : RowRun) (k : ℕ) → next < length items → run_rows cs remaining ≡ drop k (run_rows cs run)
+    → runs_rows cs (drop next (set items next remaining)) ≡ drop k (run_rows cs run) ++ runs_rows cs (drop (next + 1) items)
+left_after cs items next run remaining k lt is =
+    ap (runs_rows cs) (drop_set items next remaining lt)
+    ∙ flat_map-cons (run_rows cs) remaining (drop (next + 1) items)
     ∙ ap (λ (xs : List (List Cell)). xs ++ runs_rows cs (drop (next + 1) items)) is
 
-pub cut_front : (cs : Columns) (items : List RowRun) (next : ℕ) (run behind : RowRun) (all before new : List (List Cell)) (k : ℕ) → next < length items → run ≡ get_or items next run
-    → all ≡ before ++ runs_rows cs (drop next items) → new ≡ before ++ take k (run_rows cs run) → run_rows cs behind ≡ drop k (run_rows cs run)
-    → all ≡ new ++ runs_rows cs (drop next (set items next behind))
-cut_front cs items next run behind all before new k lt is whole taken rest =
+pub cut_front : (cs : Columns) (items : List RowRun) (next : ℕ) (run remaining : RowRun) (all before new : List (List Cell)) (k : ℕ) → next < length items → run ≡ get_or items next run
+    → all ≡ before ++ runs_rows cs (drop next items) → new ≡ before ++ take k (run_rows cs run) → run_rows cs remaining ≡ drop k (run_rows cs run)
+    → all ≡ new ++ runs_rows cs (drop next (set items next remaining))
+cut_front cs items next run remaining all before new k lt is whole taken rest =
     taken_front cs items next run all before new k lt is whole taken
-    ∙ ap (λ (xs : List (List Cell)). new ++ xs) (sym (left_behind cs items next run behind k lt rest))
+    ∙ ap (λ (xs : List (List Cell)). new ++ xs) (sym (left_after cs items next run remaining k lt rest))
 
-pub cut_full : (s : PlainSchema) (items : List RowRun) (next : ℕ) (run behind : RowRun) (new : List (List Cell)) (k : ℕ) → next < length items
-    → run_rows (columns_of s.columns) behind ≡ drop k (run_rows (columns_of s.columns) run) → k < run.len
+pub cut_full : (s : PlainSchema) (items : List RowRun) (next : ℕ) (run remaining : RowRun) (new : List (List Cell)) (k : ℕ) → next < length items
+    → run_rows (columns_of s.columns) remaining ≡ drop k (run_rows (columns_of s.columns) run) → k < run.len
     → IsPastLimits s new (row_at (columns_of s.columns) (arrays_of_run run) (run.from + k))
-    → IsFull s new (runs_rows (columns_of s.columns) (drop next (set items next behind)))
-cut_full s items next run behind new k lt rest more full =
+    → IsFull s new (runs_rows (columns_of s.columns) (drop next (set items next remaining)))
+cut_full s items next run remaining new k lt rest more full =
     let cs : Columns = columns_of s.columns in
     let others : List (List Cell) = runs_rows cs (drop (next + 1) items) in
     let span : List (List Cell) = map (row_at cs (arrays_of_run run)) (range_with_len (run.from + k) (run.len - k)) in
     let here : IsFull s new (span ++ others) = run_full s new (arrays_of_run run) run.from run.len k others more full in
-    let left : span ++ others ≡ runs_rows cs (drop next (set items next behind))
-    = ap (λ (xs : List (List Cell)). xs ++ others) (rows_behind cs (arrays_of_run run) run.from run.len k (omega arith)) ∙ sym (left_behind cs items next run behind k lt rest) in
+    let left : span ++ others ≡ runs_rows cs (drop next (set items next remaining))
+    = ap (λ (xs : List (List Cell)). xs ++ others) (rows_after cs (arrays_of_run run) run.from run.len k (omega arith)) ∙ sym (left_after cs items next run remaining k lt rest) in
     subst (λ (xs : List (List Cell)). IsFull s new xs) left here
 
 -- ---- the batches of a part

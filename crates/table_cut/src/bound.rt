@@ -12,7 +12,7 @@ ghost use Rattle.columns.specs.Tests.{are_few_offsets};
 ghost use Rattle.columns.specs.View.{IsNoArray, fields_of, view_array};
 ghost use Rattle.table_cut.specs.Rows.{is_run_sound};
 ghost use Rattle.table_cut.specs.inner.Bounds.{AreNoLonger, Weighs, column_weight, columns_weight};
-ghost use Rattle.table_cut.specs.inner.Columns.{array_at, arrays_behind};
+ghost use Rattle.table_cut.specs.inner.Columns.{array_at, arrays_from_place};
 ghost use Rattle.table_cut.specs.inner.Weights.{front_weight};
 
 use crate::row_run::RowRun;
@@ -113,7 +113,7 @@ fn coded_size(
 // What the first n rows of a run weigh in the column at a place, as weights are reported.
 fn exact_column(fields: &[Field], field: &Field, run: RowRun<'_>, place: usize, rows: usize) -> u64
     requires field { drop place fields.now ≡ field.now ∷ drop (place + 1) fields.now }
-    requires sound { are_sound (fields_of (field.now ∷ [])) (run.from + rows) (arrays_behind place run) ≡ true }
+    requires sound { are_sound (fields_of (field.now ∷ [])) (run.from + rows) (arrays_from_place place run) ≡ true }
     ensures { capped_weight (column_weight place (column_of field.now) run.entry rows) ≤ result }
 {
     let arrays = &run.arrays[place.min(run.arrays.len())..];
@@ -145,7 +145,7 @@ fn column_bound(
 ) -> u64
     requires empty { IsNoArray none.now }
     requires field { drop place fields.now ≡ field.now ∷ drop (place + 1) fields.now }
-    requires sound { are_sound (fields_of (field.now ∷ [])) (run.from + rows) (arrays_behind place run) ≡ true }
+    requires sound { are_sound (fields_of (field.now ∷ [])) (run.from + rows) (arrays_from_place place run) ≡ true }
     ensures { capped_weight (column_weight place (column_of field.now) run.entry rows) ≤ result }
 {
     let share = MAX_PIECE_WEIGHT / MAX_PIECE_ROWS as u64 / fields.len() as u64;
@@ -157,7 +157,7 @@ fn column_bound(
 
 // The first n rows of a run: one each, and each column by itself.
 fn columns_bound(fields: &[Field], run: RowRun<'_>, rows: usize) -> u64
-    requires sound { are_sound (fields_of fields.now) (run.from + run.len) (arrays_behind 0 run) ≡ true }
+    requires sound { are_sound (fields_of fields.now) (run.from + run.len) (arrays_from_place 0 run) ≡ true }
     requires within { rows ≤ run.len }
     ensures { capped_weight (rows + columns_weight 0 (fields_of fields.now) run.entry rows) ≤ result }
 {

@@ -4,7 +4,7 @@ ghost use Rattle.arrow_schema.specs.Column.{Column};
 ghost use Rattle.columns.specs.Runs.{run_cells, is_run_sound, HaveRuns, are_columns_sound};
 ghost use Rattle.columns.specs.View.{fields_of};
 ghost use Rattle.table_cut.specs.Rows.{runs_rows, are_runs_sound};
-ghost use Rattle.table_cut.specs.inner.Columns.{cells_behind, has_sound_array, IsColumn};
+ghost use Rattle.table_cut.specs.inner.Columns.{cells_at_place, has_sound_array, IsColumn};
 
 use crate::row_run::RowRun;
 use arrow_schema::Field;
@@ -13,7 +13,7 @@ use std::alloc::{AllocError, Global};
 
 /// The slots that the column at a place has in a run of rows: a batch without an array for it has no row.
 pub(crate) fn slots_at<'a>(run: RowRun<'a>, place: usize) -> SlotRun<'a>
-    ensures cells { (c : Column) → has_sound_array place c run.entry ≡ true → run_cells c result ≡ cells_behind place c run.entry }
+    ensures cells { (c : Column) → has_sound_array place c run.entry ≡ true → run_cells c result ≡ cells_at_place place c run.entry }
     ensures sound { (c : Column) → has_sound_array place c run.entry ≡ true → is_run_sound c result ≡ true }
 {
     match run.arrays.get(place) {

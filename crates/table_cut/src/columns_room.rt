@@ -6,7 +6,7 @@ ghost use Rattle.arrow_schema.specs.View.{column_of, index_of};
 ghost use Rattle.cells.specs.Dictionary.{entries_of};
 ghost use Rattle.columns.specs.View.{fields_of};
 ghost use Rattle.dictionary_codes.specs.Named.{named_cells};
-ghost use Rattle.table_cut.specs.inner.Columns.{cells_behind};
+ghost use Rattle.table_cut.specs.inner.Columns.{cells_at_place};
 ghost use Rattle.table_cut.specs.inner.Fit.{are_flat, column_fits, entries_fit, fit_with, AreCounted, HaveRoom, HasRoomFor, IsCounted};
 
 use crate::columns_of_runs::slots_at;
@@ -31,7 +31,7 @@ pub(crate) fn are_flat(fields: &[Field]) -> bool
 
 // Whether runs have no more rows than n.
 fn are_few(runs: &[RowRun<'_>], most: usize) -> bool
-    ensures { result ≡ true → (place : ℕ) (c : Column) → length (flat_map (cells_behind place c) runs.now) ≤ most }
+    ensures { result ≡ true → (place : ℕ) (c : Column) → length (flat_map (cells_at_place place c) runs.now) ≤ most }
 {
     let mut left = most;
     for run in runs {
@@ -54,8 +54,8 @@ fn piece_entries<'a>(
 ) -> Result<KnownEntries<'a>, AllocError>
     requires spec { field.now.dictionary ≡ Some spec }
     requires counted { IsCounted place (column_of field.now) piece.now }
-    requires fits { length (entries_of (flat_map (cells_behind place (column_of field.now)) piece.now)) ≤ most }
-    ensures { IfOk result (λ entries. named_cells entries ≡ entries_of (flat_map (cells_behind place (column_of field.now)) piece.now)) }
+    requires fits { length (entries_of (flat_map (cells_at_place place (column_of field.now)) piece.now)) ≤ most }
+    ensures { IfOk result (λ entries. named_cells entries ≡ entries_of (flat_map (cells_at_place place (column_of field.now)) piece.now)) }
 {
     let mut entries = KnownEntries::none(alloc);
     for run in piece {
@@ -83,9 +83,9 @@ fn coded_column_room<'a>(
     requires spec { field.now.dictionary ≡ Some spec }
     requires before { IsCounted place (column_of field.now) piece.now }
     requires own { IsCounted place (column_of field.now) (run ∷ []) }
-    requires fits { entries_fit (index_of spec) (flat_map (cells_behind place (column_of field.now)) piece.now) ≡ true }
-    ensures { IfOk result (λ n. HasRoomFor (entries_fit (index_of spec)) (flat_map (cells_behind place (column_of field.now)) piece.now)
-        (cells_behind place (column_of field.now) run.entry) n) }
+    requires fits { entries_fit (index_of spec) (flat_map (cells_at_place place (column_of field.now)) piece.now) ≡ true }
+    ensures { IfOk result (λ n. HasRoomFor (entries_fit (index_of spec)) (flat_map (cells_at_place place (column_of field.now)) piece.now)
+        (cells_at_place place (column_of field.now) run.entry) n) }
 {
     match entry_limit(spec.index) {
         None => Ok(run.len),
@@ -109,9 +109,9 @@ fn column_room<'a>(
 ) -> Result<usize, AllocError>
     requires before { IsCounted place (column_of field.now) piece.now }
     requires own { IsCounted place (column_of field.now) (run ∷ []) }
-    requires fits { column_fits (column_of field.now) (flat_map (cells_behind place (column_of field.now)) piece.now) ≡ true }
-    ensures { IfOk result (λ n. HasRoomFor (column_fits (column_of field.now)) (flat_map (cells_behind place (column_of field.now)) piece.now)
-        (cells_behind place (column_of field.now) run.entry) n) }
+    requires fits { column_fits (column_of field.now) (flat_map (cells_at_place place (column_of field.now)) piece.now) ≡ true }
+    ensures { IfOk result (λ n. HasRoomFor (column_fits (column_of field.now)) (flat_map (cells_at_place place (column_of field.now)) piece.now)
+        (cells_at_place place (column_of field.now) run.entry) n) }
 {
     match field.dictionary {
         None => Ok(run.len),

@@ -12,7 +12,7 @@ ghost use Rattle.facts.specs.Bytes.{AreBytes};
 ghost use Rattle.table_cut.specs.Rows.{arrays_of_run, run_rows, runs_rows};
 ghost use Rattle.table_cut.specs.inner.Filling.{can_rows_fill};
 ghost use Rattle.table_cut.specs.inner.Fit.{are_flat};
-ghost use Rattle.table_cut.specs.inner.Room.{IsRunOf, AreRunsOf, IsRunBehind, IsSeen, IsSeenWithin, HasRoom, IsRoom};
+ghost use Rattle.table_cut.specs.inner.Room.{IsRunOf, AreRunsOf, IsRunAfter, IsSeen, IsSeenWithin, HasRoom, IsRoom};
 ghost use Rattle.table_cut.specs.SeenRows.{HaveSeen};
 ghost use Rattle.columns.specs.Borrowed.{borrowed_cells};
 
@@ -129,7 +129,7 @@ fn take_rows<'a>(
 }
 
 // The same of a run after rows that were visited.
-fn room_behind<'a>(
+fn room_after<'a>(
     alloc: Global,
     schema: &'a Schema,
     before: SeenRows<'a>,
@@ -174,14 +174,14 @@ fn room_alone<'a>(schema: &Schema, run: RowRun<'a>) -> Room<'a>
 }
 
 // How many rows of a run there is room for after a piece, where no column is a list or a struct.
-fn rows_behind<'a>(
+fn rows_after<'a>(
     alloc: Global,
     schema: &'a Schema,
     piece: &[RowRun<'a>],
     run: RowRun<'a>,
 ) -> Result<usize, AllocError>
     requires flat { are_flat (columns_of (schema_of schema.now).columns) ≡ true }
-    requires behind { IsRunBehind (schema_of schema.now) piece.now run }
+    requires after { IsRunAfter (schema_of schema.now) piece.now run }
     ensures { IfOk result (λ n. HasRoom (schema_of schema.now) (runs_rows (columns_of (schema_of schema.now).columns) piece.now) run.entry n) }
 {
     columns_room(alloc, &schema.fields, piece, run)
@@ -196,22 +196,22 @@ fn room_anew<'a>(
     run: RowRun<'a>,
 ) -> Result<Room<'a>, AllocError>
     requires limited { is_any_limited (columns_of (schema_of schema.now).columns) ≡ true }
-    requires behind { IsRunBehind (schema_of schema.now) piece.now run }
+    requires after { IsRunAfter (schema_of schema.now) piece.now run }
     ensures { IfOk result (λ room. IsRoom (schema_of schema.now) (runs_rows (columns_of (schema_of schema.now).columns) piece.now) run.entry room) }
 {
     if tried < MOST_TRIED && are_flat(&schema.fields) {
-        let rows = rows_behind(alloc, schema, piece, run)?;
+        let rows = rows_after(alloc, schema, piece, run)?;
         return Ok(Room {
             rows,
             seen: Seen::Columns(tried + 1),
         });
     }
     let seen = see_runs(alloc, schema, piece)?;
-    room_behind(alloc, schema, seen, run)
+    room_after(alloc, schema, seen, run)
 }
 
 // The same after a piece, all of whose rows have the entries that those of one run have.
-fn room_behind_shared<'a>(
+fn room_after_shared<'a>(
     alloc: Global,
     schema: &'a Schema,
     first: RowRun<'a>,
@@ -219,7 +219,7 @@ fn room_behind_shared<'a>(
     run: RowRun<'a>,
 ) -> Result<Room<'a>, AllocError>
     requires limited { is_any_limited (columns_of (schema_of schema.now).columns) ≡ true }
-    requires behind { IsRunBehind (schema_of schema.now) piece.now run }
+    requires after { IsRunAfter (schema_of schema.now) piece.now run }
     requires seen { let columns = columns_of (schema_of schema.now).columns in AreRowsSharing columns (arrays_of_run first) (runs_rows columns piece.now) }
     ensures { IfOk result (λ room. IsRoom (schema_of schema.now) (runs_rows (columns_of (schema_of schema.now).columns) piece.now) run.entry room) }
 {
@@ -238,15 +238,15 @@ fn room_for<'a>(
     run: RowRun<'a>,
 ) -> Result<Room<'a>, AllocError>
     requires limited { is_any_limited (columns_of (schema_of schema.now).columns) ≡ true }
-    requires behind { IsRunBehind (schema_of schema.now) piece.now run }
+    requires after { IsRunAfter (schema_of schema.now) piece.now run }
     requires seen { IsSeen (schema_of schema.now) (runs_rows (columns_of (schema_of schema.now).columns) piece.now) seen }
     ensures { IfOk result (λ room. IsRoom (schema_of schema.now) (runs_rows (columns_of (schema_of schema.now).columns) piece.now) run.entry room) }
 {
     match seen {
         Seen::Nothing => Ok(room_alone(schema, run)),
-        Seen::Shared(first) => room_behind_shared(alloc, schema, first, piece, run),
+        Seen::Shared(first) => room_after_shared(alloc, schema, first, piece, run),
         Seen::Columns(tried) => room_anew(alloc, schema, tried, piece, run),
-        Seen::Rows(rows) => room_behind(alloc, schema, rows, run),
+        Seen::Rows(rows) => room_after(alloc, schema, rows, run),
     }
 }
 
@@ -261,7 +261,7 @@ pub(crate) fn room_within<'a>(
     run: RowRun<'a>,
 ) -> Result<Room<'a>, AllocError>
     requires can_fill { can_fill ≡ can_rows_fill MAX_PIECE_ROWS (columns_of (schema_of schema.now).columns) }
-    requires behind { IsRunBehind (schema_of schema.now) piece.now run }
+    requires after { IsRunAfter (schema_of schema.now) piece.now run }
     requires few { length (runs_rows (columns_of (schema_of schema.now).columns) piece.now) + run.len ≤ MAX_PIECE_ROWS }
     requires seen { IsSeenWithin (schema_of schema.now) (runs_rows (columns_of (schema_of schema.now).columns) piece.now) seen }
     ensures room { IfOk result (λ room. let columns = columns_of (schema_of schema.now).columns in

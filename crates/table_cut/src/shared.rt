@@ -6,7 +6,7 @@ ghost use Rattle.arrow_schema.specs.View.{kind_of, column_of};
 ghost use Rattle.columns.specs.Array.{first_array, children_in};
 ghost use Rattle.columns.specs.View.{view_array, placed_dictionary, IsNoArray};
 ghost use Rattle.table_cut.specs.Rows.{arrays_of_run};
-ghost use Rattle.table_cut.specs.inner.Columns.{arrays_behind};
+ghost use Rattle.table_cut.specs.inner.Columns.{arrays_from_place};
 
 use crate::row_run::RowRun;
 use arrow_schema::{DataType, Field};
@@ -34,7 +34,7 @@ fn children_of<'a>(view: ArrayView<'a>) -> RowRun<'a>
 
 fn view_at<'a>(run: RowRun<'a>, i: usize, none: &'a PlacedArray) -> ArrayView<'a>
     requires { IsNoArray none.now }
-    ensures { view_array result ≡ first_array (arrays_behind i run.entry) }
+    ensures { view_array result ≡ first_array (arrays_from_place i run.entry) }
 {
     ArrayView {
         array: array_or(run.arrays, i, none),

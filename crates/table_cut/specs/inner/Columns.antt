@@ -12,19 +12,19 @@ use Rattle.columns.specs.View.{placed_arrays}
 use Rattle.table_cut.specs.declared.row_run.RowRun.{RowRun}
 
 -- the arrays from a place on
-abbrev pub arrays_behind : ℕ → RowRun → Arrays
-arrays_behind j r = placed_arrays r.bytes.now r.dictionaries.now (drop j r.arrays.now)
+abbrev pub arrays_from_place : ℕ → RowRun → Arrays
+arrays_from_place j r = placed_arrays r.bytes.now r.dictionaries.now (drop j r.arrays.now)
 
 -- the rows that columns from a place on have
-abbrev pub rows_behind : ℕ → Columns → RowRun → List (List Cell)
-rows_behind j columns r = map (row_at columns (arrays_behind j r)) (range_with_len r.from r.len)
+abbrev pub rows_from_place : ℕ → Columns → RowRun → List (List Cell)
+rows_from_place j columns r = map (row_at columns (arrays_from_place j r)) (range_with_len r.from r.len)
 
 abbrev pub array_at : ℕ → RowRun → Array
-array_at j r = first_array (arrays_behind j r)
+array_at j r = first_array (arrays_from_place j r)
 
 -- the cells that the column at a place has
-abbrev pub cells_behind : ℕ → Column → RowRun → List Cell
-cells_behind j c r = cells_from (cell_at c (array_at j r)) r.from r.len
+abbrev pub cells_at_place : ℕ → Column → RowRun → List Cell
+cells_at_place j c r = cells_from (cell_at c (array_at j r)) r.from r.len
 
 -- its array is long enough, and can be looked up
 abbrev pub has_sound_array : ℕ → Column → RowRun → Bool
@@ -32,7 +32,7 @@ has_sound_array j c r = nat_le (r.from + r.len) (slots_in (array_at j r)) && is_
 
 -- the runs of the column at a place, whatever its type
 abbrev pub IsColumn : ℕ → List RowRun → List SlotRun → Type 0
-IsColumn j rows runs = (c : Column) → list_all (has_sound_array j c) rows ≡ true → (runs_cells c runs ≡ flat_map (cells_behind j c) rows) × (are_runs_sound c runs ≡ true)
+IsColumn j rows runs = (c : Column) → list_all (has_sound_array j c) rows ≡ true → (runs_cells c runs ≡ flat_map (cells_at_place j c) rows) × (are_runs_sound c runs ≡ true)
 
 -- those of the columns from a place on
 abbrev pub AreColumns : ℕ → List RowRun → List (List SlotRun) → Type 0

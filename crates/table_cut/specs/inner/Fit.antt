@@ -8,7 +8,7 @@ use Rattle.cells.specs.Dictionary.{entries_of, entry_limit, holdings, has_few_en
 use Rattle.columns.specs.Buildable.{is_null_or_entry}
 use Rattle.columns.specs.Texts.{has_utf8_texts}
 use Rattle.table_cut.specs.declared.row_run.RowRun.{RowRun}
-use Rattle.table_cut.specs.inner.Columns.{cells_behind, has_sound_array}
+use Rattle.table_cut.specs.inner.Columns.{cells_at_place, has_sound_array}
 
 abbrev pub is_flat : Column → Bool
 is_flat (column name nullable kind dictionary pairs) = not (is_nested kind)
@@ -33,7 +33,7 @@ pub record HasRoomFor (fits : List Cell → Bool) (before own : List Cell) (n : 
 -- the dictionaries of the columns from a place on have room for the cells of a piece and of the first k rows of a run
 unfoldable pub fit_with : ℕ → Columns → List RowRun → RowRun → (k : ℕ) → Bool
 fit_with j no_column piece run k = true
-fit_with j (and_column c cs) piece run k = column_fits c (flat_map (cells_behind j c) piece ++ take k (cells_behind j c run)) && fit_with (j + 1) cs piece run k
+fit_with j (and_column c cs) piece run k = column_fits c (flat_map (cells_at_place j c) piece ++ take k (cells_at_place j c run)) && fit_with (j + 1) cs piece run k
 
 -- they have room for just n rows of the run
 pub record HaveRoom (j : ℕ) (cs : Columns) (piece : List RowRun) (run : RowRun) (n : ℕ) : Type 0 where
@@ -49,7 +49,7 @@ is_column_coded (column name nullable kind (Some index) pairs) cells = list_all 
 pub record IsCounted (j : ℕ) (c : Column) (runs : List RowRun) : Type 0 where
   pub flat : is_flat c ≡ true
   pub sound : list_all (has_sound_array j c) runs ≡ true
-  pub coded : is_column_coded c (flat_map (cells_behind j c) runs) ≡ true
+  pub coded : is_column_coded c (flat_map (cells_at_place j c) runs) ≡ true
 
 -- and those of the columns from a place on
 unfoldable pub AreCounted : ℕ → Columns → List RowRun → Type 0

@@ -27,7 +27,7 @@ pub record AreRunsOf (s : PlainSchema) (runs : List RowRun) : Type 0 where
   pub rows : list_all (is_row s) (runs_rows (columns_of s.columns) runs) ≡ true
 
 -- a run after a piece: both have rows of the schema, and its dictionaries have room for those of the piece
-pub record IsRunBehind (s : PlainSchema) (piece : List RowRun) (run : RowRun) : Type 0 where
+pub record IsRunAfter (s : PlainSchema) (piece : List RowRun) (run : RowRun) : Type 0 where
   pub limits : IsWithinLimits s
   pub before : AreRunsOf s piece
   pub own : IsRunOf s run

@@ -1,6 +1,6 @@
 use Rattle.std.proofs.Common.{◌+◌, drop, arith}
 use Rattle.arrow_schema.specs.View.{column_of}
-use Rattle.table_cut.specs.inner.Columns.{arrays_behind}
+use Rattle.table_cut.specs.inner.Columns.{arrays_from_place}
 use Rattle.table_cut.proofs.Bounds.{column_light, one_sound, some_item}
 use Rattle.table_cut.proofs.bound.column_bound.Goals as goal
 
@@ -10,7 +10,7 @@ nonzero_div-share c =
     omega (arith, some)
 
 pub coded_size-requires-clause-sound : goal.coded_size-requires-clause-sound
-coded_size-requires-clause-sound c = one_sound c.args.field.now (c.args.run.from + c.args.rows) (arrays_behind c.args.place c.args.run) c.requires.sound
+coded_size-requires-clause-sound c = one_sound c.args.field.now (c.args.run.from + c.args.rows) (arrays_from_place c.args.place c.args.run) c.requires.sound
 
 pub returns-in-Some : goal.returns-in-Some
 returns-in-Some c =

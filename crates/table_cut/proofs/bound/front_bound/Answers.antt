@@ -7,7 +7,7 @@ use Rattle.cells.specs.Weight.{capped_weight, table_weight}
 use Rattle.columns.specs.View.{fields_of}
 use Rattle.columns.specs.Sound.{are_sound}
 use Rattle.table_cut.specs.inner.Bounds.{columns_weight}
-use Rattle.table_cut.specs.inner.Columns.{arrays_behind}
+use Rattle.table_cut.specs.inner.Columns.{arrays_from_place}
 use Rattle.table_cut.specs.Rows.{arrays_of_run}
 use Rattle.table_cut.proofs.Bounds.{rows_weigh}
 use Rattle.table_cut.proofs.RowLemmas.{front_rows}
@@ -15,7 +15,7 @@ use Rattle.table_cut.proofs.bound.front_bound.Goals as goal
 
 pub columns_bound-requires-clause-sound : goal.columns_bound-requires-clause-sound
 columns_bound-requires-clause-sound c =
-    subst (λ (fs : List Field). are_sound (fields_of fs) (c.args.run.from + c.args.run.len) (arrays_behind 0 c.args.run) ≡ true) (sym c.deref.ensures.value) c.requires.sound
+    subst (λ (fs : List Field). are_sound (fields_of fs) (c.args.run.from + c.args.run.len) (arrays_from_place 0 c.args.run) ≡ true) (sym c.deref.ensures.value) c.requires.sound
 
 pub returns : goal.returns
 returns c =

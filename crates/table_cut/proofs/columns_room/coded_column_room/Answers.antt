@@ -10,7 +10,7 @@ use Rattle.cells.specs.Cell.{Cell}
 use Rattle.cells.specs.Dictionary.{entries_of, is_within}
 use Rattle.dictionary_codes.specs.Named.{named_cells}
 use Rattle.dictionary_codes.specs.Room.{IsRoomFor}
-use Rattle.table_cut.specs.inner.Columns.{cells_behind, has_sound_array}
+use Rattle.table_cut.specs.inner.Columns.{cells_at_place, has_sound_array}
 use Rattle.table_cut.specs.inner.Fit.{entries_fit}
 use Rattle.table_cut.proofs.FitLemmas.{all_room_for, few_fit, named_room, run_counted}
 use Rattle.table_cut.proofs.columns_room.coded_column_room.Goals as goal
@@ -18,16 +18,16 @@ use Rattle.table_cut.proofs.columns_room.coded_column_room.Goals as goal
 pub returns-in-None : goal.returns-in-None
 returns-in-None c =
     let col : Column = column_of c.args.field.now in
-    let before : List Cell = flat_map (cells_behind c.args.place col) c.args.piece.now in
-    let own : List Cell = cells_behind c.args.place col c.args.run in
+    let before : List Cell = flat_map (cells_at_place c.args.place col) c.args.piece.now in
+    let own : List Cell = cells_at_place c.args.place col c.args.run in
     all_room_for (entries_fit (index_of c.args.spec)) before own c.args.run.len (sym (run_counted c.args.place col c.args.run))
     (λ k le. ap (λ (o : Option ℕ). is_within o (length (entries_of (before ++ take k own)))) (sym c.entry_limit.ensures ∙ c.in-None.is))
 
 pub returns-then-are_few : goal.returns-then-are_few
 returns-then-are_few c =
     let col : Column = column_of c.args.field.now in
-    let before : List Cell = flat_map (cells_behind c.args.place col) c.args.piece.now in
-    let own : List Cell = cells_behind c.args.place col c.args.run in
+    let before : List Cell = flat_map (cells_at_place c.args.place col) c.args.piece.now in
+    let own : List Cell = cells_at_place c.args.place col c.args.run in
     let size = run_counted c.args.place col c.args.run in
     let few = c.are_few.ensures c.if-are_few.true c.args.place col in
     all_room_for (entries_fit (index_of c.args.spec)) before own c.args.run.len (sym size)
@@ -42,8 +42,8 @@ returns-in_ok-entries-in-Some c =
     let col : Column = column_of c.args.field.now in
     let index : Index = index_of c.args.spec in
     let most : ℕ = c.in-Some.most in
-    let before : List Cell = flat_map (cells_behind c.args.place col) c.args.piece.now in
-    let own : List Cell = cells_behind c.args.place col c.args.run in
+    let before : List Cell = flat_map (cells_at_place c.args.place col) c.args.piece.now in
+    let own : List Cell = cells_at_place c.args.place col c.args.run in
     let start : List Cell = named_cells c.in_ok-entries-in-Some.entries in
     let new : List Cell = named_cells c.name_slots.new.entries in
     let cells = c.slots_at.ensures.cells col (and_parts (has_sound_array c.args.place col c.args.run) true c.requires.own.sound).0 in

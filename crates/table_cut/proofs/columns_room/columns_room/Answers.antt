@@ -9,7 +9,7 @@ use Rattle.cells.specs.Cell.{Cell}
 use Rattle.columns.specs.View.{fields_of}
 use Rattle.facts.specs.laws.Lists.{drop-item}
 use Rattle.table_cut.specs.declared.row_run.RowRun.{RowRun}
-use Rattle.table_cut.specs.inner.Columns.{cells_behind}
+use Rattle.table_cut.specs.inner.Columns.{cells_at_place}
 use Rattle.table_cut.specs.inner.Fit.{column_fits, fit_with}
 use Rattle.table_cut.proofs.FitLemmas.{and_none, first_counted, least_room, next_fits, run_counted}
 use Rattle.table_cut.proofs.columns_room.columns_room.Goals as goal
@@ -30,7 +30,7 @@ column_room-requires-clause-fits c =
     let i : ℕ = c.loop-place.place in
     let field : Field = c.index-fields-place.result in
     let item = drop-item fields i field c.loop-place-test.true c.index-fields-place.is in
-    let before : List Cell = flat_map (cells_behind i (column_of field)) c.args.piece.now in
+    let before : List Cell = flat_map (cells_at_place i (column_of field)) c.args.piece.now in
     let both = and_parts _ _ (sym (next_fits fields i field c.args.piece.now c.args.run 0 item) ∙ c.loop-place.invariant.fits) in
     ap (column_fits (column_of field)) (sym (append-nil before)) ∙ both.0
 

@@ -14,8 +14,8 @@ returns-in-Nothing c =
     let none = subst (λ (seen : Seen). IsSeen s (runs_rows (columns_of s.columns) c.args.piece.now) seen) c.in-Nothing.is c.requires.seen in
     subst (λ (rows : List (List Cell)). IsRoom s rows c.args.run c.room_alone.result) (sym none) c.room_alone.ensures
 
-pub room_behind-requires-clause-seen : goal.room_behind-requires-clause-seen
-room_behind-requires-clause-seen c =
+pub room_after-requires-clause-seen : goal.room_after-requires-clause-seen
+room_after-requires-clause-seen c =
     let s : PlainSchema = schema_of c.args.schema.now in
     (runs_rows (columns_of s.columns) c.args.piece.now, subst (λ (seen : Seen). IsSeen s (runs_rows (columns_of s.columns) c.args.piece.now) seen) c.in-Rows.is c.requires.seen)
 
@@ -23,9 +23,9 @@ pub returns-in-Rows : goal.returns-in-Rows
 returns-in-Rows c =
     let s : PlainSchema = schema_of c.args.schema.now in
     let seen = subst (λ (seen : Seen). IsSeen s (runs_rows (columns_of s.columns) c.args.piece.now) seen) c.in-Rows.is c.requires.seen in
-    IfOk-weaker c.room_behind.result _ _ (λ room is. is (runs_rows (columns_of s.columns) c.args.piece.now) seen c.requires.behind.fits) c.room_behind.ensures
+    IfOk-weaker c.room_after.result _ _ (λ room is. is (runs_rows (columns_of s.columns) c.args.piece.now) seen c.requires.after.fits) c.room_after.ensures
 
-pub room_behind_shared-requires-clause-seen : goal.room_behind_shared-requires-clause-seen
-room_behind_shared-requires-clause-seen c =
+pub room_after_shared-requires-clause-seen : goal.room_after_shared-requires-clause-seen
+room_after_shared-requires-clause-seen c =
     let s : PlainSchema = schema_of c.args.schema.now in
     subst (λ (seen : Seen). IsSeen s (runs_rows (columns_of s.columns) c.args.piece.now) seen) c.in-Shared.is c.requires.seen

@@ -61,8 +61,8 @@ room_within-requires-clause-few c =
     let same = ap (λ (runs : List RowRun). length (runs_rows (columns_of (schema_of c.args.schema.now).columns) runs)) c.deref-in-loop-self.ensures.value in
     omega (arith, same, c.loop-self.invariant.count, c.front-most.ensures.len, c.fitting-taken.ensures.few, c.if-rows-lt-MAX_PIECE_ROWS.true)
 
-pub room_within-requires-clause-behind : goal.room_within-requires-clause-behind
-room_within-requires-clause-behind c =
+pub room_within-requires-clause-after : goal.room_within-requires-clause-after
+room_within-requires-clause-after c =
     let s : PlainSchema = schema_of c.args.schema.now in
     let cs : Columns = columns_of s.columns in
     let is = c.loop-self.invariant in

@@ -4,7 +4,7 @@ use Rattle.arrow_schema.specs.Column.{columns_of}
 use Rattle.arrow_schema.specs.View.{schema_of, column_of}
 use Rattle.arrow_schema.specs.declared.types.Field.{Field}
 use Rattle.table_cut.specs.Rows.{arrays_of_run, runs_rows}
-use Rattle.table_cut.proofs.room.room_behind_shared.Goals as goal
+use Rattle.table_cut.proofs.room.room_after_shared.Goals as goal
 
 pub room_sharing-requires-clause-shares : goal.room_sharing-requires-clause-shares
 room_sharing-requires-clause-shares c =

@@ -16,17 +16,17 @@ use Rattle.table_cut.specs.inner.Fit.{fit_with, AreCounted}
 use Rattle.table_cut.specs.inner.Room.{row_in}
 use Rattle.table_cut.proofs.FitLemmas.{all_fit, runs_counted}
 use Rattle.table_cut.proofs.RoomLemmas.{one_row_more}
-use Rattle.table_cut.proofs.room.rows_behind.Goals as goal
+use Rattle.table_cut.proofs.room.rows_after.Goals as goal
 
 pub columns_room-requires-clause-before : goal.columns_room-requires-clause-before
 columns_room-requires-clause-before c =
     let piece : List RowRun = c.args.piece.now in
-    subst (λ (fs : List Field). AreCounted 0 (fields_of fs) piece) (sym c.deref.ensures.value) (runs_counted (schema_of c.args.schema.now) piece c.requires.flat c.requires.behind.before)
+    subst (λ (fs : List Field). AreCounted 0 (fields_of fs) piece) (sym c.deref.ensures.value) (runs_counted (schema_of c.args.schema.now) piece c.requires.flat c.requires.after.before)
 
 pub columns_room-requires-clause-own : goal.columns_room-requires-clause-own
 columns_room-requires-clause-own c =
     let s : PlainSchema = schema_of c.args.schema.now in
-    let own = c.requires.behind.own in
+    let own = c.requires.after.own in
     subst (λ (fs : List Field). AreCounted 0 (fields_of fs) (c.args.run ∷ [])) (sym c.deref.ensures.value)
     (runs_counted s (c.args.run ∷ []) c.requires.flat (record {
       sound = and_from _ _ own.sound refl;
@@ -38,7 +38,7 @@ columns_room-requires-clause-fits c =
     let s : PlainSchema = schema_of c.args.schema.now in
     let piece : List RowRun = c.args.piece.now in
     ap (λ (fs : List Field). fit_with 0 (fields_of fs) piece c.args.run 0) c.deref.ensures.value ∙ all_fit s piece c.args.run 0
-    ∙ ap (dictionaries_fit s) (append-nil (runs_rows (columns_of s.columns) piece)) ∙ c.requires.behind.fits
+    ∙ ap (dictionaries_fit s) (append-nil (runs_rows (columns_of s.columns) piece)) ∙ c.requires.after.fits
 
 pub returns : goal.returns
 returns c =

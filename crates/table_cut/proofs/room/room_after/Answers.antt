@@ -1,4 +1,4 @@
-use Rattle.table_cut.proofs.room.room_behind.Goals as goal
+use Rattle.table_cut.proofs.room.room_after.Goals as goal
 
 pub returns : goal.returns
 returns c = λ rows seen fit. record {
