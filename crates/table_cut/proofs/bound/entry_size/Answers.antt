@@ -1,4 +1,4 @@
-use Rattle.std.proofs.Common.{◌≡◌, ◌+◌, ◌-◌, ◌≤◌, [], ◌∷◌, ℕ, List, length, ap, sym, subst, arith}
+use Rattle.std.proofs.Common.{◌+◌, ◌-◌, ◌≤◌, [], ◌∷◌, ℕ, List, length, ap, sym, subst, arith}
 use Rattle.std.specs.Prelude.{◌*◌}
 use Rattle.columns.specs.Array.{Array, arrays_of, offsets_in, slots_in}
 use Rattle.columns.specs.CellAt.{number_at}
