@@ -10,7 +10,8 @@
 //! let choice = choose(alloc, &table, &query)?;
 //! ```
 //!
-//! This chooses the first ten rows of `table` whose `a` is at least 1, with all columns; a null is not. `selection::select` makes a table of them.
+//! This chooses the first ten rows of `table` whose `a` is at least 1, with all columns; a null is not. `selection::select` makes a table of them, and
+//! `selection::push_selected_lines` prints them.
 #![tactic(auto)]
 
 mod batch_arrays;

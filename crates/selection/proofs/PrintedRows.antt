@@ -2,7 +2,7 @@
 use Rattle.std.proofs.Common.{◌≡◌, ℕ, zero, suc, ◌+◌, ◌-◌, true, List, [], ◌∷◌, ◌++◌, map, length, take, refl, sym, ap, ◌∙◌, append_assoc, arith, length-append}
 use Rattle.std.specs.List.{flat_map, list_all}
 use Rattle.std.proofs.lemmas.Bool.{and_from}
-use Rattle.std.proofs.lemmas.List.{append-nil}
+use Rattle.std.proofs.lemmas.List.{append-nil, length-take}
 use Rattle.arrow_schema.specs.Column.{Column, Columns, columns_of, PlainSchema}
 use Rattle.arrow_schema.specs.View.{column_of}
 use Rattle.arrow_schema.specs.declared.types.Field.{Field}
@@ -29,7 +29,7 @@ use Rattle.values.specs.declared.table_part.TablePart.{TablePart}
 -- the first of two lists of rows, one after the other
 take_both : {X : Type 0} (n : ℕ) (xs ys : List X) → take n (xs ++ ys) ≡ take n xs ++ take (n - length (take n xs)) ys
 take_both zero xs ys = refl
-take_both {X = X} (suc n) [] ys = refl
+take_both (suc n) [] ys = let e : suc n - 0 ≡ suc n = omega arith in ap (λ (k : ℕ). take k ys) (sym e)
 take_both {X = X} (suc n) (x ∷ xs) ys =
     let e : suc n - suc (length (take n xs)) ≡ n - length (take n xs) = omega arith in
     ap (λ (zs : List X). x ∷ zs) (take_both n xs ys) ∙ ap (λ (k : ℕ). x ∷ (take n xs ++ take k ys)) (sym e)
@@ -60,7 +60,7 @@ batch_printed form cs most left n mask start front own whole old out new at is h
     ∙ take_both most these (rows_set mask start own)
     ∙ ap (λ (k : ℕ). take most these ++ take k (rows_set mask start own)) room in
     record {
-      room = omega (arith, h.room, count, ap length all, length-append (take most these) (take left (rows_set mask start own)));
+      room = omega (arith, h.room, count, length-take left (rows_set mask start own), ap length all, length-append (take most these) (take left (rows_set mask start own)));
       text = added
           ∙ ap (λ (t : List ℕ). t ++ lines_text form cs (take left (rows_set mask start own))) h.text
           ∙ append_assoc old (lines_text form cs (take most these)) (lines_text form cs (take left (rows_set mask start own)))

@@ -1,5 +1,5 @@
 // Prints the selection of a table from its arrays, without making a table of it.
-ghost use Rattle.std.specs.Prelude.{◌≡◌, ◌++◌, ◌≤◌, ◌<◌, ◌*◌, ◌^◌, ◌×◌, Ok, true, length, map, take, sum_by, IfErr, OnOk};
+ghost use Rattle.std.specs.Prelude.{◌≡◌, ◌++◌, ◌≤◌, ◌<◌, ◌*◌, ◌^◌, Ok, true, length, map, take, sum_by, IfErr, OnOk};
 ghost use Rattle.std.specs.List.{flat_map, list_all};
 ghost use Rattle.arrow_schema.specs.Column.{columns_of};
 ghost use Rattle.arrow_schema.specs.View.{column_of, schema_of};
@@ -7,7 +7,7 @@ ghost use Rattle.cells.specs.Cell.{PlainTable};
 ghost use Rattle.columns.specs.View.{fields_of};
 ghost use Rattle.query.specs.BatchArrays.{has_texts};
 ghost use Rattle.query.specs.Choice.{rows_set, chosen_table};
-ghost use Rattle.query.specs.ObjectLine.{are_named_apart, lines_text};
+ghost use Rattle.query.specs.ObjectLine.{lines_text};
 ghost use Rattle.query.specs.Printed.{rows_text, is_printable, printed_selection};
 ghost use Rattle.query.specs.View.{query_in, Reports};
 ghost use Rattle.query.specs.declared.errors.QueryError.TheVariants.{OutOfMemory};

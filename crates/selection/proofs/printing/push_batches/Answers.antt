@@ -1,5 +1,6 @@
-use Rattle.std.proofs.Common.{◌≡◌, ◌++◌, List, map, length, take, refl, sym, ap, ◌∙◌, arith}
+use Rattle.std.proofs.Common.{◌≡◌, ◌++◌, List, map, length, take, sym, ap, ◌∙◌, arith, rules}
 use Rattle.std.specs.List.{flat_map}
+use Rattle.std.proofs.lemmas.List.{length-take}
 use Rattle.facts.specs.laws.Lists.{flat_map-item}
 use Rattle.arrow_schema.specs.View.{column_of}
 use Rattle.cells.specs.Cell.{Cell}
@@ -13,12 +14,15 @@ use Rattle.selection.proofs.PrintedRows.{none_printed, batch_printed}
 use Rattle.selection.proofs.printing.push_batches.Goals as goal
 
 pub loop-batch-init : goal.loop-batch-init
-loop-batch-init c = record { at = refl; printed = none_printed c.args.form (map column_of c.args.fields.now) c.args.most c.args.text.now.items }
+loop-batch-init c = record { at = search rules; printed = none_printed c.args.form (map column_of c.args.fields.now) c.args.most c.args.text.now.items }
 
 pub push_set_lines-requires-clause-readable : goal.push_set_lines-requires-clause-readable
 push_set_lines-requires-clause-readable c =
     let cs = fields_of c.args.fields.now in
     c.arrays_of.ensures.readable cs (all_here (is_picked_readable cs) c.args.batches.now c.loop-batch.batch-index c.batch-item.result c.requires.readable c.loop-batch-test.true c.batch-item.is)
+
+pub overflow_sub-left : goal.overflow_sub-left
+overflow_sub-left c = omega (arith, c.in_ok-left.ensures.count, length-take {A = List Cell})
 
 pub loop-batch-preserved : goal.loop-batch-preserved
 loop-batch-preserved c =
@@ -34,5 +38,5 @@ loop-batch-preserved c =
     record {
       at = omega (arith, is.at, sum_more bs i b c.loop-batch-test.true c.batch-item.is);
       printed = batch_printed c.args.form (map column_of c.args.fields.now) c.args.most c.loop-batch.left _ c.args.mask.now c.loop-batch.start front (picked_rows cs b) _ c.args.text.now.items _ _
-          at (flat_map-item (picked_rows cs) bs i b c.loop-batch-test.true c.batch-item.is) is.printed (c.in_ok-push_set_lines.ensures.lines ∙ lines) (c.in_ok-push_set_lines.ensures.count ∙ count);
+          at (flat_map-item (picked_rows cs) bs i b c.loop-batch-test.true c.batch-item.is) is.printed (c.in_ok-left.ensures.lines ∙ lines) (c.in_ok-left.ensures.count ∙ count);
     }
