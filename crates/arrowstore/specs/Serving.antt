@@ -36,7 +36,8 @@ use Rattle.cli_commands.specs.Compacting.{Compacts}
 use Rattle.cli_commands.specs.Upgrading.{AnsweredUpgrade, AnswersUpgrade}
 use Rattle.cli_commands.specs.Printed.{tables_text, schema_text, summary_text, RefusesPrinting, RefusesSummary}
 use Rattle.cli_commands.specs.Reading.{OfStore, store_ended, IsReadable, RefusesCheck, IfChecked}
-use Rattle.cli_commands.specs.Selecting.{rows_text, QueryAnswers, RefusesQuery}
+use Rattle.cli_commands.specs.Selecting.{QueryAnswers, RefusesQuery}
+use Rattle.query.specs.Printed.{rows_text}
 use Rattle.cli_commands.specs.TextRows.{HandsRows, RefusesText, IfOfText, IfHinted}
 use Rattle.arrowstore.specs.declared.open_command.OpenCommand.{OpenCommand}
 use Rattle.arrowstore.specs.declared.open_command.OpenCommand.TheVariants as opened

@@ -1,13 +1,11 @@
 -- Why no lines are printed of a query.
-use Rattle.std.specs.Prelude.{Option, Ok, Err}
-use Rattle.std.proofs.Common.{◌≡◌, ◌∙◌, ℕ, Bool, true, false, refl, ap}
+use Rattle.std.specs.Prelude.{Option}
+use Rattle.std.proofs.Common.{ℕ, Bool}
 use Rattle.sector_dev.specs.Disk.{Image, Story}
 use Rattle.sector_dev.specs.declared.device.SectorDevice.{Ghosts}
 use Rattle.cells.specs.Cell.{PlainTable}
 use Rattle.catalogue.specs.Entries.{PlainEntry}
-use Rattle.query.specs.Bound.{unknown_column}
 use Rattle.query.specs.Query.{PlainQuery}
-use Rattle.query.specs.Selection.{selection}
 use Rattle.query.specs.View.{Reports}
 use Rattle.query.specs.declared.errors.QueryError.{QueryError}
 use Rattle.query.specs.declared.errors.QueryError.TheVariants as queries
@@ -20,29 +18,14 @@ use Rattle.cli_refusals.specs.declared.refusal.Refusal.{Refusal}
 use Rattle.cli_refusals.specs.declared.refusal.Refusal.TheVariants.{Fault, TooManyBytes, Io, BadSize, BadScript, Fields, Text, Query, Opening, Store as OfStore, OutOfMemory}
 use Rattle.cli_refusals.specs.Refusals.{query_refusal}
 use Rattle.cli_commands.specs.Reading.{refusal_ended}
-use Rattle.cli_commands.specs.Selecting.{is_printable, printable, printed_selection, RefusesLines, RefusesQuery}
+use Rattle.query.specs.Printed.{printed_selection}
+use Rattle.cli_commands.specs.Selecting.{RefusesLines, RefusesQuery}
 
 pub query_refused : (form : RowForm) (table : PlainTable) (q : PlainQuery) (e : QueryError) → Reports e (printed_selection form table q) → RefusesLines form table q (query_refusal e)
 query_refused form table q queries.UnknownColumn given = given
 query_refused form table q queries.BadCondition given = given
 query_refused form table q queries.NotComparable given = given
 query_refused form table q queries.OutOfMemory given = tt
-
--- a selection that can be printed is printed, and another one is refused
-pub printed_whole : (form : RowForm) (table selected : PlainTable) (q : PlainQuery) → selection table q ≡ Ok selected → is_printable form selected ≡ true
-    → printed_selection form table q ≡ Ok selected
-printed_whole form table selected q is can = ap (printable form) is ∙ rw can refl
-
-pub printed_twice : (form : RowForm) (table selected : PlainTable) (q : PlainQuery) → selection table q ≡ Ok selected → is_printable form selected ≡ false
-    → printed_selection form table q ≡ Err unknown_column
-printed_twice form table selected q is can = ap (printable form) is ∙ rw can refl
-
--- what the selection is refused for comes first
-pub printed_refused : (form : RowForm) (table : PlainTable) (q : PlainQuery) (e : QueryError) → Reports e (selection table q) → Reports e (printed_selection form table q)
-printed_refused form table q queries.UnknownColumn given = ap (printable form) given
-printed_refused form table q queries.BadCondition given = ap (printable form) given
-printed_refused form table q queries.NotComparable given = ap (printable form) given
-printed_refused form table q queries.OutOfMemory given = tt
 
 -- of the table that reads show
 pub lines_refused : (form : RowForm) (halted tells : Bool) (image : Image) (found : Option PlainEntry) (q : PlainQuery) (table : PlainTable) (e : Refusal) → ReadsTable halted tells image found table

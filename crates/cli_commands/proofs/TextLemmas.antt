@@ -29,7 +29,8 @@ use Rattle.facts.specs.Outcomes.{Reports}
 use Rattle.cli_refusals.specs.Refusals.{text_refusal}
 use Rattle.cli_commands.specs.Printed.{schema_text, RefusesPrinting}
 use Rattle.cli_commands.specs.TextRows.{InputGives, IfOfText, HintsAt, IfHinted, RefusesText}
-use Rattle.cli_commands.specs.Selecting.{rows_text, printed_selection, QueryAnswers, RefusesQuery}
+use Rattle.query.specs.Printed.{rows_text, printed_selection}
+use Rattle.cli_commands.specs.Selecting.{QueryAnswers, RefusesQuery}
 
 -- the schema is that of the entry that is found
 pub input_gives : (form : TextForm) (found : Option PlainEntry) (input : Option (List ℕ)) (s : PlainSchema) (bytes : List ℕ) (given : Result (List (List Cell)) Refused)

@@ -1,16 +1,15 @@
 -- What a query asks of a store, and what is printed of it.
-use Rattle.std.specs.Prelude.{◌≡◌, ◌==◌, ℕ, Bool, true, List, [], map, Option, Some, None, option_map, Result, Ok, Err, if◌then◌else◌}
+use Rattle.std.specs.Prelude.{◌≡◌, ◌==◌, ℕ, Bool, List, [], map, Option, Some, None, option_map, Result, Ok, Err}
 use Rattle.std.specs.List.{slice_split}
 use Rattle.sector_dev.specs.Disk.{Image}
 use Rattle.cells.specs.Cell.{PlainTable}
 use Rattle.catalogue.specs.Entries.{PlainEntry}
 use Rattle.query.specs.Bound as query
 use Rattle.query.specs.ConditionText.{condition_of}
-use Rattle.query.specs.ObjectLine.{are_named_apart, lines_text}
+use Rattle.query.specs.Printed.{rows_text, printed_selection}
 use Rattle.query.specs.Query.{PlainCondition, PlainQuery}
-use Rattle.query.specs.Selection.{all_some, selection}
+use Rattle.query.specs.Selection.{all_some}
 use Rattle.query.specs.declared.row_form.RowForm.{RowForm}
-use Rattle.query.specs.declared.row_form.RowForm.TheVariants.{Array, Object}
 use Rattle.tables.specs.declared.refusal.QueryRefusal.{QueryRefusal}
 use Rattle.tables.specs.declared.refusal.QueryRefusal.TheVariants.{UnknownColumn, BadCondition, NotComparable}
 use Rattle.store_runs.specs.Reading.{ReadsTable, RefusesRead}
@@ -34,24 +33,6 @@ abbrev pub RefusesWords : {A : Type 0} → Option A → Refusal → Type 0
 RefusesWords stated (Query BadCondition) = stated ≡ None
 RefusesWords stated OutOfMemory = Unit {0}
 RefusesWords stated _ = ⊥
-
--- a line for each of the rows of a table
-abbrev pub rows_text : RowForm → PlainTable → List ℕ
-rows_text form t = lines_text form t.schema.columns t.rows
-
--- rows can be printed as objects if no two columns have the same name
-abbrev pub is_printable : RowForm → PlainTable → Bool
-is_printable Array t = true
-is_printable Object t = are_named_apart t.schema.columns
-
--- what is selected, if it can be printed in this form; a name that two columns share names none
-abbrev pub printable : RowForm → Result PlainTable query.Refusal → Result PlainTable query.Refusal
-printable form (Ok selected) = if is_printable form selected then Ok selected else Err query.unknown_column
-printable form (Err refusal) = Err refusal
-
--- the table whose rows a query prints, or why there is none: refusals of its selection come first
-abbrev pub printed_selection : RowForm → PlainTable → PlainQuery → Result PlainTable query.Refusal
-printed_selection form t q = printable form (selection t q)
 
 -- these are the lines of what a query selects from a table
 abbrev pub AreLines : RowForm → PlainTable → PlainQuery → List ℕ → Type 0

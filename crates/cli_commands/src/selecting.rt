@@ -6,16 +6,17 @@ ghost use Rattle.sector_dev.specs.Disk.{now, shown_image};
 ghost use Rattle.catalogue.specs.Edits.{entry_of};
 ghost use Rattle.cells.specs.Cell.{PlainTable};
 ghost use Rattle.values.specs.TableView.{table_of};
-ghost use Rattle.query.specs.View.{query_in, condition_in, Reports};
+ghost use Rattle.query.specs.Printed.{rows_text};
+ghost use Rattle.query.specs.View.{query_in, condition_in};
 ghost use Rattle.store.specs.Fits.{device_of, is_halted, listed_in};
 ghost use Rattle.store.specs.Reading.{OnlyReadsStore};
 ghost use Rattle.cli_commands.specs.Reading.{store_ended};
-ghost use Rattle.cli_commands.specs.Selecting.{named_columns, conditions_of, stated_query, RefusesWords, rows_text, is_printable, printed_selection, AreLines, RefusesLines, QueryAnswers, RefusesQuery};
+ghost use Rattle.cli_commands.specs.Selecting.{named_columns, conditions_of, stated_query, RefusesWords, AreLines, RefusesLines, QueryAnswers, RefusesQuery};
 
 use cli_refusals::{Refusal, write_whole};
-use query::{Condition, Query, QueryError, RowForm, are_named_apart, push_lines};
+use query::{Condition, Query, RowForm};
 use sector_dev::SectorDevice;
-use selection::select;
+use selection::push_selected_lines;
 use std::alloc::{AllocError, Global};
 use std::io::Write;
 use store::Store;
@@ -80,41 +81,6 @@ pub fn query_of(
     })
 }
 
-fn lines_of_rows(alloc: Global, form: RowForm, table: &Table) -> Result<Vec<u8>, AllocError>
-    ensures { IfOk result (λ v. v.items ≡ rows_text form (table_of table.now)) }
-{
-    let mut text = Vec::new(alloc);
-    push_lines(alloc, &mut text, form, table)?;
-    Ok(text)
-}
-
-// An object has a member for each column, so the names of the columns must differ.
-fn can_be_printed(form: RowForm, table: &Table) -> bool
-    ensures { result ≡ is_printable form (table_of table.now) }
-{
-    match form {
-        RowForm::Array => true,
-        RowForm::Object => are_named_apart(&table.schema().fields),
-    }
-}
-
-// Returns what a query selects from a table, if it can be printed in this form.
-fn selection_to_print(
-    alloc: Global,
-    form: RowForm,
-    table: &Table,
-    query: &Query,
-) -> Result<Table, QueryError>
-    ensures ok { IfOk result (λ selected. printed_selection form (table_of table.now) (query_in query.now) ≡ Ok (table_of selected)) }
-    ensures refused { IfErr result (λ e. Reports e (printed_selection form (table_of table.now) (query_in query.now))) }
-{
-    let selected = select(alloc, table, query)?;
-    if !can_be_printed(form, &selected) {
-        return Err(QueryError::UnknownColumn);
-    }
-    Ok(selected)
-}
-
 fn lines_of_selection(
     alloc: Global,
     form: RowForm,
@@ -124,8 +90,9 @@ fn lines_of_selection(
     ensures lines { IfOk result (λ v. AreLines form (table_of table.now) (query_in query.now) v.items) }
     ensures refused { IfErr result (RefusesLines form (table_of table.now) (query_in query.now)) }
 {
-    let selected = selection_to_print(alloc, form, table, query)?;
-    Ok(lines_of_rows(alloc, form, &selected)?)
+    let mut text = Vec::new(alloc);
+    push_selected_lines(alloc, &mut text, form, table, query)?;
+    Ok(text)
 }
 
 /// Prints each row that a query selects from a table as a line of JSON: an array, or an object with the names of the columns. All lines are made

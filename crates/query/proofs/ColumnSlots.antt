@@ -1,41 +1,68 @@
 -- The columns of a batch, one after another.
-use Rattle.std.proofs.Common.{◌≡◌, ℕ, zero, suc, ◌+◌, ◌<◌, List, [], ◌∷◌, ◌++◌, length, get_or, refl, sym, ap, subst, arith}
+use Rattle.std.proofs.Common.{◌≡◌, ℕ, suc, ◌+◌, List, [], ◌∷◌, ◌++◌, map, length, drop, refl, sym, ap, subst, ◌∙◌, arith}
+use Rattle.std.specs.Prelude.{◌&&◌, nat_le}
+use Rattle.std.specs.List.{AllByRecursion}
+use Rattle.arrow_schema.specs.Column.{columns_of}
+use Rattle.arrow_schema.specs.View.{column_of}
 use Rattle.arrow_schema.specs.declared.types.Field.{Field}
-use Rattle.values.specs.declared.table_part.Batch.{Batch}
-use Rattle.values.specs.declared.table_part.TablePart.{TablePart}
+use Rattle.cells.specs.Cell.{and_cell}
+use Rattle.columns.specs.Array.{Arrays, slots_in, other_arrays}
+use Rattle.columns.specs.CellAt.{cell_at, part_cells}
+use Rattle.columns.specs.Sound.{is_sound, are_sound}
+use Rattle.columns.specs.View.{fields_of, placed_arrays}
+use Rattle.columns.specs.laws.Rows.{other_placed}
+use Rattle.query.specs.declared.batch_arrays.BatchArrays.{BatchArrays}
 use Rattle.query.specs.declared.column_slots.ColumnSlots.{ColumnSlots}
-use Rattle.query.specs.inner.ColumnSlots.{IsColumn, AreColumns}
-use Rattle.query.specs.inner.Slots.{array_of}
+use Rattle.query.specs.inner.ColumnSlots.{array_at, IsColumn, AreColumns, slot_columns, slot_arrays, slot_cells, HasBuffers}
 
 -- of one field more
-pub column_more : (p : TablePart) (b : Batch) (place : ℕ) (fs : List Field) (ss : List ColumnSlots) (f : Field) (s : ColumnSlots) → AreColumns p b place fs ss
-    → IsColumn f (array_of (place + length fs) p b) s → AreColumns p b place (fs ++ f ∷ []) (ss ++ s ∷ [])
-column_more p b place [] [] f s h is = (subst (λ n. IsColumn f (array_of n p b) s) (omega arith) is, tt)
-column_more p b place [] (t ∷ ss) f s h is = absurd h
-column_more p b place (g ∷ fs) [] f s h is = absurd h
-column_more p b place (g ∷ fs) (t ∷ ss) f s h is = (h.0, column_more p b (suc place) fs ss f s h.1 (subst (λ n. IsColumn f (array_of n p b) s) (omega arith) is))
+pub column_more : (b : BatchArrays) (place : ℕ) (fs : List Field) (ss : List ColumnSlots) (f : Field) (s : ColumnSlots) → AreColumns b place fs ss
+    → IsColumn f (array_at (place + length fs) b) s → AreColumns b place (fs ++ f ∷ []) (ss ++ s ∷ [])
+column_more b place [] [] f s h is = (subst (λ n. IsColumn f (array_at n b) s) (omega arith) is, tt)
+column_more b place [] (t ∷ ss) f s h is = absurd h
+column_more b place (g ∷ fs) [] f s h is = absurd h
+column_more b place (g ∷ fs) (t ∷ ss) f s h is = (h.0, column_more b (suc place) fs ss f s h.1 (subst (λ n. IsColumn f (array_at n b) s) (omega arith) is))
 
--- there is one for each field
-pub as_many : (p : TablePart) (b : Batch) (place : ℕ) (fs : List Field) (ss : List ColumnSlots) → AreColumns p b place fs ss → length ss ≡ length fs
-as_many p b place [] [] h = refl
-as_many p b place [] (s ∷ ss) h = absurd h
-as_many p b place (f ∷ fs) [] h = absurd h
-as_many p b place (f ∷ fs) (s ∷ ss) h = ap suc (as_many p b (suc place) fs ss h.1)
+-- ---- what they have is what the arrays of the batch have, from the place on
 
-column_found : (p : TablePart) (b : Batch) (place : ℕ) (fs : List Field) (ss : List ColumnSlots) (k : ℕ) (f : Field) (s : ColumnSlots) → AreColumns p b place fs ss → k < length fs
-    → f ≡ get_or fs k f → s ≡ get_or ss k s → IsColumn f (array_of (place + k) p b) s
-column_found p b place [] [] k f s h within is own = absurd (omega arith)
-column_found p b place [] (t ∷ ss) k f s h within is own = absurd h
-column_found p b place (g ∷ fs) [] k f s h within is own = absurd h
-column_found p b place (g ∷ fs) (t ∷ ss) zero f s h within is own =
-    let first : IsColumn f (array_of place p b) s = subst (λ (x : ColumnSlots). IsColumn f (array_of place p b) x) (sym own) (subst (λ (x : Field). IsColumn x (array_of place p b) t) (sym is) h.0) in
-    subst (λ n. IsColumn f (array_of n p b) s) (omega arith) first
-column_found p b place (g ∷ fs) (t ∷ ss) (suc k) f s h within is own =
-    subst (λ n. IsColumn f (array_of n p b) s) (omega arith) (column_found p b (suc place) fs ss k f s h.1 (omega arith) is own)
+pub buffers_all : (b : BatchArrays) (place : ℕ) (fs : List Field) (ss : List ColumnSlots) → AreColumns b place fs ss → AllByRecursion HasBuffers ss
+buffers_all b place [] [] h = tt
+buffers_all b place [] (s ∷ ss) h = absurd h
+buffers_all b place (f ∷ fs) [] h = absurd h
+buffers_all b place (f ∷ fs) (s ∷ ss) h = (h.0.buffers, buffers_all b (suc place) fs ss h.1)
 
--- the column of a field
-pub column_there : (p : TablePart) (b : Batch) (fs : List Field) (ss : List ColumnSlots) (k : ℕ) (f : Field) (s : ColumnSlots) → AreColumns p b 0 fs ss → k < length fs
-    → f ≡ get_or fs k f → s ≡ get_or ss k s → IsColumn f (array_of k p b) s
-column_there p b fs ss k f s h within is own =
-    let place : 0 + k ≡ k = omega arith in
-    subst (λ n. IsColumn f (array_of n p b) s) place (column_found p b 0 fs ss k f s h within is own)
+pub columns_are : (b : BatchArrays) (place : ℕ) (fs : List Field) (ss : List ColumnSlots) → AreColumns b place fs ss → slot_columns ss ≡ map column_of fs
+columns_are b place [] [] h = refl
+columns_are b place [] (s ∷ ss) h = absurd h
+columns_are b place (f ∷ fs) [] h = absurd h
+columns_are b place (f ∷ fs) (s ∷ ss) h = (λ i. h.0.column i ∷ columns_are b (suc place) fs ss h.1 i)
+
+abbrev arrays_from : ℕ → BatchArrays → Arrays
+arrays_from place b = placed_arrays b.bytes.now b.dictionaries.now (drop place b.arrays.now)
+
+arrays_next : (b : BatchArrays) (place : ℕ) → other_arrays (arrays_from place b) ≡ arrays_from (suc place) b
+arrays_next b place =
+    let e : place + 1 ≡ suc place = omega arith in
+    other_placed b.bytes.now b.dictionaries.now b.arrays.now place ∙ ap (λ (k : ℕ). arrays_from k b) e
+
+pub cells_are : (b : BatchArrays) (place : ℕ) (fs : List Field) (ss : List ColumnSlots) (slot : ℕ) → AreColumns b place fs ss
+    → slot_cells ss slot ≡ part_cells (fields_of fs) (arrays_from place b) slot
+unfolding part_cells
+cells_are b place [] [] slot h = refl
+cells_are b place [] (s ∷ ss) slot h = absurd h
+cells_are b place (f ∷ fs) [] slot h = absurd h
+cells_are b place (f ∷ fs) (s ∷ ss) slot h =
+    let others : slot_cells ss slot ≡ part_cells (fields_of fs) (other_arrays (arrays_from place b)) slot =
+    cells_are b (suc place) fs ss slot h.1 ∙ ap (λ (arrays : Arrays). part_cells (fields_of fs) arrays slot) (sym (arrays_next b place)) in
+    (λ i. and_cell (cell_at (h.0.column i) (h.0.array i) slot) (others i))
+
+pub sound_are : (b : BatchArrays) (place : ℕ) (fs : List Field) (ss : List ColumnSlots) (slots : ℕ) → AreColumns b place fs ss
+    → are_sound (columns_of (slot_columns ss)) slots (slot_arrays ss) ≡ are_sound (fields_of fs) slots (arrays_from place b)
+unfolding are_sound
+sound_are b place [] [] slots h = refl
+sound_are b place [] (s ∷ ss) slots h = absurd h
+sound_are b place (f ∷ fs) [] slots h = absurd h
+sound_are b place (f ∷ fs) (s ∷ ss) slots h =
+    let others : are_sound (columns_of (slot_columns ss)) slots (slot_arrays ss) ≡ are_sound (fields_of fs) slots (other_arrays (arrays_from place b)) =
+    sound_are b (suc place) fs ss slots h.1 ∙ ap (λ (arrays : Arrays). are_sound (fields_of fs) slots arrays) (sym (arrays_next b place)) in
+    (λ i. nat_le slots (slots_in (h.0.array i)) && (is_sound (h.0.column i) (h.0.array i) && others i))

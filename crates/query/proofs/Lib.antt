@@ -24,3 +24,4 @@ pub mod NullTests
 pub mod SlotTexts
 pub mod ColumnSlots
 pub mod SlotLines
+pub mod SetLines

@@ -1,10 +1,9 @@
 -- What is asked of the slots of a column, slot by slot of the arrays of record batches.
-use Rattle.std.proofs.Common.{◌≡◌, ℕ, ◌+◌, ◌<◌, zero, suc, Bool, true, false, List, [], ◌∷◌, ◌++◌, map, length, take, drop, refl, sym, ap, subst, ◌∙◌, append_assoc, arith}
+use Rattle.std.proofs.Common.{◌≡◌, ℕ, ◌+◌, ◌<◌, zero, suc, Bool, true, List, [], ◌∷◌, ◌++◌, map, length, take, drop, refl, sym, ap, subst, ◌∙◌, append_assoc, arith}
 use Rattle.std.specs.Prelude.{nat_le, Some, slice_get, get_or}
 use Rattle.std.specs.List.{flat_map, list_all, range_with_len}
 use Rattle.std.proofs.lemmas.Bool.{and_parts, and_from}
 use Rattle.std.proofs.lemmas.List.{drop_all}
-use Rattle.std.proofs.lemmas.List.Folds.{list_all_at}
 use Rattle.facts.specs.laws.Lists.{maps_same, map_map, flat_map-item}
 use Rattle.arrow_schema.specs.Column.{Column, columns_of}
 use Rattle.cells.specs.Cell.{cell_list, PlainTable}
@@ -22,16 +21,6 @@ use Rattle.query.specs.Bound.{Bound, meets_at, holds}
 use Rattle.query.specs.inner.Masks.{IsMask}
 use Rattle.query.specs.inner.Slots.{array_of}
 use Rattle.query.specs.inner.SlotTests.{place_in, IsSlotTest, holds_at, batch_flags, part_flags, parts_flags, has_slots, batch_has_slots, part_has_slots}
-
--- ---- slots
-
--- what is true of all of a list is true of what stands at a place of it
-pub all_here : {X : Type 0} (p : X → Bool) (xs : List X) (i : ℕ) (x : X) → list_all p xs ≡ true → i < length xs → x ≡ get_or xs i x → p x ≡ true
-all_here p xs i x h within is = by (p x) refl
-  where
-    by : (b : Bool) → p x ≡ b → p x ≡ true
-    by true e = e
-    by false e = absurd (let no = list_all_at p xs i x within (ap p (sym is) ∙ e) in cc)
 
 -- ---- rows
 

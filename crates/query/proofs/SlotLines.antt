@@ -1,47 +1,42 @@
 -- Lines of the rows of record batches.
 use Rattle.std.specs.Prelude.{nat_le, codes, if◌then◌else◌}
 use Rattle.std.specs.List.{flat_map, list_all, range_with_len}
-use Rattle.std.proofs.Common.{◌≡◌, ℕ, zero, suc, ◌+◌, ◌<◌, ◌≤◌, Bool, true, List, [], ◌∷◌, ◌++◌, map, length, get_or, take, drop, refl, sym, ap, subst, ◌∙◌, append_assoc, arith}
+use Rattle.std.proofs.Common.{◌≡◌, ℕ, zero, suc, ◌+◌, ◌-◌, ◌<◌, ◌≤◌, Bool, true, List, [], ◌∷◌, ◌++◌, map, length, get_or, take, drop, refl, sym, ap, subst, ◌∙◌, append_assoc, arith}
 use Rattle.std.proofs.lemmas.Bool.{and_from, and_parts, leb-true, lt-ltb}
 use Rattle.std.proofs.lemmas.List.{append-nil}
-use Rattle.std.proofs.lemmas.List.Folds.{list_all-append}
-use Rattle.std.proofs.lemmas.List.FromFn.{get_or-map-range_with_len, length-map-range_with_len, map-range_with_len_more}
-use Rattle.std.proofs.lemmas.List.Sums.{list_all-from_AllPass}
-use Rattle.facts.specs.laws.Lists.{drop-item, flat_map-item}
+use Rattle.std.proofs.lemmas.List.FromFn.{get_or-map-range_with_len, length-map-range_with_len, map-range_with_len_more, take-map-range_with_len}
+use Rattle.facts.specs.laws.Lists.{flat_map-item, maps_same}
 use Rattle.json.specs.Print.{quoted}
-use Rattle.arrow_schema.specs.Column.{Column, Columns, PlainSchema, columns_of}
+use Rattle.arrow_schema.specs.Column.{Column, Columns, columns_of}
 use Rattle.arrow_schema.specs.Parts.{name_of_column}
 use Rattle.arrow_schema.specs.View.{column_of}
 use Rattle.arrow_schema.specs.declared.types.Field.{Field}
-use Rattle.cells.specs.Cell.{Cell, Cells, PlainTable, no_cell, and_cell, cells_of, cell_list}
-use Rattle.cells.specs.Row.{is_row, row_fits}
+use Rattle.cells.specs.Cell.{Cell, Cells, PlainTable, no_cell, and_cell, cell_list}
 use Rattle.cells.specs.laws.Cells.{cells_list}
-use Rattle.columns.specs.Array.{Arrays, slots_in, first_array}
+use Rattle.columns.specs.Array.{slots_in}
 use Rattle.columns.specs.CellAt.{cell_at, part_cells, row_at}
 use Rattle.columns.specs.Sound.{is_sound, are_sound}
 use Rattle.columns.specs.Texts.{has_utf8_texts, have_utf8_texts}
-use Rattle.columns.specs.View.{fields_of, placed_arrays}
-use Rattle.columns.specs.laws.FitTexts.{row_texts}
-use Rattle.columns.specs.laws.Rows.{other_placed}
-use Rattle.values.specs.Parts.{arrays_with, batch_rows, part_rows, parts_rows, is_batch_sound, are_parts_sound, parts_table}
+use Rattle.columns.specs.View.{view_array, fields_of}
+use Rattle.columns.specs.laws.Rows.{fewer_sound}
+use Rattle.values.specs.Parts.{batch_rows, part_rows, parts_rows, is_batch_sound, are_parts_sound, parts_table}
 use Rattle.values.specs.Table.{IsTable}
-use Rattle.values.specs.declared.table_part.Batch.{Batch}
 use Rattle.values.specs.declared.table_part.TablePart.{TablePart}
+use Rattle.query.specs.BatchArrays.{arrays_of, rows_of, has_texts, is_readable}
 use Rattle.query.specs.Line.{json_of, json_of_all, json_of_others}
 use Rattle.query.specs.ObjectLine.{members, other_members, line_in, lines_text}
+use Rattle.query.specs.declared.batch_arrays.BatchArrays.{BatchArrays}
+use Rattle.query.specs.declared.column_slots.ColumnSlots.{ColumnSlots}
 use Rattle.query.specs.declared.row_form.RowForm.{RowForm}
 use Rattle.query.specs.declared.row_form.RowForm.TheVariants as forms
-use Rattle.query.specs.inner.SlotLines.{opening, closing, separator, lead, rest_of_line, has_texts, is_batch_readable, is_part_readable}
-use Rattle.query.specs.inner.Slots.{array_of}
-use Rattle.query.proofs.SlotFlags.{all_here}
+use Rattle.query.specs.inner.ColumnSlots.{AreColumns, slot_columns, slot_arrays, slot_cells, slot_row, HasBuffers, AreReadable}
+use Rattle.query.specs.inner.SlotLines.{opening, closing, separator, lead, rest_of_line, is_batch_readable, is_part_readable}
+use Rattle.query.specs.laws.Lines.{lines_append}
+use Rattle.query.specs.laws.Readable.{table_texts}
+use Rattle.query.proofs.ColumnSlots.{columns_are, cells_are, sound_are, buffers_all}
+use Rattle.query.specs.laws.Tests.{all_here, all_of_flat, all_both}
 
 -- ---- lines
-
-lines_append : (form : RowForm) (cs : List Column) (xs ys : List (List Cell)) → lines_text form cs (xs ++ ys) ≡ lines_text form cs xs ++ lines_text form cs ys
-lines_append form cs [] ys = refl
-lines_append form cs (x ∷ xs) ys =
-    ap (λ (t : List ℕ). line_in form cs x ++ codes "\n" ++ t) (lines_append form cs xs ys)
-    ∙ sym (append_assoc (line_in form cs x ++ codes "\n") (lines_text form cs xs) (lines_text form cs ys))
 
 -- of one batch more, or of one part more
 pub lines_more : {X : Type 0} (form : RowForm) (cs : List Column) (g : X → List (List Cell)) (xs : List X) (k : ℕ) (x : X) (start out : List ℕ) → k < length xs → x ≡ get_or xs k x
@@ -51,16 +46,42 @@ lines_more form cs g xs k x start out within is h =
     ∙ append_assoc start (lines_text form cs (flat_map g (take k xs))) (lines_text form cs (g x))
     ∙ ap (λ (ys : List ℕ). start ++ ys) (sym (lines_append form cs (flat_map g (take k xs)) (g x)) ∙ ap (lines_text form cs) (sym (flat_map-item g xs k x within is)))
 
+-- of no slot
+pub no_line : (form : RowForm) (cs : List Column) (row : ℕ → List Cell) (from n : ℕ) (out : List ℕ) → n ≡ 0 → out ≡ out ++ lines_text form cs (map row (range_with_len from n))
+no_line form cs row from n out none = sym (append-nil out) ∙ ap (λ (k : ℕ). out ++ lines_text form cs (map row (range_with_len from k))) (sym none)
+
 -- of one slot more
-pub line_more : (form : RowForm) (cs : List Column) (row : ℕ → List Cell) (k : ℕ) (start out new : List ℕ) → out ≡ start ++ lines_text form cs (map row (range_with_len 0 k))
-    → new ≡ out ++ (line_in form cs (row k) ++ codes "\n") → new ≡ start ++ lines_text form cs (map row (range_with_len 0 (k + 1)))
-line_more form cs row k start out new h more =
-    let before = map row (range_with_len 0 k) in
-    more
-    ∙ ap (λ (ys : List ℕ). ys ++ (line_in form cs (row k) ++ codes "\n")) h
-    ∙ append_assoc start (lines_text form cs before) (line_in form cs (row k) ++ codes "\n")
-    ∙ ap (λ (ys : List ℕ). start ++ (lines_text form cs before ++ ys)) (sym (append-nil (line_in form cs (row k) ++ codes "\n")))
-    ∙ ap (λ (ys : List ℕ). start ++ ys) (sym (lines_append form cs before (row k ∷ [])) ∙ ap (lines_text form cs) (sym (map-range_with_len_more row 0 k k (omega arith))))
+pub line_more : (form : RowForm) (cs : List Column) (row : ℕ → List Cell) (from k slot more : ℕ) (start out new : List ℕ) → from + k ≡ slot → more ≡ k + 1
+    → out ≡ start ++ lines_text form cs (map row (range_with_len from k)) → new ≡ out ++ (line_in form cs (row slot) ++ codes "\n")
+    → new ≡ start ++ lines_text form cs (map row (range_with_len from more))
+line_more form cs row from k slot more start out new at is h added =
+    let before = map row (range_with_len from k) in
+    added
+    ∙ ap (λ (ys : List ℕ). ys ++ (line_in form cs (row slot) ++ codes "\n")) h
+    ∙ append_assoc start (lines_text form cs before) (line_in form cs (row slot) ++ codes "\n")
+    ∙ ap (λ (ys : List ℕ). start ++ (lines_text form cs before ++ ys)) (sym (append-nil (line_in form cs (row slot) ++ codes "\n")))
+    ∙ ap (λ (ys : List ℕ). start ++ ys) (sym (lines_append form cs before (row slot ∷ [])) ∙ ap (lines_text form cs) (sym (map-range_with_len_more row from k slot at)))
+    ∙ ap (λ (n : ℕ). start ++ lines_text form cs (map row (range_with_len from n))) (sym is)
+
+rows_behind : {X : Type 0} (row : ℕ → X) (a m n : ℕ) → drop m (map row (range_with_len a (m + n))) ≡ map row (range_with_len (a + m) n)
+rows_behind row a zero n =
+    let e : 0 + n ≡ n = omega arith in
+    let g : a + 0 ≡ a = omega arith in
+    rw (e, g) refl
+rows_behind row a (suc m) n =
+    let e : suc m + n ≡ suc (m + n) = omega arith in
+    let g : a + suc m ≡ a + 1 + m = omega arith in
+    rw (e, g) (rows_behind row (a + 1) m n)
+
+-- the rows at some slots of all
+pub rows_between : {X : Type 0} (row : ℕ → X) (m n slots : ℕ) → m + n ≤ slots → take n (drop m (map row (range_with_len 0 slots))) ≡ map row (range_with_len m n)
+rows_between row m n slots within =
+    let whole : slots ≡ m + (slots - m) = omega arith in
+    let here : 0 + m ≡ m = omega arith in
+    ap (λ (k : ℕ). take n (drop m (map row (range_with_len 0 k)))) whole
+    ∙ ap (take n) (rows_behind row 0 m (slots - m))
+    ∙ ap (λ (k : ℕ). take n (map row (range_with_len k (slots - m)))) here
+    ∙ take-map-range_with_len row m (slots - m) n (omega arith)
 
 -- ---- a line
 
@@ -99,66 +120,55 @@ pushed out a b one two rest whole first second is =
     ∙ append_assoc out a (b ++ rest)
     ∙ ap (λ (t : List ℕ). out ++ t) (sym is)
 
--- the cells of the columns from a place on
-abbrev pub cells_left : List Field → TablePart → Batch → (k slot : ℕ) → Cells
-cells_left fields p b k slot = part_cells (fields_of (drop k fields)) (placed_arrays p.bytes.items p.dictionaries.items (drop k b.arrays.items)) slot
+-- ---- the first of some columns
 
-abbrev pub are_left_sound : List Field → TablePart → Batch → ℕ → Bool
-are_left_sound fields p b k = are_sound (fields_of (drop k fields)) b.rows (placed_arrays p.bytes.items p.dictionaries.items (drop k b.arrays.items))
+-- fewer slots
+pub fewer_readable : (ss : List ColumnSlots) (slots fewer : ℕ) → fewer ≤ slots → AreReadable ss slots → AreReadable ss fewer
+fewer_readable ss slots fewer le h = record {
+  buffers = h.buffers;
+  sound = fewer_sound (columns_of (slot_columns ss)) (slot_arrays ss) slots fewer h.sound le;
+  texts = λ slot lt. h.texts slot (omega (arith, lt, le));
+}
 
-cells_next : (fields : List Field) (p : TablePart) (b : Batch) (k slot : ℕ) (f : Field) → k < length fields → f ≡ get_or fields k f
-    → cells_left fields p b k slot ≡ and_cell (cell_at (column_of f) (array_of k p b) slot) (cells_left fields p b (k + 1) slot)
-unfolding part_cells
-cells_next fields p b k slot f within is =
-    let arrays = placed_arrays p.bytes.items p.dictionaries.items (drop k b.arrays.items) in
-    let others = fields_of (drop (k + 1) fields) in
-    ap (λ (fs : List Field). part_cells (fields_of fs) arrays slot) (drop-item fields k f within is)
-    ∙ ap (λ (xs : Arrays). and_cell (cell_at (column_of f) (first_array arrays) slot) (part_cells others xs slot)) (other_placed p.bytes.items p.dictionaries.items b.arrays.items k)
+-- it can be read
+pub record IsFirst (s : ColumnSlots) (ss : List ColumnSlots) (slots : ℕ) : Type 0 where
+  pub long : slots ≤ slots_in (view_array s.view)
+  pub sound : is_sound (column_of s.field.now) (view_array s.view) ≡ true
+  pub texts : (slot : ℕ) → slot < slots → has_utf8_texts (cell_at (column_of s.field.now) (view_array s.view) slot) ≡ true
+  pub buffers : HasBuffers s
+  pub others : AreReadable ss slots
 
--- the array of a column is sound, and those after it are
-pub sound_next : (fields : List Field) (p : TablePart) (b : Batch) (k : ℕ) (f : Field) → k < length fields → f ≡ get_or fields k f → are_left_sound fields p b k ≡ true
-    → (b.rows ≤ slots_in (array_of k p b)) × (is_sound (column_of f) (array_of k p b) ≡ true) × (are_left_sound fields p b (k + 1) ≡ true)
-unfolding are_sound
-sound_next fields p b k f within is h =
-    let arrays = placed_arrays p.bytes.items p.dictionaries.items (drop k b.arrays.items) in
-    let P : List Field → Type 0 = λ fs. are_sound (fields_of fs) b.rows arrays ≡ true in
-    let own = subst P (drop-item fields k f within is) h in
-    let long = and_parts (nat_le b.rows (slots_in (first_array arrays))) _ own in
-    let both = and_parts (is_sound (column_of f) (first_array arrays)) _ long.1 in
-    let Q : Arrays → Type 0 = λ xs. are_sound (fields_of (drop (k + 1) fields)) b.rows xs ≡ true in
-    (leb-true _ _ long.0, both.0, subst Q (other_placed p.bytes.items p.dictionaries.items b.arrays.items k) both.1)
-
--- its text is UTF-8, and those after it are
-pub texts_next : (fields : List Field) (p : TablePart) (b : Batch) (k slot : ℕ) (f : Field) → k < length fields → f ≡ get_or fields k f → have_utf8_texts (cells_left fields p b k slot) ≡ true
-    → (has_utf8_texts (cell_at (column_of f) (array_of k p b) slot) ≡ true) × (have_utf8_texts (cells_left fields p b (k + 1) slot) ≡ true)
-unfolding have_utf8_texts
-texts_next fields p b k slot f within is h =
-    let P : Cells → Type 0 = λ cells. have_utf8_texts cells ≡ true in
-    and_parts (has_utf8_texts (cell_at (column_of f) (array_of k p b) slot)) _ (subst P (cells_next fields p b k slot f within is) h)
+pub first_readable : (s : ColumnSlots) (ss : List ColumnSlots) (slots : ℕ) → AreReadable (s ∷ ss) slots → IsFirst s ss slots
+unfolding are_sound part_cells have_utf8_texts
+first_readable s ss slots h =
+    let a = view_array s.view in
+    let long = and_parts (nat_le slots (slots_in a)) _ h.sound in
+    let both = and_parts (is_sound (column_of s.field.now) a) _ long.1 in
+    let texts = λ (slot : ℕ) (lt : slot < slots). and_parts (has_utf8_texts (cell_at (column_of s.field.now) a slot)) (have_utf8_texts (slot_cells ss slot)) (h.texts slot lt) in
+    record {
+      long = leb-true _ _ long.0;
+      sound = both.0;
+      texts = λ slot lt. (texts slot lt).0;
+      buffers = h.buffers.0;
+      others = record { buffers = h.buffers.1; sound = both.1; texts = λ slot lt. (texts slot lt).1 };
+    }
 
 -- what is printed of it, and what is left
-pub text_next : (form : RowForm) (fields : List Field) (p : TablePart) (b : Batch) (k slot : ℕ) (f : Field) (out one two whole : List ℕ) → k < length fields → f ≡ get_or fields k f
-    → one ≡ out ++ lead form k (column_of f) → two ≡ one ++ json_of (cell_at (column_of f) (array_of k p b) slot)
-    → out ++ rest_of_line form k (map column_of (drop k fields)) (cells_left fields p b k slot) ≡ whole
-    → two ++ rest_of_line form (k + 1) (map column_of (drop (k + 1) fields)) (cells_left fields p b (k + 1) slot) ≡ whole
-text_next form fields p b k slot f out one two whole within is first second h =
-    let x = cell_at (column_of f) (array_of k p b) slot in
-    let others = map column_of (drop (k + 1) fields) in
-    let left = cells_left fields p b (k + 1) slot in
-    let rest : rest_of_line form k (map column_of (drop k fields)) (cells_left fields p b k slot) ≡ lead form k (column_of f) ++ (json_of x ++ rest_of_line form (k + 1) others left) =
-    ap (λ (fs : List Field). rest_of_line form k (map column_of fs) (cells_left fields p b k slot)) (drop-item fields k f within is)
-    ∙ ap (λ (cells : Cells). rest_of_line form k (column_of f ∷ others) cells) (cells_next fields p b k slot f within is)
-    ∙ led form k (column_of f) others x left in
-    pushed out (lead form k (column_of f)) (json_of x) one two (rest_of_line form (k + 1) others left) _ first second rest ∙ h
+pub text_next : (form : RowForm) (s : ColumnSlots) (ss : List ColumnSlots) (k slot : ℕ) (out one two whole : List ℕ)
+    → one ≡ out ++ lead form k (column_of s.field.now) → two ≡ one ++ json_of (cell_at (column_of s.field.now) (view_array s.view) slot)
+    → out ++ rest_of_line form k (slot_columns (s ∷ ss)) (slot_cells (s ∷ ss) slot) ≡ whole
+    → two ++ rest_of_line form (k + 1) (slot_columns ss) (slot_cells ss slot) ≡ whole
+unfolding part_cells
+text_next form s ss k slot out one two whole first second h =
+    let c = column_of s.field.now in
+    let x = cell_at c (view_array s.view) slot in
+    pushed out (lead form k c) (json_of x) one two (rest_of_line form (k + 1) (slot_columns ss) (slot_cells ss slot)) _ first second (led form k c (slot_columns ss) x (slot_cells ss slot)) ∙ h
 
 -- where no column is left
-pub text_done : (form : RowForm) (fields : List Field) (p : TablePart) (b : Batch) (k slot : ℕ) (out whole : List ℕ) → drop k fields ≡ []
-    → out ++ rest_of_line form k (map column_of (drop k fields)) (cells_left fields p b k slot) ≡ whole → out ≡ whole
+pub text_done : (form : RowForm) (ss : List ColumnSlots) (k slot : ℕ) (out whole : List ℕ) → ss ≡ [] → out ++ rest_of_line form k (slot_columns ss) (slot_cells ss slot) ≡ whole → out ≡ whole
 unfolding part_cells
-text_done form fields p b k slot out whole none h =
-    let arrays = placed_arrays p.bytes.items p.dictionaries.items (drop k b.arrays.items) in
-    let rest : rest_of_line form k (map column_of (drop k fields)) (cells_left fields p b k slot) ≡ [] =
-    ap (λ (fs : List Field). rest_of_line form k (map column_of fs) (part_cells (fields_of fs) arrays slot)) none ∙ none_left form k in
+text_done form ss k slot out whole none h =
+    let rest : rest_of_line form k (slot_columns ss) (slot_cells ss slot) ≡ [] = ap (λ (ts : List ColumnSlots). rest_of_line form k (slot_columns ts) (slot_cells ts slot)) none ∙ none_left form k in
     sym (append-nil out) ∙ ap (λ (t : List ℕ). out ++ t) (sym rest) ∙ h
 
 -- the whole line
@@ -175,34 +185,35 @@ three_pushed out a b c one two new first second third =
 
 -- ---- the rows
 
-all_of_flat : {X Y : Type 0} (p : Y → Bool) (g : X → List Y) (xs : List X) → list_all p (flat_map g xs) ≡ true → list_all (λ x. list_all p (g x)) xs ≡ true
-all_of_flat p g [] h = refl
-all_of_flat p g (x ∷ xs) h =
-    let both = and_parts (list_all p (g x)) _ (sym (list_all-append p (g x) (flat_map g xs)) ∙ h) in
-    and_from _ _ both.0 (all_of_flat p g xs both.1)
+-- the columns of a batch that can be read
+pub columns_readable : (b : BatchArrays) (fs : List Field) (ss : List ColumnSlots) → AreColumns b 0 fs ss → is_readable (fields_of fs) b ≡ true → AreReadable ss b.rows
+columns_readable b fs ss is h =
+    let both = and_parts (are_sound (fields_of fs) b.rows (arrays_of b)) _ h in
+    let row = row_at (fields_of fs) (arrays_of b) in
+    let P : Cells → Type 0 = λ cells. have_utf8_texts cells ≡ true in
+    record {
+      buffers = buffers_all b 0 fs ss is;
+      sound = sound_are b 0 fs ss b.rows is ∙ both.0;
+      texts = λ slot lt.
+          let own : row slot ≡ get_or (rows_of (fields_of fs) b) slot (row slot) = sym (get_or-map-range_with_len row 0 b.rows slot slot (row slot) lt (omega arith)) in
+          let there : slot < length (rows_of (fields_of fs) b) = omega (arith, lt, length-map-range_with_len row 0 b.rows) in
+          let texts = all_here has_texts (rows_of (fields_of fs) b) slot (row slot) both.1 there own in
+          subst P (sym (cells_are b 0 fs ss slot is)) (subst P (cells_list (part_cells (fields_of fs) (arrays_of b) slot)) texts);
+    }
 
-all_both : {X : Type 0} (p q r : X → Bool) → ((x : X) → p x ≡ true → q x ≡ true → r x ≡ true) → (xs : List X) → list_all p xs ≡ true → list_all q xs ≡ true → list_all r xs ≡ true
-all_both p q r each [] h g = refl
-all_both p q r each (x ∷ xs) h g =
-    let one = and_parts (p x) _ h in
-    let other = and_parts (q x) _ g in
-    and_from _ _ (each x one.0 other.0) (all_both p q r each xs one.1 other.1)
+-- they have its rows
+pub rows_are : (b : BatchArrays) (fs : List Field) (ss : List ColumnSlots) → AreColumns b 0 fs ss → map (slot_row ss) (range_with_len 0 b.rows) ≡ rows_of (fields_of fs) b
+rows_are b fs ss is = maps_same (slot_row ss) (row_at (fields_of fs) (arrays_of b)) (λ i. ap cell_list (cells_are b 0 fs ss i is)) (range_with_len 0 b.rows)
+
+pub lines_are : (form : RowForm) (b : BatchArrays) (fs : List Field) (ss : List ColumnSlots) → AreColumns b 0 fs ss
+    → lines_text form (slot_columns ss) (map (slot_row ss) (range_with_len 0 b.rows)) ≡ lines_text form (map column_of fs) (rows_of (fields_of fs) b)
+lines_are form b fs ss is = (λ i. lines_text form (columns_are b 0 fs ss is i) (rows_are b fs ss is i))
 
 parts_readable : (columns : Columns) (parts : List TablePart) → are_parts_sound columns parts ≡ true → list_all has_texts (parts_rows columns parts) ≡ true → list_all (is_part_readable columns) parts ≡ true
 parts_readable columns parts sound texts =
     all_both (λ p. list_all (is_batch_sound columns p) p.batches.items) (λ p. list_all has_texts (part_rows columns p)) (is_part_readable columns)
     (λ p s t. all_both (is_batch_sound columns p) (λ b. list_all has_texts (batch_rows columns p b)) (is_batch_readable columns p) (λ b one other. and_from _ _ one other) p.batches.items s
     (all_of_flat has_texts (batch_rows columns p) p.batches.items t)) parts sound (all_of_flat has_texts (part_rows columns) parts texts)
-
-row_has_texts : (s : PlainSchema) (row : List Cell) → is_row s row ≡ true → has_texts row ≡ true
-unfolding is_row
-row_has_texts s row h = row_texts (columns_of s.columns) (cells_of row) (and_parts (row_fits s row) _ h).0
-
-rows_have_texts : (s : PlainSchema) (rows : List (List Cell)) → list_all (is_row s) rows ≡ true → list_all has_texts rows ≡ true
-rows_have_texts s [] h = refl
-rows_have_texts s (row ∷ rows) h =
-    let both = and_parts (is_row s row) _ h in
-    and_from _ _ (row_has_texts s row both.0) (rows_have_texts s rows both.1)
 
 -- of a table they are
 pub table_readable : (t : PlainTable) (cs : List Column) (parts : List TablePart) → IsTable t → cs ≡ t.schema.columns → t ≡ parts_table t.schema parts → are_parts_sound (columns_of t.schema.columns) parts ≡ true
@@ -211,23 +222,10 @@ table_readable t cs parts is columns whole sound =
     let rows : t.rows ≡ parts_rows (columns_of t.schema.columns) parts = ap (λ (u : PlainTable). u.rows) whole in
     let P : List (List Cell) → Type 0 = λ rs. list_all has_texts rs ≡ true in
     let Q : List Column → Type 0 = λ ds. list_all (is_part_readable (columns_of ds)) parts ≡ true in
-    subst Q (sym columns)
-    (parts_readable (columns_of t.schema.columns) parts sound (subst P rows (rows_have_texts t.schema t.rows (list_all-from_AllPass (is_row t.schema) t.rows is.rows))))
+    subst Q (sym columns) (parts_readable (columns_of t.schema.columns) parts sound (subst P rows (table_texts t is)))
 
 pub lines_of_table : (form : RowForm) (t : PlainTable) (cs : List Column) (parts : List TablePart) → cs ≡ t.schema.columns → t ≡ parts_table t.schema parts
     → lines_text form cs (parts_rows (columns_of cs) parts) ≡ lines_text form t.schema.columns t.rows
 lines_of_table form t cs parts columns whole =
     ap (λ (ds : List Column). lines_text form ds (parts_rows (columns_of ds) parts)) columns
     ∙ ap (λ (u : PlainTable). lines_text form t.schema.columns u.rows) (sym whole)
-
--- a slot of a batch
-pub slot_readable : (columns : Columns) (p : TablePart) (b : Batch) (slot : ℕ) → slot < b.rows → is_batch_readable columns p b ≡ true
-    → (are_sound columns b.rows (arrays_with p b) ≡ true) × (have_utf8_texts (part_cells columns (arrays_with p b) slot) ≡ true)
-slot_readable columns p b slot within h =
-    let both = and_parts (is_batch_sound columns p b) _ h in
-    let row = row_at columns (arrays_with p b) in
-    let own : row slot ≡ get_or (batch_rows columns p b) slot (row slot) = sym (get_or-map-range_with_len row 0 b.rows slot slot (row slot) within (omega arith)) in
-    let there : slot < length (batch_rows columns p b) = omega (arith, within, length-map-range_with_len row 0 b.rows) in
-    let texts = all_here has_texts (batch_rows columns p b) slot (row slot) both.1 there own in
-    let P : Cells → Type 0 = λ cells. have_utf8_texts cells ≡ true in
-    (both.0, subst P (cells_list (part_cells columns (arrays_with p b) slot)) texts)

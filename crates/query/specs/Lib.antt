@@ -4,8 +4,10 @@ pub mod Literal
 pub mod Bound
 pub mod Selection
 pub mod Choice
+pub mod BatchArrays
 pub mod Line
 pub mod ObjectLine
+pub mod Printed
 pub mod View
 pub mod laws
 pub mod inner

@@ -1,2 +1,5 @@
+pub mod Lines
 pub mod Picks
+pub mod Readable
 pub mod RowsSet
+pub mod Tests

@@ -4,16 +4,16 @@ ghost use Rattle.arrow_schema.specs.View.{bits_of, kind_of, column_of};
 ghost use Rattle.cells.specs.Cell.{null, number};
 ghost use Rattle.columns.specs.CellAt.{integer_at};
 ghost use Rattle.columns.specs.View.{view_array, IsNoArray};
-ghost use Rattle.query.specs.inner.ColumnSlots.{IsTextKind, IsTextColumn, IsPlainText, AreBuffers, IsColumn, AreColumns};
+ghost use Rattle.query.specs.inner.ColumnSlots.{IsTextKind, IsTextColumn, IsPlainText, AreBuffers, array_at, IsColumn, AreColumns};
 ghost use Rattle.query.specs.inner.Contents.{span_in};
-ghost use Rattle.query.specs.inner.Slots.{array_of, is_valid_in, number_or_null, width_of};
+ghost use Rattle.query.specs.inner.Slots.{is_valid_in, number_or_null, width_of};
 
+use crate::batch_arrays::BatchArrays;
 use crate::integer_slots::{field_integer, number_at, unsigned_at};
 use crate::plain_text::are_plain;
 use arrow_schema::{BitWidth, DataType, Field, IntegerType};
 use columns::{ArrayView, PlacedArray, array_or};
 use std::alloc::{AllocError, Global};
-use values::{Batch, TablePart};
 
 /// The buffers of integers.
 #[derive(Clone, Copy)]
@@ -106,18 +106,17 @@ fn buffers_of<'a>(field: &Field, view: ArrayView<'a>) -> Buffers<'a>
 
 fn column_at<'a>(
     field: &'a Field,
-    part: &'a TablePart,
-    batch: &'a Batch,
+    batch: BatchArrays<'a>,
     none: &'a PlacedArray,
     place: usize,
 ) -> ColumnSlots<'a>
     requires { IsNoArray none.now }
-    ensures { IsColumn field.now (array_of place part.now batch.now) result }
+    ensures { IsColumn field.now (array_at place batch.entry) result }
 {
     let view = ArrayView {
-        array: array_or(&batch.arrays, place, none),
-        bytes: &part.bytes,
-        dictionaries: &part.dictionaries,
+        array: array_or(batch.arrays, place, none),
+        bytes: batch.bytes,
+        dictionaries: batch.dictionaries,
     };
     ColumnSlots {
         field,
@@ -130,16 +129,15 @@ fn column_at<'a>(
 pub(crate) fn columns_of<'a>(
     alloc: Global,
     fields: &'a [Field],
-    part: &'a TablePart,
-    batch: &'a Batch,
+    batch: BatchArrays<'a>,
     none: &'a PlacedArray,
 ) -> Result<Vec<ColumnSlots<'a>>, AllocError>
     requires { IsNoArray none.now }
-    ensures { IfOk result (λ columns. AreColumns part.now batch.now 0 fields.now columns.items) }
+    ensures { IfOk result (λ columns. AreColumns batch.entry 0 fields.now columns.items) }
 {
     let mut columns = Vec::with_capacity(alloc, fields.len())?;
     for place in 0..fields.len() {
-        columns.push_reserved(column_at(&fields[place], part, batch, none, place));
+        columns.push_reserved(column_at(&fields[place], batch, none, place));
     }
     Ok(columns)
 }

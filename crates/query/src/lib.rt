@@ -10,9 +10,11 @@
 //! let choice = choose(alloc, &table, &query)?;
 //! ```
 //!
-//! This chooses the first ten rows of `table` whose `a` is at least 1, with all columns; a null is not. `selection::select` makes a table of them.
+//! This chooses the first ten rows of `table` whose `a` is at least 1, with all columns; a null is not. `selection::select` makes a table of them, and
+//! `selection::push_selected_lines` prints them.
 #![tactic(auto)]
 
+mod batch_arrays;
 mod blocks;
 mod bound;
 mod choice;
@@ -32,11 +34,14 @@ mod plain_text;
 mod query;
 mod row_form;
 mod selecting;
+mod set_lines;
 mod set_rows;
+mod slot_lines;
 mod slot_test;
 mod slot_value;
 mod table_lines;
 
+pub use batch_arrays::BatchArrays;
 pub use choice::Choice;
 pub use condition::{Condition, Test};
 pub use errors::QueryError;
@@ -46,5 +51,6 @@ pub use operator::Operator;
 pub use query::Query;
 pub use row_form::RowForm;
 pub use selecting::choose;
+pub use set_lines::push_set_lines;
 pub use set_rows::next_set;
 pub use table_lines::push_lines;

@@ -4,3 +4,5 @@ pub mod Copies
 pub mod PickedPlaces
 pub mod Runs
 pub mod Selected
+pub mod PrintedRows
+pub mod Printable

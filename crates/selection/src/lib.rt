@@ -1,7 +1,8 @@
 //! The selection of a table by a query.
 //!
 //! [`query::choose`] says which columns and rows a query selects; this crate makes them a table of their own, kept in record batches. The rows are
-//! runs of slots of the arrays of the columns asked for, which are written as one stream and read again, without making a cell.
+//! runs of slots of the arrays of the columns asked for, which are written as one stream and read again, without making a cell. Or it prints them
+//! from these arrays, without making a table.
 //!
 //! ```ignore
 //! let found = select(alloc, &table, &query)?;
@@ -12,6 +13,8 @@ mod copying;
 mod kept;
 mod picked;
 mod picked_schema;
+mod printing;
 mod selecting;
 
+pub use printing::push_selected_lines;
 pub use selecting::select;

@@ -5,14 +5,16 @@ ghost use Rattle.arrow_schema.specs.Column.{Columns};
 ghost use Rattle.columns.specs.Array.{first_array};
 ghost use Rattle.columns.specs.View.{array_in, arrays_in, placed_arrays, fields_of};
 ghost use Rattle.columns.specs.declared.array.Dictionary.{Dictionary};
+ghost use Rattle.query.specs.BatchArrays.{rows_of, is_readable};
 ghost use Rattle.query.specs.Selection.{pick};
 ghost use Rattle.table_cut.specs.Rows.{run_rows, is_run_sound};
-ghost use Rattle.selection.specs.inner.Picked.{first_arrays, picked_columns, picked_rows, is_picked_sound};
+ghost use Rattle.selection.specs.inner.Picked.{first_arrays, picked_columns, picked_rows, is_picked_sound, is_picked_readable};
 ghost use Rattle.values.specs.Parts.{batch_rows, part_rows, parts_rows, is_batch_sound, are_parts_sound};
 
 use crate::copying::copy_array;
 use arrow_schema::Field;
 use columns::{Dictionary, PlacedArray, array_or, no_array};
+use query::BatchArrays;
 use std::alloc::{AllocError, Global};
 use table_cut::RowRun;
 use values::{Batch, TablePart};
@@ -127,5 +129,19 @@ pub(crate) fn whole_run<'a>(batch: &'a PickedBatch<'a>, rows: usize) -> RowRun<'
         dictionaries: batch.dictionaries,
         from: 0,
         len: rows,
+    }
+}
+
+/// Borrows the arrays of a batch.
+pub(crate) fn arrays_of<'a>(batch: &'a PickedBatch<'a>) -> BatchArrays<'a>
+    ensures rows { (columns : Columns) → rows_of columns result ≡ picked_rows columns batch.now }
+    ensures readable { (columns : Columns) → is_picked_readable columns batch.now ≡ true → is_readable columns result ≡ true }
+    ensures count { result.rows ≡ batch.now.rows }
+{
+    BatchArrays {
+        arrays: &batch.arrays,
+        bytes: batch.bytes,
+        dictionaries: batch.dictionaries,
+        rows: batch.rows,
     }
 }

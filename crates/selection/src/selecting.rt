@@ -72,6 +72,18 @@ fn select_runs(
     table_of_runs(alloc, picked, kept)
 }
 
+/// Returns the record batches of the stream of a table.
+pub(crate) fn parts_of_stream(alloc: Global, table: &Table) -> Result<Vec<TablePart>, QueryError>
+    ensures rows { IfOk result (λ v. table_of table.now ≡ parts_table (table_of table.now).schema v.items) }
+    ensures sound { IfOk result (λ v. are_parts_sound (columns_of (table_of table.now).schema.columns) v.items ≡ true) }
+    ensures refused { IfErr result (λ e. e ≡ OutOfMemory) }
+{
+    // For the proof: a table is within all limits.
+    let _schema = table.schema();
+    let bytes = encode(alloc, table)?;
+    Ok(table_of_stream(alloc, bytes)?.into_parts())
+}
+
 // Makes the same table from one that is kept as rows, by way of its stream.
 fn select_rows(
     alloc: Global,
@@ -88,8 +100,7 @@ fn select_rows(
     // a number of the code is below 2^64
     let _rows = table.len();
     let schema = table.schema();
-    let bytes = encode(alloc, table)?;
-    let parts = table_of_stream(alloc, bytes)?.into_parts();
+    let parts = parts_of_stream(alloc, table)?;
     select_runs(alloc, schema, picked, &parts, choice)
 }
 

@@ -1,23 +1,24 @@
 -- The columns of a batch for printing.
-use Rattle.std.specs.Prelude.{◌≡◌, ℕ, ◌/◌, suc, true, false, List, [], ◌∷◌}
+use Rattle.std.specs.Prelude.{◌≡◌, ◌<◌, ℕ, ◌/◌, suc, true, false, List, [], ◌∷◌, map, drop}
+use Rattle.std.specs.List.{AllByRecursion}
 use Rattle.json.specs.Print.{escape}
-use Rattle.arrow_schema.specs.Column.{Kind, Column}
+use Rattle.arrow_schema.specs.Column.{Kind, Column, columns_of}
 use Rattle.arrow_schema.specs.View.{column_of, bits_of}
 use Rattle.arrow_schema.specs.declared.types.Field.{Field}
-use Rattle.cells.specs.Cell.{text}
-use Rattle.columns.specs.Array.{Array, validity_in, values_in, offsets_in, contents_in}
-use Rattle.columns.specs.CellAt.{cell_at, kind_cell, contents_at, unless_null}
-use Rattle.columns.specs.Sound.{is_sound}
+use Rattle.cells.specs.Cell.{Cell, Cells, text, cell_list}
+use Rattle.columns.specs.Array.{Array, Arrays, validity_in, values_in, offsets_in, contents_in, first_array, arrays_of}
+use Rattle.columns.specs.CellAt.{cell_at, kind_cell, contents_at, unless_null, part_cells}
+use Rattle.columns.specs.Sound.{is_sound, are_sound}
 use Rattle.columns.specs.Tests.{has_short_validity, has_short_buffer, are_few_offsets}
-use Rattle.columns.specs.View.{view_array}
-use Rattle.values.specs.declared.table_part.Batch.{Batch}
-use Rattle.values.specs.declared.table_part.TablePart.{TablePart}
+use Rattle.columns.specs.Texts.{have_utf8_texts}
+use Rattle.columns.specs.View.{view_array, placed_arrays}
+use Rattle.query.specs.declared.batch_arrays.BatchArrays.{BatchArrays}
 use Rattle.query.specs.declared.column_slots.ColumnSlots.{ColumnSlots}
 use Rattle.query.specs.declared.column_slots.Buffers.{Buffers}
 use Rattle.query.specs.declared.column_slots.Buffers.TheVariants.{Integers, Texts, Others}
 use Rattle.query.specs.declared.column_slots.TextBuffers.{TextBuffers}
 use Rattle.query.specs.inner.Contents.{span_in}
-use Rattle.query.specs.inner.Slots.{IsIntegerColumn, array_of, is_valid_in}
+use Rattle.query.specs.inner.Slots.{IsIntegerColumn, is_valid_in}
 
 -- the values of a type are strings, with offsets of this width
 pub record IsTextKind (kind : Kind) (width : ℕ) : Type 0 where
@@ -43,12 +44,40 @@ pub record IsColumn (f : Field) (a : Array) (s : ColumnSlots) : Type 0 where
   pub array : view_array s.view ≡ a
   pub buffers : AreBuffers (column_of s.field.now) (view_array s.view) s.buffers
 
+-- the array of a column in a batch
+abbrev pub array_at : ℕ → BatchArrays → Array
+array_at place b = first_array (placed_arrays b.bytes.now b.dictionaries.now (drop place b.arrays.now))
+
 -- these are the columns of fields, whose arrays begin at a place
-abbrev pub AreColumns : TablePart → Batch → (place : ℕ) → List Field → List ColumnSlots → Type 0
-AreColumns p b place [] [] = Unit {0}
-AreColumns p b place [] (s ∷ ss) = ⊥
-AreColumns p b place (f ∷ fs) [] = ⊥
-AreColumns p b place (f ∷ fs) (s ∷ ss) = IsColumn f (array_of place p b) s × AreColumns p b (suc place) fs ss
+abbrev pub AreColumns : BatchArrays → (place : ℕ) → List Field → List ColumnSlots → Type 0
+AreColumns b place [] [] = Unit {0}
+AreColumns b place [] (s ∷ ss) = ⊥
+AreColumns b place (f ∷ fs) [] = ⊥
+AreColumns b place (f ∷ fs) (s ∷ ss) = IsColumn f (array_at place b) s × AreColumns b (suc place) fs ss
+
+-- ---- their slots
+
+abbrev pub slot_columns : List ColumnSlots → List Column
+slot_columns ss = map (λ s. column_of s.field.now) ss
+
+abbrev pub slot_arrays : List ColumnSlots → Arrays
+slot_arrays ss = arrays_of (map (λ s. view_array s.view) ss)
+
+-- the cells of a slot
+abbrev pub slot_cells : List ColumnSlots → ℕ → Cells
+slot_cells ss slot = part_cells (columns_of (slot_columns ss)) (slot_arrays ss) slot
+
+abbrev pub slot_row : List ColumnSlots → ℕ → List Cell
+slot_row ss slot = cell_list (slot_cells ss slot)
+
+abbrev pub HasBuffers : ColumnSlots → Type 0
+HasBuffers s = AreBuffers (column_of s.field.now) (view_array s.view) s.buffers
+
+-- the first slots can be looked up, and their texts are UTF-8
+pub record AreReadable (ss : List ColumnSlots) (slots : ℕ) : Type 0 where
+  pub buffers : AllByRecursion HasBuffers ss
+  pub sound : are_sound (columns_of (slot_columns ss)) slots (slot_arrays ss) ≡ true
+  pub texts : (slot : ℕ) → slot < slots → have_utf8_texts (slot_cells ss slot) ≡ true
 
 -- the string of a slot, which is the same in a JSON string
 pub record IsPlainText (b : TextBuffers) (slot : ℕ) (t : List ℕ) : Type 0 where

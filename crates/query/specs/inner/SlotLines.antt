@@ -4,11 +4,11 @@ use Rattle.std.specs.List.{list_all}
 use Rattle.json.specs.Print.{quoted}
 use Rattle.arrow_schema.specs.Column.{Column, Columns}
 use Rattle.arrow_schema.specs.Parts.{name_of_column}
-use Rattle.cells.specs.Cell.{Cell, Cells, cells_of, cell_list}
-use Rattle.columns.specs.Texts.{have_utf8_texts}
+use Rattle.cells.specs.Cell.{Cells, cell_list}
 use Rattle.values.specs.declared.table_part.Batch.{Batch}
 use Rattle.values.specs.declared.table_part.TablePart.{TablePart}
 use Rattle.values.specs.Parts.{batch_rows, is_batch_sound}
+use Rattle.query.specs.BatchArrays.{has_texts}
 use Rattle.query.specs.Line.{json_of_all, json_of_others}
 use Rattle.query.specs.ObjectLine.{members, other_members}
 use Rattle.query.specs.declared.row_form.RowForm.{RowForm}
@@ -36,9 +36,6 @@ rest_of_line forms.Array zero cs cells = json_of_all cells
 rest_of_line forms.Array (suc place) cs cells = json_of_others cells
 rest_of_line forms.Object zero cs cells = members (map name_of_column cs) (cell_list cells)
 rest_of_line forms.Object (suc place) cs cells = other_members (map name_of_column cs) (cell_list cells)
-
-abbrev pub has_texts : List Cell → Bool
-has_texts row = have_utf8_texts (cells_of row)
 
 -- the slots of a batch can be looked up, and its texts are UTF-8
 abbrev pub is_batch_readable : Columns → TablePart → Batch → Bool

@@ -1,5 +1,6 @@
 -- The rows of the columns asked for, in the arrays of record batches.
-use Rattle.std.specs.Prelude.{ℕ, zero, suc, Bool, List, [], ◌∷◌, map}
+use Rattle.std.specs.Prelude.{ℕ, zero, suc, Bool, ◌&&◌, List, [], ◌∷◌, map}
+use Rattle.std.specs.List.{list_all}
 use Rattle.arrow_schema.specs.Column.{Columns, columns_of}
 use Rattle.arrow_schema.specs.View.{column_of}
 use Rattle.arrow_schema.specs.declared.types.Field.{Field}
@@ -8,6 +9,7 @@ use Rattle.columns.specs.Array.{Array, Arrays, first_array, other_arrays}
 use Rattle.columns.specs.CellAt.{rows_in}
 use Rattle.columns.specs.Sound.{are_sound}
 use Rattle.columns.specs.View.{placed_arrays}
+use Rattle.query.specs.BatchArrays.{has_texts}
 use Rattle.query.specs.Selection.{pick}
 use Rattle.selection.specs.declared.picked.PickedBatch.{PickedBatch}
 
@@ -28,3 +30,7 @@ picked_rows columns b = rows_in columns (picked_arrays b) b.rows
 -- its slots can be looked up
 abbrev pub is_picked_sound : Columns → PickedBatch → Bool
 is_picked_sound columns b = are_sound columns b.rows (picked_arrays b)
+
+-- and their texts are UTF-8
+abbrev pub is_picked_readable : Columns → PickedBatch → Bool
+is_picked_readable columns b = is_picked_sound columns b && list_all has_texts (picked_rows columns b)

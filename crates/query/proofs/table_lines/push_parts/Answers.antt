@@ -4,7 +4,7 @@ use Rattle.arrow_schema.specs.View.{column_of}
 use Rattle.columns.specs.View.{fields_of}
 use Rattle.values.specs.Parts.{part_rows}
 use Rattle.query.specs.inner.SlotLines.{is_part_readable}
-use Rattle.query.proofs.SlotFlags.{all_here}
+use Rattle.query.specs.laws.Tests.{all_here}
 use Rattle.query.proofs.SlotLines.{lines_more}
 use Rattle.query.proofs.table_lines.push_parts.Goals as goal
 

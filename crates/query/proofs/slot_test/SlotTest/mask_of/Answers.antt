@@ -3,7 +3,8 @@ use Rattle.std.specs.List.{flat_map}
 use Rattle.std.proofs.lemmas.List.{take_all}
 use Rattle.query.specs.inner.SlotTests.{part_flags, part_has_slots}
 use Rattle.query.proofs.Joining.{packed_mask}
-use Rattle.query.proofs.SlotFlags.{all_here, flags_more}
+use Rattle.query.specs.laws.Tests.{all_here}
+use Rattle.query.proofs.SlotFlags.{flags_more}
 use Rattle.query.proofs.slot_test.SlotTest.mask_of.Goals as goal
 
 pub push_part-requires : goal.push_part-requires

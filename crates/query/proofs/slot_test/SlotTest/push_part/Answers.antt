@@ -1,6 +1,7 @@
 use Rattle.std.proofs.Common.{◌∙◌}
 use Rattle.query.specs.inner.SlotTests.{batch_flags, batch_has_slots}
-use Rattle.query.proofs.SlotFlags.{all_here, flags_more}
+use Rattle.query.specs.laws.Tests.{all_here}
+use Rattle.query.proofs.SlotFlags.{flags_more}
 use Rattle.query.proofs.slot_test.SlotTest.push_part.Goals as goal
 
 pub push_batch-requires : goal.push_batch-requires

@@ -1,0 +1,168 @@
+// Prints the selection of a table from its arrays, without making a table of it.
+ghost use Rattle.std.specs.Prelude.{◌≡◌, ◌++◌, ◌≤◌, ◌<◌, ◌*◌, ◌^◌, Ok, true, length, map, take, sum_by, IfErr, OnOk};
+ghost use Rattle.std.specs.List.{flat_map, list_all};
+ghost use Rattle.arrow_schema.specs.Column.{columns_of};
+ghost use Rattle.arrow_schema.specs.View.{column_of, schema_of};
+ghost use Rattle.cells.specs.Cell.{PlainTable};
+ghost use Rattle.columns.specs.View.{fields_of};
+ghost use Rattle.query.specs.BatchArrays.{has_texts};
+ghost use Rattle.query.specs.Choice.{rows_set, chosen_table};
+ghost use Rattle.query.specs.ObjectLine.{lines_text};
+ghost use Rattle.query.specs.Printed.{rows_text, is_printable, printed_selection};
+ghost use Rattle.query.specs.View.{query_in, Reports};
+ghost use Rattle.query.specs.declared.errors.QueryError.TheVariants.{OutOfMemory};
+ghost use Rattle.selection.specs.inner.Picked.{picked_rows, is_picked_readable};
+ghost use Rattle.values.specs.Parts.{are_parts_sound, parts_rows, parts_table};
+ghost use Rattle.values.specs.TableView.{table_of};
+
+use crate::picked::{PickedBatch, arrays_of, pick_batches};
+use crate::picked_schema::pick_schema;
+use crate::selecting::parts_of_stream;
+use arrow_schema::{Field, Schema};
+use query::{Choice, Query, QueryError, RowForm, are_named_apart, choose, push_set_lines};
+use std::alloc::{AllocError, Global};
+use values::{Table, TablePart};
+
+// Appends the lines of the rows of batches whose bits are set, at most `most`.
+fn push_batches(
+    alloc: Global,
+    text: &mut Vec<u8>,
+    form: RowForm,
+    fields: &[Field],
+    batches: &[PickedBatch<'_>],
+    mask: &[u8],
+    most: u64,
+) -> Result<(), AllocError>
+    requires readable { list_all (is_picked_readable (fields_of fields.now)) batches.now ≡ true }
+    requires within { sum_by (λ b. b.rows) batches.now ≤ 8 * length mask.now }
+    requires few { sum_by (λ b. b.rows) batches.now < 2 ^ 64 }
+    ensures { OnOk result (text.new.items ≡ text.old.items
+        ++ lines_text form (map column_of fields.now) (take most (rows_set mask.now 0 (flat_map (picked_rows (fields_of fields.now)) batches.now)))) }
+{
+    let mut start = 0;
+    let mut left = most;
+    for batch in batches {
+        left -= push_set_lines(
+            alloc,
+            text,
+            form,
+            fields,
+            arrays_of(batch),
+            mask,
+            start,
+            left,
+        )?;
+        start += batch.rows;
+    }
+    Ok(())
+}
+
+// Appends the lines of the chosen columns and rows of record batches, under the schema of these columns.
+fn push_parts(
+    alloc: Global,
+    text: &mut Vec<u8>,
+    form: RowForm,
+    schema: &Schema,
+    picked: &Schema,
+    parts: &[TablePart],
+    choice: &Choice,
+) -> Result<(), QueryError>
+    requires picked { schema_of picked.now ≡ (chosen_table choice.now (parts_table (schema_of schema.now) parts.now)).schema }
+    requires sound { are_parts_sound (columns_of (schema_of schema.now).columns) parts.now ≡ true }
+    requires texts { list_all has_texts (parts_rows (columns_of (schema_of schema.now).columns) parts.now) ≡ true }
+    requires mask { length (parts_rows (columns_of (schema_of schema.now).columns) parts.now) ≤ 8 * length choice.now.mask.items }
+    requires few { length (parts_rows (columns_of (schema_of schema.now).columns) parts.now) < 2 ^ 64 }
+    ensures ok { OnOk result (text.new.items ≡ text.old.items ++ rows_text form (chosen_table choice.now (parts_table (schema_of schema.now) parts.now))) }
+    ensures refused { IfErr result (λ e. e ≡ OutOfMemory) }
+{
+    let batches = pick_batches(alloc, &schema.fields, parts, &choice.columns)?;
+    push_batches(
+        alloc,
+        text,
+        form,
+        &picked.fields,
+        &batches,
+        &choice.mask,
+        choice.most,
+    )?;
+    Ok(())
+}
+
+// Appends the same lines of a table that is kept as rows, by way of its stream.
+fn push_rows(
+    alloc: Global,
+    text: &mut Vec<u8>,
+    form: RowForm,
+    table: &Table,
+    picked: &Schema,
+    choice: &Choice,
+) -> Result<(), QueryError>
+    requires picked { schema_of picked.now ≡ (chosen_table choice.now (table_of table.now)).schema }
+    requires mask { length (table_of table.now).rows ≤ 8 * length choice.now.mask.items }
+    ensures ok { OnOk result (text.new.items ≡ text.old.items ++ rows_text form (chosen_table choice.now (table_of table.now))) }
+    ensures refused { IfErr result (λ e. e ≡ OutOfMemory) }
+{
+    // For the proof: the number of rows is below 2^64.
+    let _rows = table.len();
+    let schema = table.schema();
+    let parts = parts_of_stream(alloc, table)?;
+    push_parts(alloc, text, form, schema, picked, &parts, choice)
+}
+
+// Appends the lines of the chosen columns and rows of a table.
+fn push_chosen(
+    alloc: Global,
+    text: &mut Vec<u8>,
+    form: RowForm,
+    table: &Table,
+    picked: &Schema,
+    choice: &Choice,
+) -> Result<(), QueryError>
+    requires picked { schema_of picked.now ≡ (chosen_table choice.now (table_of table.now)).schema }
+    requires mask { length (table_of table.now).rows ≤ 8 * length choice.now.mask.items }
+    ensures ok { OnOk result (text.new.items ≡ text.old.items ++ rows_text form (chosen_table choice.now (table_of table.now))) }
+    ensures refused { IfErr result (λ e. e ≡ OutOfMemory) }
+{
+    // For the proof: the number of rows is below 2^64.
+    let _rows = table.len();
+    let schema = table.schema();
+    match table.parts() {
+        Some(parts) => push_parts(alloc, text, form, schema, picked, parts, choice),
+        None => push_rows(alloc, text, form, table, picked, choice),
+    }
+}
+
+// An object has a member for each column, so the names of the columns must differ.
+fn can_be_printed(form: RowForm, fields: &[Field]) -> bool
+    ensures { (t : PlainTable) → t.schema.columns ≡ map column_of fields.now → result ≡ is_printable form t }
+{
+    match form {
+        RowForm::Array => true,
+        RowForm::Object => are_named_apart(fields),
+    }
+}
+
+/// Appends a line in this form for each row that a query selects from a table: the lines of the table that [`select`](crate::select) makes of it.
+/// A table that is kept as rows is written as a stream first.
+///
+/// # Errors
+/// `UnknownColumn`, `BadCondition` or `NotComparable`, by the first test that fails; `UnknownColumn` too if rows are objects and two of the chosen
+/// columns have the same name; `OutOfMemory` if memory is refused: some lines may be appended.
+pub fn push_selected_lines(
+    alloc: Global,
+    text: &mut Vec<u8>,
+    form: RowForm,
+    table: &Table,
+    query: &Query,
+) -> Result<(), QueryError>
+    ensures lines { OnOk result ((selected : PlainTable) × (printed_selection form (table_of table.now) (query_in query.now) ≡ Ok selected)
+        × (text.new.items ≡ text.old.items ++ rows_text form selected)) }
+    ensures refused { IfErr result (λ e. Reports e (printed_selection form (table_of table.now) (query_in query.now))) }
+{
+    let choice = choose(alloc, table, query)?;
+    let picked = pick_schema(alloc, table.schema(), &choice.columns)?;
+    if !can_be_printed(form, &picked.fields) {
+        return Err(QueryError::UnknownColumn);
+    }
+    push_chosen(alloc, text, form, table, &picked, &choice)
+}
