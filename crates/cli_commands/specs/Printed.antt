@@ -1,5 +1,5 @@
 -- What is printed of a store's tables, of a schema and of a store's summary.
-use Rattle.std.specs.Prelude.{◌⊎◌, ℕ, Bool, if◌then◌else◌, List, [], ◌∷◌, ◌++◌, codes}
+use Rattle.std.specs.Prelude.{◌⊎◌, ℕ, Bool, if◌then◌else◌, List, [], ◌∷◌, ◌++◌, flat_map, codes}
 use Rattle.std.specs.Fmt.{decimal}
 use Rattle.arrow_schema.specs.Column.{Column}
 use Rattle.field_texts.specs.FieldText.{printed, field_text}
@@ -24,25 +24,29 @@ schema_text (c ∷ cs) = field_text printed c ++ codes "\n" ++ schema_text cs
 abbrev pub numbered : List ℕ → ℕ → List ℕ
 numbered before number = before ++ decimal number
 
--- a text, then a truth value
-abbrev pub flagged : List ℕ → Bool → List ℕ
-flagged before flag = before ++ (if flag then codes "true" else codes "false")
+-- the numbers of a store, by their names
+abbrev pub summary_numbers : Summary → List (List ℕ × ℕ)
+summary_numbers s =
+    (codes "format_version", s.format_version) ∷ (codes "epoch", s.epoch) ∷ (codes "sectors", s.sectors) ∷ (codes "used", s.used) ∷ (codes "free", s.free)
+    ∷ (codes "kept", s.kept) ∷ (codes "largest_free_run", s.largest_free_run) ∷ (codes "tables", s.tables) ∷ (codes "segments", s.segments) ∷ []
+
+abbrev pub truth : Bool → List ℕ
+truth flag = if flag then codes "true" else codes "false"
+
+-- a number on a line with its name, and as a member of a JSON object
+abbrev pub number_line : List ℕ × ℕ → List ℕ
+number_line n = n.0 ++ codes " " ++ decimal n.1 ++ codes "\n"
+
+abbrev pub number_member : List ℕ × ℕ → List ℕ
+number_member n = codes "\"" ++ n.0 ++ codes "\":" ++ decimal n.1 ++ codes ","
 
 -- a line for each number of a store, with its name, and one that says whether its commit sectors agree
 abbrev pub summary_lines : Summary → (agree : Bool) → List ℕ
-summary_lines s agree =
-    numbered (codes "format_version ") s.format_version ++ numbered (codes "\nepoch ") s.epoch ++ numbered (codes "\nsectors ") s.sectors
-    ++ numbered (codes "\nused ") s.used ++ numbered (codes "\nfree ") s.free ++ numbered (codes "\nkept ") s.kept
-    ++ numbered (codes "\nlargest_free_run ") s.largest_free_run ++ numbered (codes "\ntables ") s.tables ++ numbered (codes "\nsegments ") s.segments
-    ++ flagged (codes "\ncommits_agree ") agree ++ codes "\n"
+summary_lines s agree = flat_map number_line (summary_numbers s) ++ codes "commits_agree " ++ truth agree ++ codes "\n"
 
 -- the same as one JSON object (RFC 8259) on one line
 abbrev pub summary_object : Summary → (agree : Bool) → List ℕ
-summary_object s agree =
-    numbered (codes "{\"format_version\":") s.format_version ++ numbered (codes ",\"epoch\":") s.epoch ++ numbered (codes ",\"sectors\":") s.sectors
-    ++ numbered (codes ",\"used\":") s.used ++ numbered (codes ",\"free\":") s.free ++ numbered (codes ",\"kept\":") s.kept
-    ++ numbered (codes ",\"largest_free_run\":") s.largest_free_run ++ numbered (codes ",\"tables\":") s.tables
-    ++ numbered (codes ",\"segments\":") s.segments ++ flagged (codes ",\"commits_agree\":") agree ++ codes "}\n"
+summary_object s agree = codes "{" ++ flat_map number_member (summary_numbers s) ++ codes "\"commits_agree\":" ++ truth agree ++ codes "}\n"
 
 abbrev pub summary_text : (as_json : Bool) → Summary → (agree : Bool) → List ℕ
 summary_text as_json s agree = if as_json then summary_object s agree else summary_lines s agree

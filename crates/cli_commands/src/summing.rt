@@ -1,44 +1,46 @@
 // Prints the summary of a store.
-ghost use Rattle.std.specs.Prelude.{◌≡◌, ◌≢◌, ◌++◌, string_bytes, false, IfOk, IfErr, OnOk};
+ghost use Rattle.std.specs.Prelude.{◌≡◌, ◌≢◌, map, string_bytes, false, IfOk, IfErr, OnOk};
 ghost use Rattle.std.specs.Io.KnownBytes.{Appends};
 ghost use Rattle.sector_dev.specs.Disk.{now, shown_image};
 ghost use Rattle.store.specs.Fits.{device_of, is_halted};
 ghost use Rattle.store.specs.Agreeing.{SaysAgreement};
 ghost use Rattle.store.specs.Reading.{OnlyReadsStore};
 ghost use Rattle.store.specs.Summary.{IsSummary};
-ghost use Rattle.cli_commands.specs.Printed.{flagged, summary_lines, summary_object, summary_text, RefusesPrinting, RefusesSummary};
+ghost use Rattle.cli_commands.specs.Printed.{summary_numbers, summary_lines, summary_object, summary_text, RefusesPrinting, RefusesSummary};
 ghost use Rattle.cli_commands.specs.Reading.{store_ended};
 
-use crate::printing::push_number;
 use cli_refusals::{Refusal, write_whole};
 use sector_dev::SectorDevice;
 use std::alloc::{AllocError, Global};
+use std::fmt::Write as _;
 use std::io::Write;
 use store::{Store, Summary};
 
-// Appends a text, then a truth value.
-fn push_flag(text: &mut String, before: &str, flag: bool) -> Result<(), AllocError>
-    ensures { OnOk result (string_bytes text.new ≡ string_bytes text.old ++ flagged before.now flag) }
+// Returns the numbers of a store by their names.
+fn numbers_of(s: &Summary) -> [(&'static str, u64); 9]
+    ensures { map (λ n. (n.0.now, n.1)) result ≡ summary_numbers s.now }
 {
-    text.push_str(before)?;
-    text.push_str(if flag { "true" } else { "false" })
+    [
+        ("format_version", s.format_version as u64),
+        ("epoch", s.epoch),
+        ("sectors", s.sectors),
+        ("used", s.used),
+        ("free", s.free),
+        ("kept", s.kept),
+        ("largest_free_run", s.largest_free_run),
+        ("tables", s.tables),
+        ("segments", s.segments),
+    ]
 }
 
 fn lines_of(alloc: Global, s: &Summary, agree: bool) -> Result<String, AllocError>
     ensures { IfOk result (λ text. string_bytes text ≡ summary_lines s.now agree) }
 {
     let mut text = String::new(alloc);
-    push_number(&mut text, "format_version ", s.format_version as u64)?;
-    push_number(&mut text, "\nepoch ", s.epoch)?;
-    push_number(&mut text, "\nsectors ", s.sectors)?;
-    push_number(&mut text, "\nused ", s.used)?;
-    push_number(&mut text, "\nfree ", s.free)?;
-    push_number(&mut text, "\nkept ", s.kept)?;
-    push_number(&mut text, "\nlargest_free_run ", s.largest_free_run)?;
-    push_number(&mut text, "\ntables ", s.tables)?;
-    push_number(&mut text, "\nsegments ", s.segments)?;
-    push_flag(&mut text, "\ncommits_agree ", agree)?;
-    text.push_str("\n")?;
+    for (name, number) in numbers_of(s) {
+        write!(text, "{name} {number}\n")?;
+    }
+    write!(text, "commits_agree {agree}\n")?;
     Ok(text)
 }
 
@@ -46,17 +48,11 @@ fn object_of(alloc: Global, s: &Summary, agree: bool) -> Result<String, AllocErr
     ensures { IfOk result (λ text. string_bytes text ≡ summary_object s.now agree) }
 {
     let mut text = String::new(alloc);
-    push_number(&mut text, "{\"format_version\":", s.format_version as u64)?;
-    push_number(&mut text, ",\"epoch\":", s.epoch)?;
-    push_number(&mut text, ",\"sectors\":", s.sectors)?;
-    push_number(&mut text, ",\"used\":", s.used)?;
-    push_number(&mut text, ",\"free\":", s.free)?;
-    push_number(&mut text, ",\"kept\":", s.kept)?;
-    push_number(&mut text, ",\"largest_free_run\":", s.largest_free_run)?;
-    push_number(&mut text, ",\"tables\":", s.tables)?;
-    push_number(&mut text, ",\"segments\":", s.segments)?;
-    push_flag(&mut text, ",\"commits_agree\":", agree)?;
-    text.push_str("}\n")?;
+    text.push_str("{")?;
+    for (name, number) in numbers_of(s) {
+        write!(text, "\"{name}\":{number},")?;
+    }
+    write!(text, "\"commits_agree\":{agree}}}\n")?;
     Ok(text)
 }
 

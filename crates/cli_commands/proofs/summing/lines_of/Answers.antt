@@ -1,20 +1,18 @@
-use Rattle.std.proofs.Common.{refl}
+use Rattle.std.proofs.Common.{◌≡◌, ◌++◌, ◌∙◌, List, [], ℕ, Bor, drop, length, string_bytes, append-nil, append_assoc, sym, ap, arith}
+use Rattle.std.specs.Prelude.{codes, flat_map}
+use Rattle.std.proofs.lemmas.List.{drop_all, length-map}
+use Rattle.cli_commands.specs.Printed.{summary_numbers, number_line, truth}
 use Rattle.cli_commands.proofs.summing.lines_of.Goals as goal
+
+-- three texts more, appended at once
+three_more : (text new lines a b c : List ℕ) → text ++ [] ≡ lines → new ≡ text ++ (a ++ (b ++ c)) → new ≡ lines ++ a ++ b ++ c
+three_more text new lines a b c all more = more ∙ ap (λ (t : List ℕ). t ++ (a ++ (b ++ c))) (sym (append-nil text) ∙ all) ∙ simp append_assoc
 
 pub returns : goal.returns
 returns c =
-    rw (
-      c.in_ok-push_str.ensures.bytes,
-      c.in_ok-push_flag.ensures,
-      c.in_ok-push_number-9.ensures,
-      c.in_ok-push_number-8.ensures,
-      c.in_ok-push_number-7.ensures,
-      c.in_ok-push_number-6.ensures,
-      c.in_ok-push_number-5.ensures,
-      c.in_ok-push_number-4.ensures,
-      c.in_ok-push_number-3.ensures,
-      c.in_ok-push_number-2.ensures,
-      c.in_ok-push_number.ensures,
-      c.new-text.ensures.bytes,
-    )
-    refl
+    let numbers = c.numbers_of-name-items.result in
+    let named = c.numbers_of-name-items.ensures in
+    let count = length-map {B = List ℕ × ℕ} numbers (λ (n : Bor (List ℕ) × ℕ). (n.0.now, n.1)) in
+    let none : drop c.loop-name.name-index numbers ≡ [] = drop_all c.loop-name.name-index numbers (omega (arith, count, ap length named, c.loop-name-test.false)) in
+    three_more (string_bytes c.loop-name.text) _ (flat_map number_line (summary_numbers c.args.s.now)) (codes "commits_agree ") (truth c.args.agree) (codes "\n") (rw (none, named) at c.loop-name.invariant)
+    c.in_ok-write-2.ensures.bytes
