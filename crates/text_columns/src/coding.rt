@@ -97,6 +97,7 @@ impl Coding {
     }
 
     // Appends the index of the value that a field is, where it is one of the type, and answers what it weighs.
+    #[inline(always)]
     fn push_text(&mut self, entries: &mut Values, text: &[u8]) -> Result<Option<u64>, AllocError>
         ensures { IfOk result (λ taken. IfSome taken (λ heavy. TakesCodedText text.now heavy self.old entries.old self.new entries.new)) }
     {
@@ -123,6 +124,7 @@ pub(crate) fn push_null(values: &mut Values, coding: &mut Option<Coding>) -> Res
 }
 
 /// Appends the cell that a field is, or its index, where it is one of the type, and answers what it weighs.
+#[inline(always)]
 pub(crate) fn push_text(
     values: &mut Values,
     coding: &mut Option<Coding>,

@@ -163,6 +163,7 @@ impl Values {
     }
 
     /// Appends the cell that a field is, where it is one of the type, and answers what it weighs.
+    #[inline(always)]
     pub(crate) fn push_text(&mut self, text: &[u8]) -> Result<Option<u64>, AllocError>
         ensures { IfOk result (λ taken. IfSome taken (λ heavy. TakesText text.now heavy self.old self.new)) }
     {

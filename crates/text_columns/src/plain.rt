@@ -171,6 +171,7 @@ fn push_plain_field(
 
 // Appends the cells of a record, as many as columns, and answers where it ends and what its row weighs; none where it does not go in,
 // or a quote begins a field.
+#[inline(never)]
 fn push_plain(
     builders: &mut [ColumnBuilder],
     null_text: &[u8],

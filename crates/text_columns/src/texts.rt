@@ -9,6 +9,7 @@ use std::alloc::AllocError;
 use text_import::text_of;
 
 /// Appends a string or a binary, and where it ends.
+#[inline(always)]
 pub(crate) fn extend(
     offsets: &mut Vec<u8>,
     contents: &mut Vec<u8>,
@@ -24,6 +25,7 @@ pub(crate) fn extend(
 }
 
 /// Appends a string that is UTF-8 and where it ends, and answers what it weighs.
+#[inline(always)]
 pub(crate) fn push_contents(
     offsets: &mut Vec<u8>,
     contents: &mut Vec<u8>,
