@@ -1,5 +1,6 @@
 // Columns with a dictionary: each value is looked up among the entries that were seen, and its index is written.
 ghost use Rattle.std.specs.Prelude.{◌≡◌, ◌+◌, ◌++◌, ◌/◌, ◌∷◌, [], ℕ, List, Some, true, position, bytes_eq, IfOk, IfSome, OnOk};
+ghost use Rattle.std.specs.Str.{is_utf8};
 ghost use Rattle.cells.specs.Dictionary.{entry_limit, is_within};
 ghost use Rattle.cells.specs.Typed.{typed_integer};
 ghost use Rattle.text_columns.specs.inner.Kept.{Codes, Places, TakesField, TakesNullCell, index_type, key_list};
@@ -149,6 +150,21 @@ pub(crate) fn push_short(
 {
     match coding {
         None => values.push_short(short),
+        Some(_) => Ok(None),
+    }
+}
+
+/// Appends a text that is UTF-8, where the type has strings, and answers what it weighs; none where the column has a dictionary.
+pub(crate) fn push_utf8(
+    values: &mut Values,
+    coding: &mut Option<Coding>,
+    text: &[u8],
+) -> Result<Option<u64>, AllocError>
+    requires { is_utf8 text.now ≡ true }
+    ensures { IfOk result (λ taken. IfSome taken (λ heavy. TakesField text.now heavy values.old coding.old values.new coding.new)) }
+{
+    match coding {
+        None => values.push_utf8(text),
         Some(_) => Ok(None),
     }
 }
