@@ -12,6 +12,7 @@ pub mod PlainText
 pub mod PlainRecords
 pub mod PlainRows
 pub mod ShortIntegers
+pub mod AsciiTexts
 pub mod TokenCells
 pub mod MemberGrammar
 pub mod LineRows

@@ -1,12 +1,12 @@
 -- Short integers, where they are in a text.
 use mir.Syntax.{w64}
 use mir.Val.{SFits, of_z, to_z}
-use Rattle.std.specs.Prelude.{ℤ, pos, neg_ℤ, ◌-ℤ◌, not, ◌==◌, ◌||◌, ◌&&◌, nat_le, get_or, slice_index, Option, Some, None, option_map, if◌then◌else◌}
+use Rattle.std.specs.Prelude.{ℤ, pos, neg_ℤ, ◌-ℤ◌, not, ◌==◌, nat_le, get_or, slice_index, Some}
 use Rattle.std.specs.Char.{digit_value, is_ascii_digit}
 use Rattle.std.specs.List.{list_all}
 use Rattle.std.specs.Str.{all_ascii_digits}
 use Rattle.std.specs.Str.Parse.{digits_value}
-use Rattle.std.proofs.Common.{◌≡◌, ℕ, zero, suc, ◌+◌, ◌-◌, ◌*◌, ◌^◌, ◌≤◌, ◌<◌, Bool, true, false, List, [], ◌∷◌, ◌++◌, length, take, drop, refl, arith, ap, sym, subst, ◌∙◌, add-one, length-drop}
+use Rattle.std.proofs.Common.{◌≡◌, ℕ, zero, suc, ◌+◌, ◌-◌, ◌*◌, ◌^◌, ◌≤◌, ◌<◌, true, false, List, [], ◌∷◌, length, take, drop, refl, arith, ap, sym, ◌∙◌, add-one, length-drop}
 use Rattle.std.proofs.Math.Nat.{pow-le-pow_right, pow-suc}
 use Rattle.std.proofs.lemmas.Bool.{and_from, and_parts, eqb-true, leb-true, ne_eqb}
 use Rattle.std.proofs.lemmas.Int.{ints, to_z-of_z, to_z_pos}
@@ -14,8 +14,7 @@ use Rattle.std.proofs.lemmas.Int.Digits.{digits_value_more}
 use Rattle.std.proofs.lemmas.List.{drop_more, get_or-drop, length-take-le}
 use Rattle.std.proofs.lemmas.Str.{digit_value_digit}
 use Rattle.cells.specs.Typed.{typed_integer, typed_number}
-use Rattle.text_columns.specs.declared.short_integers.ShortInteger.{ShortInteger}
-use Rattle.text_columns.specs.inner.Plain.{AllBetween, AreDigits, IsFieldAt, IsShortInteger, begins_quoted, begins_with, ends_field}
+use Rattle.text_columns.specs.inner.Plain.{AreDigits, IsShortInteger, begins_quoted, begins_with, ends_field}
 use Rattle.text_columns.proofs.PlainText.{one_between}
 
 -- ---- digits one by one

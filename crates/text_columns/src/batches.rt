@@ -123,18 +123,11 @@ impl Batches {
         have_room(&self.builders)
     }
 
-    /// If `ends`, and a dictionary has no room for one more entry, ends the record batch and begins the next one. Returns false if no columns can be begun.
-    pub(crate) fn make_room(
-        &mut self,
-        alloc: Global,
-        schema: &Schema,
-        ends: bool,
-    ) -> Result<bool, AllocError>
+    // Ends the record batch that is being read, and begins the next one. Returns false if no columns can be begun.
+    #[inline(never)]
+    fn begin_next(&mut self, alloc: Global, schema: &Schema) -> Result<bool, AllocError>
         ensures { IfOk result (λ done. done ≡ true → HoldsSame (schema_of schema.now) self.old self.new) }
     {
-        if !ends || self.has_room() {
-            return Ok(true);
-        }
         let none = Batches {
             parts: Vec::new(alloc),
             builders: Vec::new(alloc),
@@ -146,6 +139,22 @@ impl Batches {
         };
         *self = next;
         Ok(true)
+    }
+
+    /// If `ends`, and a dictionary has no room for one more entry, ends the record batch and begins the next one. Returns false if no columns can be begun.
+    #[inline(always)]
+    pub(crate) fn make_room(
+        &mut self,
+        alloc: Global,
+        schema: &Schema,
+        ends: bool,
+    ) -> Result<bool, AllocError>
+        ensures { IfOk result (λ done. done ≡ true → HoldsSame (schema_of schema.now) self.old self.new) }
+    {
+        if !ends || self.has_room() {
+            return Ok(true);
+        }
+        self.begin_next(alloc, schema)
     }
 
     /// Counts one more row of the record batch that is being read.

@@ -1,5 +1,6 @@
 // Columns with a dictionary: each value is looked up among the entries that were seen, and its index is written.
 ghost use Rattle.std.specs.Prelude.{◌≡◌, ◌+◌, ◌++◌, ◌/◌, ◌∷◌, [], ℕ, List, Some, true, position, bytes_eq, IfOk, IfSome, OnOk};
+ghost use Rattle.std.specs.Str.{is_utf8};
 ghost use Rattle.cells.specs.Dictionary.{entry_limit, is_within};
 ghost use Rattle.cells.specs.Typed.{typed_integer};
 ghost use Rattle.text_columns.specs.inner.Kept.{Codes, Places, TakesField, TakesNullCell, index_type, key_list};
@@ -97,6 +98,7 @@ impl Coding {
     }
 
     // Appends the index of the value that a field is, where it is one of the type, and answers what it weighs.
+    #[inline(always)]
     fn push_text(&mut self, entries: &mut Values, text: &[u8]) -> Result<Option<u64>, AllocError>
         ensures { IfOk result (λ taken. IfSome taken (λ heavy. TakesCodedText text.now heavy self.old entries.old self.new entries.new)) }
     {
@@ -123,6 +125,7 @@ pub(crate) fn push_null(values: &mut Values, coding: &mut Option<Coding>) -> Res
 }
 
 /// Appends the cell that a field is, or its index, where it is one of the type, and answers what it weighs.
+#[inline(always)]
 pub(crate) fn push_text(
     values: &mut Values,
     coding: &mut Option<Coding>,
@@ -147,6 +150,21 @@ pub(crate) fn push_short(
 {
     match coding {
         None => values.push_short(short),
+        Some(_) => Ok(None),
+    }
+}
+
+/// Appends a text that is UTF-8, where the type has strings, and answers what it weighs; none where the column has a dictionary.
+pub(crate) fn push_utf8(
+    values: &mut Values,
+    coding: &mut Option<Coding>,
+    text: &[u8],
+) -> Result<Option<u64>, AllocError>
+    requires { is_utf8 text.now ≡ true }
+    ensures { IfOk result (λ taken. IfSome taken (λ heavy. TakesField text.now heavy values.old coding.old values.new coding.new)) }
+{
+    match coding {
+        None => values.push_utf8(text),
         Some(_) => Ok(None),
     }
 }

@@ -1,5 +1,6 @@
 // The values of one column.
-ghost use Rattle.std.specs.Prelude.{◌≡◌, ◌++◌, ◌/◌, ◌∷◌, [], ℕ, List, IfOk, IfSome, OnOk, Some, replicate};
+ghost use Rattle.std.specs.Prelude.{◌≡◌, ◌++◌, ◌/◌, ◌∷◌, [], ℕ, List, IfOk, IfSome, OnOk, Some, true, replicate};
+ghost use Rattle.std.specs.Str.{is_utf8};
 ghost use Rattle.arrow_schema.specs.View.{bits_of};
 ghost use Rattle.cells.specs.Typed.{typed_boolean, typed_integer};
 ghost use Rattle.text_columns.specs.inner.Kept.{AppendsBoolean, Clears, HoldContents, TakesKey, TakesNull, TakesText, first_key, null_heavy, value_bytes};
@@ -7,7 +8,7 @@ ghost use Rattle.text_columns.specs.inner.Kept.{AppendsBoolean, Clears, HoldCont
 use crate::bytes::{push_bytes, push_fixed};
 use crate::integers::{push_integer, push_short};
 use crate::short_integers::ShortInteger;
-use crate::texts::{extend, push_contents};
+use crate::texts::{extend, push_contents, push_utf8};
 use arrow_schema::{BitWidth, IntegerType};
 use columns::{OffsetWidth, push_offset};
 use std::alloc::AllocError;
@@ -163,6 +164,7 @@ impl Values {
     }
 
     /// Appends the cell that a field is, where it is one of the type, and answers what it weighs.
+    #[inline(always)]
     pub(crate) fn push_text(&mut self, text: &[u8]) -> Result<Option<u64>, AllocError>
         ensures { IfOk result (λ taken. IfSome taken (λ heavy. TakesText text.now heavy self.old self.new)) }
     {
@@ -186,6 +188,17 @@ impl Values {
     {
         match self {
             Values::Integers(integer, values) => push_short(values, *integer, short),
+            _ => Ok(None),
+        }
+    }
+
+    /// Appends a text that is UTF-8, where the type has strings, and answers what it weighs.
+    pub(crate) fn push_utf8(&mut self, text: &[u8]) -> Result<Option<u64>, AllocError>
+        requires { is_utf8 text.now ≡ true }
+        ensures { IfOk result (λ taken. IfSome taken (λ heavy. TakesText text.now heavy self.old self.new)) }
+    {
+        match self {
+            Values::Texts(width, offsets, contents) => push_utf8(offsets, contents, *width, text),
             _ => Ok(None),
         }
     }

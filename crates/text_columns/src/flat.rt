@@ -45,6 +45,7 @@ impl FlatBuilder {
     }
 
     /// Appends the cell of a field, where its text is one, and answers what it weighs. The null text is a null where the column is nullable.
+    #[inline(always)]
     pub(crate) fn push_field(
         &mut self,
         null_text: &[u8],

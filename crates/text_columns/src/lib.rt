@@ -20,6 +20,7 @@
 //! gives a table of two rows in one record batch, 1 and "x", and a null and "", with weight 7.
 #![tactic(auto)]
 
+mod ascii_texts;
 mod batches;
 mod builder;
 mod bytes;

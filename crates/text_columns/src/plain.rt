@@ -9,6 +9,7 @@ ghost use Rattle.text_import.specs.Stands.{Left};
 ghost use Rattle.text_columns.specs.inner.Batches.{AddsRow, HasRows, HoldRows};
 ghost use Rattle.text_columns.specs.inner.Plain.{IsFieldAt, PushesField, PushesPlain, SkipsEnds, SkipsRecord, begins_quoted, begins_with, ends_field, ends_line};
 
+use crate::ascii_texts::text_field;
 use crate::batches::Batches;
 use crate::builder::ColumnBuilder;
 use arrow_schema::Schema;
@@ -149,7 +150,28 @@ fn push_any_field(
     }
 }
 
-// The same, where a field that is a short integer is read once.
+// The same of a column of strings: a field of ASCII is read once.
+fn push_text_field(
+    builder: &mut ColumnBuilder,
+    null_text: &[u8],
+    text: &[u8],
+    from: usize,
+) -> Result<Option<PlainField>, AllocError>
+    requires { from ≤ length text.now }
+    ensures { IfOk result (λ taken. IfSome taken (λ field. PushesField text.now null_text.now from field builder.old builder.new)) }
+{
+    let field = text_field(text, from);
+    if field.bits >= 128 || is_quoted(text, from) {
+        return push_any_field(builder, null_text, text, from);
+    }
+    let end = field.end;
+    match builder.push_utf8(null_text, &text[from..end])? {
+        Some(weight) => Ok(Some(PlainField { end, weight })),
+        None => Ok(None),
+    }
+}
+
+// The same, where a field that is a short integer or ASCII is read once.
 fn push_plain_field(
     builder: &mut ColumnBuilder,
     null_text: &[u8],
@@ -159,6 +181,9 @@ fn push_plain_field(
     requires { from ≤ length text.now }
     ensures { IfOk result (λ taken. IfSome taken (λ field. PushesField text.now null_text.now from field builder.old builder.new)) }
 {
+    if builder.has_texts() {
+        return push_text_field(builder, null_text, text, from);
+    }
     let Some(short) = builder.short_integer(text, from) else {
         return push_any_field(builder, null_text, text, from);
     };
@@ -171,6 +196,7 @@ fn push_plain_field(
 
 // Appends the cells of a record, as many as columns, and answers where it ends and what its row weighs; none where it does not go in,
 // or a quote begins a field.
+#[inline(never)]
 fn push_plain(
     builders: &mut [ColumnBuilder],
     null_text: &[u8],

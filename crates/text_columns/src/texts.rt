@@ -9,6 +9,7 @@ use std::alloc::AllocError;
 use text_import::text_of;
 
 /// Appends a string or a binary, and where it ends.
+#[inline(always)]
 pub(crate) fn extend(
     offsets: &mut Vec<u8>,
     contents: &mut Vec<u8>,
@@ -24,6 +25,7 @@ pub(crate) fn extend(
 }
 
 /// Appends a string that is UTF-8 and where it ends, and answers what it weighs.
+#[inline(always)]
 pub(crate) fn push_contents(
     offsets: &mut Vec<u8>,
     contents: &mut Vec<u8>,
@@ -37,6 +39,22 @@ pub(crate) fn push_contents(
     if text_of(text).is_none() {
         return Ok(None);
     }
+    extend(offsets, contents, width, text)?;
+    Ok(Some(1 + text.len() as u64))
+}
+
+/// The same of a text that is known to be UTF-8.
+pub(crate) fn push_utf8(
+    offsets: &mut Vec<u8>,
+    contents: &mut Vec<u8>,
+    width: OffsetWidth,
+    text: &[u8],
+) -> Result<Option<u64>, AllocError>
+    requires { is_utf8 text.now ≡ true }
+    ensures { IfOk result (λ taken. IfSome taken (λ heavy. (heavy ≡ 1 + length text.now) × (is_utf8 text.now ≡ true)
+        × (contents.new.items ≡ contents.old.items ++ text.now)
+        × (offsets.new.items ≡ offsets.old.items ++ little_bytes (width_of width) (length contents.old.items + length text.now)))) }
+{
     extend(offsets, contents, width, text)?;
     Ok(Some(1 + text.len() as u64))
 }

@@ -2,6 +2,7 @@
 use Rattle.std.specs.Prelude.{◌≡◌, ◌≤◌, ◌<◌, ◌+◌, ◌-◌, ◌^◌, ◌==◌, ◌||◌, ℕ, Bool, false, true, not, List, [], ◌∷◌, length, drop, take, slice_index, Some}
 use Rattle.std.specs.List.{list_all}
 use Rattle.std.specs.Char.{is_ascii_digit}
+use Rattle.std.specs.Str.{is_utf8}
 use Rattle.std.specs.Str.Parse.{digits_value}
 use Rattle.cells.specs.Typed.{typed_integer}
 use Rattle.csv.specs.Machine.{next_record}
@@ -9,6 +10,7 @@ use Rattle.csv.specs.Reading.{default_config}
 use Rattle.csv.specs.declared.parser.State.{State}
 use Rattle.csv.specs.declared.parser.State.TheVariants as st
 use Rattle.text_columns.specs.declared.builder.ColumnBuilder.{ColumnBuilder}
+use Rattle.text_columns.specs.declared.ascii_texts.TextField.{TextField}
 use Rattle.text_columns.specs.declared.plain.PlainField.{PlainField}
 use Rattle.text_columns.specs.declared.plain.PlainRow.{PlainRow}
 use Rattle.text_columns.specs.declared.short_integers.ShortInteger.{ShortInteger}
@@ -52,6 +54,11 @@ pub record IsShortInteger (text : List ℕ) (from : ℕ) (s : ShortInteger) : Ty
   pub field : IsFieldAt text from s.end
   pub unquoted : begins_quoted (drop from text) ≡ false
   pub spelled : typed_integer (take (s.end - from) (drop from text)) ≡ Some s.number
+
+-- a field whose bytes are ASCII, where all their bits are below 128
+pub record IsTextAt (text : List ℕ) (from : ℕ) (t : TextField) : Type 0 where
+  pub field : IsFieldAt text from t.end
+  pub ascii : t.bits < 128 → is_utf8 (take (t.end - from) (drop from text)) ≡ true
 
 -- a field without quotes, whose cell came behind those of a column
 pub record PushesField (text null_text : List ℕ) (from : ℕ) (f : PlainField) (old new : ColumnBuilder) : Type 0 where

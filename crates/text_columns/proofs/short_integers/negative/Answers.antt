@@ -1,4 +1,4 @@
-use Rattle.std.proofs.Common.{◌≡◌, ◌+◌, ◌<◌, ◌^◌, arith}
+use Rattle.std.proofs.Common.{◌+◌, ◌<◌, ◌^◌, arith}
 use Rattle.std.proofs.lemmas.Int.{ints}
 use Rattle.text_columns.proofs.ShortIntegers.{digits_fit, negated, negated_fits, negative_field}
 use Rattle.text_columns.proofs.short_integers.negative.Goals as goal

@@ -1,5 +1,5 @@
 use mir.Syntax.{w64}
-use Rattle.std.proofs.Common.{◌≡◌, ◌<◌, ◌^◌, arith}
+use Rattle.std.proofs.Common.{◌<◌, ◌^◌, arith}
 use Rattle.std.proofs.lemmas.Int.{ints, to_z_pos}
 use Rattle.text_columns.proofs.ShortIntegers.{digits_fit, unsigned_field}
 use Rattle.text_columns.proofs.short_integers.unsigned.Goals as goal
