@@ -1,0 +1,90 @@
+// Texts of ASCII, read where they are in a text.
+ghost use Rattle.std.specs.Prelude.{◌≡◌, ◌≤◌, true, length, IfOk, IfSome};
+ghost use Rattle.std.specs.Str.{is_utf8};
+ghost use Rattle.text_columns.specs.declared.builder.ColumnBuilder.{Flat};
+ghost use Rattle.text_columns.specs.inner.Kept.{KeepsField};
+ghost use Rattle.text_columns.specs.inner.Plain.{IsTextAt};
+
+use crate::builder::ColumnBuilder;
+use crate::coding;
+use crate::column_values::Values;
+use crate::flat::FlatBuilder;
+use crate::plain::ends_field;
+use std::alloc::AllocError;
+
+/// Where a field ends, and the bits that its bytes have, each in one of them or more: below 128 they are ASCII.
+#[derive(Clone, Copy)]
+pub(crate) struct TextField {
+    pub(crate) end: usize,
+    pub(crate) bits: u8,
+}
+
+/// Where the field that begins at a place ends, and the bits of its bytes.
+pub(crate) fn text_field(text: &[u8], from: usize) -> TextField
+    requires { from ≤ length text.now }
+    ensures { IsTextAt text.now from result }
+{
+    let mut bits = 0;
+    for i in from..text.len() {
+        let byte = text[i];
+        if ends_field(byte) {
+            return TextField { end: i, bits };
+        }
+        bits |= byte;
+    }
+    TextField {
+        end: text.len(),
+        bits,
+    }
+}
+
+impl FlatBuilder {
+    // Whether the column has strings without a dictionary.
+    fn has_texts(&self) -> bool {
+        if self.coding.is_some() {
+            return false;
+        }
+        match &self.values {
+            Values::Texts(_, _, _) => true,
+            _ => false,
+        }
+    }
+
+    // Appends the cell of a field that is UTF-8, where it is one, and answers what it weighs.
+    fn push_utf8(&mut self, null_text: &[u8], text: &[u8]) -> Result<Option<u64>, AllocError>
+        requires { is_utf8 text.now ≡ true }
+        ensures { IfOk result (λ taken. IfSome taken (λ heavy. KeepsField null_text.now text.now heavy (Flat self.old) (Flat self.new))) }
+    {
+        if self.is_null(null_text, text) {
+            return self.push_null();
+        }
+        let taken = coding::push_utf8(&mut self.values, &mut self.coding, text)?;
+        self.valid.push(true)?;
+        Ok(taken)
+    }
+}
+
+impl ColumnBuilder {
+    /// Whether the column has strings without a dictionary.
+    pub(crate) fn has_texts(&self) -> bool {
+        match self {
+            ColumnBuilder::Flat(flat) => flat.has_texts(),
+            _ => false,
+        }
+    }
+
+    /// Appends the cell of a field that is UTF-8, where it is one, and answers what it weighs.
+    pub(crate) fn push_utf8(
+        &mut self,
+        null_text: &[u8],
+        text: &[u8],
+    ) -> Result<Option<u64>, AllocError>
+        requires { is_utf8 text.now ≡ true }
+        ensures { IfOk result (λ taken. IfSome taken (λ heavy. KeepsField null_text.now text.now heavy self.old self.new)) }
+    {
+        match self {
+            ColumnBuilder::Flat(flat) => flat.push_utf8(null_text, text),
+            _ => Ok(None),
+        }
+    }
+}
