@@ -12,7 +12,7 @@ use crate::flat::FlatBuilder;
 use crate::plain::ends_field;
 use std::alloc::AllocError;
 
-/// Where a field ends, and the bits that its bytes have, each in one of them or more: below 128 they are ASCII.
+/// Where a field ends, and each bit that one of its bytes has: all bytes are ASCII where this is below 128.
 #[derive(Clone, Copy)]
 pub(crate) struct TextField {
     pub(crate) end: usize,

@@ -55,7 +55,7 @@ pub record IsShortInteger (text : List ℕ) (from : ℕ) (s : ShortInteger) : Ty
   pub unquoted : begins_quoted (drop from text) ≡ false
   pub spelled : typed_integer (take (s.end - from) (drop from text)) ≡ Some s.number
 
--- a field whose bytes are ASCII, where all their bits are below 128
+-- a field, whose bytes are ASCII where the bits of all are below 128
 pub record IsTextAt (text : List ℕ) (from : ℕ) (t : TextField) : Type 0 where
   pub field : IsFieldAt text from t.end
   pub ascii : t.bits < 128 → is_utf8 (take (t.end - from) (drop from text)) ≡ true
