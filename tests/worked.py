@@ -1,4 +1,5 @@
-"""Streams of each kind of type, whose arrays are worked by hand from the Arrow columnar format ("Physical Memory Layout"). Each is written as its table is."""
+"""Streams of each kind of type, whose arrays are worked out by hand from the Arrow columnar format ("Physical Memory Layout"). Each is written as its table
+is."""
 import struct
 
 from streams import BINARY, BOOL, DATE, END, FIXED_BINARY, FIXED_LIST, INT, LARGE_BINARY, LARGE_LIST, LARGE_UTF8, LIST, NULL, STRUCT, TIMESTAMP, UTF8
