@@ -26,7 +26,7 @@ use Rattle.tables.specs.Commands.{PlainCommand, append_stream, append_rows}
 use Rattle.tables.specs.Tables.{Tables, table_at, with_table}
 use Rattle.tables.specs.Verdict.{too_many_bytes, other_shape, unfit_row, too_heavy, of_table, of_meaning, appended, appended_table, appended_stream, verdict}
 use Rattle.store_runs.specs.Changes.{PlainChange, extend, rows_under}
-use Rattle.store_runs.specs.Deciding.{of_entry, Addition, given_rows, rows_of_table, streamed_rows, pieces_put, decided_behind, IsAdded}
+use Rattle.store_runs.specs.Deciding.{of_entry, Addition, given_rows, rows_of_table, streamed_rows, pieces_put, decided_extension, IsAdded}
 use Rattle.store_runs.specs.Held.{table_held}
 use Rattle.store_runs.specs.Reading.{IsRead}
 use Rattle.store_changes.specs.Appending.{IsAppended}
@@ -244,7 +244,7 @@ heavy_test a b less = elim (leb_tells a b) [ inl is ↦ absurd (omega (arith, le
 
 module _ (tells : Bool) (image : Image) (name : List ℕ) (e : PlainEntry) (tested : Result Addition Refusal) (rows : List (List Cell)) (standing : PlainTable)
     (passed : tested ≡ Ok (record { entry = e; rows = rows })) (read : IsRead tells image e standing) where
-  added : (d : Result PlainChange Refusal) → d ≡ decided_behind name (record { entry = e; rows = rows }) standing.rows → IsAdded tells image name tested d
+  added : (d : Result PlainChange Refusal) → d ≡ decided_extension name (record { entry = e; rows = rows }) standing.rows → IsAdded tells image name tested d
   added d is = subst (λ (x : Result Addition Refusal). IsAdded tells image name x d) (sym passed) (standing, read, is)
 
   -- rows that are too heavy alone
@@ -256,13 +256,13 @@ module _ (tells : Bool) (image : Image) (name : List ℕ) (e : PlainEntry) (test
 
   -- rows that are decided after those that stand
   pub appended_behind : (d : Result PlainChange Refusal) (weight : ℕ) → weight ≡ table_weight e.schema (standing.rows ++ rows)
-      → (d ≡ Err OutOfMemory) ⊎ ((s : List (List Cell)) → weight ≡ table_weight e.schema (s ++ rows) → d ≡ decided_behind name (record { entry = e; rows = rows }) s)
+      → (d ≡ Err OutOfMemory) ⊎ ((s : List (List Cell)) → weight ≡ table_weight e.schema (s ++ rows) → d ≡ decided_extension name (record { entry = e; rows = rows }) s)
       → IsAppended tells image name tested d
   appended_behind d weight weighs (inl none) = inl none
   appended_behind d weight weighs (inr decided) = inr (inr (added d (decided standing.rows weighs)))
 
 -- what is decided of an addition, by the test of what it and the rows that stand weigh
 pub behind_by : (name : List ℕ) (a : Addition) (standing : List (List Cell)) (weight : ℕ) (o : Option Refusal) → weight ≡ table_weight a.entry.schema (standing ++ a.rows)
-    → when (not (nat_le weight MAX_TABLE_WEIGHT)) (TooMany limits.Weight) ≡ o → decided_behind name a standing ≡ unless o (Ok (pieces_put (extend name) (rows_under a.entry.schema a.rows)))
+    → when (not (nat_le weight MAX_TABLE_WEIGHT)) (TooMany limits.Weight) ≡ o → decided_extension name a standing ≡ unless o (Ok (pieces_put (extend name) (rows_under a.entry.schema a.rows)))
 behind_by name a standing weight o is tested =
     ap (λ (x : Option Refusal). unless x (Ok (pieces_put (extend name) (rows_under a.entry.schema a.rows)))) (ap (λ (n : ℕ). when (not (nat_le n MAX_TABLE_WEIGHT)) (TooMany limits.Weight)) (sym is) ∙ tested)

@@ -12,7 +12,7 @@ ghost use Rattle.values.specs.TableView.{table_of};
 ghost use Rattle.store_runs.specs.Calls.{is_failure};
 ghost use Rattle.store_changes.specs.Change.{change_of};
 ghost use Rattle.store_runs.specs.Changes.{CanChange, rows_under};
-ghost use Rattle.store_runs.specs.Deciding.{decided_behind};
+ghost use Rattle.store_runs.specs.Deciding.{decided_extension};
 ghost use Rattle.store_runs.specs.Reading.{OnlyReadsDevice, ended};
 ghost use Rattle.store_changes.specs.Appending.{added_to, IsAppended};
 ghost use Rattle.store_changes.specs.ReadSegment.{runs_in};
@@ -41,7 +41,7 @@ fn test_weight(weight: u64) -> Result<(), Refusal>
 }
 
 // Returns the change that appends new rows to an entry's table, if both together have this weight. The pieces have the schema of the entry.
-fn decide_behind(
+fn decide_extension(
     alloc: Global,
     entry: &TableEntry,
     name: String,
@@ -53,7 +53,7 @@ fn decide_behind(
         → CanChange c (change_of change)) }
     ensures answers { (decision_of result ≡ Err Refusal.OutOfMemory) ⊎ ((standing : List (List Cell))
         → weight ≡ table_weight (plain_entry entry.now).schema (standing ++ (table_of new).rows)
-        → decision_of result ≡ decided_behind (string_bytes name) (record { entry = plain_entry entry.now; rows = (table_of new).rows }) standing) }
+        → decision_of result ≡ decided_extension (string_bytes name) (record { entry = plain_entry entry.now; rows = (table_of new).rows }) standing) }
     ensures no_device { IfErr result (λ e. is_failure e ≡ false) }
     ensures not_halted { IfErr result (λ e. e ≢ Refusal.Halted) }
 {
@@ -105,7 +105,7 @@ pub fn append_to_entry<D: SectorDevice>(
     };
     match passed {
         Some(WeighedTable { table, weight }) => {
-            decide_behind(alloc, entry, name, table, standing.weight + weight)
+            decide_extension(alloc, entry, name, table, standing.weight + weight)
         }
         None => Err(Refusal::TooMany(Limit::Weight)),
     }

@@ -88,13 +88,13 @@ abbrev pub streamed_rows : (bytes : List ℕ) → PlainEntry → Result Addition
 streamed_rows bytes e = unless (too_many_bytes bytes) (of_meaning (meaning supported_codes bytes) (rows_of_table e))
 
 -- after the existing rows, under the schema of the entry
-abbrev pub decided_behind : List ℕ → Addition → (standing : List (List Cell)) → Result PlainChange Refusal
-decided_behind name a standing = unless (too_heavy a.entry.schema (standing ++ a.rows)) (Ok (pieces_put (extend name) (rows_under a.entry.schema a.rows)))
+abbrev pub decided_extension : List ℕ → Addition → (standing : List (List Cell)) → Result PlainChange Refusal
+decided_extension name a standing = unless (too_heavy a.entry.schema (standing ++ a.rows)) (Ok (pieces_put (extend name) (rows_under a.entry.schema a.rows)))
 
 -- the existing table is read after all other tests of the new rows
 abbrev pub IsAdded : (tells : Bool) → Image → List ℕ → Result Addition Refusal → Result PlainChange Refusal → Type 0
 IsAdded tells image name (Err r) d = d ≡ Err r
-IsAdded tells image name (Ok a) d = (standing : PlainTable) × IsRead tells image a.entry standing × (d ≡ decided_behind name a standing.rows)
+IsAdded tells image name (Ok a) d = (standing : PlainTable) × IsRead tells image a.entry standing × (d ≡ decided_extension name a standing.rows)
 
 -- why a query can't be executed on tables of a schema: the selection of a table without rows shows it
 abbrev pub unselected : PlainSchema → PlainQuery → Option Refusal

@@ -20,7 +20,7 @@ pass_new-requires g c = (entry_is (plain_entry c.args.entry.now) c.requires.soun
 pub returns-in-Some-clause-reads : goal.returns-in-Some-clause-reads
 returns-in-Some-clause-reads g c =
     let D = g.D.SectorDevice in
-    reads_ended D.size D.story D.failed D.tells c.decide_behind.result c.args.device.now c.gather_entry.new.device c.decide_behind.ensures.no_device c.in-Ok-gather_entry.ensures.reads
+    reads_ended D.size D.story D.failed D.tells c.decide_extension.result c.args.device.now c.gather_entry.new.device c.decide_extension.ensures.no_device c.in-Ok-gather_entry.ensures.reads
 
 pub returns-in-Some-clause-answers : goal.returns-in-Some-clause-answers
 returns-in-Some-clause-answers g c =
@@ -31,10 +31,10 @@ returns-in-Some-clause-answers g c =
     let rows = (table_of c.in-Some.field-0.table).rows in
     let passed = rw c.in-Some.is at c.in-Ok.ensures.passed in
     appended_behind D.tells (shown_image (now (D.story c.args.device.now))) (string_bytes c.args.name) e (added_to c.args.new e) rows (table_so_far standing) passed.0 read
-    (decision_of c.decide_behind.result)
+    (decision_of c.decide_extension.result)
     (standing.weight + c.in-Some.field-0.weight)
     (weighed_both e (table_so_far standing) rows standing.weight c.in-Some.field-0.weight read.schema standing.weighs passed.1)
-    c.decide_behind.ensures.answers
+    c.decide_extension.ensures.answers
 
 pub returns-in-None-clause-answers : goal.returns-in-None-clause-answers
 returns-in-None-clause-answers g c =
@@ -58,10 +58,10 @@ pub returns-in-Err-clause-not_halted : goal.returns-in-Err-clause-not_halted
 returns-in-Err-clause-not_halted g c = (passes_quiet c.args.new (plain_entry c.args.entry.now) c.in-Err.refusal c.in-Err.ensures.refused).halted
 
 pub returns-in-Some-clause-ok : goal.returns-in-Some-clause-ok
-returns-in-Some-clause-ok g c = c.decide_behind.ensures.ok
+returns-in-Some-clause-ok g c = c.decide_extension.ensures.ok
 
 pub returns-in-Some-clause-not_halted : goal.returns-in-Some-clause-not_halted
-returns-in-Some-clause-not_halted g c = c.decide_behind.ensures.not_halted
+returns-in-Some-clause-not_halted g c = c.decide_extension.ensures.not_halted
 
 pub returns-in-None-clause-reads : goal.returns-in-None-clause-reads
 returns-in-None-clause-reads g c =

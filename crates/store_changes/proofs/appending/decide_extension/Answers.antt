@@ -11,7 +11,7 @@ use Rattle.store_runs.specs.Deciding.{Addition, pieces_put}
 use Rattle.store_changes.specs.laws.Pieces.{pieces_each, pieces_some, pieces_few}
 use Rattle.store_changes.proofs.Appended.{behind_by}
 use Rattle.store_changes.specs.laws.Quiet.{memory_quiet, weight_quiet}
-use Rattle.store_changes.proofs.appending.decide_behind.Goals as goal
+use Rattle.store_changes.proofs.appending.decide_extension.Goals as goal
 
 pub returns-clause-ok : goal.returns-clause-ok
 returns-clause-ok c = λ listed there short.
