@@ -21,14 +21,15 @@ if in doubt, use 4194304, the maximum (2 GiB).",
     CommandHelp {
         name: "create",
         about: abouts::CREATE,
-        example: "Example: arrowstore create store measurements id:uint64 'value:int32?' 'tags:list<utf8>'
+        example: "Example: arrowstore create store measurements id:uint64 'value:int32?'
 
 A TYPE is null, bool, int8 to int64, uint8 to uint64, utf8, large_utf8, binary,
 large_binary, fixed_binary(N), date_day, date_ms, timestamp_s, timestamp_ms,
 timestamp_us, timestamp_ns, list<ITEM>, large_list<ITEM>, fixed_list(N,ITEM),
 struct<FIELD,..> or dict<INDEX,TYPE>, for example dict<int8,utf8>. A timestamp may
-have a time zone, as in timestamp_ms(UTC). An ITEM is a TYPE, followed by ? if nulls
-are allowed. A column of the type null needs the ?, as in n:null?, to accept rows.",
+have a timezone, as in timestamp_ms(UTC). An ITEM is a TYPE, followed by ? if nulls
+are allowed, as in 'tags:list<utf8?>'. A column of the type null needs the ?, as in
+n:null?, to accept rows. There are no floats, decimals and times.",
     },
     CommandHelp {
         name: "import",

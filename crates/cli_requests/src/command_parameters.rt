@@ -102,7 +102,7 @@ fn null_text<'a>(alloc: Global) -> Arg<'a>
         alloc,
         "null",
         "TEXT",
-        "In CSV, the text that means null in a column that allows nulls; by default the empty text; ignored in other forms",
+        "In CSV, the text that means null in a column that allows nulls; by default the empty text; ignored in other forms; write --null=TEXT if it begins with a hyphen",
     )
     .default_value("")
     .hide_default_value(true)
