@@ -130,8 +130,8 @@ pub(crate) fn messages_of_parts<'a>(
 /// Encodes the rows of some runs, `rows` in all, as one stream: that of [`crate::encode`] for a table with these rows.
 ///
 /// The caller makes sure that the rows are a table. Fails only if memory is refused. Takes the memory of the stream and of the buffers that have to
-/// be made, and time linear in the stream and in the runs; and in the cells of the pieces that have rows under several dictionaries of 8 or 16 bit
-/// indices, which are visited for each of their first such runs, to find where the pieces end.
+/// be made, and time linear in the stream and in the runs; and in the cells of the pieces that have rows under several dictionaries that can be full
+/// within a piece (8 bit indices, or 16 bit ones below a list), which are visited for each of their first such runs, to find where the pieces end.
 ///
 /// # Errors
 /// `AllocError` if memory is refused. The runs are freed.

@@ -239,7 +239,8 @@ fn encode_rows_pieces<'a>(
 /// The caller makes sure that the rows are a table under this schema, as they are under the table's own. Fails only if memory is refused. A buffer
 /// that the table's bytes contain as it is written is not copied unless it is small. This takes the memory of all other buffers, and that of the
 /// schema's message once; and time linear in these and in the cells of the table if it is not kept in record batches of exactly these columns, or
-/// of pieces that have rows under several dictionaries of 8 or 16 bit indices. The law [`crate::pieces_are_tables`] says what the streams mean.
+/// of pieces that have rows under several dictionaries that can be full within a piece (8 bit indices, or 16 bit ones below a list). The law
+/// [`crate::pieces_are_tables`] says what the streams mean.
 ///
 /// # Errors
 /// `AllocError` if memory is refused.
