@@ -34,7 +34,7 @@ use std::alloc::{AllocError, Global};
 // Adds the indices of a dictionary column under a mask, and its entries.
 fn build_coded_column<'k, 'a: 'k>(
     alloc: Global,
-    batch: &mut BuiltBatch<'_>,
+    batch: &mut BuiltBatch<'a>,
     entries: &mut KnownEntries<'k>,
     field: &'k Field,
     spec: DictSpec,
