@@ -16,6 +16,7 @@ ghost use Rattle.columns.specs.Offsets.{contents_width};
 use crate::as_written::are_as_written;
 use crate::entry_arrays::build_entries;
 use crate::flat_runs::{build_run_bits, build_run_contents, build_run_nulls, build_run_values};
+use crate::kept_buffers::{kept_buffer, own_offsets};
 use crate::masked_contents::build_masked_contents;
 use crate::masked_lists::push_masked_lists;
 use crate::run_fixed_items::{fixed_item_runs, item_mask};
@@ -26,7 +27,7 @@ use crate::run_slots::push_run_slots;
 use crate::slot_masks::push_masked_slots;
 use crate::widths::{offsets_width, value_width};
 use arrow_schema::{DataType, DictSpec, Field};
-use batch_build::{BuiltBatch, empty_batch, push_buffer, push_dictionary};
+use batch_build::{BuiltBatch, empty_batch, offset_size, push_any_buffer, push_dictionary};
 use columns::{OffsetWidth, SlotRun, contents_width};
 use dictionary_codes::{KnownEntries, count_slots};
 use std::alloc::{AllocError, Global};
@@ -102,7 +103,9 @@ fn build_run_lists<'k, 'a: 'k>(
     ensures { OnOk result (AddsRuns (list_kind width (column_of item.now)) runs.now batch.old batch.new) }
 {
     push_run_slots(alloc, batch, runs)?;
-    push_buffer(batch, run_list_offsets(alloc, item, width, runs)?)?;
+    let offsets = run_list_offsets(alloc, item, width, runs)?;
+    let own = own_offsets(runs, offset_size(width), offsets.len());
+    push_any_buffer(batch, kept_buffer(own, offsets))?;
     let items = item_runs(alloc, item, width, runs)?;
     build_run_column(alloc, batch, entries, item, &items, &[])
 }

@@ -11,6 +11,7 @@ mod by_runs;
 mod entry_arrays;
 mod flat_runs;
 mod item_slots;
+mod kept_buffers;
 mod mask_bits;
 mod masked_contents;
 mod masked_lists;

@@ -14,11 +14,12 @@ ghost use Rattle.columns.specs.Offsets.{contents_width, width_of};
 ghost use Rattle.columns.specs.Tests.{are_few_offsets};
 ghost use Rattle.columns.specs.View.{view_array};
 
+use crate::kept_buffers::{kept_buffer, own_offsets};
 use crate::number_bytes::last_offset;
 use crate::run_slots::only_run;
 use crate::slot_offsets::push_slot_offsets;
 use arrow_schema::DataType;
-use batch_build::{Buffer, BuiltBatch, offset_size, push_any_buffer, push_buffer};
+use batch_build::{Buffer, BuiltBatch, offset_size, push_any_buffer};
 use columns::{ArrayView, OffsetWidth, SlotRun, bytes_at, push_offset};
 use dictionary_codes::count_slots;
 use std::alloc::{AllocError, Global};
@@ -196,6 +197,7 @@ pub(crate) fn push_written_contents<'a>(
 {
     let offsets = run_offsets(alloc, data_type, width, runs)?;
     let room = last_offset(&offsets, width);
-    push_buffer(batch, offsets)?;
+    let own = own_offsets(runs, offset_size(width), offsets.len());
+    push_any_buffer(batch, kept_buffer(own, offsets))?;
     push_any_buffer(batch, run_contents(alloc, data_type, width, runs, room)?)
 }

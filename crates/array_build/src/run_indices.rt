@@ -2,7 +2,7 @@
 ghost use Rattle.std.specs.Prelude.{◌≡◌, true, OnOk, IfOk, Some, map};
 ghost use Rattle.std.specs.List.{list_all};
 ghost use Rattle.arrow_schema.specs.View.{column_of, index_of};
-ghost use Rattle.batch_build.specs.Batch.{batch_in, buffer_bytes};
+ghost use Rattle.batch_build.specs.Batch.{batch_in};
 ghost use Rattle.batch_build.specs.Coded.{with_indices};
 ghost use Rattle.dictionary_codes.specs.Masks.{IsMask, masked_cells};
 ghost use Rattle.dictionary_codes.specs.CodedCells.{is_coded};
@@ -10,40 +10,14 @@ ghost use Rattle.columns.specs.Runs.{are_runs_sound};
 ghost use Rattle.cells.specs.Dictionary.{entries_of};
 ghost use Rattle.cells.specs.Entry.{entry_cell};
 
-use crate::run_slots::{only_run, push_bit_slots};
+use crate::kept_buffers::{kept_buffer, own_indices};
+use crate::run_slots::push_bit_slots;
 use arrow_schema::{DictSpec, Field};
-use batch_build::{Buffer, BuiltBatch, push_any_buffer};
+use batch_build::{BuiltBatch, push_any_buffer};
 use cells::Entry;
 use columns::SlotRun;
 use dictionary_codes::{KnownEntries, codes_of_runs};
 use std::alloc::{AllocError, Global};
-
-// Returns as many bytes of the indices of the only run, if there is one.
-fn indices_of_run<'a>(runs: &[SlotRun<'a>], width: usize, size: usize) -> Option<&'a [u8]> {
-    let Some(
-        SlotRun::Slots {
-            array,
-            from,
-            len: _,
-        },
-    ) = only_run(runs)
-    else {
-        return None;
-    };
-    let start = from.saturating_mul(width);
-    array.indices().get(start..start.saturating_add(size))
-}
-
-// Returns a buffer of indices that were made. The input's own stay where they are if they are the same, as in a stream that this crate has written, so
-// that no other memory holds them until the stream is written.
-fn indices_buffer<'a>(runs: &[SlotRun<'a>], width: usize, made: Vec<u8>) -> Buffer<'a>
-    ensures { buffer_bytes result ≡ made.items }
-{
-    match indices_of_run(runs, width, made.len()) {
-        Some(own) if own == made.as_slice() => Buffer::Borrowed(own),
-        _ => Buffer::Made(made),
-    }
-}
 
 /// Adds the node, the validity bitmap and the indices of the cells of runs under a mask, and returns the entries that they name.
 pub(crate) fn push_run_indices<'k, 'a: 'k>(
@@ -65,9 +39,7 @@ pub(crate) fn push_run_indices<'k, 'a: 'k>(
 {
     let codes = codes_of_runs(alloc, entries, field, spec, &*runs, mask)?;
     push_bit_slots(alloc, batch, &codes.valid)?;
-    push_any_buffer(
-        batch,
-        indices_buffer(runs, spec.index.width.bytes(), codes.indices),
-    )?;
+    let own = own_indices(runs, spec.index.width.bytes(), codes.indices.len());
+    push_any_buffer(batch, kept_buffer(own, codes.indices))?;
     Ok(codes.entries)
 }

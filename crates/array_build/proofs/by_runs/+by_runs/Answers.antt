@@ -13,7 +13,7 @@ use Rattle.array_build.proofs.by_runs.+by_runs.Goals as goal
 use Rattle.batch_build.specs.Batch.{batch_in, built_at, plain_column, with_arrays}
 use Rattle.dictionary_codes.specs.Masks.{IsMask, bitmap_bits, masked_cells, slots_mask, bitmap_of}
 use Rattle.array_build.specs.inner.Masked.{masked_kind}
-use Rattle.batch_build.specs.Nodes.{list_kind}
+use Rattle.batch_build.specs.Nodes.{list_kind, with_buffer}
 use Rattle.array_build.specs.inner.RunItems.{fixed_column}
 use Rattle.array_build.specs.inner.Runs.{AreAsWritten, kind_cells}
 use Rattle.columns.specs.Runs.{are_runs_sound, runs_cells}
@@ -123,9 +123,9 @@ build_run_lists-returns t c =
     let item : Column = column_of c.args.item.now in
     let below : runs_cells item c.deref.result.now ≡ flat_map item_list (kind_cells (list_kind c.args.width item) c.args.runs.now) = ap (runs_cells item) c.deref.ensures.value ∙ c.in_ok-items.ensures.cells in
     on_ok_weaker c.build_run_column.result
-    (λ h. h ∙ ap (λ (cells : List Cell). with_arrays (batch_in c.push_buffer.new.batch) (built_at item cells)) (cells_without item [] c.deref.result.now refl)
-    ∙ list_runs_are (batch_in c.args.batch.now) (batch_in c.push_run_slots.new.batch) (batch_in c.push_buffer.new.batch) c.args.width item c.args.runs.now c.deref.result.now _
-    below c.in_ok-run_list_offsets.ensures c.in_ok-push_run_slots.ensures c.in_ok-push_buffer.ensures)
+    (λ h. h ∙ ap (λ (cells : List Cell). with_arrays (batch_in c.push_any_buffer.new.batch) (built_at item cells)) (cells_without item [] c.deref.result.now refl)
+    ∙ list_runs_are (batch_in c.args.batch.now) (batch_in c.push_run_slots.new.batch) (batch_in c.push_any_buffer.new.batch) c.args.width item c.args.runs.now c.deref.result.now _
+    below c.in_ok-offsets.ensures c.in_ok-push_run_slots.ensures (c.in_ok-push_any_buffer.ensures ∙ ap (with_buffer (batch_in c.push_run_slots.new.batch)) c.kept_buffer.ensures))
     c.build_run_column.ensures
 
 pub build_masked_lists-push_masked_lists-requires : goal.build_masked_lists-push_masked_lists-requires
