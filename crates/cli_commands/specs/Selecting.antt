@@ -40,12 +40,12 @@ AreLines form table q text = (selected : PlainTable) × (printed_selection form 
 
 -- a query of the table that reads show has this answer
 pub record QueryAnswers (form : RowForm) (halted tells : Bool) (image : Image) (found : Option PlainEntry) (q : PlainQuery)
-    (answer : Result PlainTable query.Refusal) : Type 0 where
+    (answer : Result PlainTable query.SelectionRefusal) : Type 0 where
   pub table : PlainTable
   pub reads : ReadsTable halted tells image found table
   pub answers : printed_selection form table q ≡ answer
 
-abbrev pub plain_reason : QueryRefusal → query.Refusal
+abbrev pub plain_reason : QueryRefusal → query.SelectionRefusal
 plain_reason UnknownColumn = query.unknown_column
 plain_reason BadCondition = query.bad_condition
 plain_reason NotComparable = query.not_comparable

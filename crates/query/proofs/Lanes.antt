@@ -1,9 +1,9 @@
 -- Lanes of numbers, and the bits of their answers.
-use Rattle.std.proofs.Common.{◌≡◌, ℕ, zero, suc, ◌+◌, ◌-◌, ◌*◌, ◌/◌, ◌%◌, ◌^◌, ◌<◌, ◌≤◌, Bool, true, false, cond, List, [], ◌∷◌, ◌==◌, length, get_or, map, take, drop, refl, sym, ap, ◌∙◌, arith}
+use Rattle.std.proofs.Common.{◌≡◌, ℕ, zero, suc, ◌+◌, ◌-◌, ◌*◌, ◌/◌, ◌%◌, ◌^◌, ◌<◌, ◌≤◌, Bool, true, false, cond, List, [], ◌∷◌, ◌==◌, length, get_or, map, take, drop, refl, sym, ap, ◌∙◌, arith, w8, Fits}
 use Rattle.std.specs.Prelude.{nat_lt, replicate}
 use Rattle.std.specs.List.{range_with_len}
-use Rattle.std.specs.Simd.Lanes.{Each1, zip2, chunk, top, sel_l, mask_l, number_l, digits_l}
-use Rattle.std.proofs.lemmas.Simd.{map-map, tops_compared, zip2_splat, bitmask_splat, get_or_wider, length-chunk, get_or-chunk}
+use Rattle.std.specs.Simd.Lanes.{zip2, chunk, top, sel_l, mask_l, number_l, digits_l}
+use Rattle.std.proofs.lemmas.Simd.{map-map, tops_compared, zip2_splat, bitmask_splat, get_or_wider, length-chunk, get_or-chunk, chunk-fits, below_from_Fits}
 use Rattle.std.proofs.lemmas.List.{drop_more, drop-drop, drop-take, take-take, length-map, length-drop, get_or-drop, ext_get_or}
 use Rattle.std.proofs.lemmas.List.FromFn.{get_or-map-range_with_len, length-map-range_with_len}
 use Rattle.facts.specs.laws.Lists.{maps_same}
@@ -31,13 +31,13 @@ length-digits p zero x = refl
 length-digits p (suc n) x = ap suc (length-digits p n (x / p))
 
 -- lane j of numbers of k bytes each
-lane_is : (k first j : ℕ) (values : List ℕ) (size : ℕ) → k * j + k ≤ size → k * first + size ≤ length values
-    → number_l 256 (chunk (k * j) k (chunk (k * first) size values)) ≡ number_at k values (first + j)
-lane_is k first j values size within room =
-    let rest = size - k * j in
-    let whole : size ≡ k * j + rest = omega (arith, within) in
+lane_is : (k first j : ℕ) (values : List ℕ) → k * j + k ≤ 64 → k * first + 64 ≤ length values
+    → number_l 256 (chunk (k * j) k (chunk (k * first) 64 values)) ≡ number_at k values (first + j)
+lane_is k first j values within room =
+    let rest = 64 - k * j in
+    let whole : 64 ≡ k * j + rest = omega (arith, within) in
     let place : k * first + k * j ≡ (first + j) * k = omega arith in
-    let here : chunk (k * j) k (chunk (k * first) size values) ≡ take k (drop ((first + j) * k) values) =
+    let here : chunk (k * j) k (chunk (k * first) 64 values) ≡ take k (drop ((first + j) * k) values) =
     ap (λ m. take k (drop (k * j) (take m (drop (k * first) values)))) whole
     ∙ ap (take k) (drop-take (k * j) rest (drop (k * first) values))
     ∙ take-take k rest (drop (k * j) (drop (k * first) values)) (omega (arith, within))
@@ -46,17 +46,18 @@ lane_is k first j values size within room =
     let long : k ≤ length (drop ((first + j) * k) values) = omega (arith, length-drop ((first + j) * k) values, within, room, place) in
     ap (number_l 256) here ∙ little_is k 0 (drop ((first + j) * k) values) (omega (arith, long))
 
--- the numbers from a slot on, in lanes
-pub lanes_are : (k n size p first : ℕ) (values : List ℕ) → p ≡ 256 ^ k → ((j : ℕ) → j < n → k * j + k ≤ size) → k * first + size ≤ length values
-    → Each1 (λ x. x < 256) (chunk (k * first) size values) → digits_l p n (number_l 256 (chunk (k * first) size values)) ≡ map (number_at k values) (range_with_len first n)
-lanes_are k n size p first values power within room bytes =
-    let loaded = chunk (k * first) size values in
+-- the numbers from a slot on, in the lanes that 64 bytes are
+pub lanes_are : (k n p first : ℕ) (values : List ℕ) → p ≡ 256 ^ k → ((j : ℕ) → j < n → k * j + k ≤ 64) → k * first + 64 ≤ length values → ((i : ℕ) → Fits w8 (get_or values i 0))
+    → digits_l p n (number_l 256 (chunk (k * first) 64 values)) ≡ map (number_at k values) (range_with_len first n)
+lanes_are k n p first values power within room fit =
+    let loaded = chunk (k * first) 64 values in
     let f = number_at k values in
+    let bytes = below_from_Fits w8 loaded (chunk-fits w8 (k * first) 64 values fit) in
     let count : length (digits_l p n (number_l 256 loaded)) ≡ n = length-digits p n (number_l 256 loaded) in
     ext_get_or 0 (digits_l p n (number_l 256 loaded)) (map f (range_with_len first n)) (count ∙ sym (length-map-range_with_len f first n))
     (λ j h. let lt : j < n = omega (arith, h, count) in
     get_or_wider 256 k p n loaded j power bytes lt
-    ∙ lane_is k first j values size (within j lt) room
+    ∙ lane_is k first j values (within j lt) room
     ∙ sym (get_or-map-range_with_len f first n j (first + j) 0 lt refl))
 
 -- ---- answers

@@ -12,7 +12,7 @@ use Rattle.cells.specs.Row.{is_row}
 use Rattle.cells.specs.Weight.{row_weight, table_weight}
 use Rattle.values.specs.Table.{IsTable}
 use Rattle.query.specs.Query.{PlainQuery}
-use Rattle.query.specs.Bound.{Refusal, Bound, bound, place_of}
+use Rattle.query.specs.Bound.{SelectionRefusal, Bound, bound, place_of}
 use Rattle.query.specs.Selection.{pick, is_distinct, where_distinct, all_some, chosen, all_ok, limited, holds_all, selected, selected_where, selection}
 use Rattle.query.proofs.PickedSchemas.{picked_schema, limits_picked}
 use Rattle.query.proofs.PickedRows.{picked}
@@ -82,7 +82,7 @@ chosen_distinct cs [] ps h = let same : range_with_len 0 (length cs) ≡ ps = cc
 chosen_distinct cs (name ∷ names) ps h =
     option_and_then_some where_distinct (all_some (map (place_of cs) (name ∷ names))) ps h (λ xs e f. distinct_there xs ps f)
 
-selection_from : (o : Option (List ℕ)) (r : Result (List Bound) Refusal) (most : Option ℕ) (t s : PlainTable) → ((ps : List ℕ) → o ≡ Some ps → is_distinct ps ≡ true) → IsTable t
+selection_from : (o : Option (List ℕ)) (r : Result (List Bound) SelectionRefusal) (most : Option ℕ) (t s : PlainTable) → ((ps : List ℕ) → o ≡ Some ps → is_distinct ps ≡ true) → IsTable t
     → selected_where o r most t ≡ Ok s → IsTable s
 selection_from None r most t s d h e = cc
 selection_from (Some ps) (Err x) most t s d h e = cc

@@ -4,7 +4,7 @@ use Rattle.std.specs.Prelude.{Some, Ok, String, string_bytes}
 use Rattle.std.specs.Global.{Global}
 use Rattle.arrow_schema.specs.declared.types.Field.{Field}
 use Rattle.arrow_schema.specs.declared.types.Schema.{Schema}
-use Rattle.arrow_schema.specs.Column.{Column, PlainSchema}
+use Rattle.arrow_schema.specs.Column.{PlainSchema}
 use Rattle.arrow_schema.specs.View.{schema_of, column_of}
 use Rattle.cells.specs.Cell.{PlainTable}
 use Rattle.query.specs.declared.errors.QueryError.{QueryError}

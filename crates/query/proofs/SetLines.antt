@@ -1,7 +1,7 @@
 -- The lines of the first of the slots whose bits are set, run by run.
-use Rattle.std.proofs.Common.{◌≡◌, ℕ, ◌+◌, ◌-◌, ◌<◌, ◌≤◌, true, false, List, [], ◌++◌, map, length, take, sym, ap, ◌∙◌, append_assoc, arith, length-append}
+use Rattle.std.proofs.Common.{◌≡◌, ℕ, ◌+◌, ◌-◌, ◌<◌, ◌≤◌, true, false, List, [], ◌++◌, map, length, take, sym, ap, subst, ◌∙◌, arith}
 use Rattle.std.specs.List.{range_with_len}
-use Rattle.std.proofs.lemmas.List.{append-nil}
+use Rattle.std.proofs.Math.Seq.{take-nil}
 use Rattle.std.proofs.lemmas.List.FromFn.{length-map-range_with_len}
 use Rattle.arrow_schema.specs.Column.{Column}
 use Rattle.bitmap.specs.Bits.{bit}
@@ -9,24 +9,14 @@ use Rattle.cells.specs.Cell.{Cell}
 use Rattle.query.specs.Choice.{rows_set}
 use Rattle.query.specs.ObjectLine.{lines_text}
 use Rattle.query.specs.declared.row_form.RowForm.{RowForm}
-use Rattle.query.specs.laws.Lines.{lines_append}
-use Rattle.query.specs.laws.RowsSet.{kept_front, take-none, front_start, front_next, front_run, front_done}
+use Rattle.query.specs.laws.Lines.{ArePrinted, none_printed, more_printed}
+use Rattle.query.specs.laws.RowsSet.{kept_front, front_start, front_next, front_run, front_done}
 use Rattle.query.proofs.SlotLines.{rows_between}
 
--- what is printed where these are the rows so far, of which there may be `most`
-pub record ArePrinted (form : RowForm) (cs : List Column) (most : ℕ) (rows : List (List Cell)) (old new : List ℕ) (left : ℕ) : Type 0 where
-  pub room : left + length rows ≡ most
-  pub text : new ≡ old ++ lines_text form cs rows
-
-pub none_printed : (form : RowForm) (cs : List Column) (most : ℕ) (mask : List ℕ) (start : ℕ) (rows : List (List Cell)) (to : ℕ) (out : List ℕ) → to ≤ length rows
+pub front_printed : (form : RowForm) (cs : List Column) (most : ℕ) (mask : List ℕ) (start : ℕ) (rows : List (List Cell)) (to : ℕ) (out : List ℕ) → to ≤ length rows
     → ((i : ℕ) → 0 ≤ i → i < to → bit mask (start + i) ≡ false) → ArePrinted form cs most (kept_front most [] mask start rows to) out out most
-none_printed form cs most mask start rows to out within unset =
-    let none : [] ≡ kept_front most [] mask start rows to =
-    sym (take-none most) ∙ front_start most [] mask start rows ∙ front_next most [] mask start rows 0 to (omega arith) within unset in
-    record {
-      room = omega (arith, ap length none);
-      text = sym (append-nil out) ∙ ap (λ (xs : List (List Cell)). out ++ lines_text form cs xs) none;
-    }
+front_printed form cs most mask start rows to out within unset =
+    none_printed form cs most _ out (sym (take-nil most) ∙ front_start most [] mask start rows ∙ front_next most [] mask start rows 0 to (omega arith) within unset)
 
 -- those of a run of slots whose bits are set, and then no others up to a slot
 pub run_printed : (form : RowForm) (cs : List Column) (row : ℕ → List Cell) (slots most : ℕ) (mask : List ℕ) (start i n to left : ℕ) (old out new : List ℕ) → i + n ≤ to → to ≤ slots → n ≤ left
@@ -43,14 +33,7 @@ run_printed form cs row slots most mask start i n to left old out new order with
     sym (front_next most [] mask start rows (i + n) to order (omega (arith, within, size)) unset)
     ∙ front_run most [] mask start rows i n (omega (arith, order, within, size)) set (omega (arith, few, h.room))
     ∙ ap (λ (xs : List (List Cell)). front ++ xs) (rows_between row i n slots (omega (arith, order, within))) in
-    record {
-      room = omega (arith, h.room, few, own, ap length more, length-append front run);
-      text = added
-          ∙ ap (λ (t : List ℕ). t ++ lines_text form cs run) h.text
-          ∙ append_assoc old (lines_text form cs front) (lines_text form cs run)
-          ∙ ap (λ (t : List ℕ). old ++ t) (sym (lines_append form cs front run))
-          ∙ ap (λ (xs : List (List Cell)). old ++ lines_text form cs xs) (sym more);
-    }
+    more_printed form cs most front run _ old out new left n more (sym own) few h added
 
 -- all
 pub all_printed : (form : RowForm) (cs : List Column) (row : ℕ → List Cell) (slots most : ℕ) (mask : List ℕ) (start i left : ℕ) (old new : List ℕ) → i ≤ slots → (i < slots → left ≡ 0)
@@ -59,8 +42,5 @@ pub all_printed : (form : RowForm) (cs : List Column) (row : ℕ → List Cell) 
 all_printed form cs row slots most mask start i left old new within full h =
     let rows = map row (range_with_len 0 slots) in
     let size : length rows ≡ slots = length-map-range_with_len row 0 slots in
-    let whole = front_done most [] mask start rows i (omega (arith, within, size)) (λ lt. let none : left ≡ 0 = full (omega (arith, lt, size)) in omega (arith, none, h.room)) in
-    record {
-      room = omega (arith, h.room, ap length whole);
-      text = h.text ∙ ap (λ (xs : List (List Cell)). old ++ lines_text form cs xs) whole;
-    }
+    let P : List (List Cell) → Type 0 = λ xs. ArePrinted form cs most xs old new left in
+    subst P (front_done most [] mask start rows i (omega (arith, within, size)) (λ lt. let none : left ≡ 0 = full (omega (arith, lt, size)) in omega (arith, none, h.room))) h

@@ -1,17 +1,17 @@
 -- Lines of the rows of record batches.
 use Rattle.std.specs.Prelude.{nat_le, codes, if◌then◌else◌}
-use Rattle.std.specs.List.{flat_map, list_all, range_with_len}
+use Rattle.std.specs.List.{range_with_len}
 use Rattle.std.proofs.Common.{◌≡◌, ℕ, zero, suc, ◌+◌, ◌-◌, ◌<◌, ◌≤◌, Bool, true, List, [], ◌∷◌, ◌++◌, map, length, get_or, take, drop, refl, sym, ap, subst, ◌∙◌, append_assoc, arith}
-use Rattle.std.proofs.lemmas.Bool.{and_from, and_parts, leb-true, lt-ltb}
+use Rattle.std.proofs.lemmas.Bool.{and_parts, leb-true, lt-ltb}
 use Rattle.std.proofs.lemmas.List.{append-nil}
 use Rattle.std.proofs.lemmas.List.FromFn.{get_or-map-range_with_len, length-map-range_with_len, map-range_with_len_more, take-map-range_with_len}
-use Rattle.facts.specs.laws.Lists.{flat_map-item, maps_same}
+use Rattle.facts.specs.laws.Lists.{maps_same}
 use Rattle.json.specs.Print.{quoted}
-use Rattle.arrow_schema.specs.Column.{Column, Columns, columns_of}
+use Rattle.arrow_schema.specs.Column.{Column, columns_of}
 use Rattle.arrow_schema.specs.Parts.{name_of_column}
 use Rattle.arrow_schema.specs.View.{column_of}
 use Rattle.arrow_schema.specs.declared.types.Field.{Field}
-use Rattle.cells.specs.Cell.{Cell, Cells, PlainTable, no_cell, and_cell, cell_list}
+use Rattle.cells.specs.Cell.{Cell, Cells, no_cell, and_cell, cell_list}
 use Rattle.cells.specs.laws.Cells.{cells_list}
 use Rattle.columns.specs.Array.{slots_in}
 use Rattle.columns.specs.CellAt.{cell_at, part_cells, row_at}
@@ -19,9 +19,6 @@ use Rattle.columns.specs.Sound.{is_sound, are_sound}
 use Rattle.columns.specs.Texts.{has_utf8_texts, have_utf8_texts}
 use Rattle.columns.specs.View.{view_array, fields_of}
 use Rattle.columns.specs.laws.Rows.{fewer_sound}
-use Rattle.values.specs.Parts.{batch_rows, part_rows, parts_rows, is_batch_sound, are_parts_sound, parts_table}
-use Rattle.values.specs.Table.{IsTable}
-use Rattle.values.specs.declared.table_part.TablePart.{TablePart}
 use Rattle.query.specs.BatchArrays.{arrays_of, rows_of, has_texts, is_readable}
 use Rattle.query.specs.Line.{json_of, json_of_all, json_of_others}
 use Rattle.query.specs.ObjectLine.{members, other_members, line_in, lines_text}
@@ -30,21 +27,12 @@ use Rattle.query.specs.declared.column_slots.ColumnSlots.{ColumnSlots}
 use Rattle.query.specs.declared.row_form.RowForm.{RowForm}
 use Rattle.query.specs.declared.row_form.RowForm.TheVariants as forms
 use Rattle.query.specs.inner.ColumnSlots.{AreColumns, slot_columns, slot_arrays, slot_cells, slot_row, HasBuffers, AreReadable}
-use Rattle.query.specs.inner.SlotLines.{opening, closing, separator, lead, rest_of_line, is_batch_readable, is_part_readable}
+use Rattle.query.specs.inner.SlotLines.{opening, closing, separator, lead, rest_of_line}
 use Rattle.query.specs.laws.Lines.{lines_append}
-use Rattle.query.specs.laws.Readable.{table_texts}
-use Rattle.query.proofs.ColumnSlots.{columns_are, cells_are, sound_are, buffers_all}
-use Rattle.query.specs.laws.Tests.{all_here, all_of_flat, all_both}
+use Rattle.query.proofs.ColumnSlots.{cells_are, sound_are, buffers_all}
+use Rattle.query.specs.laws.Tests.{all_here}
 
 -- ---- lines
-
--- of one batch more, or of one part more
-pub lines_more : {X : Type 0} (form : RowForm) (cs : List Column) (g : X → List (List Cell)) (xs : List X) (k : ℕ) (x : X) (start out : List ℕ) → k < length xs → x ≡ get_or xs k x
-    → out ≡ start ++ lines_text form cs (flat_map g (take k xs)) → out ++ lines_text form cs (g x) ≡ start ++ lines_text form cs (flat_map g (take (k + 1) xs))
-lines_more form cs g xs k x start out within is h =
-    ap (λ (ys : List ℕ). ys ++ lines_text form cs (g x)) h
-    ∙ append_assoc start (lines_text form cs (flat_map g (take k xs))) (lines_text form cs (g x))
-    ∙ ap (λ (ys : List ℕ). start ++ ys) (sym (lines_append form cs (flat_map g (take k xs)) (g x)) ∙ ap (lines_text form cs) (sym (flat_map-item g xs k x within is)))
 
 -- of no slot
 pub no_line : (form : RowForm) (cs : List Column) (row : ℕ → List Cell) (from n : ℕ) (out : List ℕ) → n ≡ 0 → out ≡ out ++ lines_text form cs (map row (range_with_len from n))
@@ -204,28 +192,3 @@ columns_readable b fs ss is h =
 -- they have its rows
 pub rows_are : (b : BatchArrays) (fs : List Field) (ss : List ColumnSlots) → AreColumns b 0 fs ss → map (slot_row ss) (range_with_len 0 b.rows) ≡ rows_of (fields_of fs) b
 rows_are b fs ss is = maps_same (slot_row ss) (row_at (fields_of fs) (arrays_of b)) (λ i. ap cell_list (cells_are b 0 fs ss i is)) (range_with_len 0 b.rows)
-
-pub lines_are : (form : RowForm) (b : BatchArrays) (fs : List Field) (ss : List ColumnSlots) → AreColumns b 0 fs ss
-    → lines_text form (slot_columns ss) (map (slot_row ss) (range_with_len 0 b.rows)) ≡ lines_text form (map column_of fs) (rows_of (fields_of fs) b)
-lines_are form b fs ss is = (λ i. lines_text form (columns_are b 0 fs ss is i) (rows_are b fs ss is i))
-
-parts_readable : (columns : Columns) (parts : List TablePart) → are_parts_sound columns parts ≡ true → list_all has_texts (parts_rows columns parts) ≡ true → list_all (is_part_readable columns) parts ≡ true
-parts_readable columns parts sound texts =
-    all_both (λ p. list_all (is_batch_sound columns p) p.batches.items) (λ p. list_all has_texts (part_rows columns p)) (is_part_readable columns)
-    (λ p s t. all_both (is_batch_sound columns p) (λ b. list_all has_texts (batch_rows columns p b)) (is_batch_readable columns p) (λ b one other. and_from _ _ one other) p.batches.items s
-    (all_of_flat has_texts (batch_rows columns p) p.batches.items t)) parts sound (all_of_flat has_texts (part_rows columns) parts texts)
-
--- of a table they are
-pub table_readable : (t : PlainTable) (cs : List Column) (parts : List TablePart) → IsTable t → cs ≡ t.schema.columns → t ≡ parts_table t.schema parts → are_parts_sound (columns_of t.schema.columns) parts ≡ true
-    → list_all (is_part_readable (columns_of cs)) parts ≡ true
-table_readable t cs parts is columns whole sound =
-    let rows : t.rows ≡ parts_rows (columns_of t.schema.columns) parts = ap (λ (u : PlainTable). u.rows) whole in
-    let P : List (List Cell) → Type 0 = λ rs. list_all has_texts rs ≡ true in
-    let Q : List Column → Type 0 = λ ds. list_all (is_part_readable (columns_of ds)) parts ≡ true in
-    subst Q (sym columns) (parts_readable (columns_of t.schema.columns) parts sound (subst P rows (table_texts t is)))
-
-pub lines_of_table : (form : RowForm) (t : PlainTable) (cs : List Column) (parts : List TablePart) → cs ≡ t.schema.columns → t ≡ parts_table t.schema parts
-    → lines_text form cs (parts_rows (columns_of cs) parts) ≡ lines_text form t.schema.columns t.rows
-lines_of_table form t cs parts columns whole =
-    ap (λ (ds : List Column). lines_text form ds (parts_rows (columns_of ds) parts)) columns
-    ∙ ap (λ (u : PlainTable). lines_text form t.schema.columns u.rows) (sym whole)

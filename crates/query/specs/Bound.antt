@@ -14,10 +14,10 @@ use Rattle.query.specs.Literal.{is_comparable, literal_of}
 
 -- why a query is refused: a name that no column has, or more than one, or that is asked for twice; a condition of another form or with a bad
 -- literal; a comparison of a type that has none
-pub data Refusal : Type 0 where
-  unknown_column : Refusal
-  bad_condition : Refusal
-  not_comparable : Refusal
+pub data SelectionRefusal : Type 0 where
+  unknown_column : SelectionRefusal
+  bad_condition : SelectionRefusal
+  not_comparable : SelectionRefusal
 
 abbrev pub has_name : List ℕ → Column → Bool
 has_name wanted c = bytes_eq (name_of_column c) wanted
@@ -36,29 +36,29 @@ pub record Bound : Type 0 where
   pub place : ℕ
   pub predicate : Predicate
 
-abbrev pub against : Operator → Option Cell → Result Predicate Refusal
+abbrev pub against : Operator → Option Cell → Result Predicate SelectionRefusal
 against o None = Err bad_condition
 against o (Some literal) = Ok (compares o literal)
 
-abbrev pub predicate_of : Kind → PlainTest → Result Predicate Refusal
+abbrev pub predicate_of : Kind → PlainTest → Result Predicate SelectionRefusal
 predicate_of kind null_test = Ok asks_null
 predicate_of kind value_test = Ok asks_value
 predicate_of kind (comparison o literal) = if is_comparable kind then against o (literal_of kind literal) else Err not_comparable
 
-abbrev pub bound_at : ℕ → Result Predicate Refusal → Result Bound Refusal
+abbrev pub bound_at : ℕ → Result Predicate SelectionRefusal → Result Bound SelectionRefusal
 bound_at place (Ok d) = Ok (record { place = place; predicate = d })
 bound_at place (Err e) = Err e
 
-abbrev pub bound_in : ℕ → Option Column → PlainTest → Result Bound Refusal
+abbrev pub bound_in : ℕ → Option Column → PlainTest → Result Bound SelectionRefusal
 bound_in place None test = Err unknown_column
 bound_in place (Some c) test = bound_at place (predicate_of (kind_of_column c) test)
 
-abbrev pub bound_to : List Column → Option ℕ → PlainTest → Result Bound Refusal
+abbrev pub bound_to : List Column → Option ℕ → PlainTest → Result Bound SelectionRefusal
 bound_to cs None test = Err unknown_column
 bound_to cs (Some place) test = bound_in place (slice_get cs place) test
 
 -- a condition on these columns, or the first reason why there is none: its column, whether it can be compared, its literal
-unfoldable pub bound : List Column → PlainCondition → Result Bound Refusal
+unfoldable pub bound : List Column → PlainCondition → Result Bound SelectionRefusal
 bound cs c = bound_to cs (place_of cs c.column) c.test
 
 -- false is less than true; texts and bytes are ordered byte by byte; a null, and a value of another form, has no order

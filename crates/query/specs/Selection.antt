@@ -5,7 +5,7 @@ use Rattle.std.specs.Option.{option_and_then}
 use Rattle.arrow_schema.specs.Column.{Column}
 use Rattle.cells.specs.Cell.{Cell, PlainTable}
 use Rattle.query.specs.Query.{PlainQuery}
-use Rattle.query.specs.Bound.{Refusal, unknown_column, place_of, Bound, bound, holds}
+use Rattle.query.specs.Bound.{SelectionRefusal, unknown_column, place_of, Bound, bound, holds}
 
 -- the elements at these places
 abbrev pub pick : {X : Type 0} → List ℕ → List X → List X
@@ -57,11 +57,11 @@ selected places bounds most t = record {
   rows = limited most (map (pick places) (filter (holds_all bounds) t.rows));
 }
 
-abbrev pub selected_where : Option (List ℕ) → Result (List Bound) Refusal → Option ℕ → PlainTable → Result PlainTable Refusal
+abbrev pub selected_where : Option (List ℕ) → Result (List Bound) SelectionRefusal → Option ℕ → PlainTable → Result PlainTable SelectionRefusal
 selected_where None bounds most t = Err unknown_column
 selected_where (Some places) (Err e) most t = Err e
 selected_where (Some places) (Ok bounds) most t = Ok (selected places bounds most t)
 
 -- the selection, or the first refusal: the columns asked for are tested first, and then the conditions in order
-unfoldable pub selection : PlainTable → PlainQuery → Result PlainTable Refusal
+unfoldable pub selection : PlainTable → PlainQuery → Result PlainTable SelectionRefusal
 selection t q = selected_where (chosen t.schema.columns q.columns) (all_ok (map (bound t.schema.columns) q.conditions)) q.limit t

@@ -7,7 +7,7 @@ use Rattle.query.specs.declared.query.Query.{Query}
 use Rattle.query.specs.declared.errors.QueryError.{QueryError}
 use Rattle.query.specs.declared.errors.QueryError.TheVariants.{UnknownColumn, BadCondition, NotComparable, OutOfMemory}
 use Rattle.query.specs.Query.{PlainTest, null_test, value_test, comparison, PlainCondition, PlainQuery}
-use Rattle.query.specs.Bound.{Refusal, unknown_column, bad_condition, not_comparable}
+use Rattle.query.specs.Bound.{SelectionRefusal, unknown_column, bad_condition, not_comparable}
 
 abbrev pub test_in : Test → PlainTest
 test_in IsNull = null_test
@@ -21,7 +21,7 @@ abbrev pub query_in : Query → PlainQuery
 query_in q = record { columns = map string_bytes q.columns.items; conditions = map condition_in q.conditions.items; limit = q.limit }
 
 -- an error reports the refusal that there is; memory may be refused in any case
-abbrev pub Reports : {X : Type 0} → QueryError → Result X Refusal → Type 0
+abbrev pub Reports : {X : Type 0} → QueryError → Result X SelectionRefusal → Type 0
 Reports UnknownColumn r = r ≡ Err unknown_column
 Reports BadCondition r = r ≡ Err bad_condition
 Reports NotComparable r = r ≡ Err not_comparable

@@ -63,72 +63,58 @@ pub(crate) fn valid_slots(validity: &[u8], first: usize, slots: usize) -> u64
     LittleEndian::read_uint(&validity[first / 8..], slots / 8)
 }
 
-// Returns the answers for 16 numbers of 32 bits, from a slot on, a bit each.
-fn of_32_bits(by_order: OrderAnswers, values: &[u8], first: usize) -> u64
-    requires room { 4 * (first + 16) ≤ length values.now }
-    requires bias { by_order.bias < 2 ^ 32 }
-    requires key { by_order.key < 2 ^ 32 }
-    ensures { result ≡ mask_l (map (answer_at by_order 4 values.now) (range_with_len first 16)) }
-{
-    let bias = u32x16::splat(by_order.bias as u32);
-    let key = u32x16::splat(by_order.key as u32);
-    let numbers = u32x16::from_le_bytes(u8x64::from_slice(&values[4 * first..])) + bias;
-    let below = u32x16::splat(u32::from(by_order.below));
-    let equal = u32x16::splat(u32::from(by_order.equal));
-    let above = u32x16::splat(u32::from(by_order.above));
-    let others = numbers.simd_eq(key).select(equal, above);
-    let answers = numbers.simd_lt(key).select(below, others);
-    answers.simd_eq(u32x16::splat(1)).to_bitmask()
+// The answers for the numbers in the lanes of a vector of this type, a bit each. A lane has 1 where the answer is yes.
+macro_rules! answers_of_lanes {
+    ($vector:ident, $number:ident, $by_order:expr, $lanes:expr) => {{
+        let numbers = $lanes + $vector::splat($by_order.bias as $number);
+        let key = $vector::splat($by_order.key as $number);
+        let below = $vector::splat($number::from($by_order.below));
+        let equal = $vector::splat($number::from($by_order.equal));
+        let above = $vector::splat($number::from($by_order.above));
+        let others = numbers.simd_eq(key).select(equal, above);
+        let answers = numbers.simd_lt(key).select(below, others);
+        answers.simd_eq($vector::splat(1)).to_bitmask()
+    }};
 }
 
-// `of_32_bits` for 8 numbers of 64 bits.
-fn of_64_bits(by_order: OrderAnswers, values: &[u8], first: usize) -> u64
-    requires { 8 * (first + 8) ≤ length values.now }
-    ensures { result ≡ mask_l (map (answer_at by_order 8 values.now) (range_with_len first 8)) }
-{
-    let bias = u64x8::splat(by_order.bias);
-    let key = u64x8::splat(by_order.key);
-    let numbers = u64x8::from_le_bytes(u8x64::from_slice(&values[8 * first..])) + bias;
-    let below = u64x8::splat(u64::from(by_order.below));
-    let equal = u64x8::splat(u64::from(by_order.equal));
-    let above = u64x8::splat(u64::from(by_order.above));
-    let others = numbers.simd_eq(key).select(equal, above);
-    let answers = numbers.simd_lt(key).select(below, others);
-    answers.simd_eq(u64x8::splat(1)).to_bitmask()
-}
-
-// `of_32_bits` for 32 numbers of 16 bits.
-fn of_16_bits(by_order: OrderAnswers, values: &[u8], first: usize) -> u64
-    requires room { 2 * (first + 32) ≤ length values.now }
-    requires bias { by_order.bias < 2 ^ 16 }
-    requires key { by_order.key < 2 ^ 16 }
-    ensures { result ≡ mask_l (map (answer_at by_order 2 values.now) (range_with_len first 32)) }
-{
-    let bias = u16x32::splat(by_order.bias as u16);
-    let key = u16x32::splat(by_order.key as u16);
-    let numbers = u16x32::from_le_bytes(u8x64::from_slice(&values[2 * first..])) + bias;
-    let below = u16x32::splat(u16::from(by_order.below));
-    let equal = u16x32::splat(u16::from(by_order.equal));
-    let above = u16x32::splat(u16::from(by_order.above));
-    let others = numbers.simd_eq(key).select(equal, above);
-    let answers = numbers.simd_lt(key).select(below, others);
-    answers.simd_eq(u16x32::splat(1)).to_bitmask()
-}
-
-// `of_32_bits` for 64 numbers of 8 bits.
+// Returns the answers for 64 numbers of 8 bits, from a slot on, a bit each.
 fn of_8_bits(by_order: OrderAnswers, values: &[u8], first: usize) -> u64
     requires room { first + 64 ≤ length values.now }
     requires bias { by_order.bias < 2 ^ 8 }
     requires key { by_order.key < 2 ^ 8 }
     ensures { result ≡ mask_l (map (answer_at by_order 1 values.now) (range_with_len first 64)) }
 {
-    let bias = u8x64::splat(by_order.bias as u8);
-    let key = u8x64::splat(by_order.key as u8);
-    let numbers = u8x64::from_slice(&values[first..]) + bias;
-    let below = u8x64::splat(u8::from(by_order.below));
-    let equal = u8x64::splat(u8::from(by_order.equal));
-    let above = u8x64::splat(u8::from(by_order.above));
-    let others = numbers.simd_eq(key).select(equal, above);
-    let answers = numbers.simd_lt(key).select(below, others);
-    answers.simd_eq(u8x64::splat(1)).to_bitmask()
+    let lanes = u8x64::from_slice(&values[first..]);
+    answers_of_lanes!(u8x64, u8, by_order, lanes)
+}
+
+// `of_8_bits` for 32 numbers of 16 bits.
+fn of_16_bits(by_order: OrderAnswers, values: &[u8], first: usize) -> u64
+    requires room { 2 * (first + 32) ≤ length values.now }
+    requires bias { by_order.bias < 2 ^ 16 }
+    requires key { by_order.key < 2 ^ 16 }
+    ensures { result ≡ mask_l (map (answer_at by_order 2 values.now) (range_with_len first 32)) }
+{
+    let lanes = u16x32::from_le_bytes(u8x64::from_slice(&values[2 * first..]));
+    answers_of_lanes!(u16x32, u16, by_order, lanes)
+}
+
+// `of_8_bits` for 16 numbers of 32 bits.
+fn of_32_bits(by_order: OrderAnswers, values: &[u8], first: usize) -> u64
+    requires room { 4 * (first + 16) ≤ length values.now }
+    requires bias { by_order.bias < 2 ^ 32 }
+    requires key { by_order.key < 2 ^ 32 }
+    ensures { result ≡ mask_l (map (answer_at by_order 4 values.now) (range_with_len first 16)) }
+{
+    let lanes = u32x16::from_le_bytes(u8x64::from_slice(&values[4 * first..]));
+    answers_of_lanes!(u32x16, u32, by_order, lanes)
+}
+
+// `of_8_bits` for 8 numbers of 64 bits.
+fn of_64_bits(by_order: OrderAnswers, values: &[u8], first: usize) -> u64
+    requires { 8 * (first + 8) ≤ length values.now }
+    ensures { result ≡ mask_l (map (answer_at by_order 8 values.now) (range_with_len first 8)) }
+{
+    let lanes = u64x8::from_le_bytes(u8x64::from_slice(&values[8 * first..]));
+    answers_of_lanes!(u64x8, u64, by_order, lanes)
 }

@@ -5,12 +5,13 @@ ghost use Rattle.cells.specs.Cell.{null, number};
 ghost use Rattle.columns.specs.CellAt.{integer_at};
 ghost use Rattle.columns.specs.View.{view_array, IsNoArray};
 ghost use Rattle.query.specs.inner.ColumnSlots.{IsTextKind, IsTextColumn, IsPlainText, AreBuffers, array_at, IsColumn, AreColumns};
-ghost use Rattle.query.specs.inner.Contents.{span_in};
 ghost use Rattle.query.specs.inner.Slots.{is_valid_in, number_or_null, width_of};
 
 use crate::batch_arrays::BatchArrays;
-use crate::integer_slots::{field_integer, number_at, unsigned_at};
+use crate::first_bytes::{FirstBytes, first_bytes};
+use crate::integer_slots::{field_integer, number_at};
 use crate::plain_text::are_plain;
+use crate::validity::is_valid;
 use arrow_schema::{BitWidth, DataType, Field, IntegerType};
 use columns::{ArrayView, PlacedArray, array_or};
 use std::alloc::{AllocError, Global};
@@ -30,13 +31,6 @@ pub(crate) struct TextBuffers<'a> {
     validity: &'a [u8],
     offsets: &'a [u8],
     contents: &'a [u8],
-}
-
-/// Bytes of which the first `size` are meant.
-#[derive(Clone, Copy)]
-pub(crate) struct FirstBytes<'a> {
-    pub(crate) bytes: &'a [u8],
-    pub(crate) size: usize,
 }
 
 /// The buffers that the values of a column are printed from, if they need not be borrowed.
@@ -142,14 +136,6 @@ pub(crate) fn columns_of<'a>(
     Ok(columns)
 }
 
-#[inline]
-fn is_valid(validity: &[u8], slot: usize) -> bool
-    requires { 0 < length validity.now → slot < 8 * length validity.now }
-    ensures { result ≡ is_valid_in validity.now slot }
-{
-    validity.is_empty() || bitmap::get(validity, slot)
-}
-
 impl IntegerBuffers<'_> {
     /// Returns the number at a slot, unless it is null.
     #[inline]
@@ -164,27 +150,6 @@ impl IntegerBuffers<'_> {
         } else {
             None
         }
-    }
-}
-
-// Returns the bytes of a slot by these offsets, followed by those after them.
-#[inline]
-fn first_bytes<'a>(
-    width: BitWidth,
-    offsets: &[u8],
-    contents: &'a [u8],
-    slot: usize,
-) -> FirstBytes<'a>
-    requires { (slot + 2) * (bits_of width / 8) ≤ length offsets.now }
-    ensures within { result.size ≤ length result.bytes.now }
-    ensures bytes { take result.size result.bytes.now ≡ span_in (bits_of width / 8) offsets.now contents.now slot }
-{
-    let start = unsigned_at(width, offsets, slot) as usize;
-    let end = unsigned_at(width, offsets, slot + 1) as usize;
-    let bytes = &contents[start.min(contents.len())..];
-    FirstBytes {
-        bytes,
-        size: end.saturating_sub(start).min(bytes.len()),
     }
 }
 

@@ -12,12 +12,13 @@ ghost use Rattle.query.specs.inner.BoundView.{bound_in};
 ghost use Rattle.query.specs.inner.Contents.{IsContentsKind, IsContentsColumn, IsContentsComparison, contents_hold_in, contents_hold_at, has_contents};
 
 use crate::bound::{Bound, Predicate, field_at};
-use crate::integer_slots::unsigned_at;
+use crate::first_bytes::first_bytes;
 use crate::operator::{Operator, accepts};
+use crate::validity::is_valid;
 use arrow_schema::{BitWidth, DataType, Field};
 use bitmap::MaskBuilder;
 use cells::Value;
-use columns::{ArrayView, Span, bytes_at};
+use columns::ArrayView;
 use std::alloc::AllocError;
 
 /// A comparison with the strings or binaries of the column at a place, with offsets of a width.
@@ -113,16 +114,11 @@ impl ContentsComparison<'_> {
         requires long { (i + 2) * (bits_of self.width / 8) ≤ length offsets.now }
         ensures { result ≡ contents_hold_in self.entry validity.now offsets.now contents.now i }
     {
-        if !validity.is_empty() && !bitmap::get(validity, i) {
+        if !is_valid(validity, i) {
             return false;
         }
-        let start = unsigned_at(self.width, offsets, i) as usize;
-        let end = unsigned_at(self.width, offsets, i + 1) as usize;
-        let span = Span {
-            start,
-            len: end.saturating_sub(start),
-        };
-        self.accepts(bytes_at(contents, span))
+        let own = first_bytes(self.width, offsets, contents, i);
+        self.accepts(&own.bytes[..own.size])
     }
 
     // Returns the answers for `count` slots from `first` on, a bit each.

@@ -1,5 +1,5 @@
 // Compares integers in the bytes of the arrays of record batches, without borrowing a value.
-ghost use Rattle.std.specs.Prelude.{◌≡◌, ◌≤◌, ◌<◌, ◌+◌, ◌*◌, ◌/◌, ◌-ℤ◌, ◌++◌, ◌&&◌, pos, true, nat_lt, length, map, IfOk, IfSome, OnOk, if◌then◌else◌};
+ghost use Rattle.std.specs.Prelude.{◌≡◌, ◌≤◌, ◌<◌, ◌+◌, ◌*◌, ◌/◌, ◌-ℤ◌, ◌++◌, pos, true, nat_lt, length, map, IfOk, IfSome, OnOk, if◌then◌else◌};
 ghost use Rattle.std.specs.List.{range_with_len};
 ghost use Rattle.byteorder.specs.Endian.{little_number, twos_complement};
 ghost use Rattle.arrow_schema.specs.View.{kind_of, column_of, bits_of};
@@ -12,6 +12,7 @@ use crate::blocks::{answers_of_block, slots_in_block, valid_slots};
 use crate::bound::{Bound, Predicate, field_at};
 use crate::operator::{Operator, accepts};
 use crate::order_answers::OrderAnswers;
+use crate::validity::is_valid;
 use arrow_schema::{BitWidth, DataType, Field, IntegerType};
 use bitmap::MaskBuilder;
 use byteorder::{ByteOrder, LittleEndian};
@@ -126,7 +127,7 @@ impl IntegerComparison {
         requires long { (i + 1) * width_of self.integer ≤ length values.now }
         ensures { result ≡ integer_holds_in self validity.now values.now i }
     {
-        if !validity.is_empty() && !bitmap::get(validity, i) {
+        if !is_valid(validity, i) {
             return false;
         }
         let number = number_at(self.integer, values, i);

@@ -2,7 +2,7 @@
 ghost use Rattle.std.specs.Prelude.{◌≡◌, Ok, Err};
 ghost use Rattle.cells.specs.Cell.{PlainTable};
 ghost use Rattle.values.specs.Table.{IsTable};
-ghost use Rattle.query.specs.Bound.{Refusal};
+ghost use Rattle.query.specs.Bound.{SelectionRefusal};
 ghost use Rattle.query.specs.Query.{PlainQuery};
 ghost use Rattle.query.specs.Selection.{selection};
 
@@ -13,5 +13,5 @@ pub fn selection_is_a_table()
 
 /// Why a query is refused depends on the schema alone: tables of one schema refuse it alike, whatever their rows.
 pub fn rows_refuse_no_query()
-    ensures { (t u : PlainTable) (q : PlainQuery) (r : Refusal) → t.schema ≡ u.schema → selection t q ≡ Err r → selection u q ≡ Err r }
+    ensures { (t u : PlainTable) (q : PlainQuery) (r : SelectionRefusal) → t.schema ≡ u.schema → selection t q ≡ Err r → selection u q ≡ Err r }
 {}

@@ -49,7 +49,7 @@ fn push_set_slots(
 }
 
 /// Appends a line in this form for each row of a record batch whose bit is set, at most `most`, and returns the number of lines. The bit of its first
-/// row is at `start`. A value is printed as by [`push_lines`](crate::push_lines).
+/// row is at `start`. A line is the one that [`push_line_in`](crate::push_line_in) appends, and a line feed.
 ///
 /// # Errors
 /// `AllocError` if memory is refused: some lines may be appended.

@@ -11,7 +11,8 @@ ghost use Rattle.query.specs.Line.{json_of};
 ghost use Rattle.query.specs.inner.ColumnSlots.{AreBuffers};
 ghost use Rattle.query.specs.inner.Slots.{number_or_null};
 
-use crate::column_slots::{Buffers, ColumnSlots, FirstBytes};
+use crate::column_slots::{Buffers, ColumnSlots};
+use crate::first_bytes::FirstBytes;
 use crate::line::{push_bytes, push_few_in_quotes, push_in_quotes, push_number, push_value};
 use columns::value;
 use std::alloc::{AllocError, Global};

@@ -1,12 +1,12 @@
--- The runs that are kept of the batches of a table have the rows that are chosen of it.
+-- The batches of the columns asked for of a table, and the runs that are kept of them.
 use Rattle.std.proofs.Common.{◌≡◌, ℕ, true, List, map, length, take, sym, ap, subst, ◌∙◌}
 use Rattle.std.specs.Prelude.{sum_by}
 use Rattle.std.specs.List.{flat_map, list_all}
 use Rattle.std.proofs.lemmas.List.{length-map}
-use Rattle.arrow_schema.specs.Column.{Column, Columns, columns_of, PlainSchema}
+use Rattle.arrow_schema.specs.Column.{Columns, columns_of, PlainSchema}
 use Rattle.arrow_schema.specs.View.{column_of}
 use Rattle.arrow_schema.specs.declared.types.Field.{Field}
-use Rattle.cells.specs.Cell.{Cell}
+use Rattle.cells.specs.Cell.{PlainTable}
 use Rattle.columns.specs.View.{fields_of}
 use Rattle.query.specs.declared.choice.Choice.{Choice}
 use Rattle.query.specs.Choice.{rows_set, chosen_table}
@@ -21,35 +21,47 @@ use Rattle.selection.proofs.Runs.{kept_same}
 use Rattle.values.specs.Parts.{parts_rows, parts_table, are_parts_sound}
 use Rattle.values.specs.declared.table_part.TablePart.{TablePart}
 
--- the batches have as many rows as the table
-pub batches_counted : (s : PlainSchema) (parts : List TablePart) (fields : List Field) (places : List ℕ) (batches given : List PickedBatch) → map column_of fields ≡ s.columns → given ≡ batches
-    → flat_map (picked_rows (picked_columns fields places)) batches ≡ map (pick places) (parts_rows (fields_of fields) parts)
-    → sum_by (λ b. b.rows) given ≡ length (parts_rows (columns_of s.columns) parts)
-batches_counted s parts fields places batches given columns same rows =
-    ap (sum_by (λ (b : PickedBatch). b.rows)) same
-    ∙ sym (rows_counted (picked_columns fields places) batches)
-    ∙ ap length rows
-    ∙ length-map (parts_rows (fields_of fields) parts) (pick places)
-    ∙ ap (λ (cs : List Column). length (parts_rows (columns_of cs) parts)) columns
+-- the columns at some places
+abbrev pub own_columns : PlainTable → List ℕ → Columns
+own_columns t places = columns_of (pick places t.schema.columns)
 
-pub runs_are : (s p : PlainSchema) (parts : List TablePart) (choice : Choice) (fields : List Field) (places mask : List ℕ) (batches given : List PickedBatch) (k : KeptRuns)
-    → map column_of fields ≡ s.columns → places ≡ choice.columns.items → mask ≡ choice.mask.items → given ≡ batches → p ≡ (chosen_table choice (parts_table s parts)).schema
-    → flat_map (picked_rows (picked_columns fields places)) batches ≡ map (pick places) (parts_rows (fields_of fields) parts)
-    → (are_parts_sound (fields_of fields) parts ≡ true → list_all (is_picked_sound (picked_columns fields places)) batches ≡ true)
-    → are_parts_sound (columns_of s.columns) parts ≡ true
-    → ((cs : Columns) → list_all (is_picked_sound cs) given ≡ true → AreKept cs (take choice.most (rows_set mask 0 (flat_map (picked_rows cs) given))) k)
-    → AreKept (columns_of p.columns) (chosen_table choice (parts_table s parts)).rows k
-runs_are s p parts choice fields places mask batches given k columns same_places same_mask same picked rows sounds sound kept =
-    let cs : Columns = picked_columns fields places in
-    let own : cs ≡ columns_of p.columns = (λ i. columns_of (pick (same_places i) (columns i))) ∙ ap (λ (x : PlainSchema). columns_of x.columns) (sym picked) in
-    let all : list_all (is_picked_sound cs) given ≡ true =
-    ap (list_all (is_picked_sound cs)) same ∙ sounds (ap (λ (xs : List Column). are_parts_sound (columns_of xs) parts) columns ∙ sound) in
-    let chosen : take choice.most (rows_set mask 0 (flat_map (picked_rows cs) given)) ≡ (chosen_table choice (parts_table s parts)).rows =
-    (λ i. take choice.most (rows_set (same_mask i) 0 (flat_map (picked_rows cs) (same i))))
-    ∙ ap (λ (xs : List (List Cell)). take choice.most (rows_set choice.mask.items 0 xs)) (rows ∙ (λ i. map (pick (same_places i)) (parts_rows (columns_of (columns i)) parts))) in
-    let P : Columns → Type 0 = λ c. AreKept c (chosen_table choice (parts_table s parts)).rows k in
-    subst P own (kept_same cs _ (chosen_table choice (parts_table s parts)).rows k chosen (kept cs all))
+-- these batches have the rows of a table in the columns at some places, and their slots can be looked up
+pub record ArePicked (t : PlainTable) (places : List ℕ) (batches : List PickedBatch) : Type 0 where
+  pub rows_are : flat_map (picked_rows (own_columns t places)) batches ≡ map (pick places) t.rows
+  pub sound : list_all (is_picked_sound (own_columns t places)) batches ≡ true
 
-pub runs_table_is : (s p : PlainSchema) (parts : List TablePart) (choice : Choice) (k : KeptRuns) → p ≡ (chosen_table choice (parts_table s parts)).schema
-    → AreKept (columns_of p.columns) (chosen_table choice (parts_table s parts)).rows k → runs_table p k.runs.items ≡ chosen_table choice (parts_table s parts)
-runs_table_is s p parts choice k picked kept = (λ i. record { schema = picked i; rows = kept.rows_are i })
+-- those that are picked of the record batches of a table
+pub are_picked : (t : PlainTable) (places : List ℕ) (parts given_parts : List TablePart) (fields : List Field) (given_places : List ℕ) (batches given : List PickedBatch)
+    → t ≡ parts_table t.schema parts → are_parts_sound (columns_of t.schema.columns) parts ≡ true
+    → given_parts ≡ parts → map column_of fields ≡ t.schema.columns → given_places ≡ places → given ≡ batches
+    → flat_map (picked_rows (picked_columns fields given_places)) batches ≡ map (pick given_places) (parts_rows (fields_of fields) given_parts)
+    → (are_parts_sound (fields_of fields) given_parts ≡ true → list_all (is_picked_sound (picked_columns fields given_places)) batches ≡ true)
+    → ArePicked t places given
+are_picked t places parts given_parts fields given_places batches given whole sound same_parts columns same_places same rows sounds =
+    let own : own_columns t places ≡ picked_columns fields given_places = sym (λ i. columns_of (pick (same_places i) (columns i))) in
+    record {
+      rows_are = (λ i. flat_map (picked_rows (own i)) (same i))
+          ∙ rows
+          ∙ (λ i. map (pick (same_places i)) (parts_rows (columns_of (columns i)) (same_parts i)))
+          ∙ ap (λ (u : PlainTable). map (pick places) u.rows) (sym whole);
+      sound = (λ i. list_all (is_picked_sound (own i)) (same i)) ∙ sounds ((λ i. are_parts_sound (columns_of (columns i)) (same_parts i)) ∙ sound);
+    }
+
+-- they have as many rows as the table
+pub picked_counted : (t : PlainTable) (places : List ℕ) (batches : List PickedBatch) → ArePicked t places batches → sum_by (λ b. b.rows) batches ≡ length t.rows
+picked_counted t places batches are = sym (rows_counted (own_columns t places) batches) ∙ ap length are.rows_are ∙ length-map t.rows (pick places)
+
+-- the runs that are kept of them have the rows that are chosen
+pub runs_are : (t : PlainTable) (choice : Choice) (s : PlainSchema) (mask : List ℕ) (batches : List PickedBatch) (k : KeptRuns) → ArePicked t choice.columns.items batches
+    → s ≡ (chosen_table choice t).schema → mask ≡ choice.mask.items
+    → ((cs : Columns) → list_all (is_picked_sound cs) batches ≡ true → AreKept cs (take choice.most (rows_set mask 0 (flat_map (picked_rows cs) batches))) k)
+    → AreKept (columns_of s.columns) (chosen_table choice t).rows k
+runs_are t choice s mask batches k are picked same_mask kept =
+    let cs : Columns = own_columns t choice.columns.items in
+    let P : Columns → Type 0 = λ c. AreKept c (chosen_table choice t).rows k in
+    subst P (ap (λ (x : PlainSchema). columns_of x.columns) (sym picked))
+    (kept_same cs _ (chosen_table choice t).rows k (λ i. take choice.most (rows_set (same_mask i) 0 (are.rows_are i))) (kept cs are.sound))
+
+pub runs_table_is : (t : PlainTable) (choice : Choice) (s : PlainSchema) (k : KeptRuns) → s ≡ (chosen_table choice t).schema → AreKept (columns_of s.columns) (chosen_table choice t).rows k
+    → runs_table s k.runs.items ≡ chosen_table choice t
+runs_table_is t choice s k picked kept = (λ i. record { schema = picked i; rows = kept.rows_are i })

@@ -1,3 +1,4 @@
 pub mod Copies
 pub mod Kept
 pub mod Picked
+pub mod TableParts

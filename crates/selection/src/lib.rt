@@ -15,6 +15,7 @@ mod picked;
 mod picked_schema;
 mod printing;
 mod selecting;
+mod table_parts;
 
 pub use printing::push_selected_lines;
 pub use selecting::select;

@@ -1,27 +1,24 @@
 // Prints the selection of a table from its arrays, without making a table of it.
 ghost use Rattle.std.specs.Prelude.{◌≡◌, ◌++◌, ◌≤◌, ◌<◌, ◌*◌, ◌^◌, Ok, true, length, map, take, sum_by, IfErr, OnOk};
 ghost use Rattle.std.specs.List.{flat_map, list_all};
-ghost use Rattle.arrow_schema.specs.Column.{columns_of};
 ghost use Rattle.arrow_schema.specs.View.{column_of, schema_of};
 ghost use Rattle.cells.specs.Cell.{PlainTable};
 ghost use Rattle.columns.specs.View.{fields_of};
-ghost use Rattle.query.specs.BatchArrays.{has_texts};
 ghost use Rattle.query.specs.Choice.{rows_set, chosen_table};
 ghost use Rattle.query.specs.ObjectLine.{lines_text};
 ghost use Rattle.query.specs.Printed.{rows_text, is_printable, printed_selection};
 ghost use Rattle.query.specs.View.{query_in, Reports};
 ghost use Rattle.query.specs.declared.errors.QueryError.TheVariants.{OutOfMemory};
 ghost use Rattle.selection.specs.inner.Picked.{picked_rows, is_picked_readable};
-ghost use Rattle.values.specs.Parts.{are_parts_sound, parts_rows, parts_table};
 ghost use Rattle.values.specs.TableView.{table_of};
 
 use crate::picked::{PickedBatch, arrays_of, pick_batches};
 use crate::picked_schema::pick_schema;
-use crate::selecting::parts_of_stream;
+use crate::table_parts::parts_of;
 use arrow_schema::{Field, Schema};
 use query::{Choice, Query, QueryError, RowForm, are_named_apart, choose, push_set_lines};
 use std::alloc::{AllocError, Global};
-use values::{Table, TablePart};
+use values::Table;
 
 // Appends the lines of the rows of batches whose bits are set, at most `most`.
 fn push_batches(
@@ -57,58 +54,6 @@ fn push_batches(
     Ok(())
 }
 
-// Appends the lines of the chosen columns and rows of record batches, under the schema of these columns.
-fn push_parts(
-    alloc: Global,
-    text: &mut Vec<u8>,
-    form: RowForm,
-    schema: &Schema,
-    picked: &Schema,
-    parts: &[TablePart],
-    choice: &Choice,
-) -> Result<(), QueryError>
-    requires picked { schema_of picked.now ≡ (chosen_table choice.now (parts_table (schema_of schema.now) parts.now)).schema }
-    requires sound { are_parts_sound (columns_of (schema_of schema.now).columns) parts.now ≡ true }
-    requires texts { list_all has_texts (parts_rows (columns_of (schema_of schema.now).columns) parts.now) ≡ true }
-    requires mask { length (parts_rows (columns_of (schema_of schema.now).columns) parts.now) ≤ 8 * length choice.now.mask.items }
-    requires few { length (parts_rows (columns_of (schema_of schema.now).columns) parts.now) < 2 ^ 64 }
-    ensures ok { OnOk result (text.new.items ≡ text.old.items ++ rows_text form (chosen_table choice.now (parts_table (schema_of schema.now) parts.now))) }
-    ensures refused { IfErr result (λ e. e ≡ OutOfMemory) }
-{
-    let batches = pick_batches(alloc, &schema.fields, parts, &choice.columns)?;
-    push_batches(
-        alloc,
-        text,
-        form,
-        &picked.fields,
-        &batches,
-        &choice.mask,
-        choice.most,
-    )?;
-    Ok(())
-}
-
-// Appends the same lines of a table that is kept as rows, by way of its stream.
-fn push_rows(
-    alloc: Global,
-    text: &mut Vec<u8>,
-    form: RowForm,
-    table: &Table,
-    picked: &Schema,
-    choice: &Choice,
-) -> Result<(), QueryError>
-    requires picked { schema_of picked.now ≡ (chosen_table choice.now (table_of table.now)).schema }
-    requires mask { length (table_of table.now).rows ≤ 8 * length choice.now.mask.items }
-    ensures ok { OnOk result (text.new.items ≡ text.old.items ++ rows_text form (chosen_table choice.now (table_of table.now))) }
-    ensures refused { IfErr result (λ e. e ≡ OutOfMemory) }
-{
-    // For the proof: the number of rows is below 2^64.
-    let _rows = table.len();
-    let schema = table.schema();
-    let parts = parts_of_stream(alloc, table)?;
-    push_parts(alloc, text, form, schema, picked, &parts, choice)
-}
-
 // Appends the lines of the chosen columns and rows of a table.
 fn push_chosen(
     alloc: Global,
@@ -126,10 +71,18 @@ fn push_chosen(
     // For the proof: the number of rows is below 2^64.
     let _rows = table.len();
     let schema = table.schema();
-    match table.parts() {
-        Some(parts) => push_parts(alloc, text, form, schema, picked, parts, choice),
-        None => push_rows(alloc, text, form, table, picked, choice),
-    }
+    let parts = parts_of(alloc, table)?;
+    let batches = pick_batches(alloc, &schema.fields, parts.as_slice(), &choice.columns)?;
+    push_batches(
+        alloc,
+        text,
+        form,
+        &picked.fields,
+        &batches,
+        &choice.mask,
+        choice.most,
+    )?;
+    Ok(())
 }
 
 // An object has a member for each column, so the names of the columns must differ.

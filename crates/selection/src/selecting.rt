@@ -2,41 +2,23 @@
 ghost use Rattle.std.specs.Prelude.{◌≡◌, ◌≤◌, ◌<◌, ◌*◌, ◌^◌, Ok, true, length, IfOk, IfErr};
 ghost use Rattle.arrow_schema.specs.Column.{columns_of};
 ghost use Rattle.arrow_schema.specs.View.{schema_of};
-ghost use Rattle.cells.specs.Cell.{PlainTable};
-ghost use Rattle.ipc_canonical.specs.Canonical.{canonical};
 ghost use Rattle.query.specs.declared.errors.QueryError.TheVariants.{OutOfMemory};
 ghost use Rattle.query.specs.Choice.{chosen_table};
 ghost use Rattle.query.specs.Selection.{selection};
 ghost use Rattle.query.specs.View.{query_in, Reports};
 ghost use Rattle.table_cut.specs.Rows.{runs_rows, runs_table, are_runs_sound};
-ghost use Rattle.values.specs.Parts.{are_parts_sound, parts_rows, parts_table};
 ghost use Rattle.values.specs.Table.{IsTable};
-ghost use Rattle.values.specs.TableView.{is_in_parts, table_of};
+ghost use Rattle.values.specs.TableView.{table_of};
 
 use crate::kept::{KeptRuns, keep_batches};
 use crate::picked::pick_batches;
 use crate::picked_schema::pick_schema;
+use crate::table_parts::{parts_of, table_of_stream};
 use arrow_schema::Schema;
-use ipc_canonical::canonical_means_its_table;
-use ipc_encode::{encode, encode_runs};
-use ipc_stream::decode;
+use ipc_encode::encode_runs;
 use query::{Choice, Query, QueryError, choose, selection_is_a_table};
 use std::alloc::Global;
-use values::{Table, TablePart};
-
-// Reads a table back from its canonical stream.
-fn table_of_stream(alloc: Global, bytes: Vec<u8>) -> Result<Table, QueryError>
-    ensures ok { (t : PlainTable) → IsTable t → bytes.items ≡ canonical t → IfOk result (λ found. table_of found ≡ t) }
-    ensures in_parts { IfOk result (λ found. is_in_parts found ≡ true) }
-    ensures refused { IfErr result (λ e. e ≡ OutOfMemory) }
-{
-    canonical_means_its_table();
-    match decode(alloc, bytes) {
-        Ok(table) => Ok(table),
-        // A canonical stream has no fault.
-        Err(_) => Err(QueryError::OutOfMemory),
-    }
-}
+use values::Table;
 
 // Makes the table of rows that are runs of slots: they are written as one stream, which is read again.
 fn table_of_runs(alloc: Global, schema: &Schema, kept: KeptRuns<'_>) -> Result<Table, QueryError>
@@ -51,59 +33,6 @@ fn table_of_runs(alloc: Global, schema: &Schema, kept: KeptRuns<'_>) -> Result<T
     table_of_stream(alloc, bytes)
 }
 
-// Makes the table of the chosen columns and rows of record batches, under the schema of these columns.
-fn select_runs(
-    alloc: Global,
-    schema: &Schema,
-    picked: &Schema,
-    parts: &[TablePart],
-    choice: &Choice,
-) -> Result<Table, QueryError>
-    requires picked { schema_of picked.now ≡ (chosen_table choice.now (parts_table (schema_of schema.now) parts.now)).schema }
-    requires table { IsTable (chosen_table choice.now (parts_table (schema_of schema.now) parts.now)) }
-    requires sound { are_parts_sound (columns_of (schema_of schema.now).columns) parts.now ≡ true }
-    requires mask { length (parts_rows (columns_of (schema_of schema.now).columns) parts.now) ≤ 8 * length choice.now.mask.items }
-    requires few { length (parts_rows (columns_of (schema_of schema.now).columns) parts.now) < 2 ^ 64 }
-    ensures ok { IfOk result (λ t. table_of t ≡ chosen_table choice.now (parts_table (schema_of schema.now) parts.now)) }
-    ensures refused { IfErr result (λ e. e ≡ OutOfMemory) }
-{
-    let batches = pick_batches(alloc, &schema.fields, parts, &choice.columns)?;
-    let kept = keep_batches(alloc, &batches, &choice.mask, choice.most)?;
-    table_of_runs(alloc, picked, kept)
-}
-
-/// Returns the record batches of the stream of a table.
-pub(crate) fn parts_of_stream(alloc: Global, table: &Table) -> Result<Vec<TablePart>, QueryError>
-    ensures rows { IfOk result (λ v. table_of table.now ≡ parts_table (table_of table.now).schema v.items) }
-    ensures sound { IfOk result (λ v. are_parts_sound (columns_of (table_of table.now).schema.columns) v.items ≡ true) }
-    ensures refused { IfErr result (λ e. e ≡ OutOfMemory) }
-{
-    // For the proof: a table is within all limits.
-    let _schema = table.schema();
-    let bytes = encode(alloc, table)?;
-    Ok(table_of_stream(alloc, bytes)?.into_parts())
-}
-
-// Makes the same table from one that is kept as rows, by way of its stream.
-fn select_rows(
-    alloc: Global,
-    table: &Table,
-    picked: &Schema,
-    choice: &Choice,
-) -> Result<Table, QueryError>
-    requires picked { schema_of picked.now ≡ (chosen_table choice.now (table_of table.now)).schema }
-    requires table { IsTable (chosen_table choice.now (table_of table.now)) }
-    requires mask { length (table_of table.now).rows ≤ 8 * length choice.now.mask.items }
-    ensures ok { IfOk result (λ t. table_of t ≡ chosen_table choice.now (table_of table.now)) }
-    ensures refused { IfErr result (λ e. e ≡ OutOfMemory) }
-{
-    // a number of the code is below 2^64
-    let _rows = table.len();
-    let schema = table.schema();
-    let parts = parts_of_stream(alloc, table)?;
-    select_runs(alloc, schema, picked, &parts, choice)
-}
-
 // Makes the table of the chosen columns and rows of another table.
 fn select_chosen(alloc: Global, table: &Table, choice: &Choice) -> Result<Table, QueryError>
     requires mask { length (table_of table.now).rows ≤ 8 * length choice.now.mask.items }
@@ -115,10 +44,10 @@ fn select_chosen(alloc: Global, table: &Table, choice: &Choice) -> Result<Table,
     let _rows = table.len();
     let schema = table.schema();
     let picked = pick_schema(alloc, schema, &choice.columns)?;
-    match table.parts() {
-        Some(parts) => select_runs(alloc, schema, &picked, parts, choice),
-        None => select_rows(alloc, table, &picked, choice),
-    }
+    let parts = parts_of(alloc, table)?;
+    let batches = pick_batches(alloc, &schema.fields, parts.as_slice(), &choice.columns)?;
+    let kept = keep_batches(alloc, &batches, &choice.mask, choice.most)?;
+    table_of_runs(alloc, &picked, kept)
 }
 
 /// Returns the rows for which all conditions hold, then of these the columns asked for, then the first rows. The columns asked for are tested

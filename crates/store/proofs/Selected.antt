@@ -43,15 +43,15 @@ create_on c name r is =
     (by_first (taken_in c name) (full_in c name ∷ []) r (by_when (has_entry c name) refusals.NameTaken (λ is. cc is, refl))
     (by_first (full_in c name) [] r (by_when (not (has_entry c name) && nat_le MAX_TABLES (length c)) (refusals.TooMany limits.Tables) (λ is. cc is, refl)) (λ none. absurd (cc none)))) is
 
-query_on : (r : queries.Refusal) → IsOn (query_refusal r)
+query_on : (r : queries.SelectionRefusal) → IsOn (query_refusal r)
 query_on queries.unknown_column = (λ is. cc is, refl)
 query_on queries.bad_condition = (λ is. cc is, refl)
 query_on queries.not_comparable = (λ is. cc is, refl)
 
-abbrev pub test_of : Result PlainTable queries.Refusal → Option Refusal
+abbrev pub test_of : Result PlainTable queries.SelectionRefusal → Option Refusal
 test_of s = elim s [ Ok table ↦ None | Err r ↦ Some (query_refusal r) ]
 
-unselected_on : (s : Result PlainTable queries.Refusal) → IfSome (test_of s) IsOn
+unselected_on : (s : Result PlainTable queries.SelectionRefusal) → IfSome (test_of s) IsOn
 unselected_on (Ok table) = tt
 unselected_on (Err r) = query_on r
 
@@ -90,14 +90,14 @@ select_quiet errors.BadCondition = (refl, λ is. cc is)
 select_quiet errors.NotComparable = (refl, λ is. cc is)
 select_quiet errors.OutOfMemory = (refl, λ is. cc is)
 
-pub select_told : {A : Type 0} (s : Result PlainTable queries.Refusal) (e : QueryError) (f : PlainTable → Result A Refusal) → Reports e s
+pub select_told : {A : Type 0} (s : Result PlainTable queries.SelectionRefusal) (e : QueryError) (f : PlainTable → Result A Refusal) → Reports e s
     → (select_refusal e ≡ refusals.OutOfMemory) ⊎ (of_query s f ≡ Err (select_refusal e))
-select_told s errors.UnknownColumn f told = inr (ap (λ (x : Result PlainTable queries.Refusal). of_query x f) told)
-select_told s errors.BadCondition f told = inr (ap (λ (x : Result PlainTable queries.Refusal). of_query x f) told)
-select_told s errors.NotComparable f told = inr (ap (λ (x : Result PlainTable queries.Refusal). of_query x f) told)
+select_told s errors.UnknownColumn f told = inr (ap (λ (x : Result PlainTable queries.SelectionRefusal). of_query x f) told)
+select_told s errors.BadCondition f told = inr (ap (λ (x : Result PlainTable queries.SelectionRefusal). of_query x f) told)
+select_told s errors.NotComparable f told = inr (ap (λ (x : Result PlainTable queries.SelectionRefusal). of_query x f) told)
 select_told s errors.OutOfMemory f told = inl refl
 
-pub select_untold : (s : Result PlainTable queries.Refusal) (e : QueryError) → Reports e s
+pub select_untold : (s : Result PlainTable queries.SelectionRefusal) (e : QueryError) → Reports e s
     → (select_refusal e ≡ refusals.OutOfMemory) ⊎ (test_of s ≡ Some (select_refusal e))
 select_untold s errors.UnknownColumn told = inr (ap test_of told)
 select_untold s errors.BadCondition told = inr (ap test_of told)

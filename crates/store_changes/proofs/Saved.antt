@@ -23,7 +23,7 @@ use Rattle.store_changes.proofs.Appended.{listed_at, none_listed}
 use Rattle.store_changes.specs.laws.Tested.{taken_same, full_same}
 
 -- the test of the query, by the selection of a table without rows
-abbrev told : Result PlainTable queries.Refusal → Option Refusal
+abbrev told : Result PlainTable queries.SelectionRefusal → Option Refusal
 told s = elim s [ Ok table ↦ None | Err r ↦ Some (query_refusal r) ]
 
 module _ (laws : LawsBelow) (image : Image) (c : PlainCatalogue) (t : Tables) (listed : AreListed image c t) (from to : List ℕ) (query : PlainQuery) where
@@ -34,8 +34,8 @@ module _ (laws : LawsBelow) (image : Image) (c : PlainCatalogue) (t : Tables) (l
   unfolding verdict
   verdict_is table at = ap (λ (o : Option PlainTable). of_table o (saved t to query)) at
 
-  verdict_by : (table : PlainTable) (s : Result PlainTable queries.Refusal) → table_at t from ≡ Some table → selection table query ≡ s → verdict t command ≡ of_query s (made t to)
-  verdict_by table s at is = verdict_is table at ∙ ap (λ (x : Result PlainTable queries.Refusal). of_query x (made t to)) is
+  verdict_by : (table : PlainTable) (s : Result PlainTable queries.SelectionRefusal) → table_at t from ≡ Some table → selection table query ≡ s → verdict t command ≡ of_query s (made t to)
+  verdict_by table s at is = verdict_is table at ∙ ap (λ (x : Result PlainTable queries.SelectionRefusal). of_query x (made t to)) is
 
   -- a selection that was made, by the test of its name
   made_by : (new : PlainTable) (o : Option Refusal) → create_tests c to ≡ o → made t to new ≡ unless o (Ok (with_table t to new))
@@ -44,7 +44,7 @@ module _ (laws : LawsBelow) (image : Image) (c : PlainCatalogue) (t : Tables) (l
       ∙ ap (λ (x : Option Refusal). unless x (Ok (with_table t to new))) is
 
   -- the selection of the table that was read
-  by_selection : (table : PlainTable) (s : Result PlainTable queries.Refusal) → table_at t from ≡ Some table → IsTable table → create_tests c to ≡ None → selection table query ≡ s
+  by_selection : (table : PlainTable) (s : Result PlainTable queries.SelectionRefusal) → table_at t from ≡ Some table → IsTable table → create_tests c to ≡ None → selection table query ≡ s
       → IsVerdict t command (of_query s (λ (x : PlainTable). Ok (pieces_put (put to x.schema) x)))
   by_selection table (Err r) at kept tested is = verdict_by table (Err r) at is
   by_selection table (Ok new) at kept tested is =
@@ -59,21 +59,21 @@ module _ (laws : LawsBelow) (image : Image) (c : PlainCatalogue) (t : Tables) (l
     own = listed_at image c t from e listed there
 
     -- the query is refused, whatever the rows
-    refused_by : (r : queries.Refusal) → selection (empty_table e.schema) query ≡ Err r → verdict t command ≡ Err (query_refusal r)
+    refused_by : (r : queries.SelectionRefusal) → selection (empty_table e.schema) query ≡ Err r → verdict t command ≡ Err (query_refusal r)
     refused_by r is = verdict_by own.0 (Err r) own.1 (laws.alike (empty_table e.schema) own.0 query r (sym own.2) is)
 
     -- the selection of the table that stands, where that of one without rows is made
     selects_too : (empty : PlainTable) → selection (empty_table e.schema) query ≡ Ok empty → (new : PlainTable) × (selection own.0 query ≡ Ok new)
     selects_too empty is = by_own (selection own.0 query) refl
       where
-        by_own : (s : Result PlainTable queries.Refusal) → selection own.0 query ≡ s → (new : PlainTable) × (selection own.0 query ≡ Ok new)
+        by_own : (s : Result PlainTable queries.SelectionRefusal) → selection own.0 query ≡ s → (new : PlainTable) × (selection own.0 query ≡ Ok new)
         by_own (Ok new) given = (new, given)
         by_own (Err r) given = let both : Err r ≡ Ok empty = sym (laws.alike own.0 (empty_table e.schema) query r own.2 given) ∙ is in absurd (cc both)
 
     untaken : (empty : PlainTable) (r : Refusal) → selection (empty_table e.schema) query ≡ Ok empty → create_tests c to ≡ Some r → verdict t command ≡ Err r
     untaken empty r is tested = let new = selects_too empty is in verdict_by own.0 (Ok new.0) own.1 new.1 ∙ made_by new.0 (Some r) tested
 
-    by_tests : (d : Result PlainChange Refusal) (empty : Result PlainTable queries.Refusal) (name_test : Option Refusal) → selection (empty_table e.schema) query ≡ empty → create_tests c to ≡ name_test
+    by_tests : (d : Result PlainChange Refusal) (empty : Result PlainTable queries.SelectionRefusal) (name_test : Option Refusal) → selection (empty_table e.schema) query ≡ empty → create_tests c to ≡ name_test
         → IsSaved true image to query (unless (first_some (told empty ∷ name_test ∷ [])) (Ok e)) d → IsVerdict t command d
     by_tests d (Err r) name_test is tested same = subst (IsVerdict t command) (sym same) (refused_by r is)
     by_tests d (Ok empty) (Some r) is tested same = subst (IsVerdict t command) (sym same) (untaken empty r is tested)

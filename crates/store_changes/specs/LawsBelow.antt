@@ -10,7 +10,7 @@ use Rattle.cells.specs.declared.limits.TheConstants.{MAX_TABLE_WEIGHT}
 use Rattle.values.specs.Table.{IsTable, table_from}
 use Rattle.ipc_message.specs.Header.{supported_codes}
 use Rattle.ipc_stream.specs.Meaning.{meaning}
-use Rattle.query.specs.Bound.{Refusal}
+use Rattle.query.specs.Bound.{SelectionRefusal}
 use Rattle.query.specs.Query.{PlainQuery}
 use Rattle.query.specs.Selection.{selection}
 use Rattle.ipc_canonical.specs.PieceStreams.{piece_streams, piece_counts}
@@ -33,6 +33,6 @@ pub record LawsBelow : Type 0 where
   pub tables : TableLaws
   pub held : (t : PlainTable) → IsTable t → stream_rows t.schema (piece_streams t) (piece_counts t) ≡ Some t.rows
   pub selects : (t : PlainTable) (q : PlainQuery) (s : PlainTable) → IsTable t → selection t q ≡ Ok s → IsTable s
-  pub alike : (t u : PlainTable) (q : PlainQuery) (r : Refusal) → t.schema ≡ u.schema → selection t q ≡ Err r → selection u q ≡ Err r
+  pub alike : (t u : PlainTable) (q : PlainQuery) (r : SelectionRefusal) → t.schema ≡ u.schema → selection t q ≡ Err r → selection u q ≡ Err r
   pub means : (bytes : List ℕ) (table : PlainTable) → AreBytes bytes → meaning supported_codes bytes ≡ Ok table → IsTable table
   pub catalogues : (size : ℕ) (image : Image) (k : Commit) (text : List ℕ) (c : PlainCatalogue) → is_size size ≡ true → stored_reading.at size image k text ≡ Ok c → IsCatalogue c

@@ -56,7 +56,7 @@ import_refusal (imports.Fault fault) = refusals.Import fault
 import_refusal imports.OutOfMemory = refusals.OutOfMemory
 
 -- why a query can't be executed on a table, as it is reported for a command
-abbrev pub query_refusal : bounds.Refusal → Refusal
+abbrev pub query_refusal : bounds.SelectionRefusal → Refusal
 query_refusal bounds.unknown_column = refusals.Query queries.UnknownColumn
 query_refusal bounds.bad_condition = refusals.Query queries.BadCondition
 query_refusal bounds.not_comparable = refusals.Query queries.NotComparable

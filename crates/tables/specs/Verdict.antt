@@ -65,7 +65,7 @@ of_meaning (Err fault) f = Err (Import fault)
 of_meaning (Ok table) f = f table
 
 -- the table that a query selects from another
-abbrev pub of_query : {A : Type 0} → Result PlainTable queries.Refusal → (PlainTable → Result A Refusal) → Result A Refusal
+abbrev pub of_query : {A : Type 0} → Result PlainTable queries.SelectionRefusal → (PlainTable → Result A Refusal) → Result A Refusal
 of_query (Err refusal) f = Err (query_refusal refusal)
 of_query (Ok table) f = f table
 

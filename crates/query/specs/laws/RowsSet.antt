@@ -1,6 +1,7 @@
 -- The first of the rows whose bits are set, gathered row by row or run by run.
-use Rattle.std.proofs.Common.{◌≡◌, ℕ, inl, inr, zero, suc, ◌+◌, ◌-◌, ◌*◌, ◌≤◌, ◌<◌, Bool, true, false, List, [], ◌∷◌, ◌++◌, length, take, drop, get_or, refl, sym, ap, ◌∙◌, arith, append_assoc, length-append}
+use Rattle.std.proofs.Common.{◌≡◌, ℕ, inl, inr, zero, suc, ◌+◌, ◌-◌, ◌≤◌, ◌<◌, Bool, true, false, List, [], ◌∷◌, ◌++◌, length, take, drop, get_or, refl, sym, ap, ◌∙◌, arith, append_assoc, length-append}
 use Rattle.std.specs.Prelude.{if◌then◌else◌}
+use Rattle.std.proofs.Math.Seq.{take-nil}
 use Rattle.std.proofs.lemmas.Bool.{cases_lt}
 use Rattle.std.proofs.lemmas.List.{take_more, take_all, append-nil, length-take-le, length-drop, get_or-drop}
 use Rattle.bitmap.specs.Bits.{bit}
@@ -11,14 +12,10 @@ use Rattle.query.specs.Choice.{rows_set}
 abbrev pub kept_front : (most : ℕ) → (others : List (List Cell)) → (mask : List ℕ) → (start : ℕ) → (xs : List (List Cell)) → (i : ℕ) → List (List Cell)
 kept_front most others mask start xs i = take most (others ++ rows_set mask start (take i xs))
 
-pub take-none : {X : Type 0} (n : ℕ) → take {A = X} n [] ≡ []
-take-none zero = refl
-take-none (suc n) = refl
-
 -- one more at the end
 take-room : {X : Type 0} (most : ℕ) (xs : List X) (x : X) → length (take most xs) < most → take most (xs ++ x ∷ []) ≡ take most xs ++ x ∷ []
 take-room {X = X} zero xs x h = absurd (omega (arith, h))
-take-room {X = X} (suc most) [] x h = ap (λ (ys : List X). x ∷ ys) (take-none most)
+take-room {X = X} (suc most) [] x h = ap (λ (ys : List X). x ∷ ys) (take-nil most)
 take-room {X = X} (suc most) (y ∷ xs) x h = ap (λ (ys : List X). y ∷ ys) (take-room most xs x (omega (arith, h)))
 
 take-full : {X : Type 0} (most : ℕ) (xs ys : List X) → most ≤ length (take most xs) → take most (xs ++ ys) ≡ take most xs

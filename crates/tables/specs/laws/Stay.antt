@@ -59,7 +59,7 @@ are_of_meaning : (r : Result PlainTable Fault) (f : PlainTable → Result Tables
 are_of_meaning (Err fault) f are = tt
 are_of_meaning (Ok table) f are = are table refl
 
-are_of_query : (r : Result PlainTable queries.Refusal) (f : PlainTable → Result Tables Refusal) → ((table : PlainTable) → r ≡ Ok table → Are (f table)) → Are (of_query r f)
+are_of_query : (r : Result PlainTable queries.SelectionRefusal) (f : PlainTable → Result Tables Refusal) → ((table : PlainTable) → r ≡ Ok table → Are (f table)) → Are (of_query r f)
 are_of_query (Err refusal) f are = tt
 are_of_query (Ok table) f are = are table refl
 

@@ -57,7 +57,7 @@ keeps_of_meaning : (t : Tables) (name : List ℕ) (r : Result PlainTable Fault) 
 keeps_of_meaning t name (Err fault) f keeps = refl
 keeps_of_meaning t name (Ok table) f keeps = keeps table
 
-keeps_of_query : (t : Tables) (name : List ℕ) (r : Result PlainTable queries.Refusal) (f : PlainTable → Result Tables Refusal) → ((table : PlainTable) → Keeps t name (f table)) → Keeps t name (of_query r f)
+keeps_of_query : (t : Tables) (name : List ℕ) (r : Result PlainTable queries.SelectionRefusal) (f : PlainTable → Result Tables Refusal) → ((table : PlainTable) → Keeps t name (f table)) → Keeps t name (of_query r f)
 keeps_of_query t name (Err refusal) f keeps = refl
 keeps_of_query t name (Ok table) f keeps = keeps table
 
@@ -137,7 +137,7 @@ tells_of_meaning : (r : Result PlainTable Fault) (f : PlainTable → Result Tabl
 tells_of_meaning (Err fault) f tells = refl
 tells_of_meaning (Ok table) f tells = tells table
 
-tells_of_query : (r : Result PlainTable queries.Refusal) (f : PlainTable → Result Tables Refusal) → ((table : PlainTable) → TellsTables (f table)) → TellsTables (of_query r f)
+tells_of_query : (r : Result PlainTable queries.SelectionRefusal) (f : PlainTable → Result Tables Refusal) → ((table : PlainTable) → TellsTables (f table)) → TellsTables (of_query r f)
 tells_of_query (Err queries.unknown_column) f tells = refl
 tells_of_query (Err queries.bad_condition) f tells = refl
 tells_of_query (Err queries.not_comparable) f tells = refl

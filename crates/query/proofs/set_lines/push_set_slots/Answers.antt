@@ -4,7 +4,8 @@ use Rattle.std.proofs.lemmas.List.FromFn.{length-map-range_with_len}
 use Rattle.query.specs.Choice.{rows_set}
 use Rattle.query.specs.inner.ColumnSlots.{slot_columns, slot_row}
 use Rattle.query.proofs.SlotLines.{fewer_readable}
-use Rattle.query.proofs.SetLines.{ArePrinted, none_printed, run_printed, all_printed}
+use Rattle.query.specs.laws.Lines.{ArePrinted}
+use Rattle.query.proofs.SetLines.{front_printed, run_printed, all_printed}
 use Rattle.query.proofs.set_lines.push_set_slots.Goals as goal
 use Rattle.query.proofs.set_lines.push_set_slots.Goals.{Left-loop-next, then-loop-next-test+else-left-gt0, else-loop-next-test}
 
@@ -17,7 +18,7 @@ loop-next-init c =
       begins = found.ensures.begins;
       within = found.ensures.ends;
       set = found.ensures.set;
-      printed = none_printed c.args.form (slot_columns columns) c.args.most c.args.mask.now start _ (found.result - start) c.args.text.now.items
+      printed = front_printed c.args.form (slot_columns columns) c.args.most c.args.mask.now start _ (found.result - start) c.args.text.now.items
           (omega (arith, found.ensures.begins, found.ensures.ends, length-map-range_with_len (slot_row columns) 0 c.args.slots))
           (λ i above below. found.ensures.unset (start + i) (omega arith) (omega (arith, below, found.ensures.begins)));
     }

@@ -3,8 +3,8 @@ use Rattle.std.proofs.Common.{◌≡◌, ◌≤◌, ◌<◌, ◌-◌, true, [], 
 use Rattle.std.specs.List.{range_with_len}
 use Rattle.bitmap.specs.Bits.{bit}
 use Rattle.query.specs.inner.ColumnSlots.{slot_columns, slot_row}
+use Rattle.query.specs.laws.Lines.{ArePrinted}
 use Rattle.query.specs.laws.RowsSet.{kept_front}
-use Rattle.query.proofs.SetLines.{ArePrinted}
 use Rattle.query.proofs.set_lines.push_set_slots.Given as goal
 
 abbrev pub decreases-loop-next : goal.decreases-loop-next

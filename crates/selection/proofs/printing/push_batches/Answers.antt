@@ -1,5 +1,6 @@
 use Rattle.std.proofs.Common.{◌≡◌, ◌++◌, List, map, length, take, sym, ap, ◌∙◌, arith, rules}
 use Rattle.std.specs.List.{flat_map}
+use Rattle.std.proofs.Math.Seq.{take-nil}
 use Rattle.std.proofs.lemmas.List.{length-take}
 use Rattle.facts.specs.laws.Lists.{flat_map-item}
 use Rattle.arrow_schema.specs.View.{column_of}
@@ -7,14 +8,15 @@ use Rattle.cells.specs.Cell.{Cell}
 use Rattle.columns.specs.View.{fields_of}
 use Rattle.query.specs.Choice.{rows_set}
 use Rattle.query.specs.ObjectLine.{lines_text}
+use Rattle.query.specs.laws.Lines.{none_printed}
 use Rattle.query.specs.laws.Tests.{all_here}
 use Rattle.selection.specs.inner.Picked.{picked_rows, is_picked_readable}
 use Rattle.selection.proofs.Batches.{rows_counted, sum_more}
-use Rattle.selection.proofs.PrintedRows.{none_printed, batch_printed}
+use Rattle.selection.proofs.PrintedRows.{batch_printed}
 use Rattle.selection.proofs.printing.push_batches.Goals as goal
 
 pub loop-batch-init : goal.loop-batch-init
-loop-batch-init c = record { at = search rules; printed = none_printed c.args.form (map column_of c.args.fields.now) c.args.most c.args.text.now.items }
+loop-batch-init c = record { at = search rules; printed = none_printed c.args.form (map column_of c.args.fields.now) c.args.most _ c.args.text.now.items (sym (take-nil c.args.most)) }
 
 pub push_set_lines-requires-clause-readable : goal.push_set_lines-requires-clause-readable
 push_set_lines-requires-clause-readable c =

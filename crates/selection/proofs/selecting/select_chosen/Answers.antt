@@ -1,48 +1,72 @@
-use Rattle.std.proofs.Common.{◌≡◌, length, sym, ap, subst, ◌∙◌, arith}
+use Rattle.std.proofs.Common.{◌≡◌, List, map, length, sym, ap, subst, ◌∙◌, arith}
 use Rattle.std.proofs.lemmas.Result.{IfOk-weaker}
 use Rattle.arrow_schema.specs.Column.{PlainSchema, columns_of}
-use Rattle.arrow_schema.specs.View.{schema_of}
+use Rattle.arrow_schema.specs.View.{column_of, schema_of}
 use Rattle.cells.specs.Cell.{PlainTable}
 use Rattle.query.specs.Choice.{chosen_table}
 use Rattle.query.specs.Selection.{pick}
-use Rattle.values.specs.Parts.{parts_table, are_parts_sound}
 use Rattle.values.specs.Table.{IsTable}
 use Rattle.values.specs.TableView.{table_of}
+use Rattle.selection.specs.declared.picked.PickedBatch.{PickedBatch}
+use Rattle.selection.specs.inner.Kept.{AreKept}
+use Rattle.selection.specs.inner.TableParts.{parts_in}
+use Rattle.selection.proofs.Selected.{ArePicked, are_picked, picked_counted, runs_are, runs_table_is}
 use Rattle.selection.proofs.selecting.select_chosen.Goals as goal
+use Rattle.selection.proofs.selecting.select_chosen.Goals.{In_ok-picked, In_ok-batches, In_ok-kept}
 
-pub select_runs-requires-clause-picked : goal.select_runs-requires-clause-picked
-select_runs-requires-clause-picked c =
-    let s = schema_of c.schema-schema.result.now in
-    c.in_ok-picked.ensures ∙ (λ k. record { columns = pick (c.deref.ensures.value k) s.columns; pairs = s.pairs })
+schema_is : (c : In_ok-picked) → schema_of c.in_ok-picked.picked ≡ (chosen_table c.args.choice.now (table_of c.args.table.now)).schema
+schema_is c =
+    let same = c.schema-schema.ensures.schema in
+    c.in_ok-picked.ensures ∙ (λ k. record { columns = pick (c.deref.ensures.value k) (same k).columns; pairs = (same k).pairs })
 
-pub select_runs-requires-clause-table : goal.select_runs-requires-clause-table
-select_runs-requires-clause-table c =
-    let parts = c.in-Some.parts.now in
-    let t = table_of c.args.table.now in
-    let whole : parts_table (schema_of c.schema-schema.result.now) parts ≡ t = ap (λ (x : PlainSchema). parts_table x parts) c.schema-schema.ensures.schema ∙ sym c.in-Some.ensures.rows in
-    subst (λ (u : PlainTable). IsTable (chosen_table c.args.choice.now u)) (sym whole) c.requires.table
+picked : (c : In_ok-batches) (given : List PickedBatch) → given ≡ c.in_ok-batches.batches.items → ArePicked (table_of c.args.table.now) c.args.choice.now.columns.items given
+picked c given same =
+    are_picked (table_of c.args.table.now) c.args.choice.now.columns.items (parts_in c.in_ok-parts.parts) c.as_slice.result.now c.deref-2.result.now c.deref-3.result.now
+    c.in_ok-batches.batches.items given c.in_ok-parts.ensures.rows c.in_ok-parts.ensures.sound c.as_slice.ensures
+    (ap (map column_of) c.deref-2.ensures.value ∙ ap (λ (s : PlainSchema). s.columns) c.schema-schema.ensures.schema)
+    c.deref-3.ensures.value same c.in_ok-batches.ensures.rows c.in_ok-batches.ensures.sound
 
-pub select_runs-requires-clause-sound : goal.select_runs-requires-clause-sound
-select_runs-requires-clause-sound c =
-    ap (λ (x : PlainSchema). are_parts_sound (columns_of x.columns) c.in-Some.parts.now) c.schema-schema.ensures.schema ∙ c.in-Some.ensures.sound
+kept : (c : In_ok-kept) → ArePicked (table_of c.args.table.now) c.args.choice.now.columns.items c.deref-4.result.now
+    → schema_of c.in_ok-picked.picked ≡ (chosen_table c.args.choice.now (table_of c.args.table.now)).schema
+    → AreKept (columns_of (schema_of c.in_ok-picked.picked).columns) (chosen_table c.args.choice.now (table_of c.args.table.now)).rows c.in_ok-kept.kept
+kept c are schema =
+    runs_are (table_of c.args.table.now) c.args.choice.now (schema_of c.in_ok-picked.picked) c.deref-5.result.now c.deref-4.result.now c.in_ok-kept.kept are schema
+    c.deref-5.ensures.value c.in_ok-kept.ensures
 
-pub select_runs-requires-clause-mask : goal.select_runs-requires-clause-mask
-select_runs-requires-clause-mask c =
-    let parts = c.in-Some.parts.now in
-    let t = table_of c.args.table.now in
-    let whole : parts_table (schema_of c.schema-schema.result.now) parts ≡ t = ap (λ (x : PlainSchema). parts_table x parts) c.schema-schema.ensures.schema ∙ sym c.in-Some.ensures.rows in
-    omega (arith, ap (λ (u : PlainTable). length u.rows) whole, c.requires.mask)
+pub keep_batches-requires-clause-within : goal.keep_batches-requires-clause-within
+keep_batches-requires-clause-within c =
+    let count = picked_counted (table_of c.args.table.now) c.args.choice.now.columns.items c.deref-4.result.now
+    (picked (goal.at.keep_batches-requires-clause-within c).In_ok-batches c.deref-4.result.now c.deref-4.ensures.value) in
+    omega (arith, count, c.requires.mask, ap length c.deref-5.ensures.value)
 
-pub select_runs-requires-clause-few : goal.select_runs-requires-clause-few
-select_runs-requires-clause-few c =
-    let parts = c.in-Some.parts.now in
-    let t = table_of c.args.table.now in
-    let whole : parts_table (schema_of c.schema-schema.result.now) parts ≡ t = ap (λ (x : PlainSchema). parts_table x parts) c.schema-schema.ensures.schema ∙ sym c.in-Some.ensures.rows in
-    omega (arith, ap (λ (u : PlainTable). length u.rows) whole, c.len-rows.ensures)
+pub keep_batches-requires-clause-few : goal.keep_batches-requires-clause-few
+keep_batches-requires-clause-few c =
+    let count = picked_counted (table_of c.args.table.now) c.args.choice.now.columns.items c.deref-4.result.now
+    (picked (goal.at.keep_batches-requires-clause-few c).In_ok-batches c.deref-4.result.now c.deref-4.ensures.value) in
+    omega (arith, count, c.len-rows.ensures)
 
-pub returns-in-Some-clause-ok : goal.returns-in-Some-clause-ok
-returns-in-Some-clause-ok c =
-    let parts = c.in-Some.parts.now in
-    let t = table_of c.args.table.now in
-    let whole : parts_table (schema_of c.schema-schema.result.now) parts ≡ t = ap (λ (x : PlainSchema). parts_table x parts) c.schema-schema.ensures.schema ∙ sym c.in-Some.ensures.rows in
-    IfOk-weaker c.select_runs.result _ _ (λ u h. h ∙ ap (chosen_table c.args.choice.now) whole) c.select_runs.ensures.ok
+pub table_of_runs-requires-clause-table : goal.table_of_runs-requires-clause-table
+table_of_runs-requires-clause-table c =
+    let at = goal.at.table_of_runs-requires-clause-table c in
+    let are = kept at.In_ok-kept (picked at.In_ok-batches c.deref-4.result.now c.deref-4.ensures.value) (schema_is at.In_ok-picked) in
+    let is = runs_table_is (table_of c.args.table.now) c.args.choice.now (schema_of c.in_ok-picked.picked) c.in_ok-kept.kept (schema_is at.In_ok-picked) are in
+    subst (λ (t : PlainTable). IsTable t) (sym is) c.requires.table
+
+pub table_of_runs-requires-clause-sound : goal.table_of_runs-requires-clause-sound
+table_of_runs-requires-clause-sound c =
+    let at = goal.at.table_of_runs-requires-clause-sound c in
+    let are = kept at.In_ok-kept (picked at.In_ok-batches c.deref-4.result.now c.deref-4.ensures.value) (schema_is at.In_ok-picked) in
+    are.sound
+
+pub table_of_runs-requires-clause-count : goal.table_of_runs-requires-clause-count
+table_of_runs-requires-clause-count c =
+    let at = goal.at.table_of_runs-requires-clause-count c in
+    let are = kept at.In_ok-kept (picked at.In_ok-batches c.deref-4.result.now c.deref-4.ensures.value) (schema_is at.In_ok-picked) in
+    are.count_is ∙ sym (ap length are.rows_are)
+
+pub returns-clause-ok : goal.returns-clause-ok
+returns-clause-ok c =
+    let at = goal.at.returns-clause-ok c in
+    let are = kept at.In_ok-kept (picked at.In_ok-batches c.deref-4.result.now c.deref-4.ensures.value) (schema_is at.In_ok-picked) in
+    let is = runs_table_is (table_of c.args.table.now) c.args.choice.now (schema_of c.in_ok-picked.picked) c.in_ok-kept.kept (schema_is at.In_ok-picked) are in
+    IfOk-weaker c.table_of_runs.result _ _ (λ t h. h ∙ is) c.table_of_runs.ensures.ok

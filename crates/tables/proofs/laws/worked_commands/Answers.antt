@@ -42,7 +42,7 @@ query_put : (t u : Tables) (from to : List ℕ) (query : PlainQuery) (table sele
 unfolding verdict
 query_put t u from to query table selected found selects is =
     let one : saved t to query table ≡ Ok u = subst (λ (o : Option PlainTable). of_table o (saved t to query) ≡ Ok u) found is in
-    let two : made t to selected ≡ Ok u = subst (λ (r : Result PlainTable queries.Refusal). of_query r (made t to) ≡ Ok u) selects one in
+    let two : made t to selected ≡ Ok u = subst (λ (r : Result PlainTable queries.SelectionRefusal). of_query r (made t to) ≡ Ok u) selects one in
     passed _ (with_table t to selected) u two
 
 created_is : (t u : Tables) (name : List ℕ) (s : PlainSchema) → verdict t (create name s) ≡ Ok u → u ≡ with_table t name (empty_table s)
