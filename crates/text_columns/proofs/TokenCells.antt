@@ -28,8 +28,8 @@ use Rattle.text_import.specs.Objects.{boolean_in, bytes_in, cell_in, kind_in, nu
 use Rattle.text_import.specs.declared.refusal.Refusal.{Refusal}
 use Rattle.text_import.specs.declared.refusal.Refusal.TheVariants.{NotUtf8}
 use Rattle.text_columns.specs.declared.coding.Coding.{Coding}
-use Rattle.text_columns.specs.declared.column_values.Values.{Values}
-use Rattle.text_columns.specs.declared.column_values.Values.TheVariants.{Booleans, Integers, Texts, Binaries, FixedBinaries}
+use Rattle.text_columns.specs.declared.column_values.ColumnValues.{ColumnValues}
+use Rattle.text_columns.specs.declared.column_values.ColumnValues.TheVariants.{Booleans, Integers, Texts, Binaries, FixedBinaries}
 use Rattle.text_columns.specs.declared.builder.ColumnBuilder.{ColumnBuilder, Flat}
 use Rattle.text_columns.specs.declared.flat.FlatBuilder.{FlatBuilder}
 use Rattle.text_columns.specs.inner.Kept.{AppendsBytes, AppendsFixed, AppendsInteger, Clears, Codes, HasCell, Holds, HoldsCells, IsCoded, Keeps, TakesNullCell, null_heavy}
@@ -284,7 +284,7 @@ value_fits (fixed_lists size item) d x flat h = absurd cc
 value_fits (structs columns) d x flat h = absurd cc
 
 -- the buffers of the one value were cleared and then have the value that is coded
-pub token_coded : (t : Token) (heavy : ℕ) (old new : Coding) (values values2 : Values) (cleared one : Values) → Clears old.one cleared → TakesToken t heavy cleared one
+pub token_coded : (t : Token) (heavy : ℕ) (old new : Coding) (values values2 : ColumnValues) (cleared one : ColumnValues) → Clears old.one cleared → TakesToken t heavy cleared one
     → Codes (record { index = old.index; indices = old.indices; keys = old.keys; one = one }) values new values2 → TakesCodedToken t heavy old values new values2
 token_coded t heavy old new values values2 cleared one clears taken codes = record {
   data_is = taken.data_is;
@@ -302,31 +302,31 @@ token_coded t heavy old new values values2 cleared one clears taken codes = reco
       };
 }
 
-plain_taken : (d : Data) (heavy : ℕ) (old new : Values) → TakesValue d heavy old new → (dictionary : Option Index) (kind : Kind) (so : List Cell) → HoldsCells dictionary kind so old None
+plain_taken : (d : Data) (heavy : ℕ) (old new : ColumnValues) → TakesValue d heavy old new → (dictionary : Option Index) (kind : Kind) (so : List Cell) → HoldsCells dictionary kind so old None
     → HasCell dictionary kind (kind_in kind d) heavy so new None
 plain_taken d heavy old new takes None kind so h = (let own = takes kind so h in record { taken = own.taken; read = own.read; there = own.there; weighs = own.weighs; holds = own.takes })
 plain_taken d heavy old new takes (Some index) kind so h = absurd h
 
-pub plain_token : (t : Token) (heavy : ℕ) (old new : Values) → TakesToken t heavy old new → TakesCellToken t heavy old None new None
+pub plain_token : (t : Token) (heavy : ℕ) (old new : ColumnValues) → TakesToken t heavy old new → TakesCellToken t heavy old None new None
 plain_token t heavy old new taken = record { data_is = taken.data_is; read = taken.read; there = taken.there; takes = plain_taken taken.data_is heavy old new taken.takes }
 
-coded_taken : (d : Data) (heavy : ℕ) (old new : Coding) (values values2 : Values)
+coded_taken : (d : Data) (heavy : ℕ) (old new : Coding) (values values2 : ColumnValues)
     → ((index : Index) (kind : Kind) (so : List Cell) → IsCoded index kind so values old → HasCell (Some index) kind (kind_in kind d) heavy so values2 (Some new))
     → (dictionary : Option Index) (kind : Kind) (so : List Cell) → HoldsCells dictionary kind so values (Some old) → HasCell dictionary kind (kind_in kind d) heavy so values2 (Some new)
 coded_taken d heavy old new values values2 takes None kind so h = absurd h
 coded_taken d heavy old new values values2 takes (Some index) kind so h = takes index kind so h
 
-pub coded_token : (t : Token) (heavy : ℕ) (old new : Coding) (values values2 : Values) → TakesCodedToken t heavy old values new values2 → TakesCellToken t heavy values (Some old) values2 (Some new)
+pub coded_token : (t : Token) (heavy : ℕ) (old new : Coding) (values values2 : ColumnValues) → TakesCodedToken t heavy old values new values2 → TakesCellToken t heavy values (Some old) values2 (Some new)
 coded_token t heavy old new values values2 taken =
     record { data_is = taken.data_is; read = taken.read; there = taken.there; takes = coded_taken taken.data_is heavy old new values values2 taken.takes }
 
-pub plain_token_step : {E : Type 0} (t : Token) (old new : Values) (r : Result (Option ℕ) E) → IfOk r (λ taken. IfSome taken (λ heavy. TakesToken t heavy old new))
+pub plain_token_step : {E : Type 0} (t : Token) (old new : ColumnValues) (r : Result (Option ℕ) E) → IfOk r (λ taken. IfSome taken (λ heavy. TakesToken t heavy old new))
     → IfOk r (λ taken. IfSome taken (λ heavy. TakesCellToken t heavy old None new None))
 plain_token_step t old new (Err e) h = tt
 plain_token_step t old new (Ok None) h = tt
 plain_token_step t old new (Ok (Some heavy)) h = plain_token t heavy old new h
 
-pub coded_token_step : {E : Type 0} (t : Token) (old new : Coding) (values values2 : Values) (r : Result (Option ℕ) E)
+pub coded_token_step : {E : Type 0} (t : Token) (old new : Coding) (values values2 : ColumnValues) (r : Result (Option ℕ) E)
     → IfOk r (λ taken. IfSome taken (λ heavy. TakesCodedToken t heavy old values new values2)) → IfOk r (λ taken. IfSome taken (λ heavy. TakesCellToken t heavy values (Some old) values2 (Some new)))
 coded_token_step t old new values values2 (Err e) h = tt
 coded_token_step t old new values values2 (Ok None) h = tt

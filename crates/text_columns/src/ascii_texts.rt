@@ -7,7 +7,7 @@ ghost use Rattle.text_columns.specs.inner.Plain.{IsTextAt};
 
 use crate::builder::ColumnBuilder;
 use crate::coding;
-use crate::column_values::Values;
+use crate::column_values::ColumnValues;
 use crate::flat::FlatBuilder;
 use crate::plain::ends_field;
 use std::alloc::AllocError;
@@ -45,7 +45,7 @@ impl FlatBuilder {
             return false;
         }
         match &self.values {
-            Values::Texts(_, _, _) => true,
+            ColumnValues::Texts(_, _, _) => true,
             _ => false,
         }
     }

@@ -5,7 +5,7 @@ ghost use Rattle.cells.specs.Dictionary.{entry_limit, is_within};
 ghost use Rattle.cells.specs.Typed.{typed_integer};
 ghost use Rattle.text_columns.specs.inner.Kept.{Codes, Places, TakesField, TakesNullCell, index_type, key_list};
 
-use crate::column_values::Values;
+use crate::column_values::ColumnValues;
 use crate::short_integers::ShortInteger;
 use arrow_schema::IntegerType;
 use cells::entry_limit;
@@ -20,7 +20,7 @@ pub(crate) struct Coding {
     pub(crate) index: IntegerType,
     pub(crate) indices: Vec<u8>,
     pub(crate) keys: IndexSet<Vec<u8>>,
-    pub(crate) one: Values,
+    pub(crate) one: ColumnValues,
 }
 
 // Whether indices of a type can name one more entry than these.
@@ -54,7 +54,7 @@ pub(crate) fn add_key(keys: &mut IndexSet<Vec<u8>>, key: &[u8]) -> Result<bool, 
 fn place_of(
     index: IntegerType,
     keys: &mut IndexSet<Vec<u8>>,
-    entries: &mut Values,
+    entries: &mut ColumnValues,
     key: &[u8],
 ) -> Result<Option<usize>, AllocError>
     ensures { IfOk result (λ found. IfSome found (λ place. Places index key.now place keys.old.keys keys.new.keys entries.old entries.new)) }
@@ -86,7 +86,7 @@ impl Coding {
     ghost use Rattle.text_columns.specs.inner.Kept.{TakesCodedText};
 
     // Appends the index of the one value, which is an entry then; false where no index can name it.
-    pub(crate) fn code(&mut self, entries: &mut Values) -> Result<bool, AllocError>
+    pub(crate) fn code(&mut self, entries: &mut ColumnValues) -> Result<bool, AllocError>
         ensures { IfOk result (λ done. done ≡ true → Codes self.old entries.old self.new entries.new) }
     {
         let key = self.one.key();
@@ -99,7 +99,11 @@ impl Coding {
 
     // Appends the index of the value that a field is, where it is one of the type, and answers what it weighs.
     #[inline(always)]
-    fn push_text(&mut self, entries: &mut Values, text: &[u8]) -> Result<Option<u64>, AllocError>
+    fn push_text(
+        &mut self,
+        entries: &mut ColumnValues,
+        text: &[u8],
+    ) -> Result<Option<u64>, AllocError>
         ensures { IfOk result (λ taken. IfSome taken (λ heavy. TakesCodedText text.now heavy self.old entries.old self.new entries.new)) }
     {
         self.one.clear()?;
@@ -115,7 +119,10 @@ impl Coding {
 }
 
 /// Appends a null to the values, or to the indices.
-pub(crate) fn push_null(values: &mut Values, coding: &mut Option<Coding>) -> Result<(), AllocError>
+pub(crate) fn push_null(
+    values: &mut ColumnValues,
+    coding: &mut Option<Coding>,
+) -> Result<(), AllocError>
     ensures { OnOk result (TakesNullCell values.old coding.old values.new coding.new) }
 {
     match coding {
@@ -127,7 +134,7 @@ pub(crate) fn push_null(values: &mut Values, coding: &mut Option<Coding>) -> Res
 /// Appends the cell that a field is, or its index, where it is one of the type, and answers what it weighs.
 #[inline(always)]
 pub(crate) fn push_text(
-    values: &mut Values,
+    values: &mut ColumnValues,
     coding: &mut Option<Coding>,
     text: &[u8],
 ) -> Result<Option<u64>, AllocError>
@@ -141,7 +148,7 @@ pub(crate) fn push_text(
 
 /// Appends a number, where it is one of the type, and answers what it weighs; none where the column has a dictionary.
 pub(crate) fn push_short(
-    values: &mut Values,
+    values: &mut ColumnValues,
     coding: &mut Option<Coding>,
     short: ShortInteger,
 ) -> Result<Option<u64>, AllocError>
@@ -156,7 +163,7 @@ pub(crate) fn push_short(
 
 /// Appends a text that is UTF-8, where the type has strings, and answers what it weighs; none where the column has a dictionary.
 pub(crate) fn push_utf8(
-    values: &mut Values,
+    values: &mut ColumnValues,
     coding: &mut Option<Coding>,
     text: &[u8],
 ) -> Result<Option<u64>, AllocError>

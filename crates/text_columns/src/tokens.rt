@@ -7,7 +7,7 @@ ghost use Rattle.text_columns.specs.inner.Lines.{AppendsBinary, AppendsBit, Appe
 
 use crate::bytes::{push_bytes, push_fixed};
 use crate::coding::Coding;
-use crate::column_values::Values;
+use crate::column_values::ColumnValues;
 use crate::flat::FlatBuilder;
 use crate::integers::push_number;
 use crate::texts::push_contents;
@@ -149,20 +149,22 @@ fn push_fixed_binary(
     push_fixed(values, width, digits.as_bytes())
 }
 
-impl Values {
+impl ColumnValues {
     /// Appends the cell that a token is, where it is one of the type and no null, and answers what it weighs.
     pub(crate) fn push_token(&mut self, token: Token<'_>) -> Result<Option<u64>, AllocError>
         ensures { IfOk result (λ taken. IfSome taken (λ heavy. TakesToken (token_of token.entry) heavy self.old self.new)) }
     {
         match self {
-            Values::Nulls => Ok(None),
-            Values::Booleans(bits) => push_boolean(bits, token),
-            Values::Integers(integer, values) => push_integer(values, *integer, token),
-            Values::Texts(width, offsets, contents) => push_text(offsets, contents, *width, token),
-            Values::Binaries(width, offsets, contents) => {
+            ColumnValues::Nulls => Ok(None),
+            ColumnValues::Booleans(bits) => push_boolean(bits, token),
+            ColumnValues::Integers(integer, values) => push_integer(values, *integer, token),
+            ColumnValues::Texts(width, offsets, contents) => push_text(
+                offsets, contents, *width, token,
+            ),
+            ColumnValues::Binaries(width, offsets, contents) => {
                 push_binary(offsets, contents, *width, token)
             }
-            Values::FixedBinaries(width, values) => push_fixed_binary(values, *width, token),
+            ColumnValues::FixedBinaries(width, values) => push_fixed_binary(values, *width, token),
         }
     }
 }
@@ -171,7 +173,7 @@ impl Coding {
     // Appends the index of the value that a token is, where it is one of the type and no null, and answers what it weighs.
     fn push_token(
         &mut self,
-        entries: &mut Values,
+        entries: &mut ColumnValues,
         token: Token<'_>,
     ) -> Result<Option<u64>, AllocError>
         ensures { IfOk result (λ taken. IfSome taken (λ heavy. TakesCodedToken (token_of token.entry) heavy self.old entries.old self.new entries.new)) }
@@ -190,7 +192,7 @@ impl Coding {
 
 // Appends the cell that a token is, or its index, where it is one of the type and no null, and answers what it weighs.
 fn push_token(
-    values: &mut Values,
+    values: &mut ColumnValues,
     coding: &mut Option<Coding>,
     token: Token<'_>,
 ) -> Result<Option<u64>, AllocError>
