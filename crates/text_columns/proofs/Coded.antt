@@ -2,6 +2,7 @@
 use Rattle.std.specs.Prelude.{ℤ, if◌then◌else◌, Option, Some, None, Ok, Err, Result, IfOk, IfSome, OnOk, bytes_eq, is_some, ◌||◌, position, not}
 use Rattle.std.specs.List.{flat_map, list_all, list_any, position_from}
 use Rattle.std.specs.Ordering.{int_eq}
+use Rattle.std.specs.Str.{is_utf8}
 use Rattle.std.specs.Global.{Vec}
 use Rattle.std.proofs.Common.{◌≡◌, ℕ, ◌+◌, ◌*◌, ◌/◌, ◌≤◌, Bool, true, false, List, [], ◌∷◌, ◌++◌, length, map, refl, arith, ap, sym, subst, ◌∙◌, inl, inr, append-nil, length-append}
 use Rattle.std.proofs.lemmas.Bool.{and_from, and_parts, le-leb}
@@ -26,6 +27,7 @@ use Rattle.cells.specs.Fit.{date_bits, fits_kind, in_range}
 use Rattle.cells.specs.Integers.{integer_of, number_of}
 use Rattle.cells.specs.Typed.{typed_boolean, typed_integer}
 use Rattle.cells.specs.Nulls.{is_there}
+use Rattle.cells.specs.Weight.{kind_weight}
 use Rattle.cells.specs.laws.Entries.{entries_append}
 use Rattle.columns.specs.Built.{entry_index, fixed_bytes, index_bytes, integer_bytes, place_or_zero}
 use Rattle.columns.specs.laws.Integers.{number_back, number_fits, width_cases}
@@ -35,7 +37,7 @@ use Rattle.text_import.specs.declared.refusal.Refusal.TheVariants.{FixedWidth, N
 use Rattle.text_columns.specs.declared.coding.Coding.{Coding}
 use Rattle.text_columns.specs.declared.column_values.ColumnValues.{ColumnValues}
 use Rattle.text_columns.specs.declared.column_values.ColumnValues.TheVariants.{Nulls, Booleans, Integers, Texts, Binaries, FixedBinaries}
-use Rattle.text_columns.specs.inner.Kept.{Clears, Codes, ComesLast, Holds, HoldsCells, IsCoded, IsOf, Places, Takes, TakesCodedText, TakesField, TakesNull, TakesNullCell, TakesText, bit_key, first_key, index_type, key_list, key_of, value_bytes}
+use Rattle.text_columns.specs.inner.Kept.{Clears, Codes, ComesLast, Holds, HoldsCells, IsCoded, IsOf, PushesPlace, Takes, TakesCodedText, TakesField, TakesNull, TakesNullCell, TakesText, bit_key, first_key, has_texts, index_type, key_list, key_of, value_bytes}
 use Rattle.text_columns.proofs.Taken.{one_joined}
 
 -- ---- types without parts
@@ -454,13 +456,13 @@ last_coded index kind cells c values values2 d new place h fits last same one pu
     ((λ j. is_within (entry_limit (sym type j)) (sym size j)) ∙ last.room)
     (subst (λ (v : ColumnValues). IsOf kind v) (sym one) h.one)
 
-pub value_coded : (old new : Coding) (values values2 : ColumnValues) (place : ℕ) → Places old.index (value_bytes old.one) place old.keys.keys new.keys.keys values values2 → new.index ≡ old.index
-    → new.one ≡ old.one → new.indices.items ≡ old.indices.items ++ little_bytes (bits_of old.index.width / 8) place → Codes old values new values2
-value_coded old new values values2 place placed same one pushed index kind cells c h t fits = elim placed [
+key_coded : (key : List ℕ) (old new : Coding) (values values2 : ColumnValues) → PushesPlace old.index key old.indices.items new.indices.items old.keys.keys new.keys.keys values values2
+    → new.index ≡ old.index → new.one ≡ old.one → (index : Index) (kind : Kind) (cells : List Cell) (c : Cell) → IsCoded index kind cells values old → key ≡ key_of kind c → fits_kind kind c ≡ true
+    → IsCoded index kind (cells ++ c ∷ []) values2 new
+key_coded key old new values values2 p same one index kind cells c h is fits = elim p.placed [
   | inl stood ↦
-      let key = value_key kind c old.one t fits in
-      let found = rw key at stood.found in
-      let made = stood_coded index kind cells c values old new.indices place h fits found pushed in
+      let found = rw is at stood.found in
+      let made = stood_coded index kind cells c values old new.indices p.place h fits found p.more in
       coded_as index kind (cells ++ c ∷ []) (entries_of (cells ++ c ∷ [])) values2 new refl (ap (λ (i : IntegerType). bits_of i.width) same ∙ h.bits) (ap (λ (i : IntegerType). i.signed) same ∙ h.signed)
       made.indices
       (subst (λ (v : ColumnValues). Takes kind (entries_of (cells ++ c ∷ [])) v) (sym stood.still) made.entries)
@@ -469,9 +471,38 @@ value_coded old new values values2 place placed same one pushed index kind cells
       made.few
       (subst (λ (v : ColumnValues). IsOf kind v) (sym one) h.one)
   | inr last ↦
-      let key = value_key kind c old.one t fits in
-      last_coded index kind cells c values values2 old new place h fits (subst (λ (k : List ℕ). ComesLast old.index k place old.keys.keys new.keys.keys values values2) key last) same one pushed
+      last_coded index kind cells c values values2 old new p.place h fits (subst (λ (k : List ℕ). ComesLast old.index k p.place old.keys.keys new.keys.keys values values2) is last) same one p.more
 ]
+
+pub value_coded : (old new : Coding) (values values2 : ColumnValues) → PushesPlace old.index (value_bytes old.one) old.indices.items new.indices.items old.keys.keys new.keys.keys values values2
+    → new.index ≡ old.index → new.one ≡ old.one → Codes old values new values2
+value_coded old new values values2 p same one index kind cells c h t fits =
+    key_coded (value_bytes old.one) old new values values2 p same one index kind cells c h (value_key kind c old.one t fits) fits
+
+-- a string of a type of strings
+record IsString (kind : Kind) (t : List ℕ) : Type 0 where
+  read : cell_of_text kind t ≡ Ok (text t)
+  weighs : kind_weight kind (text t) ≡ 1 + length t
+  key : t ≡ key_of kind (text t)
+  fits : fits_kind kind (text t) ≡ true
+
+string_is : (kind : Kind) (values : ColumnValues) (t : List ℕ) → has_texts values ≡ true → IsOf kind values → is_utf8 t ≡ true → IsString kind t
+unfolding cell_of_text kind_weight fits_kind
+string_is texts (Texts width offsets contents) t strings is utf8 = record { read = rw utf8 refl; weighs = refl; key = refl; fits = utf8 }
+string_is large_texts (Texts width offsets contents) t strings is utf8 = record { read = rw utf8 refl; weighs = refl; key = refl; fits = utf8 }
+string_is _ (Texts width offsets contents) t strings is utf8 = absurd is
+string_is _ Nulls t strings is utf8 = absurd cc
+string_is _ (Booleans bits) t strings is utf8 = absurd cc
+string_is _ (Integers i own) t strings is utf8 = absurd cc
+string_is _ (Binaries width offsets contents) t strings is utf8 = absurd cc
+string_is _ (FixedBinaries width own) t strings is utf8 = absurd cc
+
+pub utf8_coded : (t : List ℕ) (old new : Coding) (values values2 : ColumnValues) → has_texts values ≡ true → is_utf8 t ≡ true
+    → PushesPlace old.index t old.indices.items new.indices.items old.keys.keys new.keys.keys values values2 → new.index ≡ old.index → new.one ≡ old.one
+    → TakesCodedText t (1 + length t) old values new values2
+utf8_coded t old new values values2 strings utf8 p same one index kind cells h =
+    let own = string_is kind values t strings h.entries.kind_is utf8 in
+    record { taken = text t; read = own.read; there = refl; weighs = own.weighs; holds = key_coded t old new values values2 p same one index kind cells (text t) h own.key own.fits }
 
 -- ---- texts
 

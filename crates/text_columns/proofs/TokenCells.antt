@@ -4,7 +4,7 @@ use Rattle.std.specs.Global.{Vec}
 use Rattle.std.specs.Str.{is_utf8}
 use Rattle.byteorder.specs.Endian.{little_bytes}
 use Rattle.columns.specs.Offsets.{width_of}
-use Rattle.std.proofs.Common.{◌≡◌, ℕ, ◌+◌, ◌/◌, Bool, true, false, List, [], ◌∷◌, ◌++◌, length, refl, ap, sym, ◌∙◌}
+use Rattle.std.proofs.Common.{◌≡◌, ℕ, ◌+◌, ◌/◌, Bool, true, false, List, [], ◌∷◌, ◌++◌, length, refl, ap, sym, subst, ◌∙◌}
 use Rattle.hex.specs.Hex.{decode_of}
 use Rattle.json.specs.Token.{Token}
 use Rattle.json.specs.Token as tokens
@@ -23,16 +23,16 @@ use Rattle.cells.specs.Nulls.{is_there}
 use Rattle.cells.specs.Weight.{kind_weight, weight}
 use Rattle.columns.specs.Built.{fixed_bytes, integer_bytes, is_set}
 use Rattle.columns.specs.declared.numbers.OffsetWidth.{OffsetWidth}
-use Rattle.text_import.specs.Flat.{bytes_cell}
+use Rattle.text_import.specs.Flat.{bytes_cell, cell_of_text}
 use Rattle.text_import.specs.Objects.{boolean_in, bytes_in, cell_in, kind_in, null_or_in, number_in, text_in}
 use Rattle.text_import.specs.declared.refusal.Refusal.{Refusal}
 use Rattle.text_import.specs.declared.refusal.Refusal.TheVariants.{NotUtf8}
 use Rattle.text_columns.specs.declared.coding.Coding.{Coding}
 use Rattle.text_columns.specs.declared.column_values.ColumnValues.{ColumnValues}
-use Rattle.text_columns.specs.declared.column_values.ColumnValues.TheVariants.{Booleans, Integers, Texts, Binaries, FixedBinaries}
+use Rattle.text_columns.specs.declared.column_values.ColumnValues.TheVariants.{Nulls, Booleans, Integers, Texts, Binaries, FixedBinaries}
 use Rattle.text_columns.specs.declared.builder.ColumnBuilder.{ColumnBuilder, Flat}
 use Rattle.text_columns.specs.declared.flat.FlatBuilder.{FlatBuilder}
-use Rattle.text_columns.specs.inner.Kept.{AppendsBytes, AppendsFixed, AppendsInteger, Clears, Codes, HasCell, Holds, HoldsCells, IsCoded, Keeps, TakesNullCell, null_heavy}
+use Rattle.text_columns.specs.inner.Kept.{AppendsBytes, AppendsFixed, AppendsInteger, Clears, Codes, HasCell, Holds, HoldsCells, IsCoded, IsOf, Keeps, TakesCodedText, TakesNullCell, has_texts, null_heavy}
 use Rattle.text_columns.specs.inner.Lines.{AppendsBinary, AppendsBit, AppendsFixedBinary, AppendsNumber, AppendsString, Completes, KeepsNull, KeepsToken, KeepsValue, TakesCellToken, TakesCodedToken, TakesNumber, TakesToken, TakesValue, integer_in, token_data}
 use Rattle.text_columns.proofs.Coded.{bytes_fit_kind, number_fits_kind, fitting_fits, own_flat, own_kind, with_one}
 use Rattle.text_columns.proofs.Taken.{contents_hold, dates_read, null_weighs, one_joined, one_mapped, times_read, width_fits}
@@ -300,6 +300,30 @@ token_coded t heavy old new values values2 cleared one clears taken codes = reco
         weighs = own.weighs;
         holds = codes index kind so own.taken (with_one index kind so values old one h own.takes.kind_is) own.takes fits;
       };
+}
+
+-- the cell of a string is that of its text
+string_read : (kind : Kind) (values : ColumnValues) (s : List ℕ) → has_texts values ≡ true → IsOf kind values → kind_in kind (json.string s) ≡ cell_of_text kind s
+unfolding kind_in cell_of_text fits_kind
+string_read texts (Texts width offsets contents) s strings is = refl
+string_read large_texts (Texts width offsets contents) s strings is = refl
+string_read _ (Texts width offsets contents) s strings is = absurd is
+string_read _ Nulls s strings is = absurd cc
+string_read _ (Booleans bits) s strings is = absurd cc
+string_read _ (Integers i own) s strings is = absurd cc
+string_read _ (Binaries width offsets contents) s strings is = absurd cc
+string_read _ (FixedBinaries width own) s strings is = absurd cc
+
+pub coded_string_step : {E : Type 0} (t : Token) (s : List ℕ) (old new : Coding) (values values2 : ColumnValues) (r : Result (Option ℕ) E) → t ≡ tokens.string s → has_texts values ≡ true
+    → IfOk r (λ taken. IfSome taken (λ heavy. TakesCodedText s heavy old values new values2)) → IfOk r (λ taken. IfSome taken (λ heavy. TakesCodedToken t heavy old values new values2))
+coded_string_step t s old new values values2 (Err e) is strings h = tt
+coded_string_step t s old new values values2 (Ok None) is strings h = tt
+coded_string_step t s old new values values2 (Ok (Some heavy)) is strings h = record {
+  data_is = json.string s;
+  read = ap token_data is;
+  there = λ e. cc;
+  takes = λ index kind so k.
+      subst (λ (o : Result Cell Refusal). HasCell (Some index) kind o heavy so values2 (Some new)) (sym (string_read kind values s strings k.entries.kind_is)) (h index kind so k);
 }
 
 plain_taken : (d : Data) (heavy : ℕ) (old new : ColumnValues) → TakesValue d heavy old new → (dictionary : Option Index) (kind : Kind) (so : List Cell) → HoldsCells dictionary kind so old None

@@ -3,7 +3,7 @@ ghost use Rattle.std.specs.Prelude.{◌≡◌, ◌+◌, ◌++◌, ◌/◌, ◌�
 ghost use Rattle.std.specs.Str.{is_utf8};
 ghost use Rattle.cells.specs.Dictionary.{entry_limit, is_within};
 ghost use Rattle.cells.specs.Typed.{typed_integer};
-ghost use Rattle.text_columns.specs.inner.Kept.{Codes, Places, TakesField, TakesNullCell, index_type, key_list};
+ghost use Rattle.text_columns.specs.inner.Kept.{Codes, Places, PushesPlace, TakesField, TakesNullCell, index_type, key_list};
 
 use crate::column_values::ColumnValues;
 use crate::short_integers::ShortInteger;
@@ -73,6 +73,24 @@ fn place_of(
     Ok(Some(place))
 }
 
+// Appends the index of the entry with these bytes, which is an entry after the call; false where no index can name it.
+fn push_place(
+    index: IntegerType,
+    indices: &mut Vec<u8>,
+    keys: &mut IndexSet<Vec<u8>>,
+    entries: &mut ColumnValues,
+    key: &[u8],
+) -> Result<bool, AllocError>
+    ensures { IfOk result (λ done. done ≡ true
+        → PushesPlace index key.now indices.old.items indices.new.items keys.old.keys keys.new.keys entries.old entries.new) }
+{
+    let Some(place) = place_of(index, keys, entries, key)? else {
+        return Ok(false);
+    };
+    push_index(indices, index.width, place as u64)?;
+    Ok(true)
+}
+
 impl Coding {
     ghost use Rattle.std.specs.Prelude.{length};
 
@@ -90,11 +108,8 @@ impl Coding {
         ensures { IfOk result (λ done. done ≡ true → Codes self.old entries.old self.new entries.new) }
     {
         let key = self.one.key();
-        let Some(place) = place_of(self.index, &mut self.keys, entries, key)? else {
-            return Ok(false);
-        };
-        push_index(&mut self.indices, self.index.width, place as u64)?;
-        Ok(true)
+        let done = push_place(self.index, &mut self.indices, &mut self.keys, entries, key)?;
+        Ok(done)
     }
 
     // Appends the index of the value that a field is, where it is one of the type, and answers what it weighs.
@@ -112,6 +127,25 @@ impl Coding {
         };
         if self.code(entries)? {
             Ok(Some(heavy))
+        } else {
+            Ok(None)
+        }
+    }
+
+    /// Appends the index of a string that is UTF-8, and answers what it weighs; none where the entries are no strings. It is looked up where it is.
+    pub(crate) fn push_utf8(
+        &mut self,
+        entries: &mut ColumnValues,
+        text: &[u8],
+    ) -> Result<Option<u64>, AllocError>
+        requires { is_utf8 text.now ≡ true }
+        ensures { IfOk result (λ taken. IfSome taken (λ heavy. TakesCodedText text.now heavy self.old entries.old self.new entries.new)) }
+    {
+        if !entries.has_texts() {
+            return Ok(None);
+        }
+        if push_place(self.index, &mut self.indices, &mut self.keys, entries, text)? {
+            Ok(Some(1 + text.len() as u64))
         } else {
             Ok(None)
         }
@@ -161,7 +195,7 @@ pub(crate) fn push_short(
     }
 }
 
-/// Appends a text that is UTF-8, where the type has strings, and answers what it weighs; none where the column has a dictionary.
+/// Appends a text that is UTF-8, or its index, where the type has strings, and answers what it weighs.
 pub(crate) fn push_utf8(
     values: &mut ColumnValues,
     coding: &mut Option<Coding>,
@@ -172,6 +206,6 @@ pub(crate) fn push_utf8(
 {
     match coding {
         None => values.push_utf8(text),
-        Some(_) => Ok(None),
+        Some(coding) => coding.push_utf8(values, text),
     }
 }

@@ -1,9 +1,8 @@
 // The values of one column.
-ghost use Rattle.std.specs.Prelude.{◌≡◌, ◌++◌, ◌/◌, ◌∷◌, [], ℕ, List, IfOk, IfSome, OnOk, Some, true, replicate};
+ghost use Rattle.std.specs.Prelude.{◌≡◌, ◌++◌, ◌/◌, ◌∷◌, [], IfOk, IfSome, OnOk, true, replicate};
 ghost use Rattle.std.specs.Str.{is_utf8};
 ghost use Rattle.arrow_schema.specs.View.{bits_of};
-ghost use Rattle.cells.specs.Typed.{typed_boolean, typed_integer};
-ghost use Rattle.text_columns.specs.inner.Kept.{AppendsBoolean, Clears, HoldContents, TakesKey, TakesNull, TakesText, first_key, null_heavy, value_bytes};
+ghost use Rattle.text_columns.specs.inner.Kept.{AppendsBoolean, Clears, HoldContents, TakesKey, TakesNull, TakesSpelled, TakesText, first_key, has_texts, null_heavy, value_bytes};
 
 use crate::bytes::{push_bytes, push_fixed};
 use crate::integers::{push_integer, push_short};
@@ -93,6 +92,16 @@ impl ColumnValues {
         match self {
             ColumnValues::FixedBinaries(width, _) => 1 + *width as u64,
             _ => 1,
+        }
+    }
+
+    /// Whether the values are strings.
+    pub(crate) fn has_texts(&self) -> bool
+        ensures { result ≡ has_texts self.now }
+    {
+        match self {
+            ColumnValues::Texts(_, _, _) => true,
+            _ => false,
         }
     }
 
@@ -188,7 +197,7 @@ impl ColumnValues {
 
     /// Appends a number, where it is one of the type, and answers what it weighs.
     pub(crate) fn push_short(&mut self, short: ShortInteger) -> Result<Option<u64>, AllocError>
-        ensures { (text : List ℕ) → typed_integer text ≡ Some short.number → IfOk result (λ taken. IfSome taken (λ heavy. TakesText text heavy self.old self.new)) }
+        ensures { TakesSpelled short.number result self.old self.new }
     {
         match self {
             ColumnValues::Integers(integer, values) => push_short(values, *integer, short),

@@ -1,5 +1,5 @@
 -- What the buffers of columns hold once some rows were read.
-use Rattle.std.specs.Prelude.{zero, suc, sum_by, ◌≡◌, ◌⊎◌, ◌+◌, ◌*◌, ◌/◌, ◌++◌, ℕ, ℤ, true, false, Bool, bytes_eq, List, [], ◌∷◌, length, map, get_or, Option, Some, None, position, replicate, Result, Ok, slice_get}
+use Rattle.std.specs.Prelude.{zero, suc, sum_by, ◌≡◌, ◌⊎◌, ◌+◌, ◌*◌, ◌/◌, ◌++◌, ℕ, ℤ, true, false, Bool, bytes_eq, List, [], ◌∷◌, length, map, get_or, Option, Some, None, position, replicate, Result, Ok, IfOk, IfSome, slice_get}
 use Rattle.std.specs.Global.{Vec}
 use Rattle.byteorder.specs.Endian.{little_bytes}
 use Rattle.hex.specs.Hex.{decode_of}
@@ -89,6 +89,11 @@ abbrev pub null_heavy : ColumnValues → ℕ
 null_heavy (FixedBinaries width bytes) = 1 + width
 null_heavy _ = 1
 
+-- values that are strings
+abbrev pub has_texts : ColumnValues → Bool
+has_texts (Texts width offsets contents) = true
+has_texts _ = false
+
 -- where the strings or binaries of cells end, and their bytes
 abbrev pub HoldContents : OffsetWidth → List Cell → (offsets contents : List ℕ) → Type 0
 HoldContents width cells offsets contents = (offsets ≡ offsets_of (width_of width) (map (λ c. length (contents_of c)) cells)) × (contents ≡ flat_map contents_of cells)
@@ -121,6 +126,10 @@ pub record HasTaken (kind : Kind) (text : List ℕ) (heavy : ℕ) (cells : List 
 
 abbrev pub TakesText : List ℕ → ℕ → ColumnValues → ColumnValues → Type 0
 TakesText text heavy old new = (kind : Kind) (cells : List Cell) → Takes kind cells old → HasTaken kind text heavy cells new
+
+-- the cell of each text that spells a number, where a call answers what it weighs
+abbrev pub TakesSpelled : {E : Type 0} → ℤ → Result (Option ℕ) E → ColumnValues → ColumnValues → Type 0
+TakesSpelled n result old new = (text : List ℕ) → typed_integer text ≡ Some n → IfOk result (λ taken. IfSome taken (λ heavy. TakesText text heavy old new))
 
 -- ---- columns with a dictionary: entries are looked up by their bytes
 
@@ -192,6 +201,12 @@ pub record ComesLast (integer : IntegerType) (key : List ℕ) (place : ℕ) (key
 
 abbrev pub Places : IntegerType → List ℕ → ℕ → List (Vec ℕ) → List (Vec ℕ) → ColumnValues → ColumnValues → Type 0
 Places integer key place keys keys2 old new = StoodAt key place keys keys2 old new ⊎ ComesLast integer key place keys keys2 old new
+
+-- and its index comes after others
+pub record PushesPlace (integer : IntegerType) (key indices indices2 : List ℕ) (keys keys2 : List (Vec ℕ)) (old new : ColumnValues) : Type 0 where
+  pub place : ℕ
+  pub placed : Places integer key place keys keys2 old new
+  pub more : indices2 ≡ indices ++ little_bytes (bits_of integer.width / 8) place
 
 -- the one value comes after the cells
 abbrev pub Codes : Coding → ColumnValues → Coding → ColumnValues → Type 0
