@@ -4,7 +4,7 @@ ghost use Rattle.arrow_schema.specs.View.{bits_of};
 ghost use Rattle.cells.specs.Typed.{typed_integer};
 ghost use Rattle.text_columns.specs.inner.Kept.{AppendsInteger, AppendsSpelled};
 
-use crate::short_integers::{ShortInteger, short_integer};
+use crate::short_integers::ShortInteger;
 use arrow_schema::{BitWidth, IntegerType};
 use std::alloc::AllocError;
 use text_import::spelled_integer;
@@ -104,20 +104,6 @@ pub(crate) fn push_number(
     }
 }
 
-// The integer that a text is, where it has at most 18 digits.
-fn short_of(text: &[u8]) -> Option<ShortInteger>
-    ensures { IfSome result (λ short. typed_integer text.now ≡ Some short.number) }
-{
-    match short_integer(text, 0) {
-        Some(short) => if short.end == text.len() {
-            Some(short)
-        } else {
-            None
-        },
-        None => None,
-    }
-}
-
 /// Appends the bytes of the integer that a field spells, where the type holds it, and answers what that weighs.
 pub(crate) fn push_integer(
     values: &mut Vec<u8>,
@@ -127,9 +113,6 @@ pub(crate) fn push_integer(
     ensures { IfOk result (λ taken. IfSome taken (λ heavy. (heavy ≡ 1)
         × AppendsSpelled (bits_of integer.width) integer.signed text.now values.old.items values.new.items)) }
 {
-    if let Some(short) = short_of(text) {
-        return push_short(values, integer, short);
-    }
     let Some(number) = spelled_integer(text) else {
         return Ok(None);
     };

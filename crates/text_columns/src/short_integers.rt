@@ -93,8 +93,8 @@ fn negative(text: &[u8], from: usize) -> Option<ShortInteger>
     Some(ShortInteger { end, number })
 }
 
-/// The integer that a field is, where it has at most 18 digits.
-pub(crate) fn short_integer(text: &[u8], from: usize) -> Option<ShortInteger>
+// The integer that a field is, where it has at most 18 digits.
+fn short_integer(text: &[u8], from: usize) -> Option<ShortInteger>
     requires { from ≤ length text.now }
     ensures { IfSome result (IsShortInteger text.now from) }
 {

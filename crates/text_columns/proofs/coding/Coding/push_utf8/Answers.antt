@@ -1,4 +1,3 @@
-use Rattle.std.specs.Prelude.{not}
 use Rattle.std.proofs.Common.{◌≡◌, true, refl, rules, tests}
 use Rattle.text_columns.specs.inner.Kept.{has_texts}
 use Rattle.text_columns.specs.declared.coding.Coding.{Coding}
