@@ -14,8 +14,8 @@ use Rattle.columns.specs.Array.{Array, Layout, array, arrays_of, no_array, and_a
 use Rattle.columns.specs.Built.{built, built_kind, built_parts, fixed_items, first_cell, other_cells, validity_of, with_validity, index_bytes, integer_bytes, fixed_bytes, offsets_of, contents_of}
 use Rattle.columns.specs.Offsets.{width_of}
 use Rattle.text_columns.specs.declared.coding.Coding.{Coding}
-use Rattle.text_columns.specs.declared.column_values.Values.{Values}
-use Rattle.text_columns.specs.declared.column_values.Values.TheVariants.{Nulls, Booleans, Integers, Texts, Binaries, FixedBinaries}
+use Rattle.text_columns.specs.declared.column_values.ColumnValues.{ColumnValues}
+use Rattle.text_columns.specs.declared.column_values.ColumnValues.TheVariants.{Nulls, Booleans, Integers, Texts, Binaries, FixedBinaries}
 use Rattle.text_columns.specs.declared.builder.ColumnBuilder.{ColumnBuilder, Flat, List', FixedList', Struct}
 use Rattle.text_columns.specs.declared.builder.Names.{Names}
 use Rattle.text_columns.specs.declared.builder.ListOffsets.{ListOffsets}
@@ -37,12 +37,12 @@ with_is : (cells : List Cell) (valid : List Bool) (layout own : Layout) → vali
 with_is cells valid layout own is same =
     (λ j. array (length (is j)) (validity_of_bits (is j)) (same j)) ∙ (λ j. array (length-map cells is_there j) (validity_is cells j) own)
 
-kind_built : (kind : Kind) (values : Values) (cells : List Cell) (valid : List Bool) → IsOf kind values → Holds values cells → valid ≡ map is_there cells
+kind_built : (kind : Kind) (values : ColumnValues) (cells : List Cell) (valid : List Bool) → IsOf kind values → Holds values cells → valid ≡ map is_there cells
     → array (length valid) (validity_in (has_bitmap values) valid) (layout_of values) ≡ built_kind kind cells
 unfolding built_kind
 kind_built kind values cells valid h holds is = by kind values h holds
   where
-    by : (kind : Kind) (values : Values) → IsOf kind values → Holds values cells → array (length valid) (validity_in (has_bitmap values) valid) (layout_of values) ≡ built_kind kind cells
+    by : (kind : Kind) (values : ColumnValues) → IsOf kind values → Holds values cells → array (length valid) (validity_in (has_bitmap values) valid) (layout_of values) ≡ built_kind kind cells
     by nulls Nulls h holds = ap (λ (n : ℕ). array n [] null_layout) (ap length is ∙ length-map cells is_there)
     by booleans (Booleans bits) h holds = with_is cells valid (bit_layout (packed bits.items)) _ is (ap (λ (xs : List Bool). bit_layout (packed xs)) holds)
     by (integers bits signed) (Integers i bytes) h holds =
@@ -75,13 +75,13 @@ no_bitmap : (has : Bool) (valid : List Bool) → list_all (λ b. b) valid ≡ tr
 no_bitmap false valid h = refl
 no_bitmap true valid h = ap (λ (b : Bool). if b then [] else packed valid) h
 
-entries_built : (kind : Kind) (values : Values) (es : List Cell) (count : ℕ) → Takes kind es values → list_all (fits_kind kind) es ≡ true → count ≡ length es → entries_array values count ≡ built_kind kind es
+entries_built : (kind : Kind) (values : ColumnValues) (es : List Cell) (count : ℕ) → Takes kind es values → list_all (fits_kind kind) es ≡ true → count ≡ length es → entries_array values count ≡ built_kind kind es
 entries_built kind values es count t fit size =
     let valid : List Bool = map is_there es in
     let there = all_valid es (all_there kind es (own_flat kind values t.kind_is) fit) in
     (λ j. array ((size ∙ sym (length-map es is_there)) j) (sym (no_bitmap (has_bitmap values) valid there) j) (layout_of values)) ∙ kind_built kind values es valid t.kind_is t.holds refl
 
-coded_built : (index : Index) (kind : Kind) (cells : List Cell) (values : Values) (d : Coding) (valid : List Bool) → IsCoded index kind cells values d → valid ≡ map is_there cells
+coded_built : (index : Index) (kind : Kind) (cells : List Cell) (values : ColumnValues) (d : Coding) (valid : List Bool) → IsCoded index kind cells values d → valid ≡ map is_there cells
     → array (length valid) (validity_of_bits valid) (column_layout (Some d) values)
     ≡ with_validity cells (dictionary_layout (flat_map (index_bytes index (entries_of cells)) cells) (and_array (built_kind kind (entries_of cells)) no_array))
 coded_built index kind cells values d valid h is =

@@ -2,6 +2,7 @@
 use Rattle.std.specs.Prelude.{ℤ, if◌then◌else◌, Option, Some, None, Ok, Err, Result, IfOk, IfSome, OnOk, bytes_eq, is_some, ◌||◌, position, not}
 use Rattle.std.specs.List.{flat_map, list_all, list_any, position_from}
 use Rattle.std.specs.Ordering.{int_eq}
+use Rattle.std.specs.Str.{is_utf8}
 use Rattle.std.specs.Global.{Vec}
 use Rattle.std.proofs.Common.{◌≡◌, ℕ, ◌+◌, ◌*◌, ◌/◌, ◌≤◌, Bool, true, false, List, [], ◌∷◌, ◌++◌, length, map, refl, arith, ap, sym, subst, ◌∙◌, inl, inr, append-nil, length-append}
 use Rattle.std.proofs.lemmas.Bool.{and_from, and_parts, le-leb}
@@ -26,6 +27,7 @@ use Rattle.cells.specs.Fit.{date_bits, fits_kind, in_range}
 use Rattle.cells.specs.Integers.{integer_of, number_of}
 use Rattle.cells.specs.Typed.{typed_boolean, typed_integer}
 use Rattle.cells.specs.Nulls.{is_there}
+use Rattle.cells.specs.Weight.{kind_weight}
 use Rattle.cells.specs.laws.Entries.{entries_append}
 use Rattle.columns.specs.Built.{entry_index, fixed_bytes, index_bytes, integer_bytes, place_or_zero}
 use Rattle.columns.specs.laws.Integers.{number_back, number_fits, width_cases}
@@ -33,14 +35,14 @@ use Rattle.text_import.specs.Flat.{cell_of_text, boolean_cell, bytes_cell, fitti
 use Rattle.text_import.specs.declared.refusal.Refusal.{Refusal}
 use Rattle.text_import.specs.declared.refusal.Refusal.TheVariants.{FixedWidth, NotUtf8, OutOfRange}
 use Rattle.text_columns.specs.declared.coding.Coding.{Coding}
-use Rattle.text_columns.specs.declared.column_values.Values.{Values}
-use Rattle.text_columns.specs.declared.column_values.Values.TheVariants.{Nulls, Booleans, Integers, Texts, Binaries, FixedBinaries}
-use Rattle.text_columns.specs.inner.Kept.{Clears, Codes, ComesLast, Holds, HoldsCells, IsCoded, IsOf, Places, Takes, TakesCodedText, TakesField, TakesNull, TakesNullCell, TakesText, bit_key, first_key, index_type, key_list, key_of, value_bytes}
+use Rattle.text_columns.specs.declared.column_values.ColumnValues.{ColumnValues}
+use Rattle.text_columns.specs.declared.column_values.ColumnValues.TheVariants.{Nulls, Booleans, Integers, Texts, Binaries, FixedBinaries}
+use Rattle.text_columns.specs.inner.Kept.{Clears, Codes, ComesLast, Holds, HoldsCells, IsCoded, IsOf, PushesPlace, Takes, TakesCodedText, TakesField, TakesNull, TakesNullCell, TakesText, bit_key, first_key, has_texts, index_type, key_list, key_of, value_bytes}
 use Rattle.text_columns.proofs.Taken.{one_joined}
 
 -- ---- types without parts
 
-pub own_flat : (kind : Kind) (v : Values) → IsOf kind v → is_nested kind ≡ false
+pub own_flat : (kind : Kind) (v : ColumnValues) → IsOf kind v → is_nested kind ≡ false
 own_flat nulls v h = refl
 own_flat booleans v h = refl
 own_flat (integers bits signed) v h = refl
@@ -69,7 +71,7 @@ bit_width Sixteen = refl
 bit_width ThirtyTwo = refl
 bit_width SixtyFour = refl
 
-own_width : (kind : Kind) (v : Values) → IsOf kind v → HasWidth kind
+own_width : (kind : Kind) (v : ColumnValues) → IsOf kind v → HasWidth kind
 own_width (integers bits signed) (Integers i own) h = rw (← h.0) (bit_width i.width)
 own_width (integers bits signed) Nulls h = absurd h
 own_width (integers bits signed) (Booleans own) h = absurd h
@@ -210,11 +212,11 @@ same_entry (fixed_lists size item) a b flat w h k = absurd cc
 same_entry (structs columns) a b flat w h k = absurd cc
 
 -- the one cell that values are has their bytes
-pub value_key : (kind : Kind) (c : Cell) (v : Values) → Takes kind (c ∷ []) v → fits_kind kind c ≡ true → value_bytes v ≡ key_of kind c
+pub value_key : (kind : Kind) (c : Cell) (v : ColumnValues) → Takes kind (c ∷ []) v → fits_kind kind c ≡ true → value_bytes v ≡ key_of kind c
 unfolding fits_kind
 value_key kind c v t fits = by kind v t.kind_is t.holds fits
   where
-    by : (kind : Kind) (v : Values) → IsOf kind v → Holds v (c ∷ []) → fits_kind kind c ≡ true → value_bytes v ≡ key_of kind c
+    by : (kind : Kind) (v : ColumnValues) → IsOf kind v → Holds v (c ∷ []) → fits_kind kind c ≡ true → value_bytes v ≡ key_of kind c
     by booleans (Booleans bits) is holds f = ap first_key holds
     by (integers bits signed) (Integers i own) is holds f = holds ∙ append-nil _ ∙ ap (λ (n : ℕ). integer_bytes (n / 8) c) is.0
     by (dates unit) (Integers i own) is holds f = holds ∙ append-nil _ ∙ ap (λ (n : ℕ). integer_bytes (n / 8) c) is.0
@@ -352,7 +354,7 @@ all_stay index es more (c ∷ cells) =
 
 -- ---- columns
 
-coded_as : (index : Index) (kind : Kind) (cells es : List Cell) (values : Values) (d : Coding) → entries_of cells ≡ es → bits_of d.index.width ≡ index.bits → d.index.signed ≡ index.signed
+coded_as : (index : Index) (kind : Kind) (cells es : List Cell) (values : ColumnValues) (d : Coding) → entries_of cells ≡ es → bits_of d.index.width ≡ index.bits → d.index.signed ≡ index.signed
     → d.indices.items ≡ flat_map (index_bytes index es) cells → Takes kind es values → list_all (fits_kind kind) es ≡ true → key_list d.keys.keys ≡ map (key_of kind) es
     → is_within (entry_limit index) (length es) ≡ true → IsOf kind d.one → IsCoded index kind cells values d
 coded_as index kind cells es values d e bits signed indices entries fit keys few one = record {
@@ -370,14 +372,14 @@ within_none : (o : Option ℕ) → is_within o 0 ≡ true
 within_none None = refl
 within_none (Some m) = le-leb 0 m (omega arith)
 
-pub none_coded : (index : Index) (kind : Kind) (values : Values) (d : Coding) → bits_of d.index.width ≡ index.bits → d.index.signed ≡ index.signed → d.indices.items ≡ [] → Takes kind [] values
+pub none_coded : (index : Index) (kind : Kind) (values : ColumnValues) (d : Coding) → bits_of d.index.width ≡ index.bits → d.index.signed ≡ index.signed → d.indices.items ≡ [] → Takes kind [] values
     → d.keys.keys ≡ [] → Takes kind [] d.one → IsCoded index kind [] values d
 unfolding with_entries
 none_coded index kind values d bits signed indices entries keys one =
     coded_as index kind [] [] values d refl bits signed indices entries refl (ap key_list keys) (within_none (entry_limit index)) one.kind_is
 
 -- the buffers of the one value have another
-pub with_one : (index : Index) (kind : Kind) (cells : List Cell) (values : Values) (d : Coding) (one : Values) → IsCoded index kind cells values d → IsOf kind one
+pub with_one : (index : Index) (kind : Kind) (cells : List Cell) (values : ColumnValues) (d : Coding) (one : ColumnValues) → IsCoded index kind cells values d → IsOf kind one
     → IsCoded index kind cells values (record { index = d.index; indices = d.indices; keys = d.keys; one = one })
 with_one index kind cells values d one h is = record {
   bits = h.bits;
@@ -395,11 +397,11 @@ index_more : (index : Index) (width : BitWidth) (es cells : List Cell) (c : Cell
 index_more index width es cells c place old new bits is at pushed =
     one_joined (index_bytes index es) cells c old new is (pushed ∙ (λ j. old ++ little_bytes (bits j / 8) (sym at j)))
 
-pub plain_null : (old new : Values) → TakesNull old new → TakesNullCell old None new None
+pub plain_null : (old new : ColumnValues) → TakesNull old new → TakesNullCell old None new None
 plain_null old new takes None kind cells h = takes kind cells h
 plain_null old new takes (Some index) kind cells h = absurd h
 
-null_coded : (index : Index) (kind : Kind) (cells : List Cell) (values : Values) (d : Coding) (indices : Vec ℕ) → indices.items ≡ d.indices.items ++ little_bytes (bits_of d.index.width / 8) 0
+null_coded : (index : Index) (kind : Kind) (cells : List Cell) (values : ColumnValues) (d : Coding) (indices : Vec ℕ) → indices.items ≡ d.indices.items ++ little_bytes (bits_of d.index.width / 8) 0
     → IsCoded index kind cells values d → IsCoded index kind (cells ++ null ∷ []) values (record { index = d.index; indices = indices; keys = d.keys; one = d.one })
 null_coded index kind cells values d indices pushed h =
     let es = entries_of cells in
@@ -407,19 +409,19 @@ null_coded index kind cells values d indices pushed h =
     coded_as index kind (cells ++ null ∷ []) es values (record { index = d.index; indices = indices; keys = d.keys; one = d.one }) (entries_more cells null) h.bits h.signed
     (index_more index d.index.width es cells null 0 d.indices.items indices.items h.bits h.indices at pushed) h.entries h.fit h.keys h.few h.one
 
-pub coded_null : (values : Values) (d : Coding) (indices : Vec ℕ) → indices.items ≡ d.indices.items ++ little_bytes (bits_of d.index.width / 8) 0
+pub coded_null : (values : ColumnValues) (d : Coding) (indices : Vec ℕ) → indices.items ≡ d.indices.items ++ little_bytes (bits_of d.index.width / 8) 0
     → TakesNullCell values (Some d) values (Some (record { index = d.index; indices = indices; keys = d.keys; one = d.one }))
 coded_null values d indices pushed None kind cells h = absurd h
 coded_null values d indices pushed (Some index) kind cells h = null_coded index kind cells values d indices pushed h
 
 -- ---- one more value
 
-found_at : (index : Index) (kind : Kind) (cells : List Cell) (c : Cell) (values : Values) (d : Coding) → IsCoded index kind cells values d → fits_kind kind c ≡ true
+found_at : (index : Index) (kind : Kind) (cells : List Cell) (c : Cell) (values : ColumnValues) (d : Coding) → IsCoded index kind cells values d → fits_kind kind c ≡ true
     → position (is_entry c) (entries_of cells) ≡ position (bytes_eq (key_of kind c)) (key_list d.keys.keys)
 found_at index kind cells c values d h fits =
     keys_at kind c (entries_of cells) (own_flat kind d.one h.one) (own_width kind d.one h.one) fits h.fit ∙ ap (position (bytes_eq (key_of kind c))) (sym h.keys)
 
-stood_coded : (index : Index) (kind : Kind) (cells : List Cell) (c : Cell) (values : Values) (d : Coding) (indices : Vec ℕ) (place : ℕ) → IsCoded index kind cells values d
+stood_coded : (index : Index) (kind : Kind) (cells : List Cell) (c : Cell) (values : ColumnValues) (d : Coding) (indices : Vec ℕ) (place : ℕ) → IsCoded index kind cells values d
     → fits_kind kind c ≡ true → position (bytes_eq (key_of kind c)) (key_list d.keys.keys) ≡ Some place → indices.items ≡ d.indices.items ++ little_bytes (bits_of d.index.width / 8) place
     → IsCoded index kind (cells ++ c ∷ []) values (record { index = d.index; indices = indices; keys = d.keys; one = d.one })
 stood_coded index kind cells c values d indices place h fits found pushed =
@@ -430,7 +432,7 @@ stood_coded index kind cells c values d indices place h fits found pushed =
     coded_as index kind (cells ++ c ∷ []) es values (record { index = d.index; indices = indices; keys = d.keys; one = d.one }) (entries_more cells c ∙ with_seen es c value.own among) h.bits h.signed
     (index_more index d.index.width es cells c place d.indices.items indices.items h.bits h.indices (ap place_or_zero here) pushed) h.entries h.fit h.keys h.few h.one
 
-last_coded : (index : Index) (kind : Kind) (cells : List Cell) (c : Cell) (values values2 : Values) (d new : Coding) (place : ℕ) → IsCoded index kind cells values d → fits_kind kind c ≡ true
+last_coded : (index : Index) (kind : Kind) (cells : List Cell) (c : Cell) (values values2 : ColumnValues) (d new : Coding) (place : ℕ) → IsCoded index kind cells values d → fits_kind kind c ≡ true
     → ComesLast d.index (key_of kind c) place d.keys.keys new.keys.keys values values2 → new.index ≡ d.index → new.one ≡ d.one
     → new.indices.items ≡ d.indices.items ++ little_bytes (bits_of d.index.width / 8) place → IsCoded index kind (cells ++ c ∷ []) values2 new
 last_coded index kind cells c values values2 d new place h fits last same one pushed =
@@ -452,26 +454,55 @@ last_coded index kind cells c values values2 d new place h fits last same one pu
     (list_all-append (fits_kind kind) es (c ∷ []) ∙ and_from _ _ h.fit (and_from _ _ fits refl))
     (last.more ∙ ap (λ (xs : List (List ℕ)). xs ++ key_of kind c ∷ []) h.keys ∙ sym (map-append (key_of kind) es (c ∷ [])))
     ((λ j. is_within (entry_limit (sym type j)) (sym size j)) ∙ last.room)
-    (subst (λ (v : Values). IsOf kind v) (sym one) h.one)
+    (subst (λ (v : ColumnValues). IsOf kind v) (sym one) h.one)
 
-pub value_coded : (old new : Coding) (values values2 : Values) (place : ℕ) → Places old.index (value_bytes old.one) place old.keys.keys new.keys.keys values values2 → new.index ≡ old.index
-    → new.one ≡ old.one → new.indices.items ≡ old.indices.items ++ little_bytes (bits_of old.index.width / 8) place → Codes old values new values2
-value_coded old new values values2 place placed same one pushed index kind cells c h t fits = elim placed [
+key_coded : (key : List ℕ) (old new : Coding) (values values2 : ColumnValues) → PushesPlace old.index key old.indices.items new.indices.items old.keys.keys new.keys.keys values values2
+    → new.index ≡ old.index → new.one ≡ old.one → (index : Index) (kind : Kind) (cells : List Cell) (c : Cell) → IsCoded index kind cells values old → key ≡ key_of kind c → fits_kind kind c ≡ true
+    → IsCoded index kind (cells ++ c ∷ []) values2 new
+key_coded key old new values values2 p same one index kind cells c h is fits = elim p.placed [
   | inl stood ↦
-      let key = value_key kind c old.one t fits in
-      let found = rw key at stood.found in
-      let made = stood_coded index kind cells c values old new.indices place h fits found pushed in
+      let found = rw is at stood.found in
+      let made = stood_coded index kind cells c values old new.indices p.place h fits found p.more in
       coded_as index kind (cells ++ c ∷ []) (entries_of (cells ++ c ∷ [])) values2 new refl (ap (λ (i : IntegerType). bits_of i.width) same ∙ h.bits) (ap (λ (i : IntegerType). i.signed) same ∙ h.signed)
       made.indices
-      (subst (λ (v : Values). Takes kind (entries_of (cells ++ c ∷ [])) v) (sym stood.still) made.entries)
+      (subst (λ (v : ColumnValues). Takes kind (entries_of (cells ++ c ∷ [])) v) (sym stood.still) made.entries)
       made.fit
       (ap key_list stood.same ∙ made.keys)
       made.few
-      (subst (λ (v : Values). IsOf kind v) (sym one) h.one)
+      (subst (λ (v : ColumnValues). IsOf kind v) (sym one) h.one)
   | inr last ↦
-      let key = value_key kind c old.one t fits in
-      last_coded index kind cells c values values2 old new place h fits (subst (λ (k : List ℕ). ComesLast old.index k place old.keys.keys new.keys.keys values values2) key last) same one pushed
+      last_coded index kind cells c values values2 old new p.place h fits (subst (λ (k : List ℕ). ComesLast old.index k p.place old.keys.keys new.keys.keys values values2) is last) same one p.more
 ]
+
+pub value_coded : (old new : Coding) (values values2 : ColumnValues) → PushesPlace old.index (value_bytes old.one) old.indices.items new.indices.items old.keys.keys new.keys.keys values values2
+    → new.index ≡ old.index → new.one ≡ old.one → Codes old values new values2
+value_coded old new values values2 p same one index kind cells c h t fits =
+    key_coded (value_bytes old.one) old new values values2 p same one index kind cells c h (value_key kind c old.one t fits) fits
+
+-- a string of a type of strings
+record IsString (kind : Kind) (t : List ℕ) : Type 0 where
+  read : cell_of_text kind t ≡ Ok (text t)
+  weighs : kind_weight kind (text t) ≡ 1 + length t
+  key : t ≡ key_of kind (text t)
+  fits : fits_kind kind (text t) ≡ true
+
+string_is : (kind : Kind) (values : ColumnValues) (t : List ℕ) → has_texts values ≡ true → IsOf kind values → is_utf8 t ≡ true → IsString kind t
+unfolding cell_of_text kind_weight fits_kind
+string_is texts (Texts width offsets contents) t strings is utf8 = record { read = rw utf8 refl; weighs = refl; key = refl; fits = utf8 }
+string_is large_texts (Texts width offsets contents) t strings is utf8 = record { read = rw utf8 refl; weighs = refl; key = refl; fits = utf8 }
+string_is _ (Texts width offsets contents) t strings is utf8 = absurd is
+string_is _ Nulls t strings is utf8 = absurd cc
+string_is _ (Booleans bits) t strings is utf8 = absurd cc
+string_is _ (Integers i own) t strings is utf8 = absurd cc
+string_is _ (Binaries width offsets contents) t strings is utf8 = absurd cc
+string_is _ (FixedBinaries width own) t strings is utf8 = absurd cc
+
+pub utf8_coded : (t : List ℕ) (old new : Coding) (values values2 : ColumnValues) → has_texts values ≡ true → is_utf8 t ≡ true
+    → PushesPlace old.index t old.indices.items new.indices.items old.keys.keys new.keys.keys values values2 → new.index ≡ old.index → new.one ≡ old.one
+    → TakesCodedText t (1 + length t) old values new values2
+utf8_coded t old new values values2 strings utf8 p same one index kind cells h =
+    let own = string_is kind values t strings h.entries.kind_is utf8 in
+    record { taken = text t; read = own.read; there = refl; weighs = own.weighs; holds = key_coded t old new values values2 p same one index kind cells (text t) h own.key own.fits }
 
 -- ---- texts
 
@@ -513,7 +544,7 @@ text_fits (fixed_lists size item) t x flat h = absurd cc
 text_fits (structs columns) t x flat h = absurd cc
 
 -- the buffers of the one value were cleared and then have the value that is coded
-pub text_coded : (t : List ℕ) (heavy : ℕ) (old new : Coding) (values values2 : Values) (cleared one : Values) → Clears old.one cleared → TakesText t heavy cleared one
+pub text_coded : (t : List ℕ) (heavy : ℕ) (old new : Coding) (values values2 : ColumnValues) (cleared one : ColumnValues) → Clears old.one cleared → TakesText t heavy cleared one
     → Codes (record { index = old.index; indices = old.indices; keys = old.keys; one = one }) values new values2 → TakesCodedText t heavy old values new values2
 text_coded t heavy old new values values2 cleared one clears takes codes index kind cells h =
     let own = takes kind [] (clears kind h.one) in
@@ -526,17 +557,17 @@ text_coded t heavy old new values values2 cleared one clears takes codes index k
       holds = codes index kind cells own.taken (with_one index kind cells values old one h own.takes.kind_is) own.takes fits;
     }
 
-pub plain_text : (t : List ℕ) (heavy : ℕ) (old new : Values) → TakesText t heavy old new → TakesField t heavy old None new None
+pub plain_text : (t : List ℕ) (heavy : ℕ) (old new : ColumnValues) → TakesText t heavy old new → TakesField t heavy old None new None
 plain_text t heavy old new takes None kind cells h = (let own = takes kind cells h in record { taken = own.taken; read = own.read; there = own.there; weighs = own.weighs; holds = own.takes })
 plain_text t heavy old new takes (Some index) kind cells h = absurd h
 
-pub coded_text : (t : List ℕ) (heavy : ℕ) (old new : Coding) (values values2 : Values) → TakesCodedText t heavy old values new values2 → TakesField t heavy values (Some old) values2 (Some new)
+pub coded_text : (t : List ℕ) (heavy : ℕ) (old new : Coding) (values values2 : ColumnValues) → TakesCodedText t heavy old values new values2 → TakesField t heavy values (Some old) values2 (Some new)
 coded_text t heavy old new values values2 takes None kind cells h = absurd h
 coded_text t heavy old new values values2 takes (Some index) kind cells h = takes index kind cells h
 
 -- ---- what columns hold is of their type
 
-pub own_kind : (dictionary : Option Index) (kind : Kind) (cells : List Cell) (values : Values) (o : Option Coding) → HoldsCells dictionary kind cells values o → IsOf kind values
+pub own_kind : (dictionary : Option Index) (kind : Kind) (cells : List Cell) (values : ColumnValues) (o : Option Coding) → HoldsCells dictionary kind cells values o → IsOf kind values
 own_kind None kind cells values None h = h.kind_is
 own_kind (Some index) kind cells values (Some d) h = h.entries.kind_is
 own_kind None kind cells values (Some d) h = absurd h
@@ -544,22 +575,22 @@ own_kind (Some index) kind cells values None h = absurd h
 
 -- ---- what a call tells, where it appended the cell
 
-pub plain_null_step : {E : Type 0} (old new : Values) (r : Result (Unit {0}) E) → OnOk r (TakesNull old new) → OnOk r (TakesNullCell old None new None)
+pub plain_null_step : {E : Type 0} (old new : ColumnValues) (r : Result (Unit {0}) E) → OnOk r (TakesNull old new) → OnOk r (TakesNullCell old None new None)
 plain_null_step old new (Err e) h = tt
 plain_null_step old new (Ok u) h = plain_null old new h
 
-pub coded_null_step : {E : Type 0} (values : Values) (d : Coding) (indices : Vec ℕ) (r : Result (Unit {0}) E) → OnOk r (indices.items ≡ d.indices.items ++ little_bytes (bits_of d.index.width / 8) 0)
+pub coded_null_step : {E : Type 0} (values : ColumnValues) (d : Coding) (indices : Vec ℕ) (r : Result (Unit {0}) E) → OnOk r (indices.items ≡ d.indices.items ++ little_bytes (bits_of d.index.width / 8) 0)
     → OnOk r (TakesNullCell values (Some d) values (Some (record { index = d.index; indices = indices; keys = d.keys; one = d.one })))
 coded_null_step values d indices (Err e) h = tt
 coded_null_step values d indices (Ok u) h = coded_null values d indices h
 
-pub plain_text_step : {E : Type 0} (t : List ℕ) (old new : Values) (r : Result (Option ℕ) E) → IfOk r (λ taken. IfSome taken (λ heavy. TakesText t heavy old new))
+pub plain_text_step : {E : Type 0} (t : List ℕ) (old new : ColumnValues) (r : Result (Option ℕ) E) → IfOk r (λ taken. IfSome taken (λ heavy. TakesText t heavy old new))
     → IfOk r (λ taken. IfSome taken (λ heavy. TakesField t heavy old None new None))
 plain_text_step t old new (Err e) h = tt
 plain_text_step t old new (Ok None) h = tt
 plain_text_step t old new (Ok (Some heavy)) h = plain_text t heavy old new h
 
-pub coded_text_step : {E : Type 0} (t : List ℕ) (old new : Coding) (values values2 : Values) (r : Result (Option ℕ) E)
+pub coded_text_step : {E : Type 0} (t : List ℕ) (old new : Coding) (values values2 : ColumnValues) (r : Result (Option ℕ) E)
     → IfOk r (λ taken. IfSome taken (λ heavy. TakesCodedText t heavy old values new values2)) → IfOk r (λ taken. IfSome taken (λ heavy. TakesField t heavy values (Some old) values2 (Some new)))
 coded_text_step t old new values values2 (Err e) h = tt
 coded_text_step t old new values values2 (Ok None) h = tt

@@ -17,7 +17,7 @@ use Rattle.cells.specs.laws.Unlimited.{from_unlimited}
 use Rattle.text_columns.specs.declared.builder.ColumnBuilder.{ColumnBuilder, Flat, List', FixedList', Struct', out-ColumnBuilder}
 use Rattle.columns.specs.Built.{fixed_items}
 use Rattle.text_columns.specs.declared.coding.Coding.{Coding}
-use Rattle.text_columns.specs.declared.column_values.Values.{Values}
+use Rattle.text_columns.specs.declared.column_values.ColumnValues.{ColumnValues}
 use Rattle.text_columns.specs.inner.Kept.{AreUnlimited, HoldsCells, KeepAll, Keeps, KeepsBelow, column_at, column_list}
 use Rattle.text_columns.proofs.StructFields.{fields_in, fields_kept, there_too}
 use Rattle.text_columns.proofs.Coded.{own_flat, own_kind}
@@ -108,7 +108,7 @@ same_few (column name nullable kind (Some index) pairs) cells others (Flat b) k 
     let flat = own_flat kind b.values (own_kind (Some index) kind cells b.values b.coding k.2) in
     few_in nullable index kind others (none_below kind others flat) (ap (λ (xs : List Cell). is_within (entry_limit index) (length xs)) e ∙ few_of index kind cells b.values b.coding k.2)
   where
-    few_of : (index : Index) (kind : Kind) (cells : List Cell) (values : Values) (o : Option Coding) → HoldsCells (Some index) kind cells values o
+    few_of : (index : Index) (kind : Kind) (cells : List Cell) (values : ColumnValues) (o : Option Coding) → HoldsCells (Some index) kind cells values o
         → is_within (entry_limit index) (length (entries_of cells)) ≡ true
     few_of index kind cells values None h = absurd h
     few_of index kind cells values (Some d) h = h.few
@@ -132,7 +132,7 @@ one_few (column name nullable kind (Some index) pairs) cells others (Flat b) k l
     let flat = own_flat kind b.values (own_kind (Some index) kind cells b.values b.coding k.2) in
     few_in nullable index kind others (none_below kind others flat) (few_of index kind cells b.values b.coding k.2)
   where
-    few_of : (index : Index) (kind : Kind) (cells : List Cell) (values : Values) (o : Option Coding) → HoldsCells (Some index) kind cells values o
+    few_of : (index : Index) (kind : Kind) (cells : List Cell) (values : ColumnValues) (o : Option Coding) → HoldsCells (Some index) kind cells values o
         → is_within (entry_limit index) (length (entries_of others)) ≡ true
     few_of index kind cells values None h = absurd h
     few_of index kind cells values (Some d) h =

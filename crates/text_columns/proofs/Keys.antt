@@ -10,7 +10,7 @@ use Rattle.cells.specs.Cell.{Cell}
 use Rattle.columns.specs.Built.{contents_of, fixed_bytes, integer_bytes, is_set}
 use Rattle.columns.specs.Offsets.{width_of}
 use Rattle.columns.specs.declared.numbers.OffsetWidth.{OffsetWidth}
-use Rattle.text_columns.specs.declared.column_values.Values.TheVariants.{Nulls, Booleans, Integers, Texts, Binaries, FixedBinaries}
+use Rattle.text_columns.specs.declared.column_values.ColumnValues.TheVariants.{Nulls, Booleans, Integers, Texts, Binaries, FixedBinaries}
 use Rattle.text_columns.specs.inner.Kept.{Clears, HoldContents, TakesKey, bit_key}
 use Rattle.text_columns.proofs.Taken.{contents_hold, one_joined, one_mapped}
 

@@ -23,8 +23,8 @@ use Rattle.columns.specs.declared.span.Span.{Span}
 use Rattle.columns.specs.laws.Grown.{array_grown}
 use Rattle.columns.specs.laws.Longer.{within_more}
 use Rattle.text_columns.specs.declared.coding.Coding.{Coding}
-use Rattle.text_columns.specs.declared.column_values.Values.{Values}
-use Rattle.text_columns.specs.declared.column_values.Values.TheVariants.{Nulls, Booleans, Integers, Texts, Binaries, FixedBinaries}
+use Rattle.text_columns.specs.declared.column_values.ColumnValues.{ColumnValues}
+use Rattle.text_columns.specs.declared.column_values.ColumnValues.TheVariants.{Nulls, Booleans, Integers, Texts, Binaries, FixedBinaries}
 use Rattle.text_columns.specs.declared.builder.ColumnBuilder.{ColumnBuilder, Flat, List', FixedList', Struct}
 use Rattle.text_columns.specs.declared.builder.Names.{Names}
 use Rattle.text_columns.specs.declared.builder.ListOffsets.{ListOffsets}
@@ -159,7 +159,7 @@ part_stands size more before own le part h =
     (ap (list_all (is_within_by more (λ part. true))) same ∙ stay_within size more (take part.count (arrays_numbered before part.number)) le p.1)
 
 -- the array of entries in a dictionary of its own
-pub entries_placed : (values : Values) (count : ℕ) (old new : List ℕ) (before behind : List Dictionary) (layout : PlacedLayout) (d : Dictionary) (part : DictionaryPart) → IsLaid values old new layout
+pub entries_placed : (values : ColumnValues) (count : ℕ) (old new : List ℕ) (before behind : List Dictionary) (layout : PlacedLayout) (d : Dictionary) (part : DictionaryPart) → IsLaid values old new layout
     → d.arrays.items ≡ roll-PlacedArray (record { slots = count; validity = record { start = 0; len = 0 }; layout = layout }) ∷ [] → behind ≡ before ++ d ∷ [] → part.number ≡ length before
     → part.count ≡ 1 → AreEntriesPlaced values count old new before behind part
 entries_placed values count old new before behind layout d part l one longer number size =
@@ -184,7 +184,7 @@ entries_placed values count old new before behind layout d part l one longer num
     }
 
 -- indices, and the entries that they name
-pub coded_laid : (values : Values) (d : Coding) (old mid new : List ℕ) (before behind : List Dictionary) (span : Span) (part : DictionaryPart) → IsAppended old d.indices.items mid span
+pub coded_laid : (values : ColumnValues) (d : Coding) (old mid new : List ℕ) (before behind : List Dictionary) (span : Span) (part : DictionaryPart) → IsAppended old d.indices.items mid span
     → AreEntriesPlaced values (length d.keys.keys) mid new before behind part → IsPlacedAs (column_layout (Some d) values) old new before behind (layouts.Dictionary span part)
 coded_laid values d old mid new before behind span part a e =
     let front : within new span ≡ d.indices.items = ap (λ (xs : List ℕ). within xs span) e.whole ∙ a.stands e.more in
@@ -198,7 +198,7 @@ coded_laid values d old mid new before behind span part a e =
       ends = codes_within (length new) (stands_within (length new) behind) span part ∙ and_from _ _ inner e.stands;
     }
 
-pub plain_laid : (values : Values) (old new : List ℕ) (before : List Dictionary) (layout : PlacedLayout) → IsLaid values old new layout → IsPlacedAs (layout_of values) old new before before layout
+pub plain_laid : (values : ColumnValues) (old new : List ℕ) (before : List Dictionary) (layout : PlacedLayout) → IsLaid values old new layout → IsPlacedAs (layout_of values) old new before before layout
 plain_laid values old new before layout l = record {
   more = l.more;
   whole = l.whole;
@@ -208,7 +208,7 @@ plain_laid values old new before layout l = record {
   ends = l.ends (stands_within (length new) before);
 }
 
-pub plain_step : {E : Type 0} (values : Values) (old new : List ℕ) (before : List Dictionary) (r : Result PlacedLayout E) → IfOk r (λ layout. IsLaid values old new layout)
+pub plain_step : {E : Type 0} (values : ColumnValues) (old new : List ℕ) (before : List Dictionary) (r : Result PlacedLayout E) → IfOk r (λ layout. IsLaid values old new layout)
     → IfOk r (λ layout. IsPlacedAs (layout_of values) old new before before layout)
 plain_step values old new before (Err e) h = tt
 plain_step values old new before (Ok layout) h = plain_laid values old new before layout h

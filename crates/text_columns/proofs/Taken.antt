@@ -20,8 +20,8 @@ use Rattle.columns.specs.Built.{contents_of, fixed_bytes, integer_bytes, is_set,
 use Rattle.columns.specs.Offsets.{width_of}
 use Rattle.columns.specs.declared.numbers.OffsetWidth.{OffsetWidth}
 use Rattle.text_import.specs.Flat.{bytes_cell, cell_of_text, field_cell, number_cell}
-use Rattle.text_columns.specs.declared.column_values.Values.{Values}
-use Rattle.text_columns.specs.declared.column_values.Values.TheVariants.{Nulls, Booleans, Integers, Texts, Binaries, FixedBinaries}
+use Rattle.text_columns.specs.declared.column_values.ColumnValues.{ColumnValues}
+use Rattle.text_columns.specs.declared.column_values.ColumnValues.TheVariants.{Nulls, Booleans, Integers, Texts, Binaries, FixedBinaries}
 use Rattle.text_columns.specs.declared.builder.ColumnBuilder.{Flat}
 use Rattle.text_columns.specs.declared.flat.FlatBuilder.{FlatBuilder}
 use Rattle.text_columns.specs.inner.Kept.{AppendsBoolean, AppendsBytes, AppendsFixed, AppendsSpelled, HoldContents, Holds, IsOf, KeepsField, TakesField, TakesNull, TakesText, null_heavy}
@@ -101,7 +101,7 @@ fixed_null width old new e = λ kind cells t. record {
 pub nulls_null : TakesNull Nulls Nulls
 nulls_null = λ kind cells t. record { kind_is = t.kind_is; holds = tt }
 
-pub null_weighs : (kind : Kind) (values : Values) → IsOf kind values → kind_weight kind null ≡ null_heavy values
+pub null_weighs : (kind : Kind) (values : ColumnValues) → IsOf kind values → kind_weight kind null ≡ null_heavy values
 unfolding kind_weight
 null_weighs nulls Nulls h = refl
 null_weighs (fixed_binaries size) (FixedBinaries width own) h = ap (λ (n : ℕ). 1 + n) (sym h)

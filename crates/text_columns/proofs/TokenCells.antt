@@ -4,7 +4,7 @@ use Rattle.std.specs.Global.{Vec}
 use Rattle.std.specs.Str.{is_utf8}
 use Rattle.byteorder.specs.Endian.{little_bytes}
 use Rattle.columns.specs.Offsets.{width_of}
-use Rattle.std.proofs.Common.{◌≡◌, ℕ, ◌+◌, ◌/◌, Bool, true, false, List, [], ◌∷◌, ◌++◌, length, refl, ap, sym, ◌∙◌}
+use Rattle.std.proofs.Common.{◌≡◌, ℕ, ◌+◌, ◌/◌, Bool, true, false, List, [], ◌∷◌, ◌++◌, length, refl, ap, sym, subst, ◌∙◌}
 use Rattle.hex.specs.Hex.{decode_of}
 use Rattle.json.specs.Token.{Token}
 use Rattle.json.specs.Token as tokens
@@ -23,16 +23,16 @@ use Rattle.cells.specs.Nulls.{is_there}
 use Rattle.cells.specs.Weight.{kind_weight, weight}
 use Rattle.columns.specs.Built.{fixed_bytes, integer_bytes, is_set}
 use Rattle.columns.specs.declared.numbers.OffsetWidth.{OffsetWidth}
-use Rattle.text_import.specs.Flat.{bytes_cell}
+use Rattle.text_import.specs.Flat.{bytes_cell, cell_of_text}
 use Rattle.text_import.specs.Objects.{boolean_in, bytes_in, cell_in, kind_in, null_or_in, number_in, text_in}
 use Rattle.text_import.specs.declared.refusal.Refusal.{Refusal}
 use Rattle.text_import.specs.declared.refusal.Refusal.TheVariants.{NotUtf8}
 use Rattle.text_columns.specs.declared.coding.Coding.{Coding}
-use Rattle.text_columns.specs.declared.column_values.Values.{Values}
-use Rattle.text_columns.specs.declared.column_values.Values.TheVariants.{Booleans, Integers, Texts, Binaries, FixedBinaries}
+use Rattle.text_columns.specs.declared.column_values.ColumnValues.{ColumnValues}
+use Rattle.text_columns.specs.declared.column_values.ColumnValues.TheVariants.{Nulls, Booleans, Integers, Texts, Binaries, FixedBinaries}
 use Rattle.text_columns.specs.declared.builder.ColumnBuilder.{ColumnBuilder, Flat}
 use Rattle.text_columns.specs.declared.flat.FlatBuilder.{FlatBuilder}
-use Rattle.text_columns.specs.inner.Kept.{AppendsBytes, AppendsFixed, AppendsInteger, Clears, Codes, HasCell, Holds, HoldsCells, IsCoded, Keeps, TakesNullCell, null_heavy}
+use Rattle.text_columns.specs.inner.Kept.{AppendsBytes, AppendsFixed, AppendsInteger, Clears, Codes, HasCell, Holds, HoldsCells, IsCoded, IsOf, Keeps, TakesCodedText, TakesNullCell, has_texts, null_heavy}
 use Rattle.text_columns.specs.inner.Lines.{AppendsBinary, AppendsBit, AppendsFixedBinary, AppendsNumber, AppendsString, Completes, KeepsNull, KeepsToken, KeepsValue, TakesCellToken, TakesCodedToken, TakesNumber, TakesToken, TakesValue, integer_in, token_data}
 use Rattle.text_columns.proofs.Coded.{bytes_fit_kind, number_fits_kind, fitting_fits, own_flat, own_kind, with_one}
 use Rattle.text_columns.proofs.Taken.{contents_hold, dates_read, null_weighs, one_joined, one_mapped, times_read, width_fits}
@@ -284,7 +284,7 @@ value_fits (fixed_lists size item) d x flat h = absurd cc
 value_fits (structs columns) d x flat h = absurd cc
 
 -- the buffers of the one value were cleared and then have the value that is coded
-pub token_coded : (t : Token) (heavy : ℕ) (old new : Coding) (values values2 : Values) (cleared one : Values) → Clears old.one cleared → TakesToken t heavy cleared one
+pub token_coded : (t : Token) (heavy : ℕ) (old new : Coding) (values values2 : ColumnValues) (cleared one : ColumnValues) → Clears old.one cleared → TakesToken t heavy cleared one
     → Codes (record { index = old.index; indices = old.indices; keys = old.keys; one = one }) values new values2 → TakesCodedToken t heavy old values new values2
 token_coded t heavy old new values values2 cleared one clears taken codes = record {
   data_is = taken.data_is;
@@ -302,31 +302,55 @@ token_coded t heavy old new values values2 cleared one clears taken codes = reco
       };
 }
 
-plain_taken : (d : Data) (heavy : ℕ) (old new : Values) → TakesValue d heavy old new → (dictionary : Option Index) (kind : Kind) (so : List Cell) → HoldsCells dictionary kind so old None
+-- the cell of a string is that of its text
+string_read : (kind : Kind) (values : ColumnValues) (s : List ℕ) → has_texts values ≡ true → IsOf kind values → kind_in kind (json.string s) ≡ cell_of_text kind s
+unfolding kind_in cell_of_text fits_kind
+string_read texts (Texts width offsets contents) s strings is = refl
+string_read large_texts (Texts width offsets contents) s strings is = refl
+string_read _ (Texts width offsets contents) s strings is = absurd is
+string_read _ Nulls s strings is = absurd cc
+string_read _ (Booleans bits) s strings is = absurd cc
+string_read _ (Integers i own) s strings is = absurd cc
+string_read _ (Binaries width offsets contents) s strings is = absurd cc
+string_read _ (FixedBinaries width own) s strings is = absurd cc
+
+pub coded_string_step : {E : Type 0} (t : Token) (s : List ℕ) (old new : Coding) (values values2 : ColumnValues) (r : Result (Option ℕ) E) → t ≡ tokens.string s → has_texts values ≡ true
+    → IfOk r (λ taken. IfSome taken (λ heavy. TakesCodedText s heavy old values new values2)) → IfOk r (λ taken. IfSome taken (λ heavy. TakesCodedToken t heavy old values new values2))
+coded_string_step t s old new values values2 (Err e) is strings h = tt
+coded_string_step t s old new values values2 (Ok None) is strings h = tt
+coded_string_step t s old new values values2 (Ok (Some heavy)) is strings h = record {
+  data_is = json.string s;
+  read = ap token_data is;
+  there = λ e. cc;
+  takes = λ index kind so k.
+      subst (λ (o : Result Cell Refusal). HasCell (Some index) kind o heavy so values2 (Some new)) (sym (string_read kind values s strings k.entries.kind_is)) (h index kind so k);
+}
+
+plain_taken : (d : Data) (heavy : ℕ) (old new : ColumnValues) → TakesValue d heavy old new → (dictionary : Option Index) (kind : Kind) (so : List Cell) → HoldsCells dictionary kind so old None
     → HasCell dictionary kind (kind_in kind d) heavy so new None
 plain_taken d heavy old new takes None kind so h = (let own = takes kind so h in record { taken = own.taken; read = own.read; there = own.there; weighs = own.weighs; holds = own.takes })
 plain_taken d heavy old new takes (Some index) kind so h = absurd h
 
-pub plain_token : (t : Token) (heavy : ℕ) (old new : Values) → TakesToken t heavy old new → TakesCellToken t heavy old None new None
+pub plain_token : (t : Token) (heavy : ℕ) (old new : ColumnValues) → TakesToken t heavy old new → TakesCellToken t heavy old None new None
 plain_token t heavy old new taken = record { data_is = taken.data_is; read = taken.read; there = taken.there; takes = plain_taken taken.data_is heavy old new taken.takes }
 
-coded_taken : (d : Data) (heavy : ℕ) (old new : Coding) (values values2 : Values)
+coded_taken : (d : Data) (heavy : ℕ) (old new : Coding) (values values2 : ColumnValues)
     → ((index : Index) (kind : Kind) (so : List Cell) → IsCoded index kind so values old → HasCell (Some index) kind (kind_in kind d) heavy so values2 (Some new))
     → (dictionary : Option Index) (kind : Kind) (so : List Cell) → HoldsCells dictionary kind so values (Some old) → HasCell dictionary kind (kind_in kind d) heavy so values2 (Some new)
 coded_taken d heavy old new values values2 takes None kind so h = absurd h
 coded_taken d heavy old new values values2 takes (Some index) kind so h = takes index kind so h
 
-pub coded_token : (t : Token) (heavy : ℕ) (old new : Coding) (values values2 : Values) → TakesCodedToken t heavy old values new values2 → TakesCellToken t heavy values (Some old) values2 (Some new)
+pub coded_token : (t : Token) (heavy : ℕ) (old new : Coding) (values values2 : ColumnValues) → TakesCodedToken t heavy old values new values2 → TakesCellToken t heavy values (Some old) values2 (Some new)
 coded_token t heavy old new values values2 taken =
     record { data_is = taken.data_is; read = taken.read; there = taken.there; takes = coded_taken taken.data_is heavy old new values values2 taken.takes }
 
-pub plain_token_step : {E : Type 0} (t : Token) (old new : Values) (r : Result (Option ℕ) E) → IfOk r (λ taken. IfSome taken (λ heavy. TakesToken t heavy old new))
+pub plain_token_step : {E : Type 0} (t : Token) (old new : ColumnValues) (r : Result (Option ℕ) E) → IfOk r (λ taken. IfSome taken (λ heavy. TakesToken t heavy old new))
     → IfOk r (λ taken. IfSome taken (λ heavy. TakesCellToken t heavy old None new None))
 plain_token_step t old new (Err e) h = tt
 plain_token_step t old new (Ok None) h = tt
 plain_token_step t old new (Ok (Some heavy)) h = plain_token t heavy old new h
 
-pub coded_token_step : {E : Type 0} (t : Token) (old new : Coding) (values values2 : Values) (r : Result (Option ℕ) E)
+pub coded_token_step : {E : Type 0} (t : Token) (old new : Coding) (values values2 : ColumnValues) (r : Result (Option ℕ) E)
     → IfOk r (λ taken. IfSome taken (λ heavy. TakesCodedToken t heavy old values new values2)) → IfOk r (λ taken. IfSome taken (λ heavy. TakesCellToken t heavy values (Some old) values2 (Some new)))
 coded_token_step t old new values values2 (Err e) h = tt
 coded_token_step t old new values values2 (Ok None) h = tt

@@ -7,7 +7,6 @@ ghost use Rattle.text_columns.specs.inner.Plain.{IsTextAt};
 
 use crate::builder::ColumnBuilder;
 use crate::coding;
-use crate::column_values::Values;
 use crate::flat::FlatBuilder;
 use crate::plain::ends_field;
 use std::alloc::AllocError;
@@ -39,15 +38,9 @@ pub(crate) fn text_field(text: &[u8], from: usize) -> TextField
 }
 
 impl FlatBuilder {
-    // Whether the column has strings without a dictionary.
+    // Whether the column has strings, or a dictionary of strings.
     fn has_texts(&self) -> bool {
-        if self.coding.is_some() {
-            return false;
-        }
-        match &self.values {
-            Values::Texts(_, _, _) => true,
-            _ => false,
-        }
+        self.values.has_texts()
     }
 
     // Appends the cell of a field that is UTF-8, where it is one, and answers what it weighs.
@@ -65,7 +58,7 @@ impl FlatBuilder {
 }
 
 impl ColumnBuilder {
-    /// Whether the column has strings without a dictionary.
+    /// Whether the column has strings, or a dictionary of strings.
     pub(crate) fn has_texts(&self) -> bool {
         match self {
             ColumnBuilder::Flat(flat) => flat.has_texts(),

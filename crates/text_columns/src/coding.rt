@@ -3,9 +3,9 @@ ghost use Rattle.std.specs.Prelude.{◌≡◌, ◌+◌, ◌++◌, ◌/◌, ◌�
 ghost use Rattle.std.specs.Str.{is_utf8};
 ghost use Rattle.cells.specs.Dictionary.{entry_limit, is_within};
 ghost use Rattle.cells.specs.Typed.{typed_integer};
-ghost use Rattle.text_columns.specs.inner.Kept.{Codes, Places, TakesField, TakesNullCell, index_type, key_list};
+ghost use Rattle.text_columns.specs.inner.Kept.{Codes, Places, PushesPlace, TakesField, TakesNullCell, index_type, key_list};
 
-use crate::column_values::Values;
+use crate::column_values::ColumnValues;
 use crate::short_integers::ShortInteger;
 use arrow_schema::IntegerType;
 use cells::entry_limit;
@@ -20,7 +20,7 @@ pub(crate) struct Coding {
     pub(crate) index: IntegerType,
     pub(crate) indices: Vec<u8>,
     pub(crate) keys: IndexSet<Vec<u8>>,
-    pub(crate) one: Values,
+    pub(crate) one: ColumnValues,
 }
 
 // Whether indices of a type can name one more entry than these.
@@ -54,7 +54,7 @@ pub(crate) fn add_key(keys: &mut IndexSet<Vec<u8>>, key: &[u8]) -> Result<bool, 
 fn place_of(
     index: IntegerType,
     keys: &mut IndexSet<Vec<u8>>,
-    entries: &mut Values,
+    entries: &mut ColumnValues,
     key: &[u8],
 ) -> Result<Option<usize>, AllocError>
     ensures { IfOk result (λ found. IfSome found (λ place. Places index key.now place keys.old.keys keys.new.keys entries.old entries.new)) }
@@ -73,6 +73,24 @@ fn place_of(
     Ok(Some(place))
 }
 
+// Appends the index of the entry with these bytes, which is an entry after the call; false where no index can name it.
+fn push_place(
+    index: IntegerType,
+    indices: &mut Vec<u8>,
+    keys: &mut IndexSet<Vec<u8>>,
+    entries: &mut ColumnValues,
+    key: &[u8],
+) -> Result<bool, AllocError>
+    ensures { IfOk result (λ done. done ≡ true
+        → PushesPlace index key.now indices.old.items indices.new.items keys.old.keys keys.new.keys entries.old entries.new) }
+{
+    let Some(place) = place_of(index, keys, entries, key)? else {
+        return Ok(false);
+    };
+    push_index(indices, index.width, place as u64)?;
+    Ok(true)
+}
+
 impl Coding {
     ghost use Rattle.std.specs.Prelude.{length};
 
@@ -86,20 +104,21 @@ impl Coding {
     ghost use Rattle.text_columns.specs.inner.Kept.{TakesCodedText};
 
     // Appends the index of the one value, which is an entry then; false where no index can name it.
-    pub(crate) fn code(&mut self, entries: &mut Values) -> Result<bool, AllocError>
+    pub(crate) fn code(&mut self, entries: &mut ColumnValues) -> Result<bool, AllocError>
         ensures { IfOk result (λ done. done ≡ true → Codes self.old entries.old self.new entries.new) }
     {
         let key = self.one.key();
-        let Some(place) = place_of(self.index, &mut self.keys, entries, key)? else {
-            return Ok(false);
-        };
-        push_index(&mut self.indices, self.index.width, place as u64)?;
-        Ok(true)
+        let done = push_place(self.index, &mut self.indices, &mut self.keys, entries, key)?;
+        Ok(done)
     }
 
     // Appends the index of the value that a field is, where it is one of the type, and answers what it weighs.
     #[inline(always)]
-    fn push_text(&mut self, entries: &mut Values, text: &[u8]) -> Result<Option<u64>, AllocError>
+    fn push_text(
+        &mut self,
+        entries: &mut ColumnValues,
+        text: &[u8],
+    ) -> Result<Option<u64>, AllocError>
         ensures { IfOk result (λ taken. IfSome taken (λ heavy. TakesCodedText text.now heavy self.old entries.old self.new entries.new)) }
     {
         self.one.clear()?;
@@ -112,10 +131,32 @@ impl Coding {
             Ok(None)
         }
     }
+
+    /// Appends the index of a string that is UTF-8, and answers what it weighs; none where the entries are no strings. It is looked up where it is.
+    pub(crate) fn push_utf8(
+        &mut self,
+        entries: &mut ColumnValues,
+        text: &[u8],
+    ) -> Result<Option<u64>, AllocError>
+        requires { is_utf8 text.now ≡ true }
+        ensures { IfOk result (λ taken. IfSome taken (λ heavy. TakesCodedText text.now heavy self.old entries.old self.new entries.new)) }
+    {
+        if !entries.has_texts() {
+            return Ok(None);
+        }
+        if push_place(self.index, &mut self.indices, &mut self.keys, entries, text)? {
+            Ok(Some(1 + text.len() as u64))
+        } else {
+            Ok(None)
+        }
+    }
 }
 
 /// Appends a null to the values, or to the indices.
-pub(crate) fn push_null(values: &mut Values, coding: &mut Option<Coding>) -> Result<(), AllocError>
+pub(crate) fn push_null(
+    values: &mut ColumnValues,
+    coding: &mut Option<Coding>,
+) -> Result<(), AllocError>
     ensures { OnOk result (TakesNullCell values.old coding.old values.new coding.new) }
 {
     match coding {
@@ -127,7 +168,7 @@ pub(crate) fn push_null(values: &mut Values, coding: &mut Option<Coding>) -> Res
 /// Appends the cell that a field is, or its index, where it is one of the type, and answers what it weighs.
 #[inline(always)]
 pub(crate) fn push_text(
-    values: &mut Values,
+    values: &mut ColumnValues,
     coding: &mut Option<Coding>,
     text: &[u8],
 ) -> Result<Option<u64>, AllocError>
@@ -141,7 +182,7 @@ pub(crate) fn push_text(
 
 /// Appends a number, where it is one of the type, and answers what it weighs; none where the column has a dictionary.
 pub(crate) fn push_short(
-    values: &mut Values,
+    values: &mut ColumnValues,
     coding: &mut Option<Coding>,
     short: ShortInteger,
 ) -> Result<Option<u64>, AllocError>
@@ -154,9 +195,9 @@ pub(crate) fn push_short(
     }
 }
 
-/// Appends a text that is UTF-8, where the type has strings, and answers what it weighs; none where the column has a dictionary.
+/// Appends a text that is UTF-8, or its index, where the type has strings, and answers what it weighs.
 pub(crate) fn push_utf8(
-    values: &mut Values,
+    values: &mut ColumnValues,
     coding: &mut Option<Coding>,
     text: &[u8],
 ) -> Result<Option<u64>, AllocError>
@@ -165,6 +206,6 @@ pub(crate) fn push_utf8(
 {
     match coding {
         None => values.push_utf8(text),
-        Some(_) => Ok(None),
+        Some(coding) => coding.push_utf8(values, text),
     }
 }

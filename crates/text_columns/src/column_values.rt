@@ -1,9 +1,8 @@
 // The values of one column.
-ghost use Rattle.std.specs.Prelude.{◌≡◌, ◌++◌, ◌/◌, ◌∷◌, [], ℕ, List, IfOk, IfSome, OnOk, Some, true, replicate};
+ghost use Rattle.std.specs.Prelude.{◌≡◌, ◌++◌, ◌/◌, ◌∷◌, [], IfOk, IfSome, OnOk, true, replicate};
 ghost use Rattle.std.specs.Str.{is_utf8};
 ghost use Rattle.arrow_schema.specs.View.{bits_of};
-ghost use Rattle.cells.specs.Typed.{typed_boolean, typed_integer};
-ghost use Rattle.text_columns.specs.inner.Kept.{AppendsBoolean, Clears, HoldContents, TakesKey, TakesNull, TakesText, first_key, null_heavy, value_bytes};
+ghost use Rattle.text_columns.specs.inner.Kept.{AppendsBoolean, Clears, HoldContents, TakesKey, TakesNull, TakesSpelled, TakesText, first_key, has_texts, null_heavy, value_bytes};
 
 use crate::bytes::{push_bytes, push_fixed};
 use crate::integers::{push_integer, push_short};
@@ -17,7 +16,7 @@ use text_import::spelled_boolean;
 /// What the cells of a column are written as, apart from the places of nulls: nothing, bits, the bytes of integers or of binaries of one width, or where
 /// strings or binaries end and their bytes.
 #[derive(Drop)]
-pub(crate) enum Values {
+pub(crate) enum ColumnValues {
     Nulls,
     Booleans(Vec<bool>),
     Integers(IntegerType, Vec<u8>),
@@ -85,14 +84,24 @@ fn bit_key(bits: &[bool]) -> &[u8]
     }
 }
 
-impl Values {
+impl ColumnValues {
     /// What a null weighs: a binary of one width weighs the same where it is null.
     pub(crate) fn null_weight(&self) -> u64
         ensures { result ≡ null_heavy self.now }
     {
         match self {
-            Values::FixedBinaries(width, _) => 1 + *width as u64,
+            ColumnValues::FixedBinaries(width, _) => 1 + *width as u64,
             _ => 1,
+        }
+    }
+
+    /// Whether the values are strings.
+    pub(crate) fn has_texts(&self) -> bool
+        ensures { result ≡ has_texts self.now }
+    {
+        match self {
+            ColumnValues::Texts(_, _, _) => true,
+            _ => false,
         }
     }
 
@@ -101,16 +110,16 @@ impl Values {
         ensures { OnOk result (TakesNull self.old self.new) }
     {
         match self {
-            Values::Nulls => {}
-            Values::Booleans(bits) => bits.push(false)?,
-            Values::Integers(integer, values) => push_zeros(values, integer.width)?,
-            Values::Texts(width, offsets, contents) => {
+            ColumnValues::Nulls => {}
+            ColumnValues::Booleans(bits) => bits.push(false)?,
+            ColumnValues::Integers(integer, values) => push_zeros(values, integer.width)?,
+            ColumnValues::Texts(width, offsets, contents) => {
                 push_offset(offsets, *width, contents.len() as u64)?;
             }
-            Values::Binaries(width, offsets, contents) => {
+            ColumnValues::Binaries(width, offsets, contents) => {
                 push_offset(offsets, *width, contents.len() as u64)?;
             }
-            Values::FixedBinaries(width, values) => push_empty(values, *width)?,
+            ColumnValues::FixedBinaries(width, values) => push_empty(values, *width)?,
         }
         Ok(())
     }
@@ -120,16 +129,16 @@ impl Values {
         ensures { OnOk result (Clears self.old self.new) }
     {
         match self {
-            Values::Nulls => {}
-            Values::Booleans(bits) => bits.clear(),
-            Values::Integers(_, values) => values.clear(),
-            Values::Texts(width, offsets, contents) => {
+            ColumnValues::Nulls => {}
+            ColumnValues::Booleans(bits) => bits.clear(),
+            ColumnValues::Integers(_, values) => values.clear(),
+            ColumnValues::Texts(width, offsets, contents) => {
                 clear_contents(offsets, contents, *width)?;
             }
-            Values::Binaries(width, offsets, contents) => {
+            ColumnValues::Binaries(width, offsets, contents) => {
                 clear_contents(offsets, contents, *width)?;
             }
-            Values::FixedBinaries(_, values) => values.clear(),
+            ColumnValues::FixedBinaries(_, values) => values.clear(),
         }
         Ok(())
     }
@@ -139,12 +148,12 @@ impl Values {
         ensures { result.now ≡ value_bytes self.now }
     {
         match self {
-            Values::Nulls => &[],
-            Values::Booleans(bits) => bit_key(bits),
-            Values::Integers(_, values) => values,
-            Values::Texts(_, _, contents) => contents,
-            Values::Binaries(_, _, contents) => contents,
-            Values::FixedBinaries(_, values) => values,
+            ColumnValues::Nulls => &[],
+            ColumnValues::Booleans(bits) => bit_key(bits),
+            ColumnValues::Integers(_, values) => values,
+            ColumnValues::Texts(_, _, contents) => contents,
+            ColumnValues::Binaries(_, _, contents) => contents,
+            ColumnValues::FixedBinaries(_, values) => values,
         }
     }
 
@@ -153,12 +162,16 @@ impl Values {
         ensures { OnOk result (TakesKey key.now self.old self.new) }
     {
         match self {
-            Values::Nulls => {}
-            Values::Booleans(bits) => bits.push(key == [1].as_slice())?,
-            Values::Integers(_, values) => values.extend_from_slice(key)?,
-            Values::Texts(width, offsets, contents) => extend(offsets, contents, *width, key)?,
-            Values::Binaries(width, offsets, contents) => extend(offsets, contents, *width, key)?,
-            Values::FixedBinaries(_, values) => values.extend_from_slice(key)?,
+            ColumnValues::Nulls => {}
+            ColumnValues::Booleans(bits) => bits.push(key == [1].as_slice())?,
+            ColumnValues::Integers(_, values) => values.extend_from_slice(key)?,
+            ColumnValues::Texts(width, offsets, contents) => extend(
+                offsets, contents, *width, key,
+            )?,
+            ColumnValues::Binaries(width, offsets, contents) => extend(
+                offsets, contents, *width, key,
+            )?,
+            ColumnValues::FixedBinaries(_, values) => values.extend_from_slice(key)?,
         }
         Ok(())
     }
@@ -169,25 +182,25 @@ impl Values {
         ensures { IfOk result (λ taken. IfSome taken (λ heavy. TakesText text.now heavy self.old self.new)) }
     {
         match self {
-            Values::Nulls => Ok(None),
-            Values::Booleans(bits) => push_boolean(bits, text),
-            Values::Integers(integer, values) => push_integer(values, *integer, text),
-            Values::Texts(width, offsets, contents) => {
+            ColumnValues::Nulls => Ok(None),
+            ColumnValues::Booleans(bits) => push_boolean(bits, text),
+            ColumnValues::Integers(integer, values) => push_integer(values, *integer, text),
+            ColumnValues::Texts(width, offsets, contents) => {
                 push_contents(offsets, contents, *width, text)
             }
-            Values::Binaries(width, offsets, contents) => {
+            ColumnValues::Binaries(width, offsets, contents) => {
                 push_bytes(offsets, contents, *width, text)
             }
-            Values::FixedBinaries(width, values) => push_fixed(values, *width, text),
+            ColumnValues::FixedBinaries(width, values) => push_fixed(values, *width, text),
         }
     }
 
     /// Appends a number, where it is one of the type, and answers what it weighs.
     pub(crate) fn push_short(&mut self, short: ShortInteger) -> Result<Option<u64>, AllocError>
-        ensures { (text : List ℕ) → typed_integer text ≡ Some short.number → IfOk result (λ taken. IfSome taken (λ heavy. TakesText text heavy self.old self.new)) }
+        ensures { TakesSpelled short.number result self.old self.new }
     {
         match self {
-            Values::Integers(integer, values) => push_short(values, *integer, short),
+            ColumnValues::Integers(integer, values) => push_short(values, *integer, short),
             _ => Ok(None),
         }
     }
@@ -198,7 +211,9 @@ impl Values {
         ensures { IfOk result (λ taken. IfSome taken (λ heavy. TakesText text.now heavy self.old self.new)) }
     {
         match self {
-            Values::Texts(width, offsets, contents) => push_utf8(offsets, contents, *width, text),
+            ColumnValues::Texts(width, offsets, contents) => push_utf8(
+                offsets, contents, *width, text,
+            ),
             _ => Ok(None),
         }
     }

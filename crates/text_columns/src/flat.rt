@@ -5,7 +5,7 @@ ghost use Rattle.text_columns.specs.inner.Kept.{AppendsNulls, KeepsField};
 ghost use Rattle.text_columns.specs.inner.Lines.{KeepsNull};
 
 use crate::coding::{self, Coding};
-use crate::column_values::Values;
+use crate::column_values::ColumnValues;
 use cells::MAX_ROW_WEIGHT;
 use std::alloc::AllocError;
 
@@ -14,7 +14,7 @@ use std::alloc::AllocError;
 pub(crate) struct FlatBuilder {
     pub(crate) nullable: bool,
     pub(crate) valid: Vec<bool>,
-    pub(crate) values: Values,
+    pub(crate) values: ColumnValues,
     pub(crate) coding: Option<Coding>,
 }
 

@@ -10,8 +10,9 @@ use std::alloc::AllocError;
 use text_import::spelled_integer;
 
 // Appends the bytes of a number, where an integer of this width without a sign holds it.
+#[inline(always)]
 #[tactic(auto, using(crate::proofs::IntegerBytes::unsigned_appended))]
-fn push_unsigned(values: &mut Vec<u8>, width: BitWidth, number: i128) -> Result<bool, AllocError>
+fn push_unsigned(values: &mut Vec<u8>, width: BitWidth, number: i64) -> Result<bool, AllocError>
     ensures { IfOk result (λ pushed. pushed ≡ true → AppendsInteger (bits_of width) false number values.old.items values.new.items) }
 {
     match width {
@@ -36,8 +37,9 @@ fn push_unsigned(values: &mut Vec<u8>, width: BitWidth, number: i128) -> Result<
 }
 
 // The same with a sign.
+#[inline(always)]
 #[tactic(auto, using(crate::proofs::IntegerBytes::signed_appended))]
-fn push_signed(values: &mut Vec<u8>, width: BitWidth, number: i128) -> Result<bool, AllocError>
+fn push_signed(values: &mut Vec<u8>, width: BitWidth, number: i64) -> Result<bool, AllocError>
     ensures { IfOk result (λ pushed. pushed ≡ true → AppendsInteger (bits_of width) true number values.old.items values.new.items) }
 {
     match width {
@@ -53,15 +55,42 @@ fn push_signed(values: &mut Vec<u8>, width: BitWidth, number: i128) -> Result<bo
             Ok(value) => values.extend_from_slice(&value.to_le_bytes())?,
             Err(_) => return Ok(false),
         },
-        BitWidth::SixtyFour => match i64::try_from(number) {
-            Ok(value) => values.extend_from_slice(&value.to_le_bytes())?,
-            Err(_) => return Ok(false),
-        },
+        BitWidth::SixtyFour => values.extend_from_slice(&number.to_le_bytes())?,
     }
     Ok(true)
 }
 
-// Appends the bytes of a number, where the type holds it.
+// Appends the bytes of a number of 64 bits, where the type holds it.
+#[inline(always)]
+fn push_small(values: &mut Vec<u8>, integer: IntegerType, number: i64) -> Result<bool, AllocError>
+    ensures { IfOk result (λ pushed. pushed ≡ true → AppendsInteger (bits_of integer.width) integer.signed number values.old.items values.new.items) }
+{
+    if integer.signed {
+        push_signed(values, integer.width, number)
+    } else {
+        push_unsigned(values, integer.width, number)
+    }
+}
+
+// The same of a number that no 64 bits with a sign hold.
+#[tactic(auto, using(crate::proofs::IntegerBytes::unsigned_appended))]
+fn push_large(values: &mut Vec<u8>, integer: IntegerType, number: i128) -> Result<bool, AllocError>
+    ensures { IfOk result (λ pushed. pushed ≡ true → AppendsInteger (bits_of integer.width) integer.signed number values.old.items values.new.items) }
+{
+    if integer.signed {
+        return Ok(false);
+    }
+    match integer.width {
+        BitWidth::SixtyFour => match u64::try_from(number) {
+            Ok(value) => values.extend_from_slice(&value.to_le_bytes())?,
+            Err(_) => return Ok(false),
+        },
+        _ => return Ok(false),
+    }
+    Ok(true)
+}
+
+/// Appends the bytes of a number, where the type holds it.
 pub(crate) fn push_number(
     values: &mut Vec<u8>,
     integer: IntegerType,
@@ -69,10 +98,9 @@ pub(crate) fn push_number(
 ) -> Result<bool, AllocError>
     ensures { IfOk result (λ pushed. pushed ≡ true → AppendsInteger (bits_of integer.width) integer.signed number values.old.items values.new.items) }
 {
-    if integer.signed {
-        push_signed(values, integer.width, number)
-    } else {
-        push_unsigned(values, integer.width, number)
+    match i64::try_from(number) {
+        Ok(small) => push_small(values, integer, small),
+        Err(_) => push_large(values, integer, number),
     }
 }
 
@@ -104,7 +132,7 @@ pub(crate) fn push_short(
     ensures { (text : List ℕ) → typed_integer text ≡ Some short.number → IfOk result (λ taken. IfSome taken (λ heavy. (heavy ≡ 1)
         × AppendsSpelled (bits_of integer.width) integer.signed text values.old.items values.new.items)) }
 {
-    if push_number(values, integer, i128::from(short.number))? {
+    if push_small(values, integer, short.number)? {
         Ok(Some(1))
     } else {
         Ok(None)

@@ -1,6 +1,6 @@
 // Lines of JSON, member by member into the buffers of their columns.
-ghost use Rattle.std.specs.Prelude.{◌≡◌, ◌≤◌, ℕ, List, not, [], ◌∷◌, false, IfOk, IfSome};
-ghost use Rattle.std.specs.List.{filter};
+ghost use Rattle.std.specs.Prelude.{◌≡◌, ◌≤◌, ◌==◌, ℕ, List, not, [], ◌∷◌, false, IfOk, IfSome};
+ghost use Rattle.std.specs.List.{filter, slice_split};
 ghost use Rattle.arrow_schema.specs.Column.{columns_of};
 ghost use Rattle.arrow_schema.specs.View.{schema_of};
 ghost use Rattle.facts.specs.Texts.{text_list};
@@ -18,11 +18,30 @@ use arrow_schema::Schema;
 use cells::{MAX_ROW_WEIGHT, MAX_TABLE_WEIGHT};
 use indexmap::IndexSet;
 use json::{Reader, Scratch, Token};
+use simdutf8::basic::from_utf8;
 use std::alloc::{AllocError, Global};
-use text_import::{is_blank, text_of};
+use text_import::is_blank;
 
 // How deep the values of a line's object or array may nest.
 const BELOW: u32 = 126;
+
+// The lines of a text. The last one is empty if the text ends with a line feed.
+fn lines_of(alloc: Global, text: &str) -> Result<Vec<&str>, AllocError>
+    ensures { IfOk result (λ lines. text_list lines.items ≡ slice_split (λ b. b == 10) text.now) }
+{
+    text.split('\n').collect(alloc)
+}
+
+/// Splits a text at its line feeds; none where it is not UTF-8, so that no line has to be tested.
+pub(crate) fn split_lines(alloc: Global, text: &[u8]) -> Result<Option<Vec<&str>>, AllocError>
+    ensures { IfOk result (λ found. IfSome found (λ lines. text_list lines.items ≡ slice_split (λ b. b == 10) text.now)) }
+{
+    let Ok(text) = from_utf8(text) else {
+        return Ok(None);
+    };
+    let lines = lines_of(alloc, text)?;
+    Ok(Some(lines))
+}
 
 // Appends the cells of the object that a reader is in, and answers what its row weighs; none where it does not go in.
 fn push_object(
@@ -81,22 +100,19 @@ fn push_value(
     }
 }
 
-// The same of the line that a text is.
+// The same of a line.
 fn push_line(
     names: &IndexSet<Vec<u8>>,
     order: &mut [usize],
     builders: &mut [ColumnBuilder],
     heavies: &mut [Option<u64>],
     scratch: &mut Scratch,
-    line: &[u8],
+    line: &str,
 ) -> Result<Option<u64>, AllocError>
     ensures few { IfOk result (λ taken. IfSome taken (λ heavy. heavy ≤ MAX_ROW_WEIGHT)) }
     ensures kept { IfOk result (λ taken. IfSome taken (λ heavy. KeepsLine (key_list names.now.keys) line.now heavy builders.old builders.new)) }
 {
-    let Some(text) = text_of(line) else {
-        return Ok(None);
-    };
-    let mut reader = Reader::new(text, scratch)?;
+    let mut reader = Reader::new(line, scratch)?;
     push_value(names, order, builders, heavies, &mut reader)
 }
 
@@ -107,7 +123,7 @@ fn push_row(
     batches: &mut Batches,
     heavies: &mut [Option<u64>],
     scratch: &mut Scratch,
-    line: &[u8],
+    line: &str,
 ) -> Result<Option<u64>, AllocError>
     ensures few { IfOk result (λ taken. IfSome taken (λ heavy. heavy ≤ MAX_ROW_WEIGHT)) }
     ensures kept { IfOk result (λ taken. IfSome taken (λ heavy.
@@ -125,7 +141,7 @@ pub(crate) fn push_lines(
     alloc: Global,
     schema: &Schema,
     names: &IndexSet<Vec<u8>>,
-    lines: &[&[u8]],
+    lines: &[&str],
     batches: &mut Batches,
     ends: bool,
 ) -> Result<Option<u64>, AllocError>
@@ -139,7 +155,7 @@ pub(crate) fn push_lines(
     let mut order = vec![in alloc; 0; schema.fields.len()]?;
     let mut weight = 0;
     for line in lines {
-        if is_blank(line) {
+        if is_blank(line.as_bytes()) {
             continue;
         }
         if !batches.make_room(alloc, schema, ends)? {

@@ -7,7 +7,7 @@ ghost use Rattle.text_columns.specs.inner.Placed.{AreEntriesPlaced, ArePlaced, A
 
 use crate::builder::ColumnBuilder;
 use crate::coding::Coding;
-use crate::column_values::Values;
+use crate::column_values::ColumnValues;
 use crate::flat::FlatBuilder;
 use columns::{Dictionary, DictionaryPart, PlacedArray, PlacedLayout, Span};
 use std::alloc::{AllocError, Global};
@@ -54,11 +54,11 @@ fn has_validity(column: &FlatBuilder) -> bool
     }
 }
 
-fn has_bitmap(values: &Values) -> bool
+fn has_bitmap(values: &ColumnValues) -> bool
     ensures { result ≡ has_bitmap values.now }
 {
     match values {
-        Values::Nulls => false,
+        ColumnValues::Nulls => false,
         _ => true,
     }
 }
@@ -83,25 +83,25 @@ fn append_validity(
 fn place_values(
     alloc: Global,
     bytes: &mut Vec<u8>,
-    values: &Values,
+    values: &ColumnValues,
 ) -> Result<PlacedLayout, AllocError>
     ensures { IfOk result (λ layout. IsLaid values.now bytes.old.items bytes.new.items layout) }
 {
     match values {
-        Values::Nulls => Ok(PlacedLayout::Null),
-        Values::Booleans(bits) => Ok(PlacedLayout::Bits(append_bits(alloc, bytes, bits)?)),
-        Values::Integers(_, values) => Ok(PlacedLayout::Fixed(append(bytes, values)?)),
-        Values::Texts(_, offsets, contents) => {
+        ColumnValues::Nulls => Ok(PlacedLayout::Null),
+        ColumnValues::Booleans(bits) => Ok(PlacedLayout::Bits(append_bits(alloc, bytes, bits)?)),
+        ColumnValues::Integers(_, values) => Ok(PlacedLayout::Fixed(append(bytes, values)?)),
+        ColumnValues::Texts(_, offsets, contents) => {
             let offsets = append(bytes, offsets)?;
             let contents = append(bytes, contents)?;
             Ok(PlacedLayout::Binary(offsets, contents))
         }
-        Values::Binaries(_, offsets, contents) => {
+        ColumnValues::Binaries(_, offsets, contents) => {
             let offsets = append(bytes, offsets)?;
             let contents = append(bytes, contents)?;
             Ok(PlacedLayout::Binary(offsets, contents))
         }
-        Values::FixedBinaries(_, values) => Ok(PlacedLayout::Fixed(append(bytes, values)?)),
+        ColumnValues::FixedBinaries(_, values) => Ok(PlacedLayout::Fixed(append(bytes, values)?)),
     }
 }
 
@@ -110,7 +110,7 @@ fn place_entries(
     alloc: Global,
     bytes: &mut Vec<u8>,
     dictionaries: &mut Vec<Dictionary>,
-    entries: &Values,
+    entries: &ColumnValues,
     count: usize,
 ) -> Result<DictionaryPart, AllocError>
     ensures { IfOk result (λ part. AreEntriesPlaced entries.now count bytes.old.items bytes.new.items dictionaries.old.items dictionaries.new.items part) }
@@ -132,7 +132,7 @@ fn place_coded(
     alloc: Global,
     bytes: &mut Vec<u8>,
     dictionaries: &mut Vec<Dictionary>,
-    entries: &Values,
+    entries: &ColumnValues,
     coding: &Coding,
 ) -> Result<PlacedLayout, AllocError>
     ensures { IfOk result (λ layout. IsCodedLaid entries.now coding.now bytes.old.items bytes.new.items dictionaries.old.items dictionaries.new.items layout) }

@@ -12,14 +12,14 @@ ghost use Rattle.text_columns.specs.inner.Batches.{HasRows};
 ghost use Rattle.text_columns.specs.inner.Kept.{key_list};
 
 use crate::batches::{Batches, no_batches};
-use crate::lines::push_lines;
+use crate::lines::{push_lines, split_lines};
 use crate::members::names_of;
 use crate::plain::push_plain_text;
 use crate::records::push_rows;
 use arrow_schema::Schema;
 use indexmap::IndexSet;
 use std::alloc::{AllocError, Global};
-use text_import::{TextError, csv_records, split_lines};
+use text_import::{TextError, csv_records};
 
 /// The record batches of a text, and what their rows weigh.
 #[derive(Drop)]
@@ -110,7 +110,7 @@ fn read_split_lines(
     alloc: Global,
     schema: &Schema,
     names: &IndexSet<Vec<u8>>,
-    lines: &[&[u8]],
+    lines: &[&str],
 ) -> Result<Option<Columns>, AllocError>
     requires { repeats (key_list names.now.keys) ≡ false }
     ensures { names_of (columns_of (schema_of schema.now).columns) ≡ key_list names.now.keys → IfOk result (λ found. IfSome found (λ c.
@@ -148,7 +148,9 @@ pub(crate) fn read_lines(
     let Some(names) = names_of(alloc, &schema.fields)? else {
         return Ok(None);
     };
-    let lines = split_lines(alloc, text)?;
+    let Some(lines) = split_lines(alloc, text)? else {
+        return Ok(None);
+    };
     let found = read_split_lines(alloc, schema, &names, &lines)?;
     Ok(found)
 }

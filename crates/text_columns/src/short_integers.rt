@@ -7,7 +7,7 @@ ghost use Rattle.text_columns.specs.inner.Plain.{AreDigits, IsShortInteger, begi
 
 use crate::builder::ColumnBuilder;
 use crate::coding;
-use crate::column_values::Values;
+use crate::column_values::ColumnValues;
 use crate::flat::FlatBuilder;
 use crate::plain::ends_field;
 use std::alloc::AllocError;
@@ -115,7 +115,7 @@ impl FlatBuilder {
             return None;
         }
         match &self.values {
-            Values::Integers(_, _) => short_integer(text, from),
+            ColumnValues::Integers(_, _) => short_integer(text, from),
             _ => None,
         }
     }

@@ -7,7 +7,7 @@ ghost use Rattle.text_columns.specs.inner.Kept.{AreUnlimited, HoldContents, Keep
 
 use crate::builder::{ColumnBuilder, ListOffsets, Names, Slots};
 use crate::coding::Coding;
-use crate::column_values::Values;
+use crate::column_values::ColumnValues;
 use crate::flat::FlatBuilder;
 use crate::members::names_of;
 use arrow_schema::{DataType, DictSpec, Field};
@@ -25,35 +25,35 @@ fn no_contents(alloc: Global, width: OffsetWidth) -> Result<(Vec<u8>, Vec<u8>), 
     Ok((offsets, Vec::new(alloc)))
 }
 
-fn no_texts(alloc: Global, width: OffsetWidth) -> Result<Values, AllocError>
+fn no_texts(alloc: Global, width: OffsetWidth) -> Result<ColumnValues, AllocError>
     ensures { IfOk result (λ values. StartsTexts width values) }
 {
     let (offsets, contents) = no_contents(alloc, width)?;
-    Ok(Values::Texts(width, offsets, contents))
+    Ok(ColumnValues::Texts(width, offsets, contents))
 }
 
-fn no_binaries(alloc: Global, width: OffsetWidth) -> Result<Values, AllocError>
+fn no_binaries(alloc: Global, width: OffsetWidth) -> Result<ColumnValues, AllocError>
     ensures { IfOk result (λ values. StartsBinaries width values) }
 {
     let (offsets, contents) = no_contents(alloc, width)?;
-    Ok(Values::Binaries(width, offsets, contents))
+    Ok(ColumnValues::Binaries(width, offsets, contents))
 }
 
 // The values of a type of which no cell is written, where it has no parts.
-fn no_values(alloc: Global, data_type: &DataType) -> Result<Option<Values>, AllocError>
+fn no_values(alloc: Global, data_type: &DataType) -> Result<Option<ColumnValues>, AllocError>
     ensures { IfOk result (λ started. IfSome started (Takes (kind_of data_type.now) [])) }
 {
     let values = match data_type {
-        DataType::Null => Values::Nulls,
-        DataType::Bool => Values::Booleans(Vec::new(alloc)),
-        DataType::Int(integer) => Values::Integers(*integer, Vec::new(alloc)),
-        DataType::Date(unit) => Values::Integers(date_integer(*unit), Vec::new(alloc)),
-        DataType::Timestamp(_, _) => Values::Integers(timestamp_integer(), Vec::new(alloc)),
+        DataType::Null => ColumnValues::Nulls,
+        DataType::Bool => ColumnValues::Booleans(Vec::new(alloc)),
+        DataType::Int(integer) => ColumnValues::Integers(*integer, Vec::new(alloc)),
+        DataType::Date(unit) => ColumnValues::Integers(date_integer(*unit), Vec::new(alloc)),
+        DataType::Timestamp(_, _) => ColumnValues::Integers(timestamp_integer(), Vec::new(alloc)),
         DataType::Utf8 => no_texts(alloc, OffsetWidth::Four)?,
         DataType::LargeUtf8 => no_texts(alloc, OffsetWidth::Eight)?,
         DataType::Binary => no_binaries(alloc, OffsetWidth::Four)?,
         DataType::LargeBinary => no_binaries(alloc, OffsetWidth::Eight)?,
-        DataType::FixedSizeBinary(width) => Values::FixedBinaries(*width, Vec::new(alloc)),
+        DataType::FixedSizeBinary(width) => ColumnValues::FixedBinaries(*width, Vec::new(alloc)),
         _ => return Ok(None),
     };
     Ok(Some(values))

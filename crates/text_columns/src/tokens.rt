@@ -3,14 +3,15 @@ ghost use Rattle.std.specs.Prelude.{◌≡◌, ◌==◌, ◌++◌, ◌∷◌, []
 ghost use Rattle.fast_float.specs.Text.{Parts};
 ghost use Rattle.json.specs.Reads.{token_of};
 ghost use Rattle.text_columns.specs.declared.builder.ColumnBuilder.{Flat};
+ghost use Rattle.text_columns.specs.inner.Kept.{has_texts};
 ghost use Rattle.text_columns.specs.inner.Lines.{AppendsBinary, AppendsBit, AppendsFixedBinary, AppendsNumber, AppendsString, TakesCellToken, TakesCodedToken, TakesNumber, TakesToken, integer_after, integer_in};
 
 use crate::bytes::{push_bytes, push_fixed};
 use crate::coding::Coding;
-use crate::column_values::Values;
+use crate::column_values::ColumnValues;
 use crate::flat::FlatBuilder;
 use crate::integers::push_number;
-use crate::texts::push_contents;
+use crate::texts::push_utf8;
 use arrow_schema::IntegerType;
 use columns::OffsetWidth;
 use fast_float::Numeral;
@@ -116,7 +117,7 @@ fn push_text(
     let Token::String(text) = token else {
         return Ok(None);
     };
-    push_contents(offsets, contents, width, text.as_bytes())
+    push_utf8(offsets, contents, width, text.as_bytes())
 }
 
 // Appends the binary that the digits of a token spell and where it ends, and answers what it weighs.
@@ -149,33 +150,53 @@ fn push_fixed_binary(
     push_fixed(values, width, digits.as_bytes())
 }
 
-impl Values {
+impl ColumnValues {
     /// Appends the cell that a token is, where it is one of the type and no null, and answers what it weighs.
     pub(crate) fn push_token(&mut self, token: Token<'_>) -> Result<Option<u64>, AllocError>
         ensures { IfOk result (λ taken. IfSome taken (λ heavy. TakesToken (token_of token.entry) heavy self.old self.new)) }
     {
         match self {
-            Values::Nulls => Ok(None),
-            Values::Booleans(bits) => push_boolean(bits, token),
-            Values::Integers(integer, values) => push_integer(values, *integer, token),
-            Values::Texts(width, offsets, contents) => push_text(offsets, contents, *width, token),
-            Values::Binaries(width, offsets, contents) => {
+            ColumnValues::Nulls => Ok(None),
+            ColumnValues::Booleans(bits) => push_boolean(bits, token),
+            ColumnValues::Integers(integer, values) => push_integer(values, *integer, token),
+            ColumnValues::Texts(width, offsets, contents) => push_text(
+                offsets, contents, *width, token,
+            ),
+            ColumnValues::Binaries(width, offsets, contents) => {
                 push_binary(offsets, contents, *width, token)
             }
-            Values::FixedBinaries(width, values) => push_fixed_binary(values, *width, token),
+            ColumnValues::FixedBinaries(width, values) => push_fixed_binary(values, *width, token),
         }
     }
 }
 
 impl Coding {
+    // Appends the index of the string that a token is, among entries that are strings, and answers what it weighs. It is looked up where it is.
+    fn push_string(
+        &mut self,
+        entries: &mut ColumnValues,
+        token: Token<'_>,
+    ) -> Result<Option<u64>, AllocError>
+        requires { has_texts entries.old ≡ true }
+        ensures { IfOk result (λ taken. IfSome taken (λ heavy. TakesCodedToken (token_of token.entry) heavy self.old entries.old self.new entries.new)) }
+    {
+        let Token::String(text) = token else {
+            return Ok(None);
+        };
+        self.push_utf8(entries, text.as_bytes())
+    }
+
     // Appends the index of the value that a token is, where it is one of the type and no null, and answers what it weighs.
     fn push_token(
         &mut self,
-        entries: &mut Values,
+        entries: &mut ColumnValues,
         token: Token<'_>,
     ) -> Result<Option<u64>, AllocError>
         ensures { IfOk result (λ taken. IfSome taken (λ heavy. TakesCodedToken (token_of token.entry) heavy self.old entries.old self.new entries.new)) }
     {
+        if entries.has_texts() {
+            return self.push_string(entries, token);
+        }
         self.one.clear()?;
         let Some(heavy) = self.one.push_token(token)? else {
             return Ok(None);
@@ -190,7 +211,7 @@ impl Coding {
 
 // Appends the cell that a token is, or its index, where it is one of the type and no null, and answers what it weighs.
 fn push_token(
-    values: &mut Values,
+    values: &mut ColumnValues,
     coding: &mut Option<Coding>,
     token: Token<'_>,
 ) -> Result<Option<u64>, AllocError>

@@ -1,5 +1,5 @@
 -- What the buffers of columns hold once some rows were read.
-use Rattle.std.specs.Prelude.{zero, suc, sum_by, ◌≡◌, ◌⊎◌, ◌+◌, ◌*◌, ◌/◌, ◌++◌, ℕ, ℤ, true, false, Bool, bytes_eq, List, [], ◌∷◌, length, map, get_or, Option, Some, None, position, replicate, Result, Ok, slice_get}
+use Rattle.std.specs.Prelude.{zero, suc, sum_by, ◌≡◌, ◌⊎◌, ◌+◌, ◌*◌, ◌/◌, ◌++◌, ℕ, ℤ, true, false, Bool, bytes_eq, List, [], ◌∷◌, length, map, get_or, Option, Some, None, position, replicate, Result, Ok, IfOk, IfSome, slice_get}
 use Rattle.std.specs.Global.{Vec}
 use Rattle.byteorder.specs.Endian.{little_bytes}
 use Rattle.hex.specs.Hex.{decode_of}
@@ -23,8 +23,8 @@ use Rattle.text_import.specs.Flat.{cell_of_text, field_cell, number_cell}
 use Rattle.text_import.specs.Records.{field_cells}
 use Rattle.text_import.specs.declared.refusal.Refusal.{Refusal}
 use Rattle.text_columns.specs.declared.coding.Coding.{Coding}
-use Rattle.text_columns.specs.declared.column_values.Values.{Values}
-use Rattle.text_columns.specs.declared.column_values.Values.TheVariants.{Nulls, Booleans, Integers, Texts, Binaries, FixedBinaries}
+use Rattle.text_columns.specs.declared.column_values.ColumnValues.{ColumnValues}
+use Rattle.text_columns.specs.declared.column_values.ColumnValues.TheVariants.{Nulls, Booleans, Integers, Texts, Binaries, FixedBinaries}
 use Rattle.text_columns.specs.declared.builder.ColumnBuilder.{ColumnBuilder, ColumnBuilder-F, Flat, List', FixedList', Struct, Struct', out-ColumnBuilder}
 use Rattle.text_columns.specs.declared.builder.ColumnBuilder.TheOpen as builders
 use Rattle.text_columns.specs.declared.builder.Names.{Names}
@@ -71,7 +71,7 @@ pub record AppendsFixed (width : ℕ) (digits : List ℕ) (heavy : ℕ) (old new
   pub more : new ≡ old ++ spelled
 
 -- values of this type
-abbrev pub IsOf : Kind → Values → Type 0
+abbrev pub IsOf : Kind → ColumnValues → Type 0
 IsOf nulls Nulls = Unit {0}
 IsOf booleans (Booleans bits) = Unit {0}
 IsOf (integers bits signed) (Integers integer bytes) = (bits_of integer.width ≡ bits) × (integer.signed ≡ signed)
@@ -85,16 +85,21 @@ IsOf (fixed_binaries size) (FixedBinaries width bytes) = width ≡ size
 IsOf _ _ = ⊥
 
 -- what a null of these values weighs
-abbrev pub null_heavy : Values → ℕ
+abbrev pub null_heavy : ColumnValues → ℕ
 null_heavy (FixedBinaries width bytes) = 1 + width
 null_heavy _ = 1
+
+-- values that are strings
+abbrev pub has_texts : ColumnValues → Bool
+has_texts (Texts width offsets contents) = true
+has_texts _ = false
 
 -- where the strings or binaries of cells end, and their bytes
 abbrev pub HoldContents : OffsetWidth → List Cell → (offsets contents : List ℕ) → Type 0
 HoldContents width cells offsets contents = (offsets ≡ offsets_of (width_of width) (map (λ c. length (contents_of c)) cells)) × (contents ≡ flat_map contents_of cells)
 
 -- what these cells are written as
-abbrev pub Holds : Values → List Cell → Type 0
+abbrev pub Holds : ColumnValues → List Cell → Type 0
 Holds Nulls cells = Unit {0}
 Holds (Booleans bits) cells = bits.items ≡ map is_set cells
 Holds (Integers integer bytes) cells = bytes.items ≡ flat_map (integer_bytes (bits_of integer.width / 8)) cells
@@ -103,24 +108,28 @@ Holds (Binaries width offsets contents) cells = HoldContents width cells offsets
 Holds (FixedBinaries width bytes) cells = bytes.items ≡ flat_map (fixed_bytes width) cells
 
 -- values of this type that hold these cells
-pub record Takes (kind : Kind) (cells : List Cell) (values : Values) : Type 0 where
+pub record Takes (kind : Kind) (cells : List Cell) (values : ColumnValues) : Type 0 where
   pub kind_is : IsOf kind values
   pub holds : Holds values cells
 
 -- a null comes after the cells
-abbrev pub TakesNull : Values → Values → Type 0
+abbrev pub TakesNull : ColumnValues → ColumnValues → Type 0
 TakesNull old new = (kind : Kind) (cells : List Cell) → Takes kind cells old → Takes kind (cells ++ null ∷ []) new
 
 -- a cell of a text that weighs so much comes after the cells of a type
-pub record HasTaken (kind : Kind) (text : List ℕ) (heavy : ℕ) (cells : List Cell) (new : Values) : Type 0 where
+pub record HasTaken (kind : Kind) (text : List ℕ) (heavy : ℕ) (cells : List Cell) (new : ColumnValues) : Type 0 where
   pub taken : Cell
   pub read : cell_of_text kind text ≡ Ok taken
   pub there : is_there taken ≡ true
   pub weighs : kind_weight kind taken ≡ heavy
   pub takes : Takes kind (cells ++ taken ∷ []) new
 
-abbrev pub TakesText : List ℕ → ℕ → Values → Values → Type 0
+abbrev pub TakesText : List ℕ → ℕ → ColumnValues → ColumnValues → Type 0
 TakesText text heavy old new = (kind : Kind) (cells : List Cell) → Takes kind cells old → HasTaken kind text heavy cells new
+
+-- the cell of each text that spells a number, where a call answers what it weighs
+abbrev pub TakesSpelled : {E : Type 0} → ℤ → Result (Option ℕ) E → ColumnValues → ColumnValues → Type 0
+TakesSpelled n result old new = (text : List ℕ) → typed_integer text ≡ Some n → IfOk result (λ taken. IfSome taken (λ heavy. TakesText text heavy old new))
 
 -- ---- columns with a dictionary: entries are looked up by their bytes
 
@@ -134,7 +143,7 @@ first_key [] = bit_key false
 first_key (b ∷ bits) = bit_key b
 
 -- the bytes of the one cell that these values are
-abbrev pub value_bytes : Values → List ℕ
+abbrev pub value_bytes : ColumnValues → List ℕ
 value_bytes Nulls = []
 value_bytes (Booleans bits) = first_key bits.items
 value_bytes (Integers integer bytes) = bytes.items
@@ -155,15 +164,15 @@ abbrev pub key_list : List (Vec ℕ) → List (List ℕ)
 key_list keys = map (λ k. k.items) keys
 
 -- no cell of the same type
-abbrev pub Clears : Values → Values → Type 0
+abbrev pub Clears : ColumnValues → ColumnValues → Type 0
 Clears old new = (kind : Kind) → IsOf kind old → Takes kind [] new
 
 -- the cell that has such bytes comes after the cells
-abbrev pub TakesKey : List ℕ → Values → Values → Type 0
+abbrev pub TakesKey : List ℕ → ColumnValues → ColumnValues → Type 0
 TakesKey key old new = (kind : Kind) (cells : List Cell) (c : Cell) → Takes kind cells old → key ≡ key_of kind c → Takes kind (cells ++ c ∷ []) new
 
 -- the cells of a column with a dictionary: its entries, the bytes of each, and their indices
-pub record IsCoded (index : Index) (kind : Kind) (cells : List Cell) (values : Values) (d : Coding) : Type 0 where
+pub record IsCoded (index : Index) (kind : Kind) (cells : List Cell) (values : ColumnValues) (d : Coding) : Type 0 where
   pub bits : bits_of d.index.width ≡ index.bits
   pub signed : d.index.signed ≡ index.signed
   pub indices : d.indices.items ≡ flat_map (index_bytes index (entries_of cells)) cells
@@ -174,7 +183,7 @@ pub record IsCoded (index : Index) (kind : Kind) (cells : List Cell) (values : V
   pub one : IsOf kind d.one
 
 -- the entry of some bytes stood at a place
-pub record StoodAt (key : List ℕ) (place : ℕ) (keys keys2 : List (Vec ℕ)) (old new : Values) : Type 0 where
+pub record StoodAt (key : List ℕ) (place : ℕ) (keys keys2 : List (Vec ℕ)) (old new : ColumnValues) : Type 0 where
   pub found : position (bytes_eq key) (key_list keys) ≡ Some place
   pub same : keys2 ≡ keys
   pub still : new ≡ old
@@ -183,47 +192,53 @@ abbrev pub index_type : IntegerType → Index
 index_type integer = record { bits = bits_of integer.width; signed = integer.signed }
 
 -- or it comes after all entries, where an index can name it
-pub record ComesLast (integer : IntegerType) (key : List ℕ) (place : ℕ) (keys keys2 : List (Vec ℕ)) (old new : Values) : Type 0 where
+pub record ComesLast (integer : IntegerType) (key : List ℕ) (place : ℕ) (keys keys2 : List (Vec ℕ)) (old new : ColumnValues) : Type 0 where
   pub missing : position (bytes_eq key) (key_list keys) ≡ None
   pub last : place ≡ length keys
   pub room : is_within (entry_limit (index_type integer)) (place + 1) ≡ true
   pub more : key_list keys2 ≡ key_list keys ++ key ∷ []
   pub takes : TakesKey key old new
 
-abbrev pub Places : IntegerType → List ℕ → ℕ → List (Vec ℕ) → List (Vec ℕ) → Values → Values → Type 0
+abbrev pub Places : IntegerType → List ℕ → ℕ → List (Vec ℕ) → List (Vec ℕ) → ColumnValues → ColumnValues → Type 0
 Places integer key place keys keys2 old new = StoodAt key place keys keys2 old new ⊎ ComesLast integer key place keys keys2 old new
 
+-- and its index comes after others
+pub record PushesPlace (integer : IntegerType) (key indices indices2 : List ℕ) (keys keys2 : List (Vec ℕ)) (old new : ColumnValues) : Type 0 where
+  pub place : ℕ
+  pub placed : Places integer key place keys keys2 old new
+  pub more : indices2 ≡ indices ++ little_bytes (bits_of integer.width / 8) place
+
 -- the one value comes after the cells
-abbrev pub Codes : Coding → Values → Coding → Values → Type 0
+abbrev pub Codes : Coding → ColumnValues → Coding → ColumnValues → Type 0
 Codes old values new values2 =
     (index : Index) (kind : Kind) (cells : List Cell) (c : Cell) → IsCoded index kind cells values old → Takes kind (c ∷ []) old.one → fits_kind kind c ≡ true
     → IsCoded index kind (cells ++ c ∷ []) values2 new
 
 -- ---- with a dictionary or without
 
-abbrev pub HoldsCells : Option Index → Kind → List Cell → Values → Option Coding → Type 0
+abbrev pub HoldsCells : Option Index → Kind → List Cell → ColumnValues → Option Coding → Type 0
 HoldsCells None kind cells values None = Takes kind cells values
 HoldsCells (Some index) kind cells values (Some d) = IsCoded index kind cells values d
 HoldsCells None kind cells values (Some d) = ⊥
 HoldsCells (Some index) kind cells values None = ⊥
 
 -- a cell that was read and weighs so much comes after the cells
-pub record HasCell (dictionary : Option Index) (kind : Kind) (stated : Result Cell Refusal) (heavy : ℕ) (cells : List Cell) (values : Values) (coding : Option Coding) : Type 0 where
+pub record HasCell (dictionary : Option Index) (kind : Kind) (stated : Result Cell Refusal) (heavy : ℕ) (cells : List Cell) (values : ColumnValues) (coding : Option Coding) : Type 0 where
   pub taken : Cell
   pub read : stated ≡ Ok taken
   pub there : is_there taken ≡ true
   pub weighs : kind_weight kind taken ≡ heavy
   pub holds : HoldsCells dictionary kind (cells ++ taken ∷ []) values coding
 
-abbrev pub TakesNullCell : Values → Option Coding → Values → Option Coding → Type 0
+abbrev pub TakesNullCell : ColumnValues → Option Coding → ColumnValues → Option Coding → Type 0
 TakesNullCell old o new o2 =
     (dictionary : Option Index) (kind : Kind) (cells : List Cell) → HoldsCells dictionary kind cells old o → HoldsCells dictionary kind (cells ++ null ∷ []) new o2
 
-abbrev pub TakesCodedText : List ℕ → ℕ → Coding → Values → Coding → Values → Type 0
+abbrev pub TakesCodedText : List ℕ → ℕ → Coding → ColumnValues → Coding → ColumnValues → Type 0
 TakesCodedText text heavy old values new values2 =
     (index : Index) (kind : Kind) (cells : List Cell) → IsCoded index kind cells values old → HasCell (Some index) kind (cell_of_text kind text) heavy cells values2 (Some new)
 
-abbrev pub TakesField : List ℕ → ℕ → Values → Option Coding → Values → Option Coding → Type 0
+abbrev pub TakesField : List ℕ → ℕ → ColumnValues → Option Coding → ColumnValues → Option Coding → Type 0
 TakesField text heavy old o new o2 =
     (dictionary : Option Index) (kind : Kind) (cells : List Cell) → HoldsCells dictionary kind cells old o → HasCell dictionary kind (cell_of_text kind text) heavy cells new o2
 
@@ -407,11 +422,11 @@ pub record StartsStructs (nullable : Bool) (columns : List Column) (b : ColumnBu
   pub keeps : KeepAll columns [] fields.items
 
 -- no text yet, of offsets of this width
-abbrev pub StartsTexts : OffsetWidth → Values → Type 0
+abbrev pub StartsTexts : OffsetWidth → ColumnValues → Type 0
 StartsTexts width values = (offsets : Vec ℕ) × (contents : Vec ℕ) × (values ≡ Texts width offsets contents) × HoldContents width [] offsets.items contents.items
 
 -- and no binary
-abbrev pub StartsBinaries : OffsetWidth → Values → Type 0
+abbrev pub StartsBinaries : OffsetWidth → ColumnValues → Type 0
 StartsBinaries width values = (offsets : Vec ℕ) × (contents : Vec ℕ) × (values ≡ Binaries width offsets contents) × HoldContents width [] offsets.items contents.items
 
 -- the cell of a field that weighs so much comes behind the cells of a column

@@ -23,7 +23,7 @@ use Rattle.columns.specs.declared.numbers.OffsetWidth.{OffsetWidth}
 use Rattle.text_import.specs.Flat.{number_cell}
 use Rattle.text_import.specs.Objects.{cell_in, cells_by_name, cells_by_place, cells_in, each_item, item_count, has_unknown, keys_of, kind_in, line_value, member_in, names_of, repeats}
 use Rattle.text_columns.specs.declared.coding.Coding.{Coding}
-use Rattle.text_columns.specs.declared.column_values.Values.{Values}
+use Rattle.text_columns.specs.declared.column_values.ColumnValues.{ColumnValues}
 use Rattle.text_columns.specs.declared.builder.ColumnBuilder.{ColumnBuilder}
 use Rattle.text_columns.specs.declared.builder.ListOffsets.{ListOffsets}
 use Rattle.text_columns.specs.declared.builder.Slots.{Slots}
@@ -93,31 +93,31 @@ pub record AppendsFixedBinary (width : ℕ) (t : Token) (heavy : ℕ) (old new :
   pub takes : AppendsFixed width digits heavy old new
 
 -- the cell of a value that weighs so much comes behind the cells of a type
-pub record HasTakenValue (kind : Kind) (d : Data) (heavy : ℕ) (so : List Cell) (new : Values) : Type 0 where
+pub record HasTakenValue (kind : Kind) (d : Data) (heavy : ℕ) (so : List Cell) (new : ColumnValues) : Type 0 where
   pub taken : Cell
   pub read : kind_in kind d ≡ Ok taken
   pub there : is_there taken ≡ true
   pub weighs : kind_weight kind taken ≡ heavy
   pub takes : Takes kind (so ++ taken ∷ []) new
 
-abbrev pub TakesValue : Data → ℕ → Values → Values → Type 0
+abbrev pub TakesValue : Data → ℕ → ColumnValues → ColumnValues → Type 0
 TakesValue d heavy old new = (kind : Kind) (so : List Cell) → Takes kind so old → HasTakenValue kind d heavy so new
 
 -- a token that is a value, and no null
-pub record TakesToken (t : Token) (heavy : ℕ) (old new : Values) : Type 0 where
+pub record TakesToken (t : Token) (heavy : ℕ) (old new : ColumnValues) : Type 0 where
   pub data_is : Data
   pub read : token_data t ≡ Some data_is
   pub there : data_is ≡ null → ⊥
   pub takes : TakesValue data_is heavy old new
 
 -- the same of a column, or of its dictionary
-pub record TakesCellToken (t : Token) (heavy : ℕ) (old : Values) (o : Option Coding) (new : Values) (o2 : Option Coding) : Type 0 where
+pub record TakesCellToken (t : Token) (heavy : ℕ) (old : ColumnValues) (o : Option Coding) (new : ColumnValues) (o2 : Option Coding) : Type 0 where
   pub data_is : Data
   pub read : token_data t ≡ Some data_is
   pub there : data_is ≡ null → ⊥
   pub takes : (dictionary : Option Index) (kind : Kind) (so : List Cell) → HoldsCells dictionary kind so old o → HasCell dictionary kind (kind_in kind data_is) heavy so new o2
 
-pub record TakesCodedToken (t : Token) (heavy : ℕ) (old : Coding) (values : Values) (new : Coding) (values2 : Values) : Type 0 where
+pub record TakesCodedToken (t : Token) (heavy : ℕ) (old : Coding) (values : ColumnValues) (new : Coding) (values2 : ColumnValues) : Type 0 where
   pub data_is : Data
   pub read : token_data t ≡ Some data_is
   pub there : data_is ≡ null → ⊥

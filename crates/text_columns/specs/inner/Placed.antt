@@ -16,8 +16,8 @@ use Rattle.columns.specs.declared.array.PlacedLayout.{PlacedLayout}
 use Rattle.columns.specs.declared.array.PlacedLayout.TheFolds.{fold-PlacedLayout}
 use Rattle.columns.specs.declared.span.Span.{Span}
 use Rattle.text_columns.specs.declared.coding.Coding.{Coding}
-use Rattle.text_columns.specs.declared.column_values.Values.{Values}
-use Rattle.text_columns.specs.declared.column_values.Values.TheVariants.{Nulls, Booleans, Integers, Texts, Binaries, FixedBinaries}
+use Rattle.text_columns.specs.declared.column_values.ColumnValues.{ColumnValues}
+use Rattle.text_columns.specs.declared.column_values.ColumnValues.TheVariants.{Nulls, Booleans, Integers, Texts, Binaries, FixedBinaries}
 use Rattle.text_columns.specs.declared.builder.ColumnBuilder.{ColumnBuilder}
 use Rattle.text_columns.specs.declared.flat.FlatBuilder.{FlatBuilder}
 use Rattle.text_columns.specs.inner.Kept.{KeepAll, Keeps}
@@ -27,18 +27,18 @@ abbrev pub validity_of_bits : List Bool → List ℕ
 validity_of_bits valid = if list_all (λ b. b) valid then [] else packed valid
 
 -- slots of the type of nulls have none
-abbrev pub has_bitmap : Values → Bool
+abbrev pub has_bitmap : ColumnValues → Bool
 has_bitmap Nulls = false
 has_bitmap _ = true
 
-abbrev pub has_validity : Option Coding → Values → Bool
+abbrev pub has_validity : Option Coding → ColumnValues → Bool
 has_validity None values = has_bitmap values
 has_validity (Some d) values = true
 
 abbrev pub validity_in : Bool → List Bool → List ℕ
 validity_in has valid = if has then validity_of_bits valid else []
 
-abbrev pub layout_of : Values → Layout
+abbrev pub layout_of : ColumnValues → Layout
 layout_of Nulls = null_layout
 layout_of (Booleans bits) = bit_layout (packed bits.items)
 layout_of (Integers integer bytes) = fixed_layout bytes.items
@@ -47,10 +47,10 @@ layout_of (Binaries width offsets contents) = binary_layout offsets.items conten
 layout_of (FixedBinaries width bytes) = fixed_layout bytes.items
 
 -- the array of a dictionary's entries, none of which is a null
-abbrev pub entries_array : Values → ℕ → Array
+abbrev pub entries_array : ColumnValues → ℕ → Array
 entries_array values count = array count [] (layout_of values)
 
-abbrev pub column_layout : Option Coding → Values → Layout
+abbrev pub column_layout : Option Coding → ColumnValues → Layout
 column_layout None values = layout_of values
 column_layout (Some d) values = dictionary_layout d.indices.items (and_array (entries_array values (length d.keys.keys)) no_array)
 
@@ -71,14 +71,14 @@ abbrev pub is_layout_within : (size : ℕ) → (DictionaryPart → Bool) → Pla
 is_layout_within size stands = fold-PlacedLayout Bool Bool (layout_within size stands) (array_within size)
 
 -- the buffers of values come after other bytes: they name no dictionary
-pub record IsLaid (values : Values) (old new : List ℕ) (layout : PlacedLayout) : Type 0 where
+pub record IsLaid (values : ColumnValues) (old new : List ℕ) (layout : PlacedLayout) : Type 0 where
   pub more : List ℕ
   pub whole : new ≡ old ++ more
   pub laid : (known : DictionaryPart → List Array) → layout_by new known layout ≡ layout_of values
   pub ends : (stands : DictionaryPart → Bool) → is_layout_within (length new) stands layout ≡ true
 
 -- the array of entries is a dictionary that comes after others
-pub record AreEntriesPlaced (values : Values) (count : ℕ) (old new : List ℕ) (before behind : List Dictionary) (part : DictionaryPart) : Type 0 where
+pub record AreEntriesPlaced (values : ColumnValues) (count : ℕ) (old new : List ℕ) (before behind : List Dictionary) (part : DictionaryPart) : Type 0 where
   pub more : List ℕ
   pub whole : new ≡ old ++ more
   pub own : List Dictionary
@@ -95,7 +95,7 @@ pub record IsPlacedAs (stated : Layout) (old new : List ℕ) (before behind : Li
   pub laid : layout_by new (arrays_in new behind) layout ≡ stated
   pub ends : is_layout_within (length new) (stands_within (length new) behind) layout ≡ true
 
-abbrev pub IsCodedLaid : Values → Coding → List ℕ → List ℕ → List Dictionary → List Dictionary → PlacedLayout → Type 0
+abbrev pub IsCodedLaid : ColumnValues → Coding → List ℕ → List ℕ → List Dictionary → List Dictionary → PlacedLayout → Type 0
 IsCodedLaid values d = IsPlacedAs (column_layout (Some d) values)
 
 abbrev pub IsLayoutPlaced : FlatBuilder → List ℕ → List ℕ → List Dictionary → List Dictionary → PlacedLayout → Type 0

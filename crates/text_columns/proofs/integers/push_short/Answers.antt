@@ -1,6 +1,6 @@
-use Rattle.std.proofs.Common.{◌∙◌, refl, rules}
+use Rattle.std.proofs.Common.{refl, rules}
 use Rattle.std.proofs.lemmas.Int.{to_z-of_z}
-use mir.Syntax.{w64, w128}
+use mir.Syntax.{w64}
 use mir.Val.{of_z, SFits, to_z}
 use Rattle.cells.specs.Typed.{typed_integer}
 use Rattle.text_columns.proofs.IntegerBytes.{spelled_appended}
@@ -8,10 +8,9 @@ use Rattle.text_columns.proofs.integers.push_short.Goals as goal
 
 pub returns-then-branch : goal.returns-then-branch
 returns-then-branch c =
-    let wide : SFits w128 c.from.result = search rules in
     let fits : SFits w64 c.args.short.number = search rules in
     λ text is. (
       refl,
-      spelled_appended c.args.integer text (typed_integer text) c.args.short.number c.args.values.now.items c.push_number.new.values.items is (λ width signed few. refl)
-          (to_z w128 (of_z w128 c.from.result)) (to_z-of_z w128 c.from.result wide ∙ c.from.ensures ∙ to_z-of_z w64 c.args.short.number fits) (c.in_ok-push_number.ensures c.if-branch.true),
+      spelled_appended c.args.integer text (typed_integer text) c.args.short.number c.args.values.now.items c.push_small.new.values.items is (λ width signed few. refl)
+          (to_z w64 (of_z w64 c.args.short.number)) (to_z-of_z w64 c.args.short.number fits) (c.in_ok-push_small.ensures c.if-branch.true),
     )

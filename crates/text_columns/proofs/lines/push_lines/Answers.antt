@@ -1,6 +1,7 @@
-use Rattle.std.proofs.Common.{◌≡◌, ◌∙◌, sym, [], drop, arith}
+use Rattle.std.proofs.Common.{◌≡◌, ◌∙◌, ap, sym, [], drop, arith}
 use Rattle.std.proofs.lemmas.List.{drop_all, drop_more}
 use Rattle.arrow_schema.specs.View.{schema_of}
+use Rattle.text_import.specs.Objects.{is_blank}
 use Rattle.text_columns.specs.inner.Kept.{key_list}
 use Rattle.text_columns.proofs.LineRows.{lines_all, lines_more, lines_none, lines_same, lines_skipped}
 use Rattle.text_columns.proofs.lines.push_lines.Goals as goal
@@ -14,7 +15,7 @@ loop-line-preserved-then-is_blank c =
     record {
       few = c.loop-line.invariant.few;
       read = λ named holds.
-          lines_skipped (schema_of c.args.schema.now) c.args.lines.now n c.loop-line.weight _ c.loop-line.batches (drop_more c.args.lines.now n _ c.loop-line-test.true) (sym c.is_blank.ensures ∙ c.if-is_blank.true)
+          lines_skipped (schema_of c.args.schema.now) c.args.lines.now n c.loop-line.weight _ c.loop-line.batches (drop_more c.args.lines.now n _ c.loop-line-test.true) (ap is_blank (sym c.as_bytes.ensures.value) ∙ sym c.is_blank.ensures ∙ c.if-is_blank.true)
           (c.loop-line.invariant.read named holds);
     }
 
@@ -30,7 +31,7 @@ loop-line-preserved c =
       few = omega (arith, c.loop-line.invariant.few, c.if-heavy-weight.false);
       read = λ named holds.
           lines_more s (key_list c.args.names.now.keys) c.args.lines.now n c.loop-line.weight c.in-Some.heavy _ c.make_room.new.self c.push_row.new.batches (drop_more c.args.lines.now n _ c.loop-line-test.true)
-          (sym c.is_blank.ensures ∙ c.if-is_blank.false) named c.requires light taken adds
+          (ap is_blank (sym c.as_bytes.ensures.value) ∙ sym c.is_blank.ensures ∙ c.if-is_blank.false) named c.requires light taken adds
           (lines_same s c.args.lines.now (drop n c.args.lines.now) c.loop-line.weight c.loop-line.batches c.make_room.new.self same (c.loop-line.invariant.read named holds));
     }
 

@@ -6,5 +6,5 @@ use Rattle.text_columns.proofs.coding.Coding.code.Goals as goal
 pub returns : goal.returns
 returns c =
     let old = c.args.self.now in
-    let new : Coding = record { index = old.index; indices = c.push_index.new.indices; keys = c.place_of.new.keys; one = old.one } in
-    λ done. value_coded old new c.args.entries.now c.place_of.new.entries c.in-Some.place (rw (c.in-Some.is, c.key-key.ensures) at c.in_ok-place.ensures) refl refl c.in_ok-push_index.ensures.ok
+    let new : Coding = record { index = old.index; indices = c.push_place.new.indices; keys = c.push_place.new.keys; one = old.one } in
+    λ done. value_coded old new c.args.entries.now c.push_place.new.entries (rw c.key-key.ensures at c.in_ok-done.ensures done) refl refl

@@ -1,13 +1,13 @@
 use Rattle.std.specs.Prelude.{IfOk, IfSome}
 use Rattle.std.proofs.Common.{sym, subst}
-use Rattle.text_columns.specs.declared.column_values.Values.{Values}
-use Rattle.text_columns.specs.declared.column_values.Values.TheVariants.{Texts}
+use Rattle.text_columns.specs.declared.column_values.ColumnValues.{ColumnValues}
+use Rattle.text_columns.specs.declared.column_values.ColumnValues.TheVariants.{Texts}
 use Rattle.text_columns.specs.inner.Kept.{TakesText}
 use Rattle.text_columns.proofs.Taken.{text_step}
-use Rattle.text_columns.proofs.column_values.Values.push_utf8.Goals as goal
+use Rattle.text_columns.proofs.column_values.ColumnValues.push_utf8.Goals as goal
 
 pub returns-in-Texts : goal.returns-in-Texts
 returns-in-Texts c =
-    subst (λ (v : Values). IfOk c.push_utf8.result (λ taken. IfSome taken (λ heavy. TakesText c.args.text.now heavy v (Texts c.in-Texts.width c.push_utf8.new.offsets c.push_utf8.new.contents))))
+    subst (λ (v : ColumnValues). IfOk c.push_utf8.result (λ taken. IfSome taken (λ heavy. TakesText c.args.text.now heavy v (Texts c.in-Texts.width c.push_utf8.new.offsets c.push_utf8.new.contents))))
     (sym c.in-Texts.is)
     (text_step c.in-Texts.width c.args.text.now c.in-Texts.offsets c.in-Texts.contents c.push_utf8.new.offsets c.push_utf8.new.contents c.push_utf8.result c.push_utf8.ensures)
