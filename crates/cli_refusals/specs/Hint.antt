@@ -1,7 +1,7 @@
 -- What is reported on a terminal as refused, before what to do: a word of the command line, a file, the input or the output, a part of the input, a
 -- field of a stream, a table, or a line of a script.
 use Rattle.std.specs.Prelude.{ℕ, ◌==◌, ◌++◌, decimal, codes, List, [], Option, Some, None, string_bytes, if◌then◌else◌}
-use Rattle.text_import.specs.Part.{PlainPart, header_name, header_count, record_count, field, line, PlainLinePart, column_cell, other_count, unknown_name, part_of}
+use Rattle.text_import.specs.Part.{PlainPart, header_name, header_count, record_count, field, line, PlainLinePart, column_cell, missing_name, other_count, unknown_name, part_of}
 use Rattle.cli_refusals.specs.declared.hint.Hint.{Hint}
 use Rattle.cli_refusals.specs.declared.hint.Hint.TheVariants.{Word, File, Input, Output, Part, Table, UnreadTable, ScriptLine, Field, OtherField, FieldCount}
 use Rattle.cli_refusals.specs.RefusedWord.{role_text}
@@ -36,6 +36,11 @@ abbrev pub name_text : Option (List ℕ) → List ℕ
 name_text None = []
 name_text (Some name) = codes "The name `" ++ name ++ codes "` is no column. "
 
+-- a name that is missing in an object
+abbrev pub missing_text : Option (List ℕ) → List ℕ
+missing_text None = []
+missing_text (Some name) = codes "The name `" ++ name ++ codes "` is missing. "
+
 -- a number of things, by the noun for one of them
 abbrev pub counted : ℕ → List ℕ → List ℕ
 counted n noun = decimal n ++ codes " " ++ noun ++ (if n == 1 then [] else codes "s")
@@ -54,6 +59,7 @@ table_text (Some name) = codes "The table `" ++ name ++ codes "` is refused. "
 abbrev pub line_part_text : Option PlainLinePart → List ℕ
 line_part_text None = []
 line_part_text (Some (column_cell name)) = field_text (shown name) None
+line_part_text (Some (missing_name name)) = missing_text (shown name)
 line_part_text (Some (other_count items columns)) = counts_text (codes "record") (codes "field") items columns
 line_part_text (Some (unknown_name name)) = name_text (shown name)
 

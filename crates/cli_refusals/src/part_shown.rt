@@ -167,6 +167,26 @@ impl fmt::Display for NameShown<'_> {
     }
 }
 
+// A name that is missing in an object, if it may be shown.
+#[derive(Drop)]
+struct MissingShown<'a> {
+    name: Option<&'a str>,
+}
+
+impl fmt::Display for MissingShown<'_> {
+    ghost use Rattle.std.specs.Prelude.{Some, option_map};
+    ghost use Rattle.cli_refusals.specs.Hint.{missing_text};
+
+    ghost output = { λ shown. Some (missing_text (option_map (λ t. t.now) shown.name)) };
+
+    fn fmt<W: fmt::Write>(&self, f: &mut fmt::Formatter<W>) -> fmt::Result {
+        match self.name {
+            None => Ok(()),
+            Some(name) => write!(f, "The name `{name}` is missing. "),
+        }
+    }
+}
+
 // A number of things, with the noun for one of them.
 #[derive(Drop)]
 struct Counted {
@@ -236,6 +256,12 @@ impl fmt::Display for LinePartShown<'_> {
             None => Ok(()),
             Some(LinePart::Cell { name }) => {
                 write!(f, "{}", FieldShown::of_name(name.as_bytes()))
+            }
+            Some(LinePart::Missing { name }) => {
+                let name = MissingShown {
+                    name: shown(name.as_bytes()),
+                };
+                write!(f, "{name}")
             }
             Some(LinePart::Count { items, columns }) => {
                 let counts = Counts {

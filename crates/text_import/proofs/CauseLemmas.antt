@@ -8,21 +8,22 @@ use Rattle.std.proofs.lemmas.Bool.Decides.{not_from_Decides}
 use Rattle.std.proofs.lemmas.Slice.Eq.{bytes_eq-Decides}
 use Rattle.serde_json.specs.Data.{Data, Items, no_items, item, Members}
 use Rattle.serde_json.specs.Data as json
+use Rattle.serde_json.specs.Find.{get_member}
 use Rattle.arrow_schema.specs.Column.{Column, Columns, columns_of, PlainSchema}
-use Rattle.arrow_schema.specs.Parts.{name_of_column}
+use Rattle.arrow_schema.specs.Parts.{name_of_column, is_nullable_column}
 use Rattle.cells.specs.Cell.{Cell, Cells, and_cell, cell_list}
 use Rattle.text_import.specs.declared.form.TextForm.{TextForm}
 use Rattle.text_import.specs.declared.form.TextForm.TheVariants.{Csv, JsonLines}
 use Rattle.text_import.specs.declared.refusal.Refusal.{Refusal}
-use Rattle.text_import.specs.declared.refusal.Refusal.TheVariants.{Header, Nested, Width, AmbiguousNames, UnknownName}
+use Rattle.text_import.specs.declared.refusal.Refusal.TheVariants.{Header, Nested, Width, AmbiguousNames, UnknownName, MissingName}
 use Rattle.text_import.specs.declared.refusal.Refused.{Refused}
 use Rattle.text_import.specs.Refusals.{and_then, given, numbered}
 use Rattle.text_import.specs.Rows.{accepted, rows_from}
 use Rattle.text_import.specs.Flat.{field_cell}
 use Rattle.text_import.specs.Records.{field_cells, record_row, are_names, whole, rows_behind_header, is_nested_column, csv_rows_of, records_of}
-use Rattle.text_import.specs.Objects.{item_count, column_count, cell_in, cells_by_place, cells_by_name, has_name, names_of, keys_of, repeats, has_unknown, value_row, line_value, line_row, lines_of, jsonl_rows_of}
+use Rattle.text_import.specs.Objects.{item_count, column_count, cell_in, member_in, cells_by_place, cells_by_name, has_name, names_of, keys_of, repeats, has_unknown, value_row, line_value, line_row, lines_of, jsonl_rows_of}
 use Rattle.text_import.specs.Form.{rows_of_text}
-use Rattle.text_import.specs.Part.{PlainPart, header_name, header_count, record_count, field, line, PlainLinePart, column_cell, other_count, unknown_name, other_name, refused_names, header_of, refused_header, is_refused, refused_field, refused_in_record, refused_by_place, refused_by_name, first_unknown, refused_in_value, refused_in_read, refused_in_line, refused_part}
+use Rattle.text_import.specs.Part.{PlainPart, header_name, header_count, record_count, field, line, PlainLinePart, column_cell, missing_name, other_count, unknown_name, other_name, refused_names, header_of, refused_header, is_refused, refused_field, refused_in_record, refused_by_place, refused_by_name, first_unknown, member_part, refused_in_value, refused_in_read, refused_in_line, refused_part}
 use Rattle.text_import.specs.Cause.{IsOtherName, IsOtherCount, IsRefusedField, IsRecordCause, IsCsvCause, IsRefusedCell, IsLinePartCause, IsLineCause, IsCause}
 use Rattle.text_import.specs.inner.Names.{member_of}
 use Rattle.text_import.proofs.PartLemmas.{any_unknown}
@@ -230,6 +231,11 @@ member_cause (c ∷ cs) ms name names = by (member_of c ms) refl names (member_c
 refusal_kept : (s : PlainSchema) (r : Result Cells Refusal) (e q : Refusal) → r ≡ Err q → and_then (given cell_list r) (accepted s) ≡ Err e → q ≡ e
 refusal_kept s r e q is h = (let told = rw is at h in cc)
 
+-- an absent member is refused as a missing name
+missing_refused : (nullable : Bool) (f : Data → Result Cell Refusal) (e : Refusal) → member_in nullable f None ≡ Err e → e ≡ MissingName
+missing_refused true f e h = absurd cc
+missing_refused false f e h = cc
+
 unknown_is : (names keys : List (List ℕ)) (name : List ℕ) → first_unknown names keys ≡ Some name → has_name names name ≡ false
 unknown_is names [] name is = absurd cc
 unknown_is names (k ∷ keys) name is = by (has_name names k) refl is (unknown_is names keys name)
@@ -272,16 +278,21 @@ value_cause s (json.object ms) part e names h = by (repeats (names_of cs)) names
     cs : Columns
     cs = columns_of s.columns
 
-    cell : (o : Option (List ℕ)) → refused_by_name cs ms ≡ o → option_map column_cell o ≡ Some part → and_then (given cell_list (cells_by_name cs ms)) (accepted s) ≡ Err e
+    there : (name : List ℕ) (q : Refusal) → IsRefusedCell s.columns (json.object ms) name q → (o : Option Data) → get_member name ms ≡ o
+        → (if is_some o then column_cell name else missing_name name) ≡ part → IsLinePartCause s.columns (json.object ms) part q
+    there name q cause (Some d) is same = rw (← same) cause
+    there name q cause None is same = rw (← same) (missing_refused (is_nullable_column cause.column) (cell_in cause.column) q (rw is at cause.refused), is, cause)
+
+    cell : (o : Option (List ℕ)) → refused_by_name cs ms ≡ o → option_map (member_part ms) o ≡ Some part → and_then (given cell_list (cells_by_name cs ms)) (accepted s) ≡ Err e
         → IsLinePartCause s.columns (json.object ms) part e
     cell None is names h = absurd cc
     cell (Some name) is names h =
         let (q, cells, cause) = member_cause s.columns ms name is in
         let one : q ≡ e = refusal_kept s (cells_by_name cs ms) e q cells h in
-        let same : part ≡ column_cell name = cc in
-        rw (same, ← one) cause
+        let same : member_part ms name ≡ part = cc in
+        rw (← one) (there name q cause (get_member name ms) refl same)
 
-    key : (o : Option (List ℕ)) → first_unknown (names_of cs) (keys_of ms) ≡ o → option_or (option_map unknown_name o) (option_map column_cell (refused_by_name cs ms)) ≡ Some part
+    key : (o : Option (List ℕ)) → first_unknown (names_of cs) (keys_of ms) ≡ o → option_or (option_map unknown_name o) (option_map (member_part ms) (refused_by_name cs ms)) ≡ Some part
         → and_then (given cell_list (if has_unknown (names_of cs) (keys_of ms) then Err UnknownName else cells_by_name cs ms)) (accepted s) ≡ Err e
         → IsLinePartCause s.columns (json.object ms) part e
     key None is names h =
@@ -295,7 +306,7 @@ value_cause s (json.object ms) part e names h = by (repeats (names_of cs)) names
         rw same (one, unknown_is (names_of cs) (keys_of ms) name is)
 
     by : (b : Bool)
-        → (if b then None else option_or (option_map unknown_name (first_unknown (names_of cs) (keys_of ms))) (option_map column_cell (refused_by_name cs ms))) ≡ Some part
+        → (if b then None else option_or (option_map unknown_name (first_unknown (names_of cs) (keys_of ms))) (option_map (member_part ms) (refused_by_name cs ms))) ≡ Some part
         → and_then (given cell_list (if b then Err AmbiguousNames else if has_unknown (names_of cs) (keys_of ms) then Err UnknownName else cells_by_name cs ms)) (accepted s) ≡ Err e
         → IsLinePartCause s.columns (json.object ms) part e
     by true names h = absurd cc

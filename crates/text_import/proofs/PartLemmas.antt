@@ -18,7 +18,7 @@ use Rattle.arrow_schema.specs.Parts.{name_of_column}
 use Rattle.text_import.specs.Flat.{field_cell}
 use Rattle.text_import.specs.Records.{is_nested_column, records_of}
 use Rattle.text_import.specs.Objects.{cell_in, is_blank, has_name, names_of, keys_of, repeats, has_unknown}
-use Rattle.text_import.specs.Part.{header_name, header_count, field, column_cell, other_count, unknown_name, other_name, refused_header, is_refused, refused_field, refused_by_place, refused_by_name, refused_in_items, first_unknown, refused_in_members}
+use Rattle.text_import.specs.Part.{header_name, header_count, field, column_cell, other_count, unknown_name, other_name, refused_header, is_refused, refused_field, refused_by_place, refused_by_name, refused_in_items, first_unknown, member_part, refused_in_members}
 use Rattle.text_import.specs.inner.Names.{member_of}
 use Rattle.text_import.proofs.ObjectLemmas.{item_count_is, column_count_is}
 use Rattle.text_import.proofs.RecordLemmas.{field_here, field_past}
@@ -129,7 +129,7 @@ pub name_unknown : (cs : Columns) (ms : Members) (name : List ℕ) → repeats (
 name_unknown cs ms name e is = rw (e, is) refl
 
 pub names_known : (cs : Columns) (ms : Members) → repeats (names_of cs) ≡ false → first_unknown (names_of cs) (keys_of ms) ≡ None
-    → refused_in_members cs ms ≡ option_map column_cell (refused_by_name cs ms)
+    → refused_in_members cs ms ≡ option_map (member_part ms) (refused_by_name cs ms)
 names_known cs ms e is = rw (e, is) refl
 
 pub ruleset named_rules = (names_repeated, name_unknown, names_known)

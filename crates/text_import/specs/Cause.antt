@@ -8,10 +8,10 @@ use Rattle.arrow_schema.specs.Parts.{name_of_column, is_nullable_column}
 use Rattle.text_import.specs.declared.form.TextForm.{TextForm}
 use Rattle.text_import.specs.declared.form.TextForm.TheVariants.{Csv, JsonLines}
 use Rattle.text_import.specs.declared.refusal.Refusal.{Refusal}
-use Rattle.text_import.specs.declared.refusal.Refusal.TheVariants.{Header, Width, UnknownName}
+use Rattle.text_import.specs.declared.refusal.Refusal.TheVariants.{Header, Width, UnknownName, MissingName}
 use Rattle.text_import.specs.Flat.{field_cell}
 use Rattle.text_import.specs.Objects.{cell_in, member_in, has_name, names_of, line_value, line_row}
-use Rattle.text_import.specs.Part.{PlainPart, header_name, header_count, record_count, field, line, PlainLinePart, column_cell, other_count, unknown_name, header_of}
+use Rattle.text_import.specs.Part.{PlainPart, header_name, header_count, record_count, field, line, PlainLinePart, column_cell, missing_name, other_count, unknown_name, header_of}
 
 -- a header and the columns have these names at one place, and they differ
 pub record IsOtherName (header : List (List ℕ)) (cs : List Column) (found wanted : List ℕ) : Type 0 where
@@ -61,9 +61,15 @@ pub record IsRefusedCell (cs : List Column) (value : Data) (name : List ℕ) (e 
   pub named : name_of_column column ≡ name
   pub refused : member_in (is_nullable_column column) (cell_in column) (value_at place name value) ≡ Err e
 
+-- the member with this name, if the value is an object that has one
+abbrev pub value_of_name : (name : List ℕ) → Data → Option Data
+value_of_name name (json.object ms) = get_member name ms
+value_of_name name _ = None
+
 -- for a part of a line, by the value of the line
 abbrev pub IsLinePartCause : List Column → Data → PlainLinePart → Refusal → Type 0
 IsLinePartCause cs value (column_cell name) e = IsRefusedCell cs value name e
+IsLinePartCause cs value (missing_name name) e = (e ≡ MissingName) × (value_of_name name value ≡ None) × IsRefusedCell cs value name e
 IsLinePartCause cs value (other_count items columns) e = (e ≡ Width) × IsOtherCount cs items columns
 IsLinePartCause cs value (unknown_name name) e = (e ≡ UnknownName) × (has_name (names_of (columns_of cs)) name ≡ false)
 

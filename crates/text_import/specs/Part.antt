@@ -1,5 +1,5 @@
 -- The part of a text that is refused: the first one in a header or a record that is refused by itself, or a line with its refused part.
-use Rattle.std.specs.Prelude.{ℕ, ◌-◌, ◌==◌, Bool, true, false, not, bytes_eq, List, [], ◌∷◌, length, find, Option, Some, None, option_map, unwrap_or, Result, Ok, Err, string_bytes, slice_get, if◌then◌else◌}
+use Rattle.std.specs.Prelude.{ℕ, ◌-◌, ◌==◌, Bool, true, false, not, bytes_eq, List, [], ◌∷◌, length, find, Option, Some, None, option_map, is_some, unwrap_or, Result, Ok, Err, string_bytes, slice_get, if◌then◌else◌}
 use Rattle.std.specs.List.{list_any}
 use Rattle.std.specs.Option.{option_and_then, option_or}
 use Rattle.serde_json.specs.Data.{Data, Items, Members}
@@ -19,10 +19,11 @@ use Rattle.text_import.specs.Flat.{field_cell}
 use Rattle.text_import.specs.Records.{is_nested_column, records_of}
 use Rattle.text_import.specs.Objects.{item_count, column_count, first_item, other_items, cell_in, member_in, has_name, names_of, keys_of, repeats, line_value, lines_of}
 
--- the refused part of a line of JSON Lines: the cell of the column with this name, an array whose number of items differs from the number of columns,
--- or a name that is not that of a column
+-- the refused part of a line of JSON Lines: the cell of the column with this name, the name of a column that is missing in an object, an array whose
+-- number of items differs from the number of columns, or a name that is not that of a column
 pub data PlainLinePart : Type 0 where
   column_cell : (name : List ℕ) → PlainLinePart
+  missing_name : (name : List ℕ) → PlainLinePart
   other_count : (items columns : ℕ) → PlainLinePart
   unknown_name : (name : List ℕ) → PlainLinePart
 
@@ -37,6 +38,7 @@ pub data PlainPart : Type 0 where
 
 abbrev pub line_part_of : LinePart → PlainLinePart
 line_part_of (line_parts.Cell name) = column_cell (string_bytes name)
+line_part_of (line_parts.Missing name) = missing_name (string_bytes name)
 line_part_of (line_parts.Count items columns) = other_count items columns
 line_part_of (line_parts.Name name) = unknown_name (string_bytes name)
 
@@ -97,11 +99,15 @@ refused_in_items cs ds = if item_count ds == column_count cs then option_map col
 abbrev pub first_unknown : List (List ℕ) → List (List ℕ) → Option (List ℕ)
 first_unknown names keys = find (λ k. not (has_name names k)) keys
 
+-- a column without a member is refused for that
+abbrev pub member_part : Members → List ℕ → PlainLinePart
+member_part ms name = if is_some (get_member name ms) then column_cell name else missing_name name
+
 -- names are tested before any member; if two columns have the same name, no part of the line is refused by itself
 abbrev pub refused_in_members : Columns → Members → Option PlainLinePart
 refused_in_members cs ms =
     if repeats (names_of cs) then None
-    else option_or (option_map unknown_name (first_unknown (names_of cs) (keys_of ms))) (option_map column_cell (refused_by_name cs ms))
+    else option_or (option_map unknown_name (first_unknown (names_of cs) (keys_of ms))) (option_map (member_part ms) (refused_by_name cs ms))
 
 abbrev pub refused_in_value : Columns → Data → Option PlainLinePart
 refused_in_value cs (json.array ds) = refused_in_items cs ds

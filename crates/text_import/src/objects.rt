@@ -210,7 +210,7 @@ fn test_names(alloc: Global, fields: &[Field], members: &Map<String, Json>) -> R
     test_many_names(&mut names, fields, members)
 }
 
-fn member<'a>(members: &'a Map<String, Json>, name: &str) -> Option<&'a Json>
+pub(crate) fn member<'a>(members: &'a Map<String, Json>, name: &str) -> Option<&'a Json>
     ensures { option_map (λ v. view v.now) result ≡ get_member name.now (members_view members.now.entries) }
 {
     members.get(name)

@@ -12,7 +12,7 @@ ghost use Rattle.facts.specs.Outcomes.{Gives};
 ghost use Rattle.text_import.specs.Refusals.{refusal_of};
 ghost use Rattle.text_import.specs.Records.{records_of};
 ghost use Rattle.text_import.specs.Objects.{lines_of, line_value};
-ghost use Rattle.text_import.specs.Part.{part_of, line_part_of, other_name, refused_names, refused_header, is_refused, refused_field, refused_in_record, refused_by_place, refused_by_name, refused_in_items, refused_in_members, refused_in_value, refused_in_read, refused_in_line, numbered_part, refused_part};
+ghost use Rattle.text_import.specs.Part.{part_of, line_part_of, other_name, refused_names, refused_header, is_refused, refused_field, refused_in_record, refused_by_place, refused_by_name, refused_in_items, member_part, refused_in_members, refused_in_value, refused_in_read, refused_in_line, numbered_part, refused_part};
 ghost use Rattle.text_import.specs.Part as plain;
 ghost use Rattle.text_import.specs.declared.refusal.Refusal.{Refusal};
 ghost use Rattle.text_import.specs.inner.Names.{IsText};
@@ -20,7 +20,7 @@ ghost use Rattle.text_import.specs.inner.Names.{IsText};
 use crate::TextForm;
 use crate::flat::field_cell;
 use crate::jsonl::{line_at, line_value};
-use crate::objects::{cell_in, first_unknown, member_in, repeat_names};
+use crate::objects::{cell_in, first_unknown, member, member_in, repeat_names};
 use crate::records::{has_nested, record_at, record_field};
 use crate::refusal::CellError;
 use crate::texts::{is_name_of, name_of};
@@ -35,6 +35,8 @@ use std::alloc::{AllocError, Global};
 pub enum LinePart {
     /// The cell of the field with this name.
     Cell { name: String },
+    /// The name of a field that is not nullable and has no member in an object.
+    Missing { name: String },
     /// An array whose number of items differs from the number of columns.
     Count { items: usize, columns: usize },
     /// A name that is not that of a column.
@@ -249,6 +251,22 @@ fn refused_by_name<'a>(
     Ok(None)
 }
 
+fn member_part(
+    alloc: Global,
+    members: &Map<String, Json>,
+    name: &str,
+) -> Result<LinePart, AllocError>
+    ensures { IfOk result (λ part. line_part_of part ≡ member_part (members_view members.now.entries) name.now) }
+{
+    let found = member(members, name).is_some();
+    let name = String::from_str(alloc, name)?;
+    if found {
+        Ok(LinePart::Cell { name })
+    } else {
+        Ok(LinePart::Missing { name })
+    }
+}
+
 fn cell_part(alloc: Global, name: Option<&str>) -> Result<Option<LinePart>, AllocError>
     ensures { IfOk result (λ part. option_map line_part_of part ≡ option_map plain.column_cell (option_map (λ t. t.now) name.entry)) }
 {
@@ -294,7 +312,10 @@ fn refused_in_members(
             name: String::from_str(alloc, name)?,
         }));
     }
-    cell_part(alloc, refused_by_name(alloc, fields, members)?)
+    match refused_by_name(alloc, fields, members)? {
+        None => Ok(None),
+        Some(name) => Ok(Some(member_part(alloc, members, name)?)),
+    }
 }
 
 fn refused_in_value(
@@ -370,7 +391,7 @@ fn numbered_part(
 /// For CSV and the number 0, this is the first name of the header that differs from that of the column at its place, or the number of names if those
 /// that both have are equal; `None` if the table has lists or structs. For another number it is the number of fields in the record if it differs from
 /// the number of columns, or the first field whose text is refused for its column; `None` if every text is a cell. For JSON Lines it is the line with
-/// its refused part: the number of its items, its first unknown name, or the first field whose cell is refused.
+/// its refused part: the number of its items, its first unknown name, or the first field whose name is missing or whose cell is refused.
 ///
 /// # Errors
 /// `AllocError` if memory was refused.
