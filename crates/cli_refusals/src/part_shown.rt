@@ -4,7 +4,7 @@ ghost use Rattle.cli_refusals.specs.Shown.{shown};
 
 use crate::shown::shown;
 use std::fmt;
-use text_import::{LinePart, RefusedPart};
+use text_import::{LinePart, Reason, RefusedPart};
 
 /// The name and the text of a field, if they may be shown.
 #[derive(Drop)]
@@ -167,26 +167,6 @@ impl fmt::Display for NameShown<'_> {
     }
 }
 
-// A name that is missing in an object, if it may be shown.
-#[derive(Drop)]
-struct MissingShown<'a> {
-    name: Option<&'a str>,
-}
-
-impl fmt::Display for MissingShown<'_> {
-    ghost use Rattle.std.specs.Prelude.{Some, option_map};
-    ghost use Rattle.cli_refusals.specs.Hint.{missing_text};
-
-    ghost output = { λ shown. Some (missing_text (option_map (λ t. t.now) shown.name)) };
-
-    fn fmt<W: fmt::Write>(&self, f: &mut fmt::Formatter<W>) -> fmt::Result {
-        match self.name {
-            None => Ok(()),
-            Some(name) => write!(f, "The name `{name}` is missing. "),
-        }
-    }
-}
-
 // A number of things, with the noun for one of them.
 #[derive(Drop)]
 struct Counted {
@@ -203,6 +183,39 @@ impl fmt::Display for Counted {
     fn fmt<W: fmt::Write>(&self, f: &mut fmt::Formatter<W>) -> fmt::Result {
         let plural = if self.count == 1 { "" } else { "s" };
         write!(f, "{} {}{}", self.count, self.noun, plural)
+    }
+}
+
+// A path, if it may be shown, and what is refused at its end.
+#[derive(Drop)]
+struct PathShown<'a> {
+    path: Option<&'a str>,
+    reason: Reason,
+}
+
+impl fmt::Display for PathShown<'_> {
+    ghost use Rattle.std.specs.Prelude.{Some, option_map};
+    ghost use Rattle.cli_refusals.specs.Hint.{path_text};
+
+    ghost output = { λ shown. Some (path_text (option_map (λ t. t.now) shown.path) shown.reason) };
+
+    fn fmt<W: fmt::Write>(&self, f: &mut fmt::Formatter<W>) -> fmt::Result {
+        let path = match self.path {
+            None => return Ok(()),
+            Some(path) => path,
+        };
+        match self.reason {
+            Reason::Value => write!(f, "The field `{path}` is refused. "),
+            Reason::Missing => write!(f, "The name `{path}` is missing. "),
+            Reason::Unknown => write!(f, "The name `{path}` is no field. "),
+            Reason::Count { items, wanted } => {
+                let found = Counted {
+                    count: items,
+                    noun: "item",
+                };
+                write!(f, "The field `{path}` has {found} instead of {wanted}. ")
+            }
+        }
     }
 }
 
@@ -254,14 +267,12 @@ impl fmt::Display for LinePartShown<'_> {
     fn fmt<W: fmt::Write>(&self, f: &mut fmt::Formatter<W>) -> fmt::Result {
         match self.part {
             None => Ok(()),
-            Some(LinePart::Cell { name }) => {
-                write!(f, "{}", FieldShown::of_name(name.as_bytes()))
-            }
-            Some(LinePart::Missing { name }) => {
-                let name = MissingShown {
-                    name: shown(name.as_bytes()),
+            Some(LinePart::Value(part)) => {
+                let path = PathShown {
+                    path: shown(part.path.as_bytes()),
+                    reason: part.reason,
                 };
-                write!(f, "{name}")
+                write!(f, "{path}")
             }
             Some(LinePart::Count { items, columns }) => {
                 let counts = Counts {
