@@ -1,7 +1,9 @@
 -- What is reported on a terminal as refused, before what to do: a word of the command line, a file, the input or the output, a part of the input, a
 -- field of a stream, a table, or a line of a script.
 use Rattle.std.specs.Prelude.{ℕ, ◌==◌, ◌++◌, decimal, codes, List, [], Option, Some, None, string_bytes, if◌then◌else◌}
-use Rattle.text_import.specs.Part.{PlainPart, header_name, header_count, record_count, field, line, PlainLinePart, column_cell, other_count, unknown_name, part_of}
+use Rattle.text_import.specs.Part.{PlainPart, header_name, header_count, record_count, field, line, PlainLinePart, value_part, other_count, unknown_name, part_of}
+use Rattle.text_import.specs.declared.value_part.Reason.{Reason}
+use Rattle.text_import.specs.declared.value_part.Reason.TheVariants.{Value, Missing, Unknown, Count}
 use Rattle.cli_refusals.specs.declared.hint.Hint.{Hint}
 use Rattle.cli_refusals.specs.declared.hint.Hint.TheVariants.{Word, File, Input, Output, Part, Table, UnreadTable, ScriptLine, Field, OtherField, FieldCount}
 use Rattle.cli_refusals.specs.RefusedWord.{role_text}
@@ -45,6 +47,14 @@ abbrev pub counts_text : (whole part : List ℕ) → (parts columns : ℕ) → L
 counts_text whole part parts columns =
     codes "The " ++ whole ++ codes " has " ++ counted parts part ++ codes ", and the table " ++ counted columns (codes "column") ++ codes ". "
 
+-- what is refused at the end of a path
+abbrev pub path_text : (path : Option (List ℕ)) → Reason → List ℕ
+path_text None reason = []
+path_text (Some path) Value = codes "The field `" ++ path ++ codes "` is refused. "
+path_text (Some path) Missing = codes "The name `" ++ path ++ codes "` is missing. "
+path_text (Some path) Unknown = codes "The name `" ++ path ++ codes "` is no field. "
+path_text (Some path) (Count items wanted) = codes "The field `" ++ path ++ codes "` has " ++ counted items (codes "item") ++ codes " instead of " ++ decimal wanted ++ codes ". "
+
 -- the name of a table
 abbrev pub table_text : Option (List ℕ) → List ℕ
 table_text None = []
@@ -53,7 +63,7 @@ table_text (Some name) = codes "The table `" ++ name ++ codes "` is refused. "
 -- what is refused in a line
 abbrev pub line_part_text : Option PlainLinePart → List ℕ
 line_part_text None = []
-line_part_text (Some (column_cell name)) = field_text (shown name) None
+line_part_text (Some (value_part part)) = path_text (shown part.path) part.reason
 line_part_text (Some (other_count items columns)) = counts_text (codes "record") (codes "field") items columns
 line_part_text (Some (unknown_name name)) = name_text (shown name)
 

@@ -26,7 +26,8 @@ On a terminal a second line gives the advice of this page. Before it, this line 
 that is known and can be shown: a word of the command line; the file, the input or the output, with the
 system's message; a field of a stream; a part of a text; a line of a script; or the table that can't be
 read. For a part of a text it shows the name in the header and the one that the table has, the number of
-fields of a record, a field with its text, a line, or a name that is not a column.
+fields of a record, a field with its text, or a line and what is refused in it. In a line, `p.x[3]` is the
+fourth item of the list `x` in the struct `p`: items are counted from 0.
 
 A refused command has changed no table, except as S9 and G1 say. It has written no output, except as G1
 says. `salvage` writes one segment after another, so it may have written some before S9 and OutOfMemory

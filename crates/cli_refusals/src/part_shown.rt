@@ -4,7 +4,7 @@ ghost use Rattle.cli_refusals.specs.Shown.{shown};
 
 use crate::shown::shown;
 use std::fmt;
-use text_import::{LinePart, RefusedPart};
+use text_import::{LinePart, Reason, RefusedPart};
 
 /// The name and the text of a field, if they may be shown.
 #[derive(Drop)]
@@ -186,6 +186,39 @@ impl fmt::Display for Counted {
     }
 }
 
+// A path, if it may be shown, and what is refused at its end.
+#[derive(Drop)]
+struct PathShown<'a> {
+    path: Option<&'a str>,
+    reason: Reason,
+}
+
+impl fmt::Display for PathShown<'_> {
+    ghost use Rattle.std.specs.Prelude.{Some, option_map};
+    ghost use Rattle.cli_refusals.specs.Hint.{path_text};
+
+    ghost output = { λ shown. Some (path_text (option_map (λ t. t.now) shown.path) shown.reason) };
+
+    fn fmt<W: fmt::Write>(&self, f: &mut fmt::Formatter<W>) -> fmt::Result {
+        let path = match self.path {
+            None => return Ok(()),
+            Some(path) => path,
+        };
+        match self.reason {
+            Reason::Value => write!(f, "The field `{path}` is refused. "),
+            Reason::Missing => write!(f, "The name `{path}` is missing. "),
+            Reason::Unknown => write!(f, "The name `{path}` is no field. "),
+            Reason::Count { items, wanted } => {
+                let found = Counted {
+                    count: items,
+                    noun: "item",
+                };
+                write!(f, "The field `{path}` has {found} instead of {wanted}. ")
+            }
+        }
+    }
+}
+
 /// The number of parts of a header, a record or a stream, and the number of columns of the table.
 #[derive(Drop)]
 pub(crate) struct Counts {
@@ -234,8 +267,12 @@ impl fmt::Display for LinePartShown<'_> {
     fn fmt<W: fmt::Write>(&self, f: &mut fmt::Formatter<W>) -> fmt::Result {
         match self.part {
             None => Ok(()),
-            Some(LinePart::Cell { name }) => {
-                write!(f, "{}", FieldShown::of_name(name.as_bytes()))
+            Some(LinePart::Value(part)) => {
+                let path = PathShown {
+                    path: shown(part.path.as_bytes()),
+                    reason: part.reason,
+                };
+                write!(f, "{path}")
             }
             Some(LinePart::Count { items, columns }) => {
                 let counts = Counts {

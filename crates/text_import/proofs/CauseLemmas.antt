@@ -1,16 +1,17 @@
 -- The part of a text that is refused is why it is.
 use Rattle.std.proofs.Common.{◌≡◌, ℕ, ◌+◌, ◌-◌, suc, Bool, true, false, List, [], ◌∷◌, refl, sym, ap, ◌∙◌, arith}
-use Rattle.std.specs.Prelude.{◌==◌, not, bytes_eq, is_some, length, Option, Some, None, IfSome, option_map, slice_get, if◌then◌else◌, Result, Ok, Err}
+use Rattle.std.specs.Prelude.{◌==◌, bytes_eq, is_some, length, Option, Some, None, IfSome, option_map, slice_get, if◌then◌else◌, Result, Ok, Err}
 use Rattle.std.specs.Option.{option_and_then, option_or}
 use Rattle.std.specs.List.{list_any}
 use Rattle.std.proofs.lemmas.Bool.{ne_eqb, eqb-true, eqb-false}
 use Rattle.std.proofs.lemmas.Bool.Decides.{not_from_Decides}
 use Rattle.std.proofs.lemmas.Slice.Eq.{bytes_eq-Decides}
-use Rattle.serde_json.specs.Data.{Data, Items, no_items, item, Members}
+use Rattle.serde_json.specs.Data.{Data, Items, Members}
 use Rattle.serde_json.specs.Data as json
 use Rattle.arrow_schema.specs.Column.{Column, Columns, columns_of, PlainSchema}
 use Rattle.arrow_schema.specs.Parts.{name_of_column}
-use Rattle.cells.specs.Cell.{Cell, Cells, and_cell, cell_list}
+use Rattle.arrow_schema.specs.laws.Columns.{columns_listed}
+use Rattle.cells.specs.Cell.{Cell, Cells, cell_list}
 use Rattle.text_import.specs.declared.form.TextForm.{TextForm}
 use Rattle.text_import.specs.declared.form.TextForm.TheVariants.{Csv, JsonLines}
 use Rattle.text_import.specs.declared.refusal.Refusal.{Refusal}
@@ -20,12 +21,13 @@ use Rattle.text_import.specs.Refusals.{and_then, given, numbered}
 use Rattle.text_import.specs.Rows.{accepted, rows_from}
 use Rattle.text_import.specs.Flat.{field_cell}
 use Rattle.text_import.specs.Records.{field_cells, record_row, are_names, whole, rows_behind_header, is_nested_column, csv_rows_of, records_of}
-use Rattle.text_import.specs.Objects.{item_count, column_count, cell_in, cells_by_place, cells_by_name, has_name, names_of, keys_of, repeats, has_unknown, value_row, line_value, line_row, lines_of, jsonl_rows_of}
+use Rattle.text_import.specs.Objects.{item_count, column_count, cells_by_place, cells_by_name, names_of, keys_of, repeats, has_unknown, value_row, line_value, line_row, lines_of, jsonl_rows_of}
 use Rattle.text_import.specs.Form.{rows_of_text}
-use Rattle.text_import.specs.Part.{PlainPart, header_name, header_count, record_count, field, line, PlainLinePart, column_cell, other_count, unknown_name, other_name, refused_names, header_of, refused_header, is_refused, refused_field, refused_in_record, refused_by_place, refused_by_name, first_unknown, refused_in_value, refused_in_read, refused_in_line, refused_part}
-use Rattle.text_import.specs.Cause.{IsOtherName, IsOtherCount, IsRefusedField, IsRecordCause, IsCsvCause, IsRefusedCell, IsLinePartCause, IsLineCause, IsCause}
-use Rattle.text_import.specs.inner.Names.{member_of}
+use Rattle.text_import.specs.ValuePart.{PlainValuePart, is_refused, first_unknown, part_by_place, part_by_name}
+use Rattle.text_import.specs.Part.{PlainPart, header_name, header_count, record_count, field, line, PlainLinePart, value_part, other_count, unknown_name, other_name, refused_names, header_of, refused_header, refused_field, refused_in_record, refused_in_value, refused_in_read, refused_in_line, refused_part}
+use Rattle.text_import.specs.Cause.{IsOtherName, IsOtherCount, IsRefusedField, IsRecordCause, IsCsvCause, IsRefusedBelow, IsLinePartCause, IsLineCause, IsCause}
 use Rattle.text_import.proofs.PartLemmas.{any_unknown}
+use Rattle.text_import.proofs.ExplainedParts.{Explained, Within, mapped_explained, unknown_among, place_explained, name_explained}
 
 -- the first of some records that is refused
 record FirstRefused {A : Type 0} (read : A → Result (List Cell) Refusal) (n : ℕ) (xs : List A) (r : Refused) : Type 0 where
@@ -193,51 +195,31 @@ columns_counted : (cs : List Column) → column_count (columns_of cs) ≡ length
 columns_counted [] = refl
 columns_counted (c ∷ cs) = (let e = columns_counted cs in omega arith)
 
--- of an array with an item for each column
-item_cause : (cs : List Column) (ds : Items) (name : List ℕ) → item_count ds ≡ length cs → refused_by_place (columns_of cs) ds ≡ Some name
-    → (e : Refusal) × (cells_by_place (columns_of cs) ds ≡ Err e) × IsRefusedCell cs (json.array ds) name e
-unfolding refused_by_place cells_by_place
-item_cause [] ds name size names = absurd cc
-item_cause (c ∷ cs) no_items name size names = absurd (omega arith)
-item_cause (c ∷ cs) (item d ds) name size names = by (cell_in c d) refl names (item_cause cs ds name (omega arith))
-  where
-    by : (r : Result Cell Refusal) → cell_in c d ≡ r → (if is_refused r then Some (name_of_column c) else refused_by_place (columns_of cs) ds) ≡ Some name
-        → (refused_by_place (columns_of cs) ds ≡ Some name → (e : Refusal) × (cells_by_place (columns_of cs) ds ≡ Err e) × IsRefusedCell cs (json.array ds) name e)
-        → (e : Refusal) × (and_then r (λ x. given (and_cell x) (cells_by_place (columns_of cs) ds)) ≡ Err e) × IsRefusedCell (c ∷ cs) (json.array (item d ds)) name e
-    by (Err q) is names more = (q, refl, record { place = 0; column = c; stands = refl; named = cc; refused = is })
-    by (Ok x) is names more =
-        let (e, cells, cause) = more names in
-        (e, rw cells refl, record { place = suc cause.place; column = cause.column; stands = cause.stands; named = cause.named; refused = cause.refused })
-
--- of an object
-member_cause : (cs : List Column) (ms : Members) (name : List ℕ) → refused_by_name (columns_of cs) ms ≡ Some name
-    → (e : Refusal) × (cells_by_name (columns_of cs) ms ≡ Err e) × IsRefusedCell cs (json.object ms) name e
-unfolding refused_by_name cells_by_name
-member_cause [] ms name names = absurd cc
-member_cause (c ∷ cs) ms name names = by (member_of c ms) refl names (member_cause cs ms name)
-  where
-    by : (r : Result Cell Refusal) → member_of c ms ≡ r → (if is_refused r then Some (name_of_column c) else refused_by_name (columns_of cs) ms) ≡ Some name
-        → (refused_by_name (columns_of cs) ms ≡ Some name → (e : Refusal) × (cells_by_name (columns_of cs) ms ≡ Err e) × IsRefusedCell cs (json.object ms) name e)
-        → (e : Refusal) × (and_then r (λ x. given (and_cell x) (cells_by_name (columns_of cs) ms)) ≡ Err e) × IsRefusedCell (c ∷ cs) (json.object ms) name e
-    by (Err q) is names more =
-        let same : name_of_column c ≡ name = cc in
-        (q, refl, record { place = 0; column = c; stands = refl; named = same; refused = rw (← same) is })
-    by (Ok x) is names more =
-        let (e, cells, cause) = more names in
-        (e, rw cells refl, record { place = suc cause.place; column = cause.column; stands = cause.stands; named = cause.named; refused = cause.refused })
-
 -- what is made of cells that are refused
-refusal_kept : (s : PlainSchema) (r : Result Cells Refusal) (e q : Refusal) → r ≡ Err q → and_then (given cell_list r) (accepted s) ≡ Err e → q ≡ e
-refusal_kept s r e q is h = (let told = rw is at h in cc)
+told : (s : PlainSchema) (value : Data) (part : PlainLinePart) (e : Refusal) (r : Result Cells Refusal) (o : Option PlainValuePart) → Explained (IsRefusedBelow s.columns value) r o
+    → option_map value_part o ≡ Some part → and_then (given cell_list r) (accepted s) ≡ Err e → IsLinePartCause s.columns value part e
+told s value part e r None is names h = absurd cc
+told s value part e (Ok xs) (Some p) is names h = absurd is
+told s value part e (Err q) (Some p) is names h =
+    let same : value_part p ≡ part = cc in
+    let one : q ≡ e = cc in
+    rw (← same, ← one) is
 
-unknown_is : (names keys : List (List ℕ)) (name : List ℕ) → first_unknown names keys ≡ Some name → has_name names name ≡ false
-unknown_is names [] name is = absurd cc
-unknown_is names (k ∷ keys) name is = by (has_name names k) refl is (unknown_is names keys name)
-  where
-    by : (b : Bool) → has_name names k ≡ b → (if not b then Some k else first_unknown names keys) ≡ Some name → (first_unknown names keys ≡ Some name → has_name names name ≡ false)
-        → has_name names name ≡ false
-    by true known is more = more is
-    by false unknown is more = (let same : k ≡ name = cc in rw (← same) unknown)
+-- of the items of an array, and of the members of an object
+below_line : (cs : List Column) (value : Data) (p : PlainValuePart) (e : Refusal) → Within [] (columns_of cs) value p e → IsRefusedBelow cs value p e
+below_line cs value p e h = record { place = h.place; column = h.column; path = h.path; stands = rw (columns_listed cs) at h.stands; named = h.leads; refused = h.refused }
+
+items_told : (cs : List Column) (ds : Items) → item_count ds ≡ length cs → Explained (IsRefusedBelow cs (json.array ds)) (cells_by_place (columns_of cs) ds) (part_by_place [] (columns_of cs) ds)
+items_told cs ds size =
+    mapped_explained (Within [] (columns_of cs) (json.array ds)) (IsRefusedBelow cs (json.array ds)) (cells_by_place (columns_of cs) ds) (part_by_place [] (columns_of cs) ds)
+    (below_line cs (json.array ds))
+    (place_explained (columns_of cs) [] ds (size ∙ sym (columns_counted cs)))
+
+members_told : (cs : List Column) (ms : Members) → Explained (IsRefusedBelow cs (json.object ms)) (cells_by_name (columns_of cs) ms) (part_by_name [] (columns_of cs) ms)
+members_told cs ms =
+    mapped_explained (Within [] (columns_of cs) (json.object ms)) (IsRefusedBelow cs (json.object ms)) (cells_by_name (columns_of cs) ms) (part_by_name [] (columns_of cs) ms)
+    (below_line cs (json.object ms))
+    (name_explained (columns_of cs) [] ms)
 
 -- the part of the value of a line that is named is why no row is made of it
 value_cause : (s : PlainSchema) (value : Data) (part : PlainLinePart) (e : Refusal) → refused_in_value (columns_of s.columns) value ≡ Some part → value_row s value ≡ Err e
@@ -251,18 +233,10 @@ value_cause s (json.array ds) part e names h = by (item_count ds == column_count
     cs : Columns
     cs = columns_of s.columns
 
-    cell : item_count ds ≡ column_count cs → (o : Option (List ℕ)) → refused_by_place cs ds ≡ o → option_map column_cell o ≡ Some part
-        → and_then (given cell_list (cells_by_place cs ds)) (accepted s) ≡ Err e → IsLinePartCause s.columns (json.array ds) part e
-    cell size None is names h = absurd cc
-    cell size (Some name) is names h =
-        let (q, cells, cause) = item_cause s.columns ds name (size ∙ columns_counted s.columns) is in
-        let one : q ≡ e = refusal_kept s (cells_by_place cs ds) e q cells h in
-        let same : part ≡ column_cell name = cc in
-        rw (same, ← one) cause
-
-    by : (b : Bool) → (item_count ds == column_count cs) ≡ b → (if b then option_map column_cell (refused_by_place cs ds) else Some (other_count (item_count ds) (column_count cs))) ≡ Some part
+    by : (b : Bool) → (item_count ds == column_count cs) ≡ b → (if b then option_map value_part (part_by_place [] cs ds) else Some (other_count (item_count ds) (column_count cs))) ≡ Some part
         → and_then (given cell_list (if b then cells_by_place cs ds else Err Width)) (accepted s) ≡ Err e → IsLinePartCause s.columns (json.array ds) part e
-    by true is names h = cell (eqb-true (item_count ds) (column_count cs) is) (refused_by_place cs ds) refl names h
+    by true is names h =
+        told s (json.array ds) part e (cells_by_place cs ds) (part_by_place [] cs ds) (items_told s.columns ds (eqb-true (item_count ds) (column_count cs) is ∙ columns_counted s.columns)) names h
     by false is names h =
         let same : part ≡ other_count (item_count ds) (column_count cs) = cc in
         let one : e ≡ Width = cc in
@@ -272,30 +246,21 @@ value_cause s (json.object ms) part e names h = by (repeats (names_of cs)) names
     cs : Columns
     cs = columns_of s.columns
 
-    cell : (o : Option (List ℕ)) → refused_by_name cs ms ≡ o → option_map column_cell o ≡ Some part → and_then (given cell_list (cells_by_name cs ms)) (accepted s) ≡ Err e
-        → IsLinePartCause s.columns (json.object ms) part e
-    cell None is names h = absurd cc
-    cell (Some name) is names h =
-        let (q, cells, cause) = member_cause s.columns ms name is in
-        let one : q ≡ e = refusal_kept s (cells_by_name cs ms) e q cells h in
-        let same : part ≡ column_cell name = cc in
-        rw (same, ← one) cause
-
-    key : (o : Option (List ℕ)) → first_unknown (names_of cs) (keys_of ms) ≡ o → option_or (option_map unknown_name o) (option_map column_cell (refused_by_name cs ms)) ≡ Some part
+    key : (o : Option (List ℕ)) → first_unknown (names_of cs) (keys_of ms) ≡ o → option_or (option_map unknown_name o) (option_map value_part (part_by_name [] cs ms)) ≡ Some part
         → and_then (given cell_list (if has_unknown (names_of cs) (keys_of ms) then Err UnknownName else cells_by_name cs ms)) (accepted s) ≡ Err e
         → IsLinePartCause s.columns (json.object ms) part e
     key None is names h =
         let all : has_unknown (names_of cs) (keys_of ms) ≡ false = sym (any_unknown (names_of cs) (keys_of ms)) ∙ ap is_some is in
-        cell (refused_by_name cs ms) refl names (rw all at h)
+        told s (json.object ms) part e (cells_by_name cs ms) (part_by_name [] cs ms) (members_told s.columns ms) names (rw all at h)
     key (Some name) is names h =
         let some : has_unknown (names_of cs) (keys_of ms) ≡ true = sym (any_unknown (names_of cs) (keys_of ms)) ∙ ap is_some is in
         let told = rw some at h in
         let one : e ≡ UnknownName = cc in
         let same : part ≡ unknown_name name = cc in
-        rw same (one, unknown_is (names_of cs) (keys_of ms) name is)
+        rw same (one, (unknown_among (names_of cs) (keys_of ms) name is).0)
 
     by : (b : Bool)
-        → (if b then None else option_or (option_map unknown_name (first_unknown (names_of cs) (keys_of ms))) (option_map column_cell (refused_by_name cs ms))) ≡ Some part
+        → (if b then None else option_or (option_map unknown_name (first_unknown (names_of cs) (keys_of ms))) (option_map value_part (part_by_name [] cs ms))) ≡ Some part
         → and_then (given cell_list (if b then Err AmbiguousNames else if has_unknown (names_of cs) (keys_of ms) then Err UnknownName else cells_by_name cs ms)) (accepted s) ≡ Err e
         → IsLinePartCause s.columns (json.object ms) part e
     by true names h = absurd cc

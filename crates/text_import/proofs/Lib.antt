@@ -5,4 +5,6 @@ pub mod ObjectLemmas
 pub mod FittingCells
 pub mod AcceptedRows
 pub mod PartLemmas
+pub mod ExplainedParts
 pub mod CauseLemmas
+pub mod ValuePartLemmas

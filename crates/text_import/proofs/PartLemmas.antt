@@ -8,18 +8,18 @@ use Rattle.std.proofs.lemmas.List.{drop_more, length-map}
 use Rattle.std.proofs.lemmas.Option.{slice_get_past}
 use Rattle.facts.specs.Texts.{text_list}
 use Rattle.csv.specs.Records.{field_at}
-use Rattle.serde_json.specs.Data.{Items, Members}
-use Rattle.serde_json.specs.View.{view, items_view}
+use Rattle.serde_json.specs.Data.{Members}
+use Rattle.serde_json.specs.View.{items_view}
 use Rattle.serde_json.specs.declared.value.Value.{Value}
-use Rattle.arrow_schema.specs.Column.{Column, Columns, no_column, and_column, columns_of}
+use Rattle.arrow_schema.specs.Column.{Column, Columns, columns_of}
 use Rattle.arrow_schema.specs.View.{column_of}
 use Rattle.arrow_schema.specs.declared.types.Field.{Field}
 use Rattle.arrow_schema.specs.Parts.{name_of_column}
 use Rattle.text_import.specs.Flat.{field_cell}
 use Rattle.text_import.specs.Records.{is_nested_column, records_of}
-use Rattle.text_import.specs.Objects.{cell_in, is_blank, has_name, names_of, keys_of, repeats, has_unknown}
-use Rattle.text_import.specs.Part.{header_name, header_count, field, column_cell, other_count, unknown_name, other_name, refused_header, is_refused, refused_field, refused_by_place, refused_by_name, refused_in_items, first_unknown, refused_in_members}
-use Rattle.text_import.specs.inner.Names.{member_of}
+use Rattle.text_import.specs.Objects.{is_blank, has_name, names_of, keys_of, repeats, has_unknown}
+use Rattle.text_import.specs.ValuePart.{is_refused, first_unknown, part_by_place, part_by_name}
+use Rattle.text_import.specs.Part.{header_name, header_count, field, value_part, other_count, unknown_name, other_name, refused_header, refused_field, refused_in_items, refused_in_members}
 use Rattle.text_import.proofs.ObjectLemmas.{item_count_is, column_count_is}
 use Rattle.text_import.proofs.RecordLemmas.{field_here, field_past}
 
@@ -83,39 +83,13 @@ pub no_field : (null_text : List ℕ) (ts : List (List ℕ)) → refused_field n
 unfolding refused_field
 no_field null_text ts = refl
 
--- the same of the items of an array
-pub item_named : (c : Column) (cs : Columns) (v : Value) (vs : List Value) → is_refused (cell_in c (view v)) ≡ true → refused_by_place (and_column c cs) (items_view (v ∷ vs)) ≡ Some (name_of_column c)
-unfolding refused_by_place
-item_named c cs v vs e = rw e refl
-
-pub item_passed : (c : Column) (cs : Columns) (v : Value) (vs : List Value) → is_refused (cell_in c (view v)) ≡ false → refused_by_place (and_column c cs) (items_view (v ∷ vs)) ≡ refused_by_place cs (items_view vs)
-unfolding refused_by_place
-item_passed c cs v vs e = rw e refl
-
-pub no_item : (ds : Items) → refused_by_place no_column ds ≡ None
-unfolding refused_by_place
-no_item ds = refl
-
--- and of the members of an object
-pub member_named : (c : Column) (cs : Columns) (ms : Members) → is_refused (member_of c ms) ≡ true → refused_by_name (and_column c cs) ms ≡ Some (name_of_column c)
-unfolding refused_by_name
-member_named c cs ms e = rw e refl
-
-pub member_passed : (c : Column) (cs : Columns) (ms : Members) → is_refused (member_of c ms) ≡ false → refused_by_name (and_column c cs) ms ≡ refused_by_name cs ms
-unfolding refused_by_name
-member_passed c cs ms e = rw e refl
-
-pub no_member : (ms : Members) → refused_by_name no_column ms ≡ None
-unfolding refused_by_name
-no_member ms = refl
-
 -- the number of items
 pub counted_no : (fs : List Field) (vs : List Value) → (length vs ≡ length fs → ⊥)
     → refused_in_items (columns_of (map column_of fs)) (items_view vs) ≡ Some (other_count (length vs) (length fs))
 counted_no fs vs h = rw (item_count_is vs, column_count_is fs, ne_eqb (length vs) (length fs) h) refl
 
 pub counted_yes : (fs : List Field) (vs : List Value) → length vs ≡ length fs
-    → refused_in_items (columns_of (map column_of fs)) (items_view vs) ≡ option_map column_cell (refused_by_place (columns_of (map column_of fs)) (items_view vs))
+    → refused_in_items (columns_of (map column_of fs)) (items_view vs) ≡ option_map value_part (part_by_place [] (columns_of (map column_of fs)) (items_view vs))
 counted_yes fs vs h = rw (item_count_is vs, column_count_is fs, eq-eqb (length vs) (length fs) h) refl
 
 pub ruleset counted_rules = (counted_no, counted_yes)
@@ -129,7 +103,7 @@ pub name_unknown : (cs : Columns) (ms : Members) (name : List ℕ) → repeats (
 name_unknown cs ms name e is = rw (e, is) refl
 
 pub names_known : (cs : Columns) (ms : Members) → repeats (names_of cs) ≡ false → first_unknown (names_of cs) (keys_of ms) ≡ None
-    → refused_in_members cs ms ≡ option_map column_cell (refused_by_name cs ms)
+    → refused_in_members cs ms ≡ option_map value_part (part_by_name [] cs ms)
 names_known cs ms e is = rw (e, is) refl
 
 pub ruleset named_rules = (names_repeated, name_unknown, names_known)

@@ -1,17 +1,20 @@
 -- Why a part of a text is refused.
-use Rattle.std.specs.Prelude.{◌≡◌, ◌≢◌, ℕ, false, List, length, Option, Some, None, IfSome, Ok, Err, slice_get}
-use Rattle.serde_json.specs.Data.{Data}
+use Rattle.std.specs.Prelude.{◌≡◌, ◌≢◌, ◌++◌, ℕ, true, false, List, [], length, Option, Some, None, IfSome, Ok, Err, slice_get}
+use Rattle.serde_json.specs.Data.{Data, Items, Members}
 use Rattle.serde_json.specs.Data as json
 use Rattle.serde_json.specs.Find.{get_item, get_member}
-use Rattle.arrow_schema.specs.Column.{Column, columns_of, PlainSchema}
-use Rattle.arrow_schema.specs.Parts.{name_of_column, is_nullable_column}
+use Rattle.arrow_schema.specs.Column.{Kind, Column, Columns, lists, large_lists, fixed_lists, structs, columns_of, list_of, PlainSchema}
+use Rattle.arrow_schema.specs.Parts.{name_of_column, is_nullable_column, kind_of_column}
 use Rattle.text_import.specs.declared.form.TextForm.{TextForm}
 use Rattle.text_import.specs.declared.form.TextForm.TheVariants.{Csv, JsonLines}
 use Rattle.text_import.specs.declared.refusal.Refusal.{Refusal}
-use Rattle.text_import.specs.declared.refusal.Refusal.TheVariants.{Header, Width, UnknownName}
+use Rattle.text_import.specs.declared.refusal.Refusal.TheVariants.{Header, Width, UnknownName, MissingName}
+use Rattle.text_import.specs.declared.value_part.Reason.{Reason}
+use Rattle.text_import.specs.declared.value_part.Reason.TheVariants.{Value, Missing, Unknown, Count}
 use Rattle.text_import.specs.Flat.{field_cell}
-use Rattle.text_import.specs.Objects.{cell_in, member_in, has_name, names_of, line_value, line_row}
-use Rattle.text_import.specs.Part.{PlainPart, header_name, header_count, record_count, field, line, PlainLinePart, column_cell, other_count, unknown_name, header_of}
+use Rattle.text_import.specs.Objects.{item_count, column_count, cell_in, has_name, names_of, keys_of, line_value, line_row}
+use Rattle.text_import.specs.ValuePart.{PlainValuePart, item_step, dot}
+use Rattle.text_import.specs.Part.{PlainPart, header_name, header_count, record_count, field, line, PlainLinePart, value_part, other_count, unknown_name, header_of}
 
 -- a header and the columns have these names at one place, and they differ
 pub record IsOtherName (header : List (List ℕ)) (cs : List Column) (found wanted : List ℕ) : Type 0 where
@@ -47,23 +50,60 @@ IsCsvCause null_text cs t (header_name found wanted) e = (e ≡ Header) × IsOth
 IsCsvCause null_text cs t (header_count names columns) e = (e ≡ Header) × (names ≡ length (header_of t)) × IsOtherCount cs names columns
 IsCsvCause null_text cs t part e = IsRecordCause null_text cs part e
 
--- the value of a line for a column: the item at its place in an array, or the member with its name in an object
+-- the value for a field: the item at its place in an array, or the member with its name in an object
 abbrev pub value_at : (place : ℕ) (name : List ℕ) → Data → Option Data
 value_at place name (json.array ds) = get_item place ds
 value_at place name (json.object ms) = get_member name ms
 value_at place name _ = None
 
--- the value of a line for a column of this name, or its absence, is refused with this refusal
-pub record IsRefusedCell (cs : List Column) (value : Data) (name : List ℕ) (e : Refusal) : Type 0 where
+-- the column of the items of a list, the columns of a struct, and how many items an array must have, if that is fixed
+abbrev pub item_of_kind : Kind → Option Column
+item_of_kind (lists below) = Some below
+item_of_kind (large_lists below) = Some below
+item_of_kind (fixed_lists size below) = Some below
+item_of_kind _ = None
+
+abbrev pub fields_of_kind : Kind → List Column
+fields_of_kind (structs cs) = list_of cs
+fields_of_kind _ = []
+
+abbrev pub size_of_kind : Kind → Option ℕ
+size_of_kind (fixed_lists size below) = Some size
+size_of_kind (structs cs) = Some (column_count cs)
+size_of_kind _ = None
+
+-- a value for a column, or that there is none, is refused with this refusal, because of what is at the end of this path
+pub data IsRefusedAt (e : Refusal) : Column → Option Data → (path : List ℕ) → Reason → Type 0 where
+  -- the value itself
+  is_refused_value : (c : Column) (d : Data) → cell_in c d ≡ Err e → IsRefusedAt e c (Some d) [] Value
+  -- there is none, where one is wanted
+  is_missing : (c : Column) → is_nullable_column c ≡ false → e ≡ MissingName → IsRefusedAt e c None [] Missing
+  -- an array with another number of items
+  is_count : (c : Column) (ds : Items) (size : ℕ) → size_of_kind (kind_of_column c) ≡ Some size → item_count ds ≢ size → e ≡ Width
+      → IsRefusedAt e c (Some (json.array ds)) [] (Count (item_count ds) size)
+  -- a name of an object that is not that of a field
+  is_unknown : (c : Column) (cs : Columns) (ms : Members) (name : List ℕ) → kind_of_column c ≡ structs cs → has_name (names_of cs) name ≡ false
+      → has_name (keys_of ms) name ≡ true → e ≡ UnknownName → IsRefusedAt e c (Some (json.object ms)) (dot ++ name) Unknown
+  -- in an item of a list
+  in_item : (c item : Column) (ds : Items) (d : Data) (place : ℕ) (path : List ℕ) (reason : Reason) → item_of_kind (kind_of_column c) ≡ Some item
+      → get_item place ds ≡ Some d → IsRefusedAt e item (Some d) path reason → IsRefusedAt e c (Some (json.array ds)) (item_step place ++ path) reason
+  -- in a field of a struct
+  in_field : (c field : Column) (d : Data) (place : ℕ) (path : List ℕ) (reason : Reason) → slice_get (fields_of_kind (kind_of_column c)) place ≡ Some field
+      → IsRefusedAt e field (value_at place (name_of_column field) d) path reason
+      → IsRefusedAt e c (Some d) ((dot ++ name_of_column field) ++ path) reason
+
+-- the value of a line for a column, or that there is none, is refused with this refusal, because of what is at the end of this path
+pub record IsRefusedBelow (cs : List Column) (value : Data) (part : PlainValuePart) (e : Refusal) : Type 0 where
   pub place : ℕ
   pub column : Column
+  pub path : List ℕ
   pub stands : slice_get cs place ≡ Some column
-  pub named : name_of_column column ≡ name
-  pub refused : member_in (is_nullable_column column) (cell_in column) (value_at place name value) ≡ Err e
+  pub named : part.path ≡ name_of_column column ++ path
+  pub refused : IsRefusedAt e column (value_at place (name_of_column column) value) path part.reason
 
 -- for a part of a line, by the value of the line
 abbrev pub IsLinePartCause : List Column → Data → PlainLinePart → Refusal → Type 0
-IsLinePartCause cs value (column_cell name) e = IsRefusedCell cs value name e
+IsLinePartCause cs value (value_part part) e = IsRefusedBelow cs value part e
 IsLinePartCause cs value (other_count items columns) e = (e ≡ Width) × IsOtherCount cs items columns
 IsLinePartCause cs value (unknown_name name) e = (e ≡ UnknownName) × (has_name (names_of (columns_of cs)) name ≡ false)
 

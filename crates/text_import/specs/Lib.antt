@@ -6,6 +6,7 @@ pub mod Stands
 pub mod Records
 pub mod Objects
 pub mod Form
+pub mod ValuePart
 pub mod Part
 pub mod Cause
 pub mod inner

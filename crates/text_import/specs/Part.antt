@@ -1,13 +1,11 @@
 -- The part of a text that is refused: the first one in a header or a record that is refused by itself, or a line with its refused part.
-use Rattle.std.specs.Prelude.{ℕ, ◌-◌, ◌==◌, Bool, true, false, not, bytes_eq, List, [], ◌∷◌, length, find, Option, Some, None, option_map, unwrap_or, Result, Ok, Err, string_bytes, slice_get, if◌then◌else◌}
+use Rattle.std.specs.Prelude.{ℕ, ◌-◌, ◌==◌, bytes_eq, List, [], ◌∷◌, length, Option, Some, None, option_map, unwrap_or, Result, Ok, Err, string_bytes, slice_get, if◌then◌else◌}
 use Rattle.std.specs.List.{list_any}
 use Rattle.std.specs.Option.{option_and_then, option_or}
 use Rattle.serde_json.specs.Data.{Data, Items, Members}
 use Rattle.serde_json.specs.Data as json
-use Rattle.serde_json.specs.Find.{get_member}
-use Rattle.arrow_schema.specs.Column.{Column, Columns, no_column, and_column, columns_of, PlainSchema}
-use Rattle.arrow_schema.specs.Parts.{name_of_column, is_nullable_column}
-use Rattle.cells.specs.Cell.{Cell}
+use Rattle.arrow_schema.specs.Column.{Column, Columns, columns_of, PlainSchema}
+use Rattle.arrow_schema.specs.Parts.{name_of_column}
 use Rattle.text_import.specs.declared.form.TextForm.{TextForm}
 use Rattle.text_import.specs.declared.form.TextForm.TheVariants.{Csv, JsonLines}
 use Rattle.text_import.specs.declared.part.LinePart.{LinePart}
@@ -17,12 +15,13 @@ use Rattle.text_import.specs.declared.part.RefusedPart.TheVariants as parts
 use Rattle.text_import.specs.declared.refusal.Refusal.{Refusal}
 use Rattle.text_import.specs.Flat.{field_cell}
 use Rattle.text_import.specs.Records.{is_nested_column, records_of}
-use Rattle.text_import.specs.Objects.{item_count, column_count, first_item, other_items, cell_in, member_in, has_name, names_of, keys_of, repeats, line_value, lines_of}
+use Rattle.text_import.specs.Objects.{item_count, column_count, names_of, keys_of, repeats, line_value, lines_of}
+use Rattle.text_import.specs.ValuePart.{PlainValuePart, value_part_of, is_refused, first_unknown, part_by_place, part_by_name}
 
--- the refused part of a line of JSON Lines: the cell of the column with this name, an array whose number of items differs from the number of columns,
--- or a name that is not that of a column
+-- the refused part of a line of JSON Lines: a part of its value in a column, with the path from the line; an array whose number of items differs from
+-- the number of columns; or a name that is not that of a column
 pub data PlainLinePart : Type 0 where
-  column_cell : (name : List ℕ) → PlainLinePart
+  value_part : PlainValuePart → PlainLinePart
   other_count : (items columns : ℕ) → PlainLinePart
   unknown_name : (name : List ℕ) → PlainLinePart
 
@@ -36,7 +35,7 @@ pub data PlainPart : Type 0 where
   line : (part : Option PlainLinePart) (text : List ℕ) → PlainPart
 
 abbrev pub line_part_of : LinePart → PlainLinePart
-line_part_of (line_parts.Cell name) = column_cell (string_bytes name)
+line_part_of (line_parts.Value part) = value_part (value_part_of part)
 line_part_of (line_parts.Count items columns) = other_count items columns
 line_part_of (line_parts.Name name) = unknown_name (string_bytes name)
 
@@ -65,10 +64,6 @@ header_of t = unwrap_or (slice_get (records_of t) 0) []
 abbrev pub refused_header : List Column → List ℕ → Option PlainPart
 refused_header cs t = if list_any is_nested_column cs then None else refused_names cs (header_of t)
 
-abbrev pub is_refused : Result Cell Refusal → Bool
-is_refused (Ok c) = false
-is_refused (Err e) = true
-
 -- the first field whose text is refused for its column
 unfoldable pub refused_field : List ℕ → List Column → List (List ℕ) → Option PlainPart
 refused_field null_text [] ts = None
@@ -79,29 +74,16 @@ refused_field null_text (c ∷ cs) (t ∷ ts) = if is_refused (field_cell null_t
 abbrev pub refused_in_record : List ℕ → List Column → List (List ℕ) → Option PlainPart
 refused_in_record null_text cs ts = if length ts == length cs then refused_field null_text cs ts else Some (record_count (length ts) (length cs))
 
--- the name of the first column whose cell is refused, among the items of an array and among the members of an object
-unfoldable pub refused_by_place : Columns → Items → Option (List ℕ)
-refused_by_place no_column ds = None
-refused_by_place (and_column c cs) ds = if is_refused (cell_in c (first_item ds)) then Some (name_of_column c) else refused_by_place cs (other_items ds)
-
-unfoldable pub refused_by_name : Columns → Members → Option (List ℕ)
-refused_by_name no_column ms = None
-refused_by_name (and_column c cs) ms =
-    if is_refused (member_in (is_nullable_column c) (cell_in c) (get_member (name_of_column c) ms)) then Some (name_of_column c) else refused_by_name cs ms
-
--- the number of items is tested before any item
+-- the number of items is tested before any item; a path begins with the name of a column
 abbrev pub refused_in_items : Columns → Items → Option PlainLinePart
-refused_in_items cs ds = if item_count ds == column_count cs then option_map column_cell (refused_by_place cs ds) else Some (other_count (item_count ds) (column_count cs))
-
--- the first key that is not among the names
-abbrev pub first_unknown : List (List ℕ) → List (List ℕ) → Option (List ℕ)
-first_unknown names keys = find (λ k. not (has_name names k)) keys
+refused_in_items cs ds =
+    if item_count ds == column_count cs then option_map value_part (part_by_place [] cs ds) else Some (other_count (item_count ds) (column_count cs))
 
 -- names are tested before any member; if two columns have the same name, no part of the line is refused by itself
 abbrev pub refused_in_members : Columns → Members → Option PlainLinePart
 refused_in_members cs ms =
     if repeats (names_of cs) then None
-    else option_or (option_map unknown_name (first_unknown (names_of cs) (keys_of ms))) (option_map column_cell (refused_by_name cs ms))
+    else option_or (option_map unknown_name (first_unknown (names_of cs) (keys_of ms))) (option_map value_part (part_by_name [] cs ms))
 
 abbrev pub refused_in_value : Columns → Data → Option PlainLinePart
 refused_in_value cs (json.array ds) = refused_in_items cs ds

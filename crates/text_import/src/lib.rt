@@ -23,6 +23,7 @@ mod records;
 mod refusal;
 mod rows;
 mod texts;
+mod value_part;
 
 pub use flat::{spelled_boolean, spelled_integer};
 pub use form::{TextForm, rows_of_text};
@@ -33,3 +34,4 @@ pub use part::{LinePart, RefusedPart, refused_part};
 pub use records::{csv_records, csv_rows, numbered_row, read_next, record_field};
 pub use refusal::{Refusal, Refused, TextError};
 pub use texts::text_of;
+pub use value_part::{Reason, ValuePart};

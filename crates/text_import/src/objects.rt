@@ -15,7 +15,7 @@ ghost use Rattle.text_import.specs.Refusals.{given, refusal_of};
 ghost use Rattle.facts.specs.Outcomes.{Gives};
 ghost use Rattle.text_import.specs.Objects.{boolean_in, number_in, text_in, bytes_in, list_in, each_item, fixed_list_in, cell_in, kind_in, cells_by_place, cells_by_name, cells_in, absent, sized, column_count, has_name, names_of, keys_of, repeats, has_unknown, value_row};
 ghost use Rattle.facts.specs.Texts.{text_list};
-ghost use Rattle.text_import.specs.Part.{first_unknown};
+ghost use Rattle.text_import.specs.ValuePart.{first_unknown};
 ghost use Rattle.text_import.specs.inner.Names.{IsText, member_of, tested};
 
 use crate::flat::{hex_cell, number_cell, own_text};
@@ -199,7 +199,11 @@ fn test_many_names<'a>(
 }
 
 // Tests the names of an object's members against those of the fields.
-fn test_names(alloc: Global, fields: &[Field], members: &Map<String, Json>) -> Result<(), CellError>
+pub(crate) fn test_names(
+    alloc: Global,
+    fields: &[Field],
+    members: &Map<String, Json>,
+) -> Result<(), CellError>
     ensures { Gives refusal_of (λ _. members_view members.now.entries) result
         (tested (names_of (columns_of (map column_of fields.now))) (members_view members.now.entries)) }
 {
@@ -210,7 +214,7 @@ fn test_names(alloc: Global, fields: &[Field], members: &Map<String, Json>) -> R
     test_many_names(&mut names, fields, members)
 }
 
-fn member<'a>(members: &'a Map<String, Json>, name: &str) -> Option<&'a Json>
+pub(crate) fn member<'a>(members: &'a Map<String, Json>, name: &str) -> Option<&'a Json>
     ensures { option_map (λ v. view v.now) result ≡ get_member name.now (members_view members.now.entries) }
 {
     members.get(name)
@@ -249,7 +253,7 @@ fn struct_cell(cells: Result<Vec<Value>, CellError>) -> Result<Value, CellError>
 
 #[tactic(auto, unfolding(crate::specs::Objects::cell_in))]
 #[cycle(cells)]
-pub(crate) fn cell_in(alloc: Global, field: &Field, value: &Json) -> Result<Value, CellError>
+fn cell_in(alloc: Global, field: &Field, value: &Json) -> Result<Value, CellError>
     ensures { Gives refusal_of cell result (cell_in (column_of field.now) (view value.now)) }
 {
     match value {
@@ -266,7 +270,7 @@ pub(crate) fn cell_in(alloc: Global, field: &Field, value: &Json) -> Result<Valu
 
 #[tactic(auto, unfolding(crate::specs::Objects::kind_in))]
 #[cycle(cells)]
-fn typed_in(alloc: Global, field: &Field, value: &Json) -> Result<Value, CellError>
+pub(crate) fn typed_in(alloc: Global, field: &Field, value: &Json) -> Result<Value, CellError>
     ensures { Gives refusal_of cell result (kind_in (kind_of_column (column_of field.now)) (view value.now)) }
 {
     match &field.data_type {
@@ -392,11 +396,7 @@ fn cells_by_name(
 }
 
 #[cycle(cells)]
-pub(crate) fn member_in(
-    alloc: Global,
-    field: &Field,
-    members: &Map<String, Json>,
-) -> Result<Value, CellError>
+fn member_in(alloc: Global, field: &Field, members: &Map<String, Json>) -> Result<Value, CellError>
     ensures { Gives refusal_of cell result (member_of (column_of field.now) (members_view members.now.entries)) }
 {
     match member(members, name_of(field)) {

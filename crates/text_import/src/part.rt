@@ -1,31 +1,26 @@
 // Finds the part of a text that is refused.
-ghost use Rattle.std.specs.Prelude.{◌≡◌, ◌<◌, ◌==◌, length, map, option_map, None, Some, Result, IfOk, slice_get, if◌then◌else◌};
+ghost use Rattle.std.specs.Prelude.{◌≡◌, ◌<◌, ◌==◌, length, map, option_map, None, Some, IfOk, slice_get, if◌then◌else◌};
 ghost use Rattle.std.specs.Option.{option_and_then};
 ghost use Rattle.csv.specs.Records.{fields_of};
 ghost use Rattle.serde_json.specs.View.{view, items_view, members_view};
 ghost use Rattle.arrow_schema.specs.Column.{columns_of};
 ghost use Rattle.arrow_schema.specs.Parts.{name_of_column};
 ghost use Rattle.arrow_schema.specs.View.{column_of, schema_of};
-ghost use Rattle.cells.specs.Cell.{Cell};
-ghost use Rattle.cells.specs.View.{cell};
-ghost use Rattle.facts.specs.Outcomes.{Gives};
-ghost use Rattle.text_import.specs.Refusals.{refusal_of};
 ghost use Rattle.text_import.specs.Records.{records_of};
 ghost use Rattle.text_import.specs.Objects.{lines_of, line_value};
-ghost use Rattle.text_import.specs.Part.{part_of, line_part_of, other_name, refused_names, refused_header, is_refused, refused_field, refused_in_record, refused_by_place, refused_by_name, refused_in_items, refused_in_members, refused_in_value, refused_in_read, refused_in_line, numbered_part, refused_part};
+ghost use Rattle.text_import.specs.ValuePart.{value_part_of};
+ghost use Rattle.text_import.specs.Part.{part_of, line_part_of, other_name, refused_names, refused_header, refused_field, refused_in_record, refused_in_items, refused_in_members, refused_in_value, refused_in_read, refused_in_line, numbered_part, refused_part};
 ghost use Rattle.text_import.specs.Part as plain;
-ghost use Rattle.text_import.specs.declared.refusal.Refusal.{Refusal};
-ghost use Rattle.text_import.specs.inner.Names.{IsText};
 
 use crate::TextForm;
 use crate::flat::field_cell;
 use crate::jsonl::{line_at, line_value};
-use crate::objects::{cell_in, first_unknown, member_in, repeat_names};
+use crate::objects::{first_unknown, repeat_names};
 use crate::records::{has_nested, record_at, record_field};
 use crate::refusal::CellError;
 use crate::texts::{is_name_of, name_of};
+use crate::value_part::{ValuePart, is_refused, part_by_name, part_by_place};
 use arrow_schema::{Field, Schema};
-use cells::Value;
 use csv::ByteRecord;
 use serde_json::{Map, Value as Json};
 use std::alloc::{AllocError, Global};
@@ -33,8 +28,8 @@ use std::alloc::{AllocError, Global};
 /// The part of a line of JSON Lines that is refused.
 #[derive(Drop)]
 pub enum LinePart {
-    /// The cell of the field with this name.
-    Cell { name: String },
+    /// A part of the value of a column. Its path begins with the name of the column.
+    Value(ValuePart),
     /// An array whose number of items differs from the number of columns.
     Count { items: usize, columns: usize },
     /// A name that is not that of a column.
@@ -142,17 +137,6 @@ fn refused_header(
     }
 }
 
-// Returns whether reading a cell was refused.
-fn is_refused(read: Result<Value, CellError>) -> Result<bool, AllocError>
-    ensures { (R : Result Cell Refusal) → Gives refusal_of cell read R → IfOk result (λ refused. refused ≡ is_refused R) }
-{
-    match read {
-        Ok(_) => Ok(false),
-        Err(CellError::Refused(_)) => Ok(true),
-        Err(CellError::OutOfMemory) => Err(AllocError),
-    }
-}
-
 fn field_part(alloc: Global, field: &Field, text: &[u8]) -> Result<RefusedPart, AllocError>
     ensures { IfOk result (λ part. part_of part ≡ plain.field (name_of_column (column_of field.now)) text.now) }
 {
@@ -216,47 +200,12 @@ fn part_of_record(
     }
 }
 
-// Returns the name of the first field whose item is refused.
-fn refused_by_place<'a>(
-    alloc: Global,
-    fields: &'a [Field],
-    values: &[Json],
-) -> Result<Option<&'a str>, AllocError>
-    requires { length values.now ≡ length fields.now }
-    ensures { IfOk result (IsText (refused_by_place (columns_of (map column_of fields.now)) (items_view values.now))) }
+fn value_part(part: Option<ValuePart>) -> Option<LinePart>
+    ensures { option_map line_part_of result ≡ option_map plain.value_part (option_map value_part_of part) }
 {
-    for (i, field) in fields.iter().enumerate() {
-        if is_refused(cell_in(alloc, field, &values[i]))? {
-            return Ok(Some(name_of(field)));
-        }
-    }
-    Ok(None)
-}
-
-// Returns the name of the first field whose member is refused.
-fn refused_by_name<'a>(
-    alloc: Global,
-    fields: &'a [Field],
-    members: &Map<String, Json>,
-) -> Result<Option<&'a str>, AllocError>
-    ensures { IfOk result (IsText (refused_by_name (columns_of (map column_of fields.now)) (members_view members.now.entries))) }
-{
-    for field in fields {
-        if is_refused(member_in(alloc, field, members))? {
-            return Ok(Some(name_of(field)));
-        }
-    }
-    Ok(None)
-}
-
-fn cell_part(alloc: Global, name: Option<&str>) -> Result<Option<LinePart>, AllocError>
-    ensures { IfOk result (λ part. option_map line_part_of part ≡ option_map plain.column_cell (option_map (λ t. t.now) name.entry)) }
-{
-    match name {
-        None => Ok(None),
-        Some(name) => Ok(Some(LinePart::Cell {
-            name: String::from_str(alloc, name)?,
-        })),
+    match part {
+        None => None,
+        Some(part) => Some(LinePart::Value(part)),
     }
 }
 
@@ -274,7 +223,7 @@ fn refused_in_items(
             columns: fields.len(),
         }));
     }
-    cell_part(alloc, refused_by_place(alloc, fields, values)?)
+    Ok(value_part(part_by_place(alloc, "", fields, values)?))
 }
 
 #[tactic(auto, using(crate::proofs::PartLemmas::named_rules))]
@@ -294,7 +243,7 @@ fn refused_in_members(
             name: String::from_str(alloc, name)?,
         }));
     }
-    cell_part(alloc, refused_by_name(alloc, fields, members)?)
+    Ok(value_part(part_by_name(alloc, "", fields, members)?))
 }
 
 fn refused_in_value(
@@ -370,7 +319,7 @@ fn numbered_part(
 /// For CSV and the number 0, this is the first name of the header that differs from that of the column at its place, or the number of names if those
 /// that both have are equal; `None` if the table has lists or structs. For another number it is the number of fields in the record if it differs from
 /// the number of columns, or the first field whose text is refused for its column; `None` if every text is a cell. For JSON Lines it is the line with
-/// its refused part: the number of its items, its first unknown name, or the first field whose cell is refused.
+/// its refused part: the number of its items, its first unknown name, or the first part of a value that is refused for its column, with the path to it.
 ///
 /// # Errors
 /// `AllocError` if memory was refused.

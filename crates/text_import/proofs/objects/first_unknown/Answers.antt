@@ -3,7 +3,7 @@ use Rattle.std.specs.Prelude.{Some, string_bytes}
 use Rattle.arrow_schema.specs.Column.{columns_of}
 use Rattle.arrow_schema.specs.View.{column_of}
 use Rattle.text_import.specs.Objects.{has_name, names_of}
-use Rattle.text_import.specs.Part.{first_unknown}
+use Rattle.text_import.specs.ValuePart.{first_unknown}
 use Rattle.text_import.proofs.ObjectLemmas.{keys_listed}
 use Rattle.text_import.proofs.objects.first_unknown.Goals as goal
 

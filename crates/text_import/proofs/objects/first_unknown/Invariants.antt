@@ -4,7 +4,7 @@ use Rattle.arrow_schema.specs.Column.{columns_of}
 use Rattle.arrow_schema.specs.View.{column_of}
 use Rattle.serde_json.specs.View.{members_view}
 use Rattle.text_import.specs.Objects.{keys_of, names_of}
-use Rattle.text_import.specs.Part.{first_unknown}
+use Rattle.text_import.specs.ValuePart.{first_unknown}
 use Rattle.text_import.proofs.objects.first_unknown.Given as goal
 
 abbrev pub invariant-loop-key : goal.invariant-loop-key

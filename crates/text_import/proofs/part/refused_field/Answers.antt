@@ -5,7 +5,7 @@ use Rattle.facts.specs.laws.Lists.{drop-item}
 use Rattle.csv.specs.Records.{fields_of}
 use Rattle.arrow_schema.specs.View.{column_of}
 use Rattle.text_import.specs.Flat.{field_cell}
-use Rattle.text_import.specs.Part.{is_refused}
+use Rattle.text_import.specs.ValuePart.{is_refused}
 use Rattle.text_import.proofs.PartLemmas.{field_named, field_passed, no_field}
 use Rattle.text_import.proofs.part.refused_field.Goals as goal
 

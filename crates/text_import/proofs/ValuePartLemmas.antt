@@ -1,0 +1,71 @@
+-- The refused part of a value, found item by item.
+use Rattle.std.proofs.Common.{◌≡◌, ℕ, ◌+◌, Bool, true, false, List, [], ◌∷◌, ◌++◌, length, refl}
+use Rattle.std.specs.Prelude.{is_some, Option, Some, None, option_map, if◌then◌else◌, Ok, Err}
+use Rattle.std.proofs.lemmas.Bool.{ne_eqb, eq-eqb}
+use Rattle.serde_json.specs.Data.{Data, Items, Members}
+use Rattle.serde_json.specs.View.{view, items_view}
+use Rattle.serde_json.specs.declared.value.Value.{Value}
+use Rattle.arrow_schema.specs.Column.{Column, Columns, no_column, and_column}
+use Rattle.arrow_schema.specs.Parts.{name_of_column}
+use Rattle.text_import.specs.declared.refusal.Refusal.TheVariants.{AmbiguousNames, UnknownName}
+use Rattle.text_import.specs.declared.value_part.Reason.TheVariants as reasons
+use Rattle.text_import.specs.Objects.{keys_of, repeats, has_unknown}
+use Rattle.text_import.specs.ValuePart.{PlainValuePart, item_step, below, itself, items_part, sized_part, first_unknown, unknown_part, names_part, cell_part, part_by_place, part_by_name}
+use Rattle.text_import.specs.inner.Names.{member_part_of, tested}
+use Rattle.text_import.proofs.ObjectLemmas.{item_count_is, column_count_is}
+use Rattle.text_import.proofs.PartLemmas.{any_unknown}
+
+-- the number of items
+pub sized_no : (size : ℕ) (f : Items → Option PlainValuePart) (vs : List Value) → (length vs ≡ size → ⊥) → sized_part size f (items_view vs) ≡ Some (itself (reasons.Count (length vs) size))
+sized_no size f vs h = rw (item_count_is vs, ne_eqb (length vs) size h) refl
+
+pub sized_yes : (size : ℕ) (f : Items → Option PlainValuePart) (vs : List Value) → length vs ≡ size → sized_part size f (items_view vs) ≡ f (items_view vs)
+sized_yes size f vs h = rw (item_count_is vs, eq-eqb (length vs) size h) refl
+
+pub ruleset sized_rules = (sized_no, sized_yes, column_count_is)
+
+-- an item with a refused part, and one without
+pub item_named : (f : Data → Option PlainValuePart) (place : ℕ) (v : Value) (vs : List Value) (p : PlainValuePart) → f (view v) ≡ Some p
+    → items_part place f (items_view (v ∷ vs)) ≡ Some (below (item_step place) p)
+item_named f place v vs p e = rw e refl
+
+pub item_passed : (f : Data → Option PlainValuePart) (place : ℕ) (v : Value) (vs : List Value) → f (view v) ≡ None → items_part place f (items_view (v ∷ vs)) ≡ items_part (place + 1) f (items_view vs)
+item_passed f place v vs e = rw e refl
+
+-- the same of fields, and the end
+pub place_named : (before : List ℕ) (c : Column) (cs : Columns) (v : Value) (vs : List Value) (p : PlainValuePart) → cell_part c (view v) ≡ Some p
+    → part_by_place before (and_column c cs) (items_view (v ∷ vs)) ≡ Some (below (before ++ name_of_column c) p)
+unfolding part_by_place
+place_named before c cs v vs p e = rw e refl
+
+pub place_passed : (before : List ℕ) (c : Column) (cs : Columns) (v : Value) (vs : List Value) → cell_part c (view v) ≡ None
+    → part_by_place before (and_column c cs) (items_view (v ∷ vs)) ≡ part_by_place before cs (items_view vs)
+unfolding part_by_place
+place_passed before c cs v vs e = rw e refl
+
+pub no_place : (before : List ℕ) (ds : Items) → part_by_place before no_column ds ≡ None
+unfolding part_by_place
+no_place before ds = refl
+
+pub name_named : (before : List ℕ) (c : Column) (cs : Columns) (ms : Members) (p : PlainValuePart) → member_part_of c ms ≡ Some p
+    → part_by_name before (and_column c cs) ms ≡ Some (below (before ++ name_of_column c) p)
+unfolding part_by_name
+name_named before c cs ms p e = rw e refl
+
+pub name_passed : (before : List ℕ) (c : Column) (cs : Columns) (ms : Members) → member_part_of c ms ≡ None → part_by_name before (and_column c cs) ms ≡ part_by_name before cs ms
+unfolding part_by_name
+name_passed before c cs ms e = rw e refl
+
+pub no_name : (before : List ℕ) (ms : Members) → part_by_name before no_column ms ≡ None
+unfolding part_by_name
+no_name before ms = refl
+
+-- names that are not refused
+pub names_pass : (names : List (List ℕ)) (ms : Members) → tested names ms ≡ Ok ms → names_part names ms ≡ None
+names_pass names ms e = by (repeats names) (first_unknown names (keys_of ms)) (any_unknown names (keys_of ms)) e
+  where
+    by : (b : Bool) (o : Option (List ℕ)) → is_some o ≡ has_unknown names (keys_of ms)
+        → (if b then Err AmbiguousNames else if has_unknown names (keys_of ms) then Err UnknownName else Ok ms) ≡ Ok ms → (if b then Some (itself reasons.Value) else option_map unknown_part o) ≡ None
+    by true o is e = absurd cc
+    by false None is e = refl
+    by false (Some name) is e = (let told = rw (← is) at e in absurd cc)

@@ -1,0 +1,116 @@
+-- The part of a JSON value that is refused when the value is read for a column: the first one in the order in which a cell is read (`Objects.antt`).
+use Rattle.std.specs.Prelude.{ℕ, ◌+◌, ◌++◌, ◌==◌, Bool, true, false, codes, decimal, not, List, [], find, Option, Some, None, option_map, Result, Ok, Err, string_bytes, if◌then◌else◌}
+use Rattle.std.specs.Option.{option_or}
+use Rattle.serde_json.specs.Data.{Data, Items, no_items, item, Members}
+use Rattle.serde_json.specs.Data as json
+use Rattle.serde_json.specs.Find.{get_member}
+use Rattle.arrow_schema.specs.Column.{Kind, Column, Columns, lists, large_lists, fixed_lists, structs, column, no_column, and_column}
+use Rattle.arrow_schema.specs.Parts.{name_of_column, is_nullable_column}
+use Rattle.cells.specs.Cell.{Cell}
+use Rattle.text_import.specs.declared.refusal.Refusal.{Refusal}
+use Rattle.text_import.specs.declared.value_part.Reason.{Reason}
+use Rattle.text_import.specs.declared.value_part.Reason.TheVariants.{Value, Missing, Unknown, Count}
+use Rattle.text_import.specs.declared.value_part.ValuePart.{ValuePart}
+use Rattle.text_import.specs.Objects.{item_count, column_count, first_item, other_items, kind_in, has_name, names_of, keys_of, repeats}
+
+-- the refused part of a value: the path to it, which is empty for the value itself, and what is refused there
+pub record PlainValuePart : Type 0 where
+  pub path : List ℕ
+  pub reason : Reason
+
+abbrev pub value_part_of : ValuePart → PlainValuePart
+value_part_of part = record { path = string_bytes part.path; reason = part.reason }
+
+-- the step of a path to the item at a place, counted from 0
+abbrev pub item_step : ℕ → List ℕ
+item_step place = codes "[" ++ decimal place ++ codes "]"
+
+-- what stands before the name of a field in a path that leads to it from its struct
+abbrev pub dot : List ℕ
+dot = codes "."
+
+-- the part of a value from which this step leads to the part
+abbrev pub below : List ℕ → PlainValuePart → PlainValuePart
+below step part = record { path = step ++ part.path; reason = part.reason }
+
+-- the value itself, or that there is none
+abbrev pub itself : Reason → PlainValuePart
+itself reason = record { path = []; reason = reason }
+
+abbrev pub is_refused : Result Cell Refusal → Bool
+is_refused (Ok c) = false
+is_refused (Err e) = true
+
+-- a value of a flat type is refused as a whole
+abbrev pub flat_part : Result Cell Refusal → Option PlainValuePart
+flat_part read = if is_refused read then Some (itself Value) else None
+
+-- the items of an array, the first of which has this place
+abbrev pub items_part : ℕ → (Data → Option PlainValuePart) → Items → Option PlainValuePart
+items_part place f no_items = None
+items_part place f (item d ds) = option_or (option_map (below (item_step place)) (f d)) (items_part (place + 1) f ds)
+
+abbrev pub list_part : (Data → Option PlainValuePart) → Data → Option PlainValuePart
+list_part f (json.array ds) = items_part 0 f ds
+list_part f _ = Some (itself Value)
+
+-- the number of items is tested before any item
+abbrev pub sized_part : ℕ → (Items → Option PlainValuePart) → Items → Option PlainValuePart
+sized_part size f ds = if item_count ds == size then f ds else Some (itself (Count (item_count ds) size))
+
+abbrev pub fixed_list_part : ℕ → (Data → Option PlainValuePart) → Data → Option PlainValuePart
+fixed_list_part size f (json.array ds) = sized_part size (items_part 0 f) ds
+fixed_list_part size f _ = Some (itself Value)
+
+abbrev pub null_part : Bool → (Data → Option PlainValuePart) → Data → Option PlainValuePart
+null_part nullable f json.null = if nullable then None else Some (itself Value)
+null_part nullable f d = f d
+
+-- a member, or that it is missing
+abbrev pub member_part : Bool → (Data → Option PlainValuePart) → Option Data → Option PlainValuePart
+member_part nullable f None = if nullable then None else Some (itself Missing)
+member_part nullable f (Some d) = f d
+
+-- the first key that is not among the names
+abbrev pub first_unknown : List (List ℕ) → List (List ℕ) → Option (List ℕ)
+first_unknown names keys = find (λ k. not (has_name names k)) keys
+
+abbrev pub unknown_part : List ℕ → PlainValuePart
+unknown_part name = record { path = dot ++ name; reason = Unknown }
+
+-- names are tested before any member; if two fields have the same name, the object is refused as a whole
+abbrev pub names_part : List (List ℕ) → Members → Option PlainValuePart
+names_part names ms = if repeats names then Some (itself Value) else option_map unknown_part (first_unknown names (keys_of ms))
+
+abbrev pub struct_part : (Items → Option PlainValuePart) → (Members → Option PlainValuePart) → Data → Option PlainValuePart
+struct_part f g (json.array ds) = f ds
+struct_part f g (json.object ms) = g ms
+struct_part f g _ = Some (itself Value)
+
+unfoldable mutual
+  -- of a value in a column
+  pub cell_part : Column → Data → Option PlainValuePart
+  cell_part (column name nullable kind dictionary pairs) = null_part nullable (kind_part kind)
+
+  -- of a value that is not null
+  pub kind_part : Kind → Data → Option PlainValuePart
+  kind_part (lists inner) = list_part (cell_part inner)
+  kind_part (large_lists inner) = list_part (cell_part inner)
+  kind_part (fixed_lists size inner) = fixed_list_part size (cell_part inner)
+  kind_part (structs columns) =
+      struct_part (sized_part (column_count columns) (part_by_place dot columns)) (λ ms. option_or (names_part (names_of columns) ms) (part_by_name dot columns ms))
+  kind_part kind = λ d. flat_part (kind_in kind d)
+
+  -- of as many items as columns, in order; `before` stands before the name of each
+  pub part_by_place : (before : List ℕ) → Columns → Items → Option PlainValuePart
+  part_by_place before no_column = λ ds. None
+  part_by_place before (and_column c cs) = λ ds.
+      option_or (option_map (below (before ++ name_of_column c)) (cell_part c (first_item ds))) (part_by_place before cs (other_items ds))
+
+  -- of the members with the names of the columns, in the order of the columns
+  pub part_by_name : (before : List ℕ) → Columns → Members → Option PlainValuePart
+  part_by_name before no_column = λ ms. None
+  part_by_name before (and_column c cs) = λ ms.
+      option_or
+      (option_map (below (before ++ name_of_column c)) (member_part (is_nullable_column c) (cell_part c) (get_member (name_of_column c) ms)))
+      (part_by_name before cs ms)
