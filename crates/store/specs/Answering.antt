@@ -41,7 +41,7 @@ use Rattle.store.specs.Compacting.{step_reply, HasStepped, RefusesStep}
 use Rattle.store.specs.declared.upgrading.Upgraded.{Upgraded}
 use Rattle.store.specs.declared.upgrading.Upgraded.TheVariants as upgradeds
 use Rattle.store.specs.Upgrading.{upgrade_ended, HasUpgraded, RefusesUpgrade}
-use Rattle.export_book.specs.Book.{open_at}
+use Rattle.export_book.specs.Book.{no_exports, open_at}
 use Rattle.store.specs.Exporting.{RefusesExport, OpensAt, GivesPiece, after_giving, RefusesPiece, ReadsForExport, RefusesClosing, ClosesAt}
 use Rattle.store.specs.Places.{IsCallOf, AreCallsOf, device_in, PlaceFits, PlaceGoes, PlaceRuns}
 
@@ -80,7 +80,8 @@ pub record LeavesUnformatted {D : Type 0} (size : D → ℕ) (story : D → Stor
 
 abbrev pub AnswersOpening : {D : Type 0} {g : Ghosts D} → (size : D → ℕ) → (story : D → Story) → (tells : Bool) → D → PlainReply → StoreOrDevice D g → Type 0
 AnswersOpening size story tells device done new =
-    (is_size (size device) ≡ true) × IsOpenWith (λ store. (is_halted store ≡ false) × (tells ≡ true → FindsStore size story device store)) new
+    (is_size (size device) ≡ true)
+    × IsOpenWith (λ store. (is_halted store ≡ false) × (book_of store ≡ no_exports) × (tells ≡ true → FindsStore size story device store)) new
 AnswersOpening size story tells device (shut_by refusal) new = IsShutWith (λ back. LeavesUnopened size story tells device refusal back) new
 AnswersOpening size story tells device _ new = ⊥
 
