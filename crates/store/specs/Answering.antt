@@ -94,7 +94,7 @@ AnswersFormatting size story tells device _ new = ⊥
 
 -- ---- calls of an open store
 
--- a command: its effect or its refusal, and the state at each moment and at the end
+-- a command: its effect or its refusal, and the state at each moment and at the end; the open exports stay as they are
 pub record Applies {D : Type 0} {g : Ghosts D} (size : D → ℕ) (story : D → Story) (tells : Bool) (old : Store D g) (command : PlainCommand) (result : Result (Unit {0}) Refusal) (new : Store D g) : Type 0 where
   pub applied : is_halted old ≡ false → IsApplied size story tells old command result new
   pub refused : IfErr result (λ e. IsKept old new)
@@ -105,6 +105,7 @@ pub record Applies {D : Type 0} {g : Ghosts D} (size : D → ℕ) (story : D →
   pub halts : is_halted old ≡ false → (is_halted new ≡ true) ↔ (result ≡ Err refusals.Device)
   pub writes : is_halted old ≡ false → tells ≡ true → IsOnDisk size story old → IsApplyingAtEachMoment size story old command new
   pub written : OnOk result (tells ≡ true → IsOnDisk size story old → IsDoneOnDisk size story old command new)
+  pub book : book_of new ≡ book_of old
 
 abbrev pub AnswersCommand : {D : Type 0} {g : Ghosts D} → (size : D → ℕ) → (story : D → Story) → (tells : Bool) → Store D g → PlainCommand → PlainReply → Store D g → Type 0
 AnswersCommand size story tells old command done new = Applies size story tells old command (Ok tt) new
