@@ -130,6 +130,7 @@ module _ {D : Type 0} {g : Ghosts D} (size : D → ℕ) (story : D → Story) (f
     halts = λ on. absurd (true≢false (sym off ∙ on));
     writes = λ on. absurd (true≢false (sym off ∙ on));
     written = tt;
+    book = refl;
   }
 
   told_first : (store : Store D g) (r : Refusal) → store.halted ≡ false → is_failure r ≡ false → r ≢ refusals.Halted → IsAnswered tells (shown_image (now (story store.device))) (listed_in store) c (Err r)
@@ -146,6 +147,7 @@ module _ {D : Type 0} {g : Ghosts D} (size : D → ℕ) (story : D → Story) (f
         halts = λ off. read_halts size story failed tells store store r on reads;
         writes = λ off told disk. stood size story failed tells store store (refused r) reads told c disk;
         written = tt;
+        book = refl;
       }
 
 -- ---- all in the words of a call

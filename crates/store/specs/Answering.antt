@@ -41,7 +41,7 @@ use Rattle.store.specs.Compacting.{step_reply, HasStepped, RefusesStep}
 use Rattle.store.specs.declared.upgrading.Upgraded.{Upgraded}
 use Rattle.store.specs.declared.upgrading.Upgraded.TheVariants as upgradeds
 use Rattle.store.specs.Upgrading.{upgrade_ended, HasUpgraded, RefusesUpgrade}
-use Rattle.export_book.specs.Book.{open_at}
+use Rattle.export_book.specs.Book.{no_exports, open_at}
 use Rattle.store.specs.Exporting.{RefusesExport, OpensAt, GivesPiece, after_giving, RefusesPiece, ReadsForExport, RefusesClosing, ClosesAt}
 use Rattle.store.specs.Places.{IsCallOf, AreCallsOf, device_in, PlaceFits, PlaceGoes, PlaceRuns}
 
@@ -80,7 +80,8 @@ pub record LeavesUnformatted {D : Type 0} (size : D → ℕ) (story : D → Stor
 
 abbrev pub AnswersOpening : {D : Type 0} {g : Ghosts D} → (size : D → ℕ) → (story : D → Story) → (tells : Bool) → D → PlainReply → StoreOrDevice D g → Type 0
 AnswersOpening size story tells device done new =
-    (is_size (size device) ≡ true) × IsOpenWith (λ store. (is_halted store ≡ false) × (tells ≡ true → FindsStore size story device store)) new
+    (is_size (size device) ≡ true)
+    × IsOpenWith (λ store. (is_halted store ≡ false) × (book_of store ≡ no_exports) × (tells ≡ true → FindsStore size story device store)) new
 AnswersOpening size story tells device (shut_by refusal) new = IsShutWith (λ back. LeavesUnopened size story tells device refusal back) new
 AnswersOpening size story tells device _ new = ⊥
 
@@ -93,7 +94,7 @@ AnswersFormatting size story tells device _ new = ⊥
 
 -- ---- calls of an open store
 
--- a command: its effect or its refusal, and the state at each moment and at the end
+-- a command: its effect or its refusal, and the state at each moment and at the end; the open exports stay as they are
 pub record Applies {D : Type 0} {g : Ghosts D} (size : D → ℕ) (story : D → Story) (tells : Bool) (old : Store D g) (command : PlainCommand) (result : Result (Unit {0}) Refusal) (new : Store D g) : Type 0 where
   pub applied : is_halted old ≡ false → IsApplied size story tells old command result new
   pub refused : IfErr result (λ e. IsKept old new)
@@ -104,6 +105,7 @@ pub record Applies {D : Type 0} {g : Ghosts D} (size : D → ℕ) (story : D →
   pub halts : is_halted old ≡ false → (is_halted new ≡ true) ↔ (result ≡ Err refusals.Device)
   pub writes : is_halted old ≡ false → tells ≡ true → IsOnDisk size story old → IsApplyingAtEachMoment size story old command new
   pub written : OnOk result (tells ≡ true → IsOnDisk size story old → IsDoneOnDisk size story old command new)
+  pub book : book_of new ≡ book_of old
 
 abbrev pub AnswersCommand : {D : Type 0} {g : Ghosts D} → (size : D → ℕ) → (story : D → Story) → (tells : Bool) → Store D g → PlainCommand → PlainReply → Store D g → Type 0
 AnswersCommand size story tells old command done new = Applies size story tells old command (Ok tt) new

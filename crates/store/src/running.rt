@@ -337,19 +337,20 @@ fn answer_all<D: SectorDevice, R: Read + Drop>(
     Ok((place, replies))
 }
 
-/// Answers calls in order: commands, formattings, openings, closings, reads, exports in pieces and steps of a compaction. Returns the place and the
-/// replies.
+/// Answers calls in order: commands, formattings, openings, closings, reads, exports in pieces, steps of a compaction and upgrades. Returns the place and
+/// the replies.
 ///
 /// The promise is [`PlaceLives`] of `specs/Places.antt`, for a place that represents a machine with some tables. Each reply follows from the tables of
-/// the commands that were acknowledged before its call, in order (`replied`, `specs/Steps.antt`). Each image that a stop may leave at any moment has the
-/// tables of the settled commands: all that were acknowledged before, in order, and the command in flight as a whole or not at all (`stops`). A call is
-/// refused as halted only if no store is open or its device failed. A command whose bytes come from a reader has all bytes that its reader had left, if
-/// these are known (`AreCallsOf`).
+/// the settled commands (`replied`, `specs/Steps.antt`): these are, in order, all that were acknowledged before its call. The only others are those in
+/// which the device failed, and one that was in doubt when the run began, once an opening has kept them. Each image that a stop may leave at any moment
+/// has the tables of the settled commands, and the command in flight or in doubt as a whole or not at all (`stops`). If there was no store at first, it
+/// may also have none, until the first formatting or opening is done. A call is refused as halted only if no store is open or its device failed. A command
+/// whose bytes come from a reader has all bytes that its reader had left, if these are known (`AreCallsOf`).
 ///
 /// An export that is opened in the run, and reaches its end while it is open, gives pieces that are a stream of the table as it was when the export was
-/// opened, whatever commands and steps of a compaction come in between (`snapshots`). Until it is closed, no sector that it keeps is written. A step of a
-/// compaction settles nothing: the tables are the same before it, after it and at each stop in it. On any device and any store, even one that represents
-/// no machine, each call is answered as its method says (`AnswersEach`, `specs/Answering.antt`).
+/// opened, whatever commands, steps of a compaction and upgrades come in between (`snapshots`). Until it is closed, no sector that it keeps is written. A
+/// step of a compaction or an upgrade settles nothing: the tables are the same before it, after it and at each stop in it. On any device and any store,
+/// even one that represents no machine, each call is answered as its method says (`AnswersEach`, `specs/Answering.antt`).
 ///
 /// # Errors
 /// The unused place and calls, if memory was refused for the replies; then no call was made. If a call is refused, or memory is refused while it is

@@ -41,6 +41,8 @@ impl<D: SectorDevice> Store<D> {
     ghost use Rattle.tables.specs.Tables.{Tables};
     ghost use Rattle.store_runs.specs.Calls.{open_call, shut_by, counted};
     ghost use Rattle.store_runs.specs.Machine.{Machine};
+    ghost use Rattle.export_book.specs.Book.{no_exports};
+    ghost use Rattle.store.specs.Fits as fits;
     ghost use Rattle.store.specs.Fits.{DeviceFits, FindsStore, Opens, Shuts, commit_of, device_of, is_halted};
     ghost use Rattle.pages.specs.Stored.{stored_reading};
     ghost use Rattle.store.specs.Opening.{TellsOpening};
@@ -72,6 +74,7 @@ impl<D: SectorDevice> Store<D> {
         // These also hold for a device that does not tell its story.
         ensures in_limits { OnOk result (is_size (D.size device) ≡ true) }
         ensures on { IfOk result (λ store. is_halted store ≡ false) }
+        ensures none_open { IfOk result (λ store. fits.book_of store ≡ no_exports) }
         ensures limits { IfErr result (λ e. is_size (D.size device) ≡ false
             → (e.0 ≡ OpeningRefusal.Damaged DeviceSize) × (D.story e.1 ≡ D.story device)) }
         ensures size { IfOk result (λ store. D.size (device_of store) ≡ D.size device) }

@@ -17,7 +17,7 @@ pub returns-in-Ok-clause-answers : goal.returns-in-Ok-clause-answers
 returns-in-Ok-clause-answers g c =
     let e = c.in-Ok.ensures in
     record {
-      answers = record { applied = e.applied; refused = tt; quiet = tt; reads = tt; halted = e.halted; still = e.still; halts = e.halts; writes = e.writes; written = e.written };
+      answers = record { applied = e.applied; refused = tt; quiet = tt; reads = tt; halted = e.halted; still = e.still; halts = e.halts; writes = e.writes; written = e.written; book = e.book };
       same = e.size;
       count = e.count;
     }
@@ -26,7 +26,7 @@ pub returns-in-Err-clause-answers : goal.returns-in-Err-clause-answers
 returns-in-Err-clause-answers g c =
     let e = c.in-Err.ensures in
     record {
-      answers = record { applied = e.applied; refused = e.refused; quiet = e.quiet; reads = e.reads; halted = e.halted; still = e.still; halts = e.halts; writes = e.writes; written = tt };
+      answers = record { applied = e.applied; refused = e.refused; quiet = e.quiet; reads = e.reads; halted = e.halted; still = e.still; halts = e.halts; writes = e.writes; written = tt; book = e.book };
       same = e.size;
       count = e.count;
     }

@@ -28,7 +28,7 @@ returns-in-Ok-clause-takes g c =
     let e = c.apply.ensures in
     takes_whole D.size D.story D.failed D.tells (g.R.Read.remaining c.args.reader.now) (append_stream c.args.name.now) c.args.self.now c.apply.new.self c.in-Ok.bytes.items c.apply.result c.in-Ok.ensures.all
     (append_stream (string_bytes c.in-Ok.name) c.in-Ok.bytes.items) (ap (λ (name : List ℕ). append_stream name c.in-Ok.bytes.items) c.in-Ok.ensures.name) e.goes
-    (record { applied = e.applied; refused = e.refused; quiet = e.quiet; reads = e.reads; halted = e.halted; still = e.still; halts = e.halts; writes = e.writes; written = e.written })
+    (record { applied = e.applied; refused = e.refused; quiet = e.quiet; reads = e.reads; halted = e.halted; still = e.still; halts = e.halts; writes = e.writes; written = e.written; book = e.book })
 
 pub returns-then-self-clause-reads : goal.returns-then-self-clause-reads
 returns-then-self-clause-reads g c = record { closed = λ off. (refl, refl, refl); first = λ on. absurd (true≢false (sym c.if-self.true ∙ on)); reads = λ on. absurd (true≢false (sym c.if-self.true ∙ on)) }

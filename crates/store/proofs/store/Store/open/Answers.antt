@@ -119,6 +119,9 @@ returns-in-Err-clause-count_back g c =
 
 -- ---- no export is open
 
+pub returns-in-Ok-clause-none_open : goal.returns-in-Ok-clause-none_open
+returns-in-Ok-clause-none_open g c = c.new.ensures
+
 pub invariant_of-result-clause-uses : goal.invariant_of-result-clause-uses
 invariant_of-result-clause-uses g c =
     subst (λ (b : PlainBook). Uses c.in-Ok.opened.map.entries (c.in-Ok.opened.commit.catalogue.run ∷ runs_of (catalogue_of c.in-Ok.opened.catalogue.list)) (runs_kept b.exports)) (sym c.new.ensures) c.in-Ok.ensures.uses
