@@ -47,13 +47,17 @@ abbrev pub counts_text : (whole part : List ℕ) → (parts columns : ℕ) → L
 counts_text whole part parts columns =
     codes "The " ++ whole ++ codes " has " ++ counted parts part ++ codes ", and the table " ++ counted columns (codes "column") ++ codes ". "
 
+-- an array at the end of a path, with another number of items than is wanted
+abbrev pub items_text : (path : List ℕ) → (items wanted : ℕ) → List ℕ
+items_text path items wanted = codes "The field `" ++ path ++ codes "` has " ++ counted items (codes "item") ++ codes " instead of " ++ decimal wanted ++ codes ". "
+
 -- what is refused at the end of a path
 abbrev pub path_text : (path : Option (List ℕ)) → Reason → List ℕ
 path_text None reason = []
 path_text (Some path) Value = codes "The field `" ++ path ++ codes "` is refused. "
 path_text (Some path) Missing = codes "The name `" ++ path ++ codes "` is missing. "
 path_text (Some path) Unknown = codes "The name `" ++ path ++ codes "` is no field. "
-path_text (Some path) (Count items wanted) = codes "The field `" ++ path ++ codes "` has " ++ counted items (codes "item") ++ codes " instead of " ++ decimal wanted ++ codes ". "
+path_text (Some path) (Count items wanted) = items_text path items wanted
 
 -- the name of a table
 abbrev pub table_text : Option (List ℕ) → List ℕ

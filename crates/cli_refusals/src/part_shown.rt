@@ -186,6 +186,33 @@ impl fmt::Display for Counted {
     }
 }
 
+// The path to an array, and the number of its items instead of the wanted one.
+#[derive(Drop)]
+struct ItemsShown<'a> {
+    path: &'a str,
+    items: usize,
+    wanted: usize,
+}
+
+impl fmt::Display for ItemsShown<'_> {
+    ghost use Rattle.std.specs.Prelude.{Some};
+    ghost use Rattle.cli_refusals.specs.Hint.{items_text};
+
+    ghost output = { λ shown. Some (items_text shown.path.now shown.items shown.wanted) };
+
+    fn fmt<W: fmt::Write>(&self, f: &mut fmt::Formatter<W>) -> fmt::Result {
+        let items = Counted {
+            count: self.items,
+            noun: "item",
+        };
+        write!(
+            f,
+            "The field `{}` has {items} instead of {}. ",
+            self.path, self.wanted
+        )
+    }
+}
+
 // A path, if it may be shown, and what is refused at its end.
 #[derive(Drop)]
 struct PathShown<'a> {
@@ -209,11 +236,12 @@ impl fmt::Display for PathShown<'_> {
             Reason::Missing => write!(f, "The name `{path}` is missing. "),
             Reason::Unknown => write!(f, "The name `{path}` is no field. "),
             Reason::Count { items, wanted } => {
-                let found = Counted {
-                    count: items,
-                    noun: "item",
+                let items = ItemsShown {
+                    path,
+                    items,
+                    wanted,
                 };
-                write!(f, "The field `{path}` has {found} instead of {wanted}. ")
+                write!(f, "{items}")
             }
         }
     }
