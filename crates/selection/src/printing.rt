@@ -1,5 +1,5 @@
 // Prints the selection of a table from its arrays, without making a table of it.
-ghost use Rattle.std.specs.Prelude.{◌≡◌, ◌++◌, ◌≤◌, ◌<◌, ◌*◌, ◌^◌, Ok, true, length, map, take, sum_by, IfErr, OnOk};
+ghost use Rattle.std.specs.Prelude.{◌≡◌, ◌≢◌, ◌++◌, ◌≤◌, ◌<◌, ◌*◌, ◌^◌, Ok, true, length, map, take, sum_by, IfErr, OnOk};
 ghost use Rattle.std.specs.List.{flat_map, list_all};
 ghost use Rattle.arrow_schema.specs.View.{column_of, schema_of};
 ghost use Rattle.cells.specs.Cell.{PlainTable};
@@ -100,7 +100,7 @@ fn can_be_printed(form: RowForm, fields: &[Field]) -> bool
 ///
 /// # Errors
 /// `UnknownColumn`, `BadCondition` or `NotComparable`, by the first test that fails; `UnknownColumn` too if rows are objects and two of the chosen
-/// columns have the same name; `OutOfMemory` if memory is refused: some lines may be appended.
+/// columns have the same name: then the text is as before. `OutOfMemory` if memory is refused: then lines may be appended, the last of them cut off.
 pub fn push_selected_lines(
     alloc: Global,
     text: &mut Vec<u8>,
@@ -111,6 +111,7 @@ pub fn push_selected_lines(
     ensures lines { OnOk result ((selected : PlainTable) × (printed_selection form (table_of table.now) (query_in query.now) ≡ Ok selected)
         × (text.new.items ≡ text.old.items ++ rows_text form selected)) }
     ensures refused { IfErr result (λ e. Reports e (printed_selection form (table_of table.now) (query_in query.now))) }
+    ensures silent { IfErr result (λ e. e ≢ OutOfMemory → text.new ≡ text.old) }
 {
     let choice = choose(alloc, table, query)?;
     let picked = pick_schema(alloc, table.schema(), &choice.columns)?;
