@@ -1,5 +1,5 @@
 -- A command is decided, and then it is carried out or refused.
-use Rattle.std.specs.Prelude.{◌≢◌, ◌⊎◌, ◌||◌, ◌↔◌, min, IfErr}
+use Rattle.std.specs.Prelude.{◌≢◌, ◌<◌, ◌⊎◌, ◌||◌, ◌↔◌, min, IfErr}
 use Rattle.std.proofs.Common.{◌≡◌, ℕ, ◌+◌, ◌-◌, ◌^◌, Bool, true, false, Result, Ok, Err, inl, inr, refl, sym, ap, ◌∙◌, subst, if◌then◌else◌}
 use Rattle.sector_dev.specs.Disk.{Disk, Story, Image, now, MayLeave, shown_image, synced_image}
 use Rattle.sector_dev.specs.Time.{Grows, LeavesOnly}
@@ -31,8 +31,8 @@ use Rattle.store_runs.specs.Reading.{ended}
 use Rattle.store_runs.specs.Runs.{Goes, TellsFound, TellsRoom}
 use Rattle.store_runs.specs.Steps.{Step, RefusesFrom}
 use Rattle.store.specs.Fits.{setting_of, StoreFits, commit_of, listed_in, IsOnDisk}
-use Rattle.store.specs.Applying.{EndsAs, IsKept, IsApplyingAtEachMoment, IsDoneOnDisk, GoesOn}
-use Rattle.store_changes.specs.OnDisk.{HasDone, IsOldOrDone, IsApplying}
+use Rattle.store.specs.Applying.{EndsAs, IsKept, IsCarryingAtEachMoment, IsCarriedOnDisk, IsApplyingAtEachMoment, IsDoneOnDisk, GoesOn}
+use Rattle.store_changes.specs.OnDisk.{HasDone, IsOldOrDone, IsApplying, HasCarried, IsOldOrCarried, IsTaking, IsCarrying}
 use Rattle.store_runs.specs.Carrying.{IsCarried}
 use Rattle.store_changes.specs.Verdicts.{IsVerdict, IsUndecided}
 use Rattle.store.proofs.Asked.{still, not_running, refused_elsewhere}
@@ -195,7 +195,7 @@ module _ {D : Type 0} {g : Ghosts D} (size : D → ℕ) (story : D → Story) (f
   pub kept_after : (new : Store D g) → IsKept mid new → IsKept old new
   kept_after new is = subst (λ (o : Opened StoredCatalogue). (new.opened.commit ≡ o.commit) × (listed_in new ≡ catalogue_of o.catalogue.list) × SameUsages o.map.entries new.opened.map.entries) reads.kept is
 
-  module _ (told : tells ≡ true) (c : PlainCommand) where
+  module _ (told : tells ≡ true) where
     later : now (story mid.device) ≡ now (story old.device)
     later = now_read (story old.device) (story mid.device) (reads.device.moments told)
 
@@ -205,10 +205,47 @@ module _ {D : Type 0} {g : Ghosts D} (size : D → ℕ) (story : D → Story) (f
         (subst (λ (n : ℕ). Stands stored_reading n (now (story mid.device)) old.opened.commit (listed_in old)) (sym reads.device.same)
         (subst (λ (d : Disk). Stands stored_reading (size old.device) d old.opened.commit (listed_in old)) (sym later) on))
 
+    -- while it was read the disk is as before, and a stop leaves what stood
+    one_image : IsOnDisk size story old → (d : Disk) → d ≡ now (story old.device) → (image : Image) → MayLeave d image → image ≡ synced_image (now (story old.device))
+    one_image on d is image may = only_image (now (story old.device)) image on.quiet.pending (subst (λ (x : Disk). MayLeave x image) is may)
+
+    module _ (change : PlainChange) where
+      idle : IsOnDisk size story old → Grows (IsCarrying (size old.device) (IsUsedIn old.opened.map.entries) old.opened.commit (listed_in old) (now (story old.device)) change) (story old.device) (story mid.device)
+      idle on = weaken (λ d is. record { touches = inl is; begun = inl is; leaves = each d is }) (reads.device.moments told)
+        where
+          each : (d : Disk) → d ≡ now (story old.device) → LeavesOnly (IsOldOrCarried (size old.device) (IsUsedIn old.opened.map.entries) old.opened.commit (listed_in old) (now (story old.device)) change) d
+          each d is image may =
+              let one = one_image on d is image may in
+              record {
+                which = inl (ap (standing stored_reading (size old.device)) one ∙ on.found);
+                kept = λ n within. ap (λ (i : Image). i n) one;
+              }
+
+      pub carries_after : (new : Store D g) → IsOnDisk size story old → IsCarryingAtEachMoment size story mid change new → IsCarryingAtEachMoment size story old change new
+      carries_after new on carries =
+          goes_on (idle on)
+          (subst (λ (o : Opened StoredCatalogue). Grows (IsCarrying (size old.device) (IsUsedIn o.map.entries) o.commit (catalogue_of o.catalogue.list) (now (story old.device)) change) (story mid.device) (story new.device)) reads.kept
+          (subst (λ (n : ℕ). Grows (IsCarrying n (IsUsedIn mid.opened.map.entries) mid.opened.commit (listed_in mid) (now (story old.device)) change) (story mid.device) (story new.device)) reads.device.same
+          (subst (λ (d : Disk). Grows (IsCarrying (size mid.device) (IsUsedIn mid.opened.map.entries) mid.opened.commit (listed_in mid) d change) (story mid.device) (story new.device)) later carries)))
+
+      pub carried_after : (new : Store D g) → IsCarriedOnDisk size story mid change new → IsCarriedOnDisk size story old change new
+      carried_after new has = record {
+        stands = has.stands;
+        begun = subst (λ (d : Disk). d.writes < (now (story new.device)).writes) later has.begun;
+        takes =
+            subst (λ (o : Opened StoredCatalogue). IsTaking (size old.device) (IsUsedIn o.map.entries) o.commit (catalogue_of o.catalogue.list) (now (story old.device)) change (now (story new.device))) reads.kept
+            (subst (λ (n : ℕ). IsTaking n (IsUsedIn mid.opened.map.entries) mid.opened.commit (listed_in mid) (now (story old.device)) change (now (story new.device))) reads.device.same
+            (subst (λ (d : Disk). IsTaking (size mid.device) (IsUsedIn mid.opened.map.entries) mid.opened.commit (listed_in mid) d change (now (story new.device))) later has.takes));
+        holds =
+            subst (λ (o : Opened StoredCatalogue). HasCarried (size old.device) (IsUsedIn o.map.entries) o.commit (catalogue_of o.catalogue.list) change (synced_image (now (story new.device)))) reads.kept
+            (subst (λ (n : ℕ). HasCarried n (IsUsedIn mid.opened.map.entries) mid.opened.commit (listed_in mid) change (synced_image (now (story new.device)))) reads.device.same has.holds);
+      }
+
+  module _ (told : tells ≡ true) (c : PlainCommand) where
     pub decided_after : (change : PlainChange) → IsDecided true (shown_image (now (story old.device))) (listed_in old) c (Ok change) → IsDecided true (shown_image (now (story mid.device))) (listed_in mid) c (Ok change)
     decided_after change is =
         subst (λ (o : Opened StoredCatalogue). IsDecided true (shown_image (now (story mid.device))) (catalogue_of o.catalogue.list) c (Ok change)) (sym reads.kept)
-        (subst (λ (d : Disk). IsDecided true (shown_image d) (listed_in old) c (Ok change)) (sym later) is)
+        (subst (λ (d : Disk). IsDecided true (shown_image d) (listed_in old) c (Ok change)) (sym (later told)) is)
 
     -- while it was read each image has what stood
     pub stood : IsOnDisk size story old → Grows (IsApplying (size old.device) (IsUsedIn old.opened.map.entries) old.opened.commit (listed_in old) (now (story old.device)) c) (story old.device) (story mid.device)
@@ -216,7 +253,7 @@ module _ {D : Type 0} {g : Ghosts D} (size : D → ℕ) (story : D → Story) (f
       where
         each : (d : Disk) → d ≡ now (story old.device) → LeavesOnly (IsOldOrDone (size old.device) (IsUsedIn old.opened.map.entries) old.opened.commit (listed_in old) (now (story old.device)) c) d
         each d is image may =
-            let one : image ≡ synced_image (now (story old.device)) = only_image (now (story old.device)) image on.quiet.pending (subst (λ (x : Disk). MayLeave x image) is may) in
+            let one = one_image told on d is image may in
             record {
               which = inl (ap (standing stored_reading (size old.device)) one ∙ on.found);
               kept = λ n within. ap (λ (i : Image). i n) one;
@@ -227,7 +264,7 @@ module _ {D : Type 0} {g : Ghosts D} (size : D → ℕ) (story : D → Story) (f
         goes_on (stood on)
         (subst (λ (o : Opened StoredCatalogue). Grows (IsApplying (size old.device) (IsUsedIn o.map.entries) o.commit (catalogue_of o.catalogue.list) (now (story old.device)) c) (story mid.device) (story new.device)) reads.kept
         (subst (λ (n : ℕ). Grows (IsApplying n (IsUsedIn mid.opened.map.entries) mid.opened.commit (listed_in mid) (now (story old.device)) c) (story mid.device) (story new.device)) reads.device.same
-        (subst (λ (d : Disk). Grows (IsApplying (size mid.device) (IsUsedIn mid.opened.map.entries) mid.opened.commit (listed_in mid) d c) (story mid.device) (story new.device)) later writes)))
+        (subst (λ (d : Disk). Grows (IsApplying (size mid.device) (IsUsedIn mid.opened.map.entries) mid.opened.commit (listed_in mid) d c) (story mid.device) (story new.device)) (later told) writes)))
 
     pub written_after : (new : Store D g) → IsDoneOnDisk size story mid c new → IsDoneOnDisk size story old c new
     written_after new has = record {
@@ -235,7 +272,7 @@ module _ {D : Type 0} {g : Ghosts D} (size : D → ℕ) (story : D → Story) (f
       holds =
           subst (λ (o : Opened StoredCatalogue). HasDone (size old.device) (IsUsedIn o.map.entries) o.commit (catalogue_of o.catalogue.list) (now (story old.device)) c (synced_image (now (story new.device)))) reads.kept
           (subst (λ (n : ℕ). HasDone n (IsUsedIn mid.opened.map.entries) mid.opened.commit (listed_in mid) (now (story old.device)) c (synced_image (now (story new.device)))) reads.device.same
-          (subst (λ (d : Disk). HasDone (size mid.device) (IsUsedIn mid.opened.map.entries) mid.opened.commit (listed_in mid) d c (synced_image (now (story new.device)))) later has.holds));
+          (subst (λ (d : Disk). HasDone (size mid.device) (IsUsedIn mid.opened.map.entries) mid.opened.commit (listed_in mid) d c (synced_image (now (story new.device)))) (later told) has.holds));
     }
 
 -- ---- answers

@@ -37,10 +37,10 @@ use Rattle.store.specs.Reading.{OnlyReadsStore}
 use Rattle.store_changes.specs.declared.compacting.Compaction.{Compaction}
 use Rattle.store_changes.specs.declared.compacting.Compaction.TheVariants as compactions
 use Rattle.store_changes.specs.Exchanging.{Shrinks}
-use Rattle.store.specs.Compacting.{step_reply, HasStepped, RefusesStep}
+use Rattle.store.specs.Compacting.{step_reply, HasStepped, RefusesStep, IsSteppingAtEachMoment, HasSteppedOnDisk}
 use Rattle.store.specs.declared.upgrading.Upgraded.{Upgraded}
 use Rattle.store.specs.declared.upgrading.Upgraded.TheVariants as upgradeds
-use Rattle.store.specs.Upgrading.{upgrade_ended, HasUpgraded, RefusesUpgrade}
+use Rattle.store.specs.Upgrading.{upgrade_ended, HasUpgraded, RefusesUpgrade, IsUpgradingAtEachMoment, HasUpgradedOnDisk}
 use Rattle.export_book.specs.Book.{no_exports, open_at}
 use Rattle.store.specs.Exporting.{RefusesExport, OpensAt, GivesPiece, after_giving, RefusesPiece, ReadsForExport, RefusesClosing, ClosesAt}
 use Rattle.store.specs.Places.{IsCallOf, AreCallsOf, device_in, PlaceFits, PlaceGoes, PlaceRuns}
@@ -178,7 +178,7 @@ AnswersCloseExport size story failed tells old id (refused r) new =
     RefusesClosing (is_halted old) (open_at (book_of old) id) r × OnlyReadsStore size story failed tells (refused r) old new × (device_of new ≡ device_of old)
 AnswersCloseExport size story failed tells old id _ new = ⊥
 
--- a step of a compaction: its effect or its refusal, and the state after it
+-- a step of a compaction: its effect or its refusal, and the state at each moment and at the end
 pub record Compacts {D : Type 0} {g : Ghosts D} (size : D → ℕ) (story : D → Story) (failed : D → ℕ) (tells : Bool) (old : Store D g) (result : Result Compaction Refusal) (new : Store D g) : Type 0 where
   pub step : IfOk result (λ done. HasStepped size story tells old done new)
   pub told : IfErr result (λ e. RefusesStep size story tells (is_halted old) old e new)
@@ -189,12 +189,14 @@ pub record Compacts {D : Type 0} {g : Ghosts D} (size : D → ℕ) (story : D �
   pub halted : (result ≡ Err refusals.Halted) ↔ (is_halted old ≡ true)
   pub still : is_halted old ≡ true → new ≡ old
   pub halts : is_halted old ≡ false → (is_halted new ≡ true) ↔ (result ≡ Err refusals.Device)
+  pub writes : tells ≡ true → IsOnDisk size story old → IsSteppingAtEachMoment size story tells old new
+  pub written : IfOk result (λ done. done ≢ compactions.Nothing → tells ≡ true → IsOnDisk size story old → HasSteppedOnDisk size story tells old done new)
   pub book : book_of new ≡ book_of old
 
 abbrev pub AnswersCompact : {D : Type 0} {g : Ghosts D} → (size : D → ℕ) → (story : D → Story) → (failed : D → ℕ) → (tells : Bool) → Store D g → PlainReply → Store D g → Type 0
 AnswersCompact size story failed tells old reply new = (result : Result Compaction Refusal) × (reply ≡ step_reply result) × Compacts size story failed tells old result new
 
--- an upgrade
+-- an upgrade, in the same words
 pub record Upgrades {D : Type 0} {g : Ghosts D} (size : D → ℕ) (story : D → Story) (tells : Bool) (old : Store D g) (result : Result Upgraded Refusal) (new : Store D g) : Type 0 where
   pub upgraded : IfOk result (λ upgraded. HasUpgraded size story tells old upgraded new)
   pub told : IfErr result (λ e. RefusesUpgrade size story tells (is_halted old) old e new)
@@ -204,6 +206,8 @@ pub record Upgrades {D : Type 0} {g : Ghosts D} (size : D → ℕ) (story : D �
   pub halted : (result ≡ Err refusals.Halted) ↔ (is_halted old ≡ true)
   pub still : is_halted old ≡ true → new ≡ old
   pub halts : is_halted old ≡ false → (is_halted new ≡ true) ↔ (result ≡ Err refusals.Device)
+  pub writes : tells ≡ true → IsOnDisk size story old → IsUpgradingAtEachMoment size story tells old new
+  pub written : IfOk result (λ upgraded. upgraded ≡ upgradeds.Done → tells ≡ true → IsOnDisk size story old → HasUpgradedOnDisk size story tells old new)
   pub book : book_of new ≡ book_of old
 
 abbrev pub AnswersUpgrade : {D : Type 0} {g : Ghosts D} → (size : D → ℕ) → (story : D → Story) → (tells : Bool) → Store D g → PlainReply → Store D g → Type 0

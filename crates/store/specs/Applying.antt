@@ -1,7 +1,7 @@
 -- How commands are decided and carried out, and the state after each call of an open store.
-use Rattle.std.specs.Prelude.{◌≡◌, ◌<◌, ℕ, Bool, Result, Ok, Err}
+use Rattle.std.specs.Prelude.{◌≡◌, ◌⊎◌, ◌<◌, ℕ, Bool, Result, Ok, Err}
 use Rattle.sector_dev.specs.Disk.{Story, now, shown_image, synced_image}
-use Rattle.sector_dev.specs.Time.{Grows}
+use Rattle.sector_dev.specs.Time.{Grows, OnlyReads}
 use Rattle.sector_dev.specs.declared.device.SectorDevice.{Ghosts}
 use Rattle.segments.specs.Usages.{IsUsedIn, SameUsages}
 use Rattle.tables.specs.declared.refusal.Refusal.{Refusal}
@@ -47,6 +47,16 @@ pub record IsCarriedOnDisk {D : Type 0} {g : Ghosts D} (size : D → ℕ) (story
   pub begun : (now (story (device_of old))).writes < (now (story (device_of new))).writes
   pub takes : IsTaking (size (device_of old)) (IsUsedIn old.opened.map.entries) (commit_of old) (listed_in old) (now (story (device_of old))) change (now (story (device_of new)))
   pub holds : HasCarried (size (device_of old)) (IsUsedIn old.opened.map.entries) (commit_of old) (listed_in old) change (synced_image (now (story (device_of new))))
+
+-- at each moment of a call of a store that lies on its disk: it only reads, or it carries out a change for which this holds
+abbrev pub IsChangingAtEachMoment : {D : Type 0} {g : Ghosts D} → (size : D → ℕ) → (story : D → Story) → (old : Store D g) → (PlainChange → Type 0)
+    → (new : Store D g) → Type 0
+IsChangingAtEachMoment size story old Decides new =
+    OnlyReads (story (device_of old)) (story (device_of new)) ⊎ ((change : PlainChange) × Decides change × IsCarryingAtEachMoment size story old change new)
+
+-- after it has carried one out
+abbrev pub IsChangedOnDisk : {D : Type 0} {g : Ghosts D} → (size : D → ℕ) → (story : D → Story) → (old : Store D g) → (PlainChange → Type 0) → (new : Store D g) → Type 0
+IsChangedOnDisk size story old Decides new = (change : PlainChange) × Decides change × IsCarriedOnDisk size story old change new
 
 -- at each moment of a command of a store that lies on its disk
 abbrev pub IsApplyingAtEachMoment : {D : Type 0} {g : Ghosts D} → (size : D → ℕ) → (story : D → Story) → (old : Store D g) → PlainCommand

@@ -11,7 +11,7 @@ use Rattle.store.specs.declared.store.Store.{Store}
 use Rattle.store_runs.specs.Calls.{PlainReply, merged, moved, nothing, refused}
 use Rattle.store_runs.specs.Changes.{PlainChange}
 use Rattle.store.specs.Fits.{device_of, listed_in}
-use Rattle.store.specs.Applying.{EndsAs}
+use Rattle.store.specs.Applying.{EndsAs, IsChangingAtEachMoment, IsChangedOnDisk}
 use Rattle.store_changes.specs.Compacting.{IsStep, UnreadsStep}
 
 -- as a reply
@@ -47,3 +47,19 @@ abbrev pub RefusesStep : {D : Type 0} {g : Ghosts D} → (size : D → ℕ) → 
 RefusesStep size story tells true old r new = r ≡ refusals.Halted
 RefusesStep size story tells false old r new =
     UnreadsStep tells (shown_image (now (story (device_of old)))) (listed_in old) r ⊎ StepRefused size story tells old r new
+
+-- ---- what lies on the disk
+
+-- a step decides on this change, by what reads showed when it began
+abbrev pub DecidesStep : {D : Type 0} {g : Ghosts D} → (size : D → ℕ) → (story : D → Story) → (tells : Bool) → (old : Store D g) → Compaction → PlainChange → Type 0
+DecidesStep size story tells old done change =
+    IsStep tells (shown_image (now (story (device_of old)))) (size (device_of old)) (IsUsedIn old.opened.map.entries) (listed_in old) done (Some change)
+
+-- at each moment of a step of a store that lies on its disk, whatever its segments hold: it only reads, or it carries out the change that it decided on
+abbrev pub IsSteppingAtEachMoment : {D : Type 0} {g : Ghosts D} → (size : D → ℕ) → (story : D → Story) → (tells : Bool) → (old new : Store D g) → Type 0
+IsSteppingAtEachMoment size story tells old new =
+    IsChangingAtEachMoment size story old (λ change. (done : Compaction) × DecidesStep size story tells old done change) new
+
+-- after a step that did something
+abbrev pub HasSteppedOnDisk : {D : Type 0} {g : Ghosts D} → (size : D → ℕ) → (story : D → Story) → (tells : Bool) → (old : Store D g) → Compaction → (new : Store D g) → Type 0
+HasSteppedOnDisk size story tells old done new = IsChangedOnDisk size story old (DecidesStep size story tells old done) new

@@ -11,7 +11,7 @@ use Rattle.store.specs.declared.store.Store.{Store}
 use Rattle.store_runs.specs.Calls.{PlainReply, done, already, refused}
 use Rattle.store_runs.specs.Changes.{PlainChange}
 use Rattle.store.specs.Fits.{device_of, commit_of, listed_in}
-use Rattle.store.specs.Applying.{EndsAs}
+use Rattle.store.specs.Applying.{EndsAs, IsChangingAtEachMoment, IsChangedOnDisk}
 use Rattle.store_changes.specs.Digesting.{IsUpgrade, StopsReading}
 
 -- as a reply
@@ -42,3 +42,17 @@ RefusesUpgrade size story tells true old r new = r ≡ refusals.Halted
 RefusesUpgrade size story tells false old r new =
     ((commit_of old).version ≡ One)
     × (StopsReading tells (shown_image (now (story (device_of old)))) (listed_in old) r ⊎ UpgradeRefused size story tells old r new)
+
+-- ---- what lies on the disk
+
+-- an upgrade decides on this change, by what reads showed when it began
+abbrev pub DecidesUpgrade : {D : Type 0} {g : Ghosts D} → (story : D → Story) → (tells : Bool) → (old : Store D g) → PlainChange → Type 0
+DecidesUpgrade story tells old change = IsUpgrade tells (shown_image (now (story (device_of old)))) (listed_in old) change
+
+-- at each moment of an upgrade of a store that lies on its disk, whatever its segments hold: it only reads, or it carries out the change that it decided on
+abbrev pub IsUpgradingAtEachMoment : {D : Type 0} {g : Ghosts D} → (size : D → ℕ) → (story : D → Story) → (tells : Bool) → (old new : Store D g) → Type 0
+IsUpgradingAtEachMoment size story tells old new = IsChangingAtEachMoment size story old (DecidesUpgrade story tells old) new
+
+-- after a successful one
+abbrev pub HasUpgradedOnDisk : {D : Type 0} {g : Ghosts D} → (size : D → ℕ) → (story : D → Story) → (tells : Bool) → (old new : Store D g) → Type 0
+HasUpgradedOnDisk size story tells old new = IsChangedOnDisk size story old (DecidesUpgrade story tells old) new

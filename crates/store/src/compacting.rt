@@ -20,10 +20,10 @@ impl<D: SectorDevice> Store<D> {
     ghost use Rattle.store_runs.specs.Calls.{compact_call, refused, nothing, counted};
     ghost use Rattle.store_runs.specs.Machine.{Machine};
     ghost use Rattle.store_changes.specs.Exchanging.{Shrinks};
-    ghost use Rattle.store.specs.Fits.{StoreFits, device_of, listed_in, book_of, is_halted};
+    ghost use Rattle.store.specs.Fits.{StoreFits, device_of, listed_in, book_of, is_halted, IsOnDisk};
     ghost use Rattle.store.specs.Reading.{OnlyReadsStore};
     ghost use Rattle.store.specs.Applying.{GoesOn, IsKept};
-    ghost use Rattle.store.specs.Compacting.{reply_of, step_reply, HasStepped, RefusesStep};
+    ghost use Rattle.store.specs.Compacting.{reply_of, step_reply, HasStepped, RefusesStep, IsSteppingAtEachMoment, HasSteppedOnDisk};
 
     // Returns what the next step does. Only reads.
     fn find_step(&mut self, alloc: Global) -> Result<Option<Step>, Refusal>
@@ -67,6 +67,11 @@ impl<D: SectorDevice> Store<D> {
         ensures halted { (result ≡ Err Refusal.Halted) ↔ (is_halted self.old ≡ true) }
         ensures same { is_halted self.old ≡ true → self.new ≡ self.old }
         ensures halts { is_halted self.old ≡ false → (is_halted self.new ≡ true) ↔ (result ≡ Err Refusal.Device) }
+        // On a store that lies on its disk, whatever its segments hold, a stop at any moment leaves the old state or the step's change carried out. Outside
+        // the runs that it takes, only the sector of the next commit is written.
+        ensures writes { D.tells ≡ true → IsOnDisk D.size D.story self.old → IsSteppingAtEachMoment D.size D.story D.tells self.old self.new }
+        ensures written { IfOk result (λ done. done ≢ Compaction.Nothing → D.tells ≡ true → IsOnDisk D.size D.story self.old
+            → HasSteppedOnDisk D.size D.story D.tells self.old done self.new) }
         ensures size { D.size (device_of self.new) ≡ D.size (device_of self.old) }
         ensures count { D.failed (device_of self.new) ≡ counted (step_reply result) (D.failed (device_of self.old)) }
         ensures book { book_of self.new ≡ book_of self.old }

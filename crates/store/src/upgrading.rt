@@ -29,10 +29,10 @@ impl<D: SectorDevice> Store<D> {
     ghost use Rattle.tables.specs.Tables.{Tables};
     ghost use Rattle.store_runs.specs.Calls.{upgrade_call, refused, counted};
     ghost use Rattle.store_runs.specs.Machine.{Machine};
-    ghost use Rattle.store.specs.Fits.{StoreFits, device_of, commit_of, listed_in, book_of, is_halted};
+    ghost use Rattle.store.specs.Fits.{StoreFits, device_of, commit_of, listed_in, book_of, is_halted, IsOnDisk};
     ghost use Rattle.store.specs.Reading.{OnlyReadsStore};
     ghost use Rattle.store.specs.Applying.{GoesOn, IsKept};
-    ghost use Rattle.store.specs.Upgrading.{upgrade_reply, upgrade_ended, HasUpgraded, RefusesUpgrade};
+    ghost use Rattle.store.specs.Upgrading.{upgrade_reply, upgrade_ended, HasUpgraded, RefusesUpgrade, IsUpgradingAtEachMoment, HasUpgradedOnDisk};
 
     // Returns the digests of all segments. Only reads.
     fn find_digests(&mut self, alloc: Global) -> Result<Vec<[u8; 32]>, Refusal>
@@ -75,6 +75,11 @@ impl<D: SectorDevice> Store<D> {
         ensures halted { (result ≡ Err Refusal.Halted) ↔ (is_halted self.old ≡ true) }
         ensures same { is_halted self.old ≡ true → self.new ≡ self.old }
         ensures halts { is_halted self.old ≡ false → (is_halted self.new ≡ true) ↔ (result ≡ Err Refusal.Device) }
+        // On a store that lies on its disk, whatever its segments hold, a stop at any moment leaves the old state or the upgrade carried out. Outside the runs
+        // that it takes, only the sector of the next commit is written.
+        ensures writes { D.tells ≡ true → IsOnDisk D.size D.story self.old → IsUpgradingAtEachMoment D.size D.story D.tells self.old self.new }
+        ensures written { IfOk result (λ upgraded. upgraded ≡ Upgraded.Done → D.tells ≡ true → IsOnDisk D.size D.story self.old
+            → HasUpgradedOnDisk D.size D.story D.tells self.old self.new) }
         ensures size { D.size (device_of self.new) ≡ D.size (device_of self.old) }
         ensures count { D.failed (device_of self.new) ≡ counted (upgrade_ended result) (D.failed (device_of self.old)) }
         ensures book { book_of self.new ≡ book_of self.old }

@@ -126,7 +126,7 @@ returns-in-Ok-clause-writes g c = λ off told on.
     writes_after D.size D.story D.failed D.tells old mid done reads told cmd c.carry_out-ended.new.self on
     (command_writes D.size D.story mid c.carry_out-ended.new.self (change_of c.in-Ok.change) cmd
     (decided_after D.size D.story D.failed D.tells old mid done reads told cmd (change_of c.in-Ok.change) decided)
-    (c.carry_out-ended.ensures.carries told (on_disk_after D.size D.story D.failed D.tells old mid done reads told cmd on)))
+    (c.carry_out-ended.ensures.carries told (on_disk_after D.size D.story D.failed D.tells old mid done reads told on)))
 
 pub returns-in-Ok-clause-written : goal.returns-in-Ok-clause-written
 returns-in-Ok-clause-written g c =
@@ -141,7 +141,7 @@ returns-in-Ok-clause-written g c =
     written_after D.size D.story D.failed D.tells old mid done reads told cmd c.carry_out-ended.new.self
     (command_written D.size D.story mid c.carry_out-ended.new.self (change_of c.in-Ok.change) cmd
     (decided_after D.size D.story D.failed D.tells old mid done reads told cmd (change_of c.in-Ok.change) decided)
-    (written told (on_disk_after D.size D.story D.failed D.tells old mid done reads told cmd on))))
+    (written told (on_disk_after D.size D.story D.failed D.tells old mid done reads told on))))
 
 pub returns-in-Err-clause-writes : goal.returns-in-Err-clause-writes
 returns-in-Err-clause-writes g c = λ off told on.

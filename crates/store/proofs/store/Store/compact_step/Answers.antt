@@ -1,4 +1,4 @@
-use Rattle.std.proofs.Common.{◌≡◌, Bool, Some, None, Result, Ok, Err, inr, refl, sym, ◌∙◌, subst}
+use Rattle.std.proofs.Common.{◌≡◌, Bool, Some, None, Result, Ok, Err, inl, inr, refl, sym, ◌∙◌, subst}
 use Rattle.std.proofs.lemmas.Bool.{true≢false, false_from_ne_true}
 use Rattle.sector_dev.specs.Disk.{Disk, Story, now, shown_image}
 use Rattle.sector_dev.specs.Time.{OnlyReads}
@@ -19,7 +19,7 @@ use Rattle.store.specs.Fits.{listed_in}
 use Rattle.store.specs.Compacting.{RefusesStep}
 use Rattle.store.proofs.Asked.{is_running}
 use Rattle.store.proofs.ReadsStore.{fits_reading}
-use Rattle.store.proofs.Applied.{ends_after}
+use Rattle.store.proofs.Applied.{ends_after, on_disk_after, carries_after, carried_after}
 use Rattle.store_changes.specs.laws.StepChanges.{can_step, carried_shrinks}
 use Rattle.store.proofs.Stepped.{done_counts, never_nothing, nothing_read, made_goes, refused_goes, off_goes, none_goes, unread_goes}
 use Rattle.store.proofs.store.Store.compact_step.Goals as goal
@@ -102,7 +102,51 @@ returns-in-Ok-clause-still g c = λ is.
     absurd (never_nothing D.tells (shown_image (now (D.story old.device))) (D.size old.device) (IsUsedIn old.opened.map.entries) (listed_in old) c.in-Ok-Some.step.done (change_of c.in-Ok-Some.step.change)
     (rw c.in-Ok-Some.field-0-is at c.in-Ok-Some.ensures.found) (cc is))
 
+pub returns-in-Ok-clause-writes : goal.returns-in-Ok-clause-writes
+returns-in-Ok-clause-writes g c = λ told on.
+    let D = g.D.SectorDevice in
+    let old = c.args.self.now in
+    let mid = c.find_step.new.self in
+    let reads = c.in-Ok-Some.ensures.reads in
+    let step = c.in-Ok-Some.step in
+    inr (
+      change_of step.change,
+      (step.done, rw c.in-Ok-Some.field-0-is at c.in-Ok-Some.ensures.found),
+      carries_after D.size D.story D.failed D.tells old mid done reads told (change_of step.change) c.carry_out.new.self on
+          (c.in-Ok.ensures.carries told (on_disk_after D.size D.story D.failed D.tells old mid done reads told on)),
+    )
+
+pub returns-in-Ok-clause-written : goal.returns-in-Ok-clause-written
+returns-in-Ok-clause-written g c = λ other told on.
+    let D = g.D.SectorDevice in
+    let old = c.args.self.now in
+    let mid = c.find_step.new.self in
+    let reads = c.in-Ok-Some.ensures.reads in
+    let step = c.in-Ok-Some.step in (
+      change_of step.change,
+      rw c.in-Ok-Some.field-0-is at c.in-Ok-Some.ensures.found,
+      carried_after D.size D.story D.failed D.tells old mid done reads told (change_of step.change) c.carry_out.new.self
+          (c.in-Ok.ensures.done told (on_disk_after D.size D.story D.failed D.tells old mid done reads told on)),
+    )
+
 -- ---- one that was refused
+
+pub returns-in-Ok-Some-clause-writes : goal.returns-in-Ok-Some-clause-writes
+returns-in-Ok-Some-clause-writes g c = λ told on.
+    let D = g.D.SectorDevice in
+    let old = c.args.self.now in
+    let mid = c.find_step.new.self in
+    let reads = c.in-Ok-Some.ensures.reads in
+    let step = c.in-Ok-Some.step in
+    inr (
+      change_of step.change,
+      (step.done, rw c.in-Ok-Some.field-0-is at c.in-Ok-Some.ensures.found),
+      carries_after D.size D.story D.failed D.tells old mid done reads told (change_of step.change) c.carry_out.new.self on
+          (c.in-Err-carry_out.ensures.carries told (on_disk_after D.size D.story D.failed D.tells old mid done reads told on)),
+    )
+
+pub returns-clause-writes : goal.returns-clause-writes
+returns-clause-writes g c = λ told on. inl (c.in-Err.ensures.reads.device.moments told)
 
 pub returns-in-Ok-Some-clause-refused : goal.returns-in-Ok-Some-clause-refused
 returns-in-Ok-Some-clause-refused g c = λ told base m fits.
@@ -144,6 +188,12 @@ returns-clause-refused g c = λ told base m fits.
 
 -- ---- nothing to do
 
+pub returns-in-Ok-None-clause-writes : goal.returns-in-Ok-None-clause-writes
+returns-in-Ok-None-clause-writes g c = λ told on. inl (c.in-Ok-None.ensures.reads.device.moments told)
+
+pub returns-in-Ok-None-clause-written : goal.returns-in-Ok-None-clause-written
+returns-in-Ok-None-clause-written g c = λ other. absurd (other refl)
+
 pub returns-in-Ok-None-clause-goes : goal.returns-in-Ok-None-clause-goes
 returns-in-Ok-None-clause-goes g c = λ told base m fits.
     let D = g.D.SectorDevice in
@@ -178,6 +228,10 @@ pub returns-in-Ok-None-clause-book : goal.returns-in-Ok-None-clause-book
 returns-in-Ok-None-clause-book g c = c.in-Ok-None.ensures.reads.book
 
 -- ---- a store that is halted
+
+pub returns-then-self-clause-writes : goal.returns-then-self-clause-writes
+returns-then-self-clause-writes g c = λ told on.
+    let story = g.D.SectorDevice.story c.args.self.now.device in inl (stays (λ (d : Disk). d ≡ now story) story)
 
 pub returns-then-self-clause-refused : goal.returns-then-self-clause-refused
 returns-then-self-clause-refused g c = λ told base m fits.

@@ -17,7 +17,7 @@ use Rattle.store_changes.specs.Digesting.{IsUpgrade}
 use Rattle.store.specs.Upgrading.{RefusesUpgrade}
 use Rattle.store.proofs.Asked.{is_running}
 use Rattle.store.proofs.ReadsStore.{fits_reading}
-use Rattle.store.proofs.Applied.{ends_after, kept_after}
+use Rattle.store.proofs.Applied.{ends_after, kept_after, on_disk_after, carries_after, carried_after}
 use Rattle.store.proofs.UpgradeGoes.{can_upgrade, upgraded_goes, unmade_goes, off_upgrade_goes, already_goes, stopped_goes}
 use Rattle.store.proofs.store.Store.upgrade.Goals as goal
 
@@ -80,7 +80,45 @@ returns-in-Ok-carry_out-clause-count g c = c.in-Ok-carry_out.ensures.count ∙ c
 pub returns-in-Ok-carry_out-clause-book : goal.returns-in-Ok-carry_out-clause-book
 returns-in-Ok-carry_out-clause-book g c = c.in-Ok-carry_out.ensures.book ∙ c.in-Ok.ensures.reads.book
 
+pub returns-in-Ok-carry_out-clause-writes : goal.returns-in-Ok-carry_out-clause-writes
+returns-in-Ok-carry_out-clause-writes g c = λ told on.
+    let D = g.D.SectorDevice in
+    let old = c.args.self.now in
+    let mid = c.find_digests.new.self in
+    let reads = c.in-Ok.ensures.reads in
+    inr (
+      (names_changed (digest c.in-Ok.digests.items)),
+      (record { digests = c.in-Ok.digests.items; read = c.in-Ok.ensures.read; own = c.in-Ok.ensures.found; is = refl }),
+      carries_after D.size D.story D.failed D.tells old mid done reads told (names_changed (digest c.in-Ok.digests.items)) c.carry_out.new.self on
+          (c.in-Ok-carry_out.ensures.carries told (on_disk_after D.size D.story D.failed D.tells old mid done reads told on)),
+    )
+
+pub returns-in-Ok-carry_out-clause-written : goal.returns-in-Ok-carry_out-clause-written
+returns-in-Ok-carry_out-clause-written g c = λ is told on.
+    let D = g.D.SectorDevice in
+    let old = c.args.self.now in
+    let mid = c.find_digests.new.self in
+    let reads = c.in-Ok.ensures.reads in (
+      (names_changed (digest c.in-Ok.digests.items)),
+      (record { digests = c.in-Ok.digests.items; read = c.in-Ok.ensures.read; own = c.in-Ok.ensures.found; is = refl }),
+      carried_after D.size D.story D.failed D.tells old mid done reads told (names_changed (digest c.in-Ok.digests.items)) c.carry_out.new.self
+          (c.in-Ok-carry_out.ensures.done told (on_disk_after D.size D.story D.failed D.tells old mid done reads told on)),
+    )
+
 -- ---- one whose digests were taken, and that is refused
+
+pub returns-in-Ok-clause-writes : goal.returns-in-Ok-clause-writes
+returns-in-Ok-clause-writes g c = λ told on.
+    let D = g.D.SectorDevice in
+    let old = c.args.self.now in
+    let mid = c.find_digests.new.self in
+    let reads = c.in-Ok.ensures.reads in
+    inr (
+      (names_changed (digest c.in-Ok.digests.items)),
+      (record { digests = c.in-Ok.digests.items; read = c.in-Ok.ensures.read; own = c.in-Ok.ensures.found; is = refl }),
+      carries_after D.size D.story D.failed D.tells old mid done reads told (names_changed (digest c.in-Ok.digests.items)) c.carry_out.new.self on
+          (c.in-Err-carry_out.ensures.carries told (on_disk_after D.size D.story D.failed D.tells old mid done reads told on)),
+    )
 
 pub returns-in-Ok-clause-refused : goal.returns-in-Ok-clause-refused
 returns-in-Ok-clause-refused g c = λ told base m fits.
@@ -124,6 +162,9 @@ returns-in-Ok-clause-reads g c = λ other told.
 
 -- ---- one whose tables are not all read
 
+pub returns-clause-writes : goal.returns-clause-writes
+returns-clause-writes g c = λ told on. inl (c.in-Err.ensures.reads.device.moments told)
+
 pub returns-clause-refused : goal.returns-clause-refused
 returns-clause-refused g c = λ told base m fits.
     let D = g.D.SectorDevice in
@@ -139,6 +180,13 @@ pub returns-clause-already : goal.returns-clause-already
 returns-clause-already g c = λ on two. let both : One ≡ Two = sym c.in-One.is ∙ two in cc both
 
 -- ---- a store of version 2
+
+pub returns-in-Two-clause-writes : goal.returns-in-Two-clause-writes
+returns-in-Two-clause-writes g c = λ told on.
+    let story = g.D.SectorDevice.story c.args.self.now.device in inl (stays (λ (d : Disk). d ≡ now story) story)
+
+pub returns-in-Two-clause-written : goal.returns-in-Two-clause-written
+returns-in-Two-clause-written g c = λ is. absurd (cc is)
 
 pub returns-in-Two-clause-goes : goal.returns-in-Two-clause-goes
 returns-in-Two-clause-goes g c = λ told base m fits.
@@ -156,6 +204,10 @@ pub returns-in-Two-clause-halts : goal.returns-in-Two-clause-halts
 returns-in-Two-clause-halts g c = λ on. (λ is. absurd (true≢false (sym is ∙ on)), λ is. absurd (cc is))
 
 -- ---- a store that is halted
+
+pub returns-then-self-clause-writes : goal.returns-then-self-clause-writes
+returns-then-self-clause-writes g c = λ told on.
+    let story = g.D.SectorDevice.story c.args.self.now.device in inl (stays (λ (d : Disk). d ≡ now story) story)
 
 pub returns-then-self-clause-refused : goal.returns-then-self-clause-refused
 returns-then-self-clause-refused g c = λ told base m fits.
