@@ -56,7 +56,7 @@ pub record Carries {D : Type 0} {g : Ghosts D} {R W : Type 0} (contents : W → 
     (old new : Store D g) (before after : Channels R W) (result : Result (Unit {0}) Refusal) : Type 0 where
   pub goes : g.tells ≡ true → (base : Tables) (m : Machine) → StoreFits g.size g.story base m old
       → Answered (λ answer. GoesOn g.size g.story g.failed base m (apply_call command) (ended answer) old new) result
-  pub told : Answered (λ answer. AnswersCommand g.size g.story g.tells command answer old new) result
+  pub told : Answered (λ answer. AnswersCommand g.size g.story g.failed g.tells command answer old new) result
   pub written : OnOk result (Appends (contents before.output) (contents after.output) (codes "ok\n"))
   pub unhinted : after.hint ≡ before.hint
 
@@ -65,7 +65,7 @@ pub record Upgrades {D : Type 0} {g : Ghosts D} {R W : Type 0} (contents : W →
     (result : Result (Unit {0}) Refusal) : Type 0 where
   pub goes : g.tells ≡ true → (base : Tables) (m : Machine) → StoreFits g.size g.story base m old
       → AnsweredUpgrade (λ answer. GoesOn g.size g.story g.failed base m upgrade_call (upgrade_ended answer) old new) result
-  pub told : AnsweredUpgrade (λ answer. AnswersUpgrade g.size g.story g.tells answer old new) result
+  pub told : AnsweredUpgrade (λ answer. AnswersUpgrade g.size g.story g.failed g.tells answer old new) result
   pub written : OnOk result (Appends (contents before.output) (contents after.output) (codes "ok\n"))
   pub unhinted : after.hint ≡ before.hint
 
@@ -85,7 +85,7 @@ pub record CarriesText {D : Type 0} {g : Ghosts D} {R W : Type 0} (contents : W 
   pub goes : g.tells ≡ true → (base : Tables) (m : Machine) → StoreFits g.size g.story base m old
       → HandsRows form (entry_of (listed_in old) name) input
       (λ rows answer. GoesOn g.size g.story g.failed base m (apply_call (append_rows name rows)) (ended answer) old new) (λ refusal. new ≡ old) result
-  pub told : HandsRows form (entry_of (listed_in old) name) input (λ rows answer. AnswersCommand g.size g.story g.tells (append_rows name rows) answer old new)
+  pub told : HandsRows form (entry_of (listed_in old) name) input (λ rows answer. AnswersCommand g.size g.story g.failed g.tells (append_rows name rows) answer old new)
       (λ refusal. refuses refusal × (new ≡ old) × (after.output ≡ before.output)) result
   pub refused : IfErr result (IfOfText form (entry_of (listed_in old) name) input)
   pub hinted : IfHinted after.hint form (entry_of (listed_in old) name) input result

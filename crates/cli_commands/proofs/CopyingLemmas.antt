@@ -262,13 +262,13 @@ module _ {D E : Type 0} {g : Ghosts D} {h : Ghosts E} where
   pub imports_table : (from : Store D g) (name : List ℕ) (to to' : Store E h) (bytes : List ℕ) (command : PlainCommand) (table : PlainTable) (r : Result (Unit {0}) Refusal) → command ≡ import_stream name bytes
       → bytes ≡ canonical table
       → ReadsTable (is_halted from) g.tells (shown_image (now (g.story (device_of from)))) (entry_of (listed_in from) name) table
-      → OnlyReadsStore g.size g.story g.failed g.tells done from from → AnswersCommand h.size h.story h.tells command r to to' → ImportsTable from name to r to'
+      → OnlyReadsStore g.size g.story g.failed g.tells done from from → AnswersCommand h.size h.story h.failed h.tells command r to to' → ImportsTable from name to r to'
   imports_table from name to to' bytes command table r is canonical_is shows reads answers = record {
     source = from;
     reads = reads;
     table = table;
     shows = shows;
-    answers = subst (λ (c : PlainCommand). AnswersCommand h.size h.story h.tells c r to to') (is ∙ ap (import_stream name) canonical_is) answers;
+    answers = subst (λ (c : PlainCommand). AnswersCommand h.size h.story h.failed h.tells c r to to') (is ∙ ap (import_stream name) canonical_is) answers;
   }
 
   pub imports_where_done : (from : Store D g) (name : List ℕ) (to to' : Store E h) (r : Result (Unit {0}) Refusal) → ImportsTable from name to r to' → OnOk r (ImportsTable from name to (Ok tt) to')

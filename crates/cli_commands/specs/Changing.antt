@@ -10,9 +10,12 @@ use Rattle.tables.specs.declared.refusal.Refusal as tables
 use Rattle.tables.specs.declared.refusal.Refusal.TheVariants as refusals
 use Rattle.tables.specs.Commands.{PlainCommand}
 use Rattle.store.specs.declared.store.Store as stores
+use Rattle.store_runs.specs.Calls.{counted}
+use Rattle.store_runs.specs.Deciding.{reads_device}
+use Rattle.store_runs.specs.Reading.{ended}
 use Rattle.store.specs.Applying.{IsApplied, IsKept, IsApplyingAtEachMoment, IsDoneOnDisk}
 use Rattle.store.specs.Answering.{TakesInput}
-use Rattle.store.specs.Fits.{device_of, is_halted, IsOnDisk}
+use Rattle.store.specs.Fits.{device_of, is_halted, book_of, IsOnDisk}
 use Rattle.store.specs.Input.{ReadsFrom}
 use Rattle.store.specs.Listing.{RefusesSchema}
 use Rattle.cli_refusals.specs.declared.refusal.Refusal.{Refusal}
@@ -31,12 +34,13 @@ abbrev pub Answered : (Result (Unit {0}) tables.Refusal → Type 0) → Result (
 Answered P result = (answer : Result (Unit {0}) tables.Refusal) × P answer × Follows answer result
 
 -- how a store answers a command: what `Store::apply` promises of every store and every device
-pub record AnswersCommand {D : Type 0} {g : Ghosts D} (size : D → ℕ) (story : D → Story) (tells : Bool) (command : PlainCommand)
+pub record AnswersCommand {D : Type 0} {g : Ghosts D} (size : D → ℕ) (story : D → Story) (failed : D → ℕ) (tells : Bool) (command : PlainCommand)
     (answer : Result (Unit {0}) tables.Refusal) (old new : stores.Store D g) : Type 0 where
   -- what is decided of the command is carried out or reported
   pub applied : is_halted old ≡ false → IsApplied size story tells old command answer new
-  -- a refusal keeps the commit, the catalogue and the runs, and has only read, unless the device failed
+  -- a refusal keeps the commit, the catalogue and the runs, and has only read, unless the device failed; only some commands read
   pub kept : IfErr answer (λ e. IsKept old new)
+  pub quiet : IfErr answer (λ e. e ≢ refusals.Device → reads_device command ≡ false → story (device_of new) ≡ story (device_of old))
   pub reads : IfErr answer (λ e. e ≢ refusals.Device → tells ≡ true → OnlyReads (story (device_of old)) (story (device_of new)))
   -- a halted store reports that it is halted, and a store halts if its device fails
   pub halted : (answer ≡ Err refusals.Halted) ↔ (is_halted old ≡ true)
@@ -45,6 +49,10 @@ pub record AnswersCommand {D : Type 0} {g : Ghosts D} (size : D → ℕ) (story 
   -- on a store that lies on its disk each stop leaves the old tables or the command done; once it is answered, it is done
   pub writes : is_halted old ≡ false → tells ≡ true → IsOnDisk size story old → IsApplyingAtEachMoment size story old command new
   pub written : OnOk answer (tells ≡ true → IsOnDisk size story old → IsDoneOnDisk size story old command new)
+  -- the device keeps its size, its failure is counted, and the open exports stay as they are
+  pub size_kept : size (device_of new) ≡ size (device_of old)
+  pub count : failed (device_of new) ≡ counted (ended answer) (failed (device_of old))
+  pub book : book_of new ≡ book_of old
 
 -- how a store answers a command that has a whole input: what `Store::import_from` and `Store::append_from` promise of every store and every device;
 -- `passes` is the test before anything is read, and `why` is reported if it fails

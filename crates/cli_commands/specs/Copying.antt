@@ -47,7 +47,7 @@ pub record ImportsTable {D E : Type 0} {g : Ghosts D} {h : Ghosts E} (from : Sto
   pub reads : OnlyReadsStore g.size g.story g.failed g.tells done from source
   pub table : PlainTable
   pub shows : ReadsTable (is_halted source) g.tells (shown_image (now (g.story (device_of source)))) (entry_of (listed_in source) name) table
-  pub answers : AnswersCommand h.size h.story h.tells (import_stream name (canonical table)) answer old new
+  pub answers : AnswersCommand h.size h.story h.failed h.tells (import_stream name (canonical table)) answer old new
 
 -- each listed table was imported so, one after another, and each import was acknowledged
 abbrev pub ImportsEach : {D E : Type 0} {g : Ghosts D} {h : Ghosts E} → (from : Store D g) → (listed : List (List ℕ × ℕ)) → (old new : Store E h) → Type 0

@@ -8,10 +8,11 @@ use Rattle.tables.specs.declared.refusal.Refusal as tables
 use Rattle.tables.specs.declared.refusal.Refusal.TheVariants as refusals
 use Rattle.store.specs.declared.store.Store as stores
 use Rattle.store.specs.declared.upgrading.Upgraded.{Upgraded}
-use Rattle.store.specs.declared.upgrading.Upgraded.TheVariants.{Already}
+use Rattle.store.specs.declared.upgrading.Upgraded.TheVariants.{Already, Done}
+use Rattle.store_runs.specs.Calls.{counted}
 use Rattle.store.specs.Applying.{IsKept}
-use Rattle.store.specs.Fits.{commit_of, device_of, is_halted}
-use Rattle.store.specs.Upgrading.{HasUpgraded, RefusesUpgrade}
+use Rattle.store.specs.Fits.{commit_of, device_of, is_halted, book_of, IsOnDisk}
+use Rattle.store.specs.Upgrading.{upgrade_ended, HasUpgraded, RefusesUpgrade, IsUpgradingAtEachMoment, HasUpgradedOnDisk}
 use Rattle.cli_refusals.specs.declared.refusal.Refusal.{Refusal}
 use Rattle.cli_commands.specs.Changing.{Follows}
 
@@ -25,7 +26,7 @@ abbrev pub AnsweredUpgrade : (Result Upgraded tables.Refusal → Type 0) → Res
 AnsweredUpgrade P result = (answer : Result Upgraded tables.Refusal) × P answer × Follows (as_done answer) result
 
 -- how a store answers an upgrade: what `Store::upgrade` promises of every store and every device
-pub record AnswersUpgrade {D : Type 0} {g : Ghosts D} (size : D → ℕ) (story : D → Story) (tells : Bool) (answer : Result Upgraded tables.Refusal)
+pub record AnswersUpgrade {D : Type 0} {g : Ghosts D} (size : D → ℕ) (story : D → Story) (failed : D → ℕ) (tells : Bool) (answer : Result Upgraded tables.Refusal)
     (old new : stores.Store D g) : Type 0 where
   -- the digests are those of the bytes that reads gave, and each refusal has its one reason
   pub upgraded : IfOk answer (λ upgraded. HasUpgraded size story tells old upgraded new)
@@ -39,3 +40,10 @@ pub record AnswersUpgrade {D : Type 0} {g : Ghosts D} (size : D → ℕ) (story 
   pub halted : (answer ≡ Err refusals.Halted) ↔ (is_halted old ≡ true)
   pub still : is_halted old ≡ true → new ≡ old
   pub halts : is_halted old ≡ false → (is_halted new ≡ true) ↔ (answer ≡ Err refusals.Device)
+  -- on a store that lies on its disk each stop leaves the old state or the upgrade carried out; once it is answered as done, it is
+  pub writes : tells ≡ true → IsOnDisk size story old → IsUpgradingAtEachMoment size story tells old new
+  pub written : IfOk answer (λ upgraded. upgraded ≡ Done → tells ≡ true → IsOnDisk size story old → HasUpgradedOnDisk size story tells old new)
+  -- the device keeps its size, its failure is counted, and the open exports stay as they are
+  pub size_kept : size (device_of new) ≡ size (device_of old)
+  pub count : failed (device_of new) ≡ counted (upgrade_ended answer) (failed (device_of old))
+  pub book : book_of new ≡ book_of old

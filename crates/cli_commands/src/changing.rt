@@ -36,7 +36,7 @@ pub fn apply_command<D: SectorDevice, W: Write>(
     ensures goes { D.tells ≡ true → (base : Tables) (m : Machine) → StoreFits D.size D.story base m store.old
         → Answered (λ answer. GoesOn D.size D.story D.failed base m (apply_call (command_of command)) (ended answer) store.old store.new) result }
     // On every store and every device: the store was given the command, and its answer is reported.
-    ensures told { Answered (λ answer. AnswersCommand D.size D.story D.tells (command_of command) answer store.old store.new) result }
+    ensures told { Answered (λ answer. AnswersCommand D.size D.story D.failed D.tells (command_of command) answer store.old store.new) result }
     ensures written { OnOk result (Appends (W.contents output.old) (W.contents output.new) (codes "ok\n")) }
     ensures silent { IfErr result (λ refusal. refusal ≢ Refusal.Io → output.new ≡ output.old) }
 {

@@ -142,7 +142,7 @@ pub fn append_text<D: SectorDevice, R: Read, W: Write>(
         (λ refusal. store.new ≡ store.old) result }
     // On any store: it was given these rows, and its answer is reported; or there was a reason before that, and nothing is changed or written.
     ensures told { HandsRows form.now (entry_of (listed_in store.old) name.now) (R.remaining input.old)
-        (λ rows answer. AnswersCommand D.size D.story D.tells (append_rows name.now rows) answer store.old store.new)
+        (λ rows answer. AnswersCommand D.size D.story D.failed D.tells (append_rows name.now rows) answer store.old store.new)
         (λ refusal. RefusesText R.remaining form.now (is_halted store.old) (entry_of (listed_in store.old) name.now) input.old input.new refusal
         × (store.new ≡ store.old) × (output.new ≡ output.old)) result }
     // A refusal of the text is the one that is defined for the whole input.

@@ -31,7 +31,7 @@ pub fn upgrade_store<D: SectorDevice, W: Write>(
     ensures goes { D.tells ≡ true → (base : Tables) (m : Machine) → StoreFits D.size D.story base m store.old
         → AnsweredUpgrade (λ answer. GoesOn D.size D.story D.failed base m upgrade_call (upgrade_ended answer) store.old store.new) result }
     // On every store and every device: the store was asked to upgrade, and its answer is reported.
-    ensures told { AnsweredUpgrade (λ answer. AnswersUpgrade D.size D.story D.tells answer store.old store.new) result }
+    ensures told { AnsweredUpgrade (λ answer. AnswersUpgrade D.size D.story D.failed D.tells answer store.old store.new) result }
     ensures written { OnOk result (Appends (W.contents output.old) (W.contents output.new) (codes "ok\n")) }
     ensures silent { IfErr result (λ refusal. refusal ≢ Refusal.Io → output.new ≡ output.old) }
 {

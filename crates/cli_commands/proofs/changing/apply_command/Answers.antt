@@ -11,7 +11,7 @@ pub returns-clause-told : goal.returns-clause-told
 returns-clause-told g c =
     let e = c.in_ok-apply.ensures in (
       Ok c.in_ok-apply.field-0,
-      record { applied = e.applied; kept = e.refused; reads = e.reads; halted = e.halted; still = e.still; halts = e.halts; writes = e.writes; written = e.written },
+      record { applied = e.applied; kept = e.refused; quiet = e.quiet; reads = e.reads; halted = e.halted; still = e.still; halts = e.halts; writes = e.writes; written = e.written; size_kept = e.size; count = e.count; book = e.book },
       follows_write _ c.write_whole.result c.write_whole.ensures.io,
     )
 
@@ -25,6 +25,6 @@ returns-in_err-apply-clause-told g c =
     let e = c.in_err-apply.ensures in
     let p = err_from_is_err_and c.from_residual.result c.from_residual.ensures.1 in (
       Err c.in_err-apply.field-0.0,
-      record { applied = e.applied; kept = e.refused; reads = e.reads; halted = e.halted; still = e.still; halts = e.halts; writes = e.writes; written = e.written },
+      record { applied = e.applied; kept = e.refused; quiet = e.quiet; reads = e.reads; halted = e.halted; still = e.still; halts = e.halts; writes = e.writes; written = e.written; size_kept = e.size; count = e.count; book = e.book },
       follows_refusal c.in_err-apply.field-0.0 c.from_residual.result p.0 p.1 p.2,
     )

@@ -32,7 +32,7 @@ returns-clause-imports g c =
     imports_where_done c.args.from.now c.args.name.now c.args.to.now c.apply.new.self c.apply.result
     (imports_table c.args.from.now c.args.name.now c.args.to.now c.apply.new.self c.in_ok-bytes.bytes.items (import_stream (string_bytes c.in_ok-owned.owned) c.in_ok-bytes.bytes.items) t.0 c.apply.result
     (ap (λ q. import_stream q c.in_ok-bytes.bytes.items) c.in_ok-owned.ensures.ok) t.2 t.1 (read_nothing D.story D.size D.failed D.tells c.args.from.now)
-    (record { applied = e.applied; kept = e.refused; reads = e.reads; halted = e.halted; still = e.still; halts = e.halts; writes = e.writes; written = e.written }))
+    (record { applied = e.applied; kept = e.refused; quiet = e.quiet; reads = e.reads; halted = e.halted; still = e.still; halts = e.halts; writes = e.writes; written = e.written; size_kept = e.size; count = e.count; book = e.book }))
 
 pub returns-clause-told : goal.returns-clause-told
 returns-clause-told g c =
@@ -42,7 +42,7 @@ returns-clause-told g c =
     refuses_where_not c.args.from.now c.args.name.now c.args.to.now c.apply.new.self c.apply.result
     (imports_table c.args.from.now c.args.name.now c.args.to.now c.apply.new.self c.in_ok-bytes.bytes.items (import_stream (string_bytes c.in_ok-owned.owned) c.in_ok-bytes.bytes.items) t.0 c.apply.result
     (ap (λ q. import_stream q c.in_ok-bytes.bytes.items) c.in_ok-owned.ensures.ok) t.2 t.1 (read_nothing D.story D.size D.failed D.tells c.args.from.now)
-    (record { applied = e.applied; kept = e.refused; reads = e.reads; halted = e.halted; still = e.still; halts = e.halts; writes = e.writes; written = e.written }))
+    (record { applied = e.applied; kept = e.refused; quiet = e.quiet; reads = e.reads; halted = e.halted; still = e.still; halts = e.halts; writes = e.writes; written = e.written; size_kept = e.size; count = e.count; book = e.book }))
 
 pub returns-in_err-owned-clause-told : goal.returns-in_err-owned-clause-told
 returns-in_err-owned-clause-told g c =
