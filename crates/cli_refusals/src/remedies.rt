@@ -62,7 +62,7 @@ pub const TRY_AGAIN: &str = "Check the disk, and try again.";
 // ---- P: field texts
 
 pub const FORM_OF_A_FIELD: &str =
-    "Write a field without spaces as `NAME:TYPE`, or as `NAME:TYPE?` if nulls are allowed, for example `id:uint64`. `help create` lists the types: floats, decimals and times are none of them.";
+    "Write a field without spaces as `NAME:TYPE`, or `NAME:TYPE?` if nulls are allowed, such as `id:uint64`. `help create` lists the types (no floats or decimals).";
 
 pub const SMALLER_FIELDS: &str =
     "Give numbers of at most 2,147,483,647, and fewer, shorter or less deeply nested fields.";
