@@ -30,7 +30,7 @@ complete -c arrowstore -n '__fish_seen_subcommand_from import; and test (count (
 complete -c arrowstore -n '__fish_seen_subcommand_from import' -s h -l help -d 'Print help'
 complete -c arrowstore -n '__fish_seen_subcommand_from append; and test (count (commandline -opc)) -eq 2' -F
 complete -c arrowstore -n '__fish_seen_subcommand_from append' -l as -x -a 'stream csv jsonl' -d 'The form of the input: csv begins with a line of the names of the columns, jsonl has a row on each line'
-complete -c arrowstore -n '__fish_seen_subcommand_from append' -l null -x -d 'In CSV, the text that means null in a column that allows nulls; by default the empty text; ignored in other forms'
+complete -c arrowstore -n '__fish_seen_subcommand_from append' -l null -x -d 'In CSV, the text that means null in a column that allows nulls; by default the empty text; ignored in other forms; write --null=TEXT if it begins with a hyphen'
 complete -c arrowstore -n '__fish_seen_subcommand_from append' -s h -l help -d 'Print help'
 complete -c arrowstore -n '__fish_seen_subcommand_from query; and test (count (commandline -opc)) -eq 2' -F
 complete -c arrowstore -n '__fish_seen_subcommand_from query' -l columns -x -d 'The columns, in this order; by default all columns'
