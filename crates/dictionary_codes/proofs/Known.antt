@@ -5,9 +5,8 @@ use Rattle.std.proofs.Common.{◌≡◌, ◌≢◌, ◌<◌, ℕ, zero, suc, ◌
 use Rattle.std.proofs.lemmas.Bool.{cases_lt}
 use Rattle.std.proofs.lemmas.Bool.Decides.{Decides-int_eq}
 use Rattle.std.proofs.lemmas.Iterator.Adapters.{position_from-zero}
-use Rattle.std.proofs.lemmas.List.{get_or-set_other, get_or-set_same, get_or_default, map-append}
+use Rattle.std.proofs.lemmas.List.{get_or-set_other, get_or-set_same, map-append}
 use Rattle.std.proofs.lemmas.List.Elements.{All-append}
-use Rattle.std.proofs.lemmas.Option.{slice_get_within}
 use Rattle.std.proofs.lemmas.Slice.Eq.{bytes_eq-Decides}
 use Rattle.dictionary_codes.specs.inner.Codes.{code_in}
 use Rattle.dictionary_codes.specs.inner.Seen.{AreDistinct, ArePlaces, HavePlaces, cells_numbered}
@@ -206,15 +205,13 @@ named_already seen places named c n p h is at =
       sym (position_from-zero (is_entry c) cells ∙ first_at (is_entry c) f named p n 0 own is only ∙ ap Some zero_up),
     )
 
--- what stands at the place of a number is its place, if it is one
+-- the place of a number, if it has one
 pub place_is_named : (seen : List Cell) (places : List (Option ℕ)) (named : List ℕ) (n : ℕ) (place : Option ℕ) → AreNumbered seen places named
-    → n < length places → place ≡ get_or places n place
+    → place ≡ get_or places n None
     → IfSome place (λ p. (c : Cell) → is_entry c (get_or seen n null) ≡ true
     → (cells_numbered seen named ≡ with_entry (cells_numbered seen named) c) × (Some p ≡ code_in (cells_numbered seen named) c))
-place_is_named seen places named n None h within at = tt
-place_is_named seen places named n (Some p) h within at =
-    let here : get_or places n None ≡ Some p = get_or_default places n None (Some p) within ∙ sym at in
-    λ c is. named_already seen places named c n p h is here
+place_is_named seen places named n None h at = tt
+place_is_named seen places named n (Some p) h at = λ c is. named_already seen places named c n p h is (sym at)
 
 -- one that has none is the next
 pub named_now : (seen : List Cell) (places : List (Option ℕ)) (named : List ℕ) (c : Cell) (n : ℕ) → AreNumbered seen places named
@@ -269,39 +266,6 @@ next_taken places named n len count within h y q there = elim (cases_lt y n) [
   where
     other : y ≢ n → slice_get (named ++ n ∷ []) q ≡ Some y
     other differ = pushed_before named n y q (h y q (sym (get_or-set_other places n y (Some len) None differ) ∙ there))
-
--- the last that was named has a place no more
-pub last_placed : (places : List (Option ℕ)) (named : List ℕ) (n : ℕ) → HavePlaces places (named ++ n ∷ []) → HavePlaces (set places n None) named
-last_placed places named n h q y found =
-    let there : get_or places y None ≡ Some q = h q y (pushed_before named n y q found) in
-    let last : get_or places n None ≡ Some (length named) = h (length named) n (pushed_last named n) in
-    let lt : q < length named = slice_get_within named q y found in
-    let differ : y ≢ n = λ e.
-    let both : Some q ≡ Some (length named) = sym there ∙ ap (λ (m : ℕ). get_or places m None) e ∙ last in
-    let same : q ≡ length named = cc in
-    omega (arith, lt, same) in
-    get_or-set_other places n y None None differ ∙ there
-
-pub last_taken : (places : List (Option ℕ)) (named : List ℕ) (n : ℕ) → n < length places → ArePlaces places (named ++ n ∷ []) → ArePlaces (set places n None) named
-last_taken places named n within h y q there = elim (cases_lt y n) [
-  | inl below ↦ other (λ e. omega (arith, below, e))
-  | inr le ↦ elim (cases_lt n y) [
-    | inl above ↦ other (λ e. omega (arith, above, e))
-    | inr ge ↦
-        let e : y ≡ n = omega (arith, le, ge) in
-        let own : get_or (set places n None) n None ≡ None = get_or-set_same places n None None within in
-        let both : None ≡ Some q = sym own ∙ ap (λ (m : ℕ). get_or (set places n None) m None) (sym e) ∙ there in
-        cc
-  ]
-]
-  where
-    other : y ≢ n → slice_get named q ≡ Some y
-    other differ =
-        let found = h y q (sym (get_or-set_other places n y None None differ) ∙ there) in
-        elim (pushed named n y q found) [
-          | inl before ↦ before
-          | inr last ↦ absurd (differ last.1)
-        ]
 
 -- a number that has a place is one of them
 pub placed_within : (places : List (Option ℕ)) (named : List ℕ) (q n : ℕ) → HavePlaces places named → slice_get named q ≡ Some n → n < length places

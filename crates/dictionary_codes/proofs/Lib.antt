@@ -3,5 +3,6 @@ mod Codes
 mod Known
 mod MaskedCodes
 mod Named
+mod Places
 mod Stamped
 mod Written

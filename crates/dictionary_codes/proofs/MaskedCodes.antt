@@ -80,3 +80,14 @@ run_first c mask at left rest run item =
 
 pub all_behind : (c : Column) (mask : List ℕ) (runs : List SlotRun) → masked_cells c mask runs ≡ cells_behind c mask 0 runs
 all_behind c mask runs = ap (λ (bits : List Bool). masked bits (runs_cells c runs)) (whole_part mask (length (runs_bits runs)))
+
+-- before the first slot all are left
+pub all_left : (f : ℕ → Cell) (mask : List ℕ) (at from len : ℕ)
+    → masked (part_bits mask (at + 0) (len - 0)) (cells_from f (from + 0) (len - 0)) ≡ masked (part_bits mask at len) (cells_from f from len)
+all_left f mask at from len =
+    let here : at + 0 ≡ at = omega arith in
+    let first : from + 0 ≡ from = omega arith in
+    let all : len - 0 ≡ len = omega arith in
+    ap (λ (n : ℕ). masked (part_bits mask n (len - 0)) (cells_from f (from + 0) (len - 0))) here
+    ∙ ap (λ (n : ℕ). masked (part_bits mask at (len - 0)) (cells_from f n (len - 0))) first
+    ∙ ap (λ (n : ℕ). masked (part_bits mask at n) (cells_from f from n)) all

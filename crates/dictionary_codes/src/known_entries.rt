@@ -1,8 +1,9 @@
 // The entries of dictionaries that were seen, and which of them the slots of a column name.
 ghost use Rattle.std.proofs.Props.{props};
-ghost use Rattle.std.specs.Prelude.{◌≡◌, ◌<◌, ◌++◌, ◌∷◌, ◌^◌, ℕ, [], true, List, Option, IfOk, IfSome, OnErr, OnOk, length, map, get_or, set, slice_get, Some, None};
+ghost use Rattle.std.specs.Prelude.{◌≡◌, ◌<◌, ◌++◌, ◌∷◌, ◌^◌, ℕ, [], true, List, Option, IfOk, IfSome, OnErr, OnOk, length, map, get_or, slice_get, Some, None};
 ghost use Rattle.dictionary_codes.specs.inner.Codes.{AreKnown, IsNumber, code_in, own_entries};
 ghost use Rattle.dictionary_codes.specs.inner.Known.{AreAllKnown, dictionary_entries};
+ghost use Rattle.dictionary_codes.specs.inner.Places.{places_in, places_of};
 ghost use Rattle.dictionary_codes.specs.inner.Seen.{AreDistinct, ArePlaces, HavePlaces};
 ghost use Rattle.cells.specs.Cell.{Cell, null};
 ghost use Rattle.cells.specs.Dictionary.{is_entry, with_entry};
@@ -11,6 +12,7 @@ ghost use Rattle.columns.specs.Borrowed.{borrowed_cell};
 
 use crate::entry_numbers::number_of;
 use crate::known_dictionary::KnownDictionary;
+use crate::number_places::{NumberPlaces, WrittenPlaces};
 use crate::stamped_numbers::StampedNumbers;
 use arrow_schema::Field;
 use cells::Entry;
@@ -40,7 +42,7 @@ const MOST_SEEN_BEFORE: usize = 16_384;
 #[derive(Drop)]
 pub struct KnownEntries<'a> {
     pub(crate) seen: IndexSet<Entry<'a>>,
-    pub(crate) places: Vec<Option<usize>>,
+    pub(crate) places: NumberPlaces,
     pub(crate) named: Vec<usize>,
     pub(crate) dictionaries: Vec<KnownDictionary<'a>>,
     pub(crate) are_new: bool,
@@ -48,10 +50,10 @@ pub struct KnownEntries<'a> {
     pub(crate) paid: usize,
     // How many entries were named where the slots of a run are begun.
     pub(crate) named_before: usize,
-    pub ghost count: { length places.items ≡ length seen.keys },
+    pub ghost count: { length places.written.items ≡ length seen.keys },
     pub ghost distinct: { AreDistinct (map entry_cell seen.keys) },
-    pub ghost placed: { HavePlaces places.items named.items } by { Prim.hlevel props },
-    pub ghost taken: { ArePlaces places.items named.items } by { Prim.hlevel props },
+    pub ghost placed: { HavePlaces (places_of places) named.items } by { Prim.hlevel props },
+    pub ghost taken: { ArePlaces (places_of places) named.items } by { Prim.hlevel props },
     pub ghost known: { AreAllKnown (map entry_cell seen.keys) dictionaries.items } by { Prim.hlevel props },
 }
 
@@ -81,77 +83,60 @@ fn is_seen_as(seen: &IndexSet<Entry<'_>>, cell: ValueRef<'_>, number: usize) -> 
     }
 }
 
-fn place_at(places: &[Option<usize>], number: usize) -> Option<usize>
-    ensures { result ≡ get_or places.now number None }
-{
-    if number < places.len() {
-        places[number]
-    } else {
-        None
-    }
-}
-
-fn set_place(places: &mut [Option<usize>], number: usize, place: Option<usize>)
-    ensures { places.new ≡ set places.old number place }
-{
-    if number < places.len() {
-        places[number] = place;
-    }
-}
-
 // Names a number that has no place, and gives it the next one.
+#[inline]
 fn name(
-    places: &mut [Option<usize>],
+    places: &mut NumberPlaces,
     named: &mut Vec<usize>,
     number: usize,
 ) -> Result<usize, AllocError>
-    requires within { number < length places.old }
-    requires placed { HavePlaces places.old named.old.items }
-    requires taken { ArePlaces places.old named.old.items }
-    requires free { get_or places.old number None ≡ None }
-    ensures placed { HavePlaces places.new named.new.items }
-    ensures taken { ArePlaces places.new named.new.items }
+    requires within { number < length (places_of places.old) }
+    requires placed { HavePlaces (places_of places.old) named.old.items }
+    requires taken { ArePlaces (places_of places.old) named.old.items }
+    requires free { get_or (places_of places.old) number None ≡ None }
+    ensures count { length places.new.written.items ≡ length places.old.written.items }
+    ensures placed { HavePlaces (places_of places.new) named.new.items }
+    ensures taken { ArePlaces (places_of places.new) named.new.items }
     ensures named { OnOk result (named.new.items ≡ named.old.items ++ number ∷ []) }
-    ensures place { IfOk result (λ place. get_or places.new number None ≡ Some place) }
+    ensures place { IfOk result (λ place. get_or (places_of places.new) number None ≡ Some place) }
 {
     let place = named.len();
-    named.push(number)?;
-    set_place(places, number, Some(place));
+    named.reserve(1)?;
+    places.set(number, place)?;
+    named.push_reserved(number);
     Ok(place)
 }
 
-// Takes all places back, one by one: there may be far more numbers than are named.
-fn forget_places(places: &mut [Option<usize>], named: &mut Vec<usize>)
-    requires placed { HavePlaces places.old named.old.items }
-    requires taken { ArePlaces places.old named.old.items }
+// Takes all places back.
+fn forget_places(places: &mut NumberPlaces, named: &mut Vec<usize>)
+    ensures count { length places.new.written.items ≡ length places.old.written.items }
     ensures named { named.new.items ≡ [] }
-    ensures placed { HavePlaces places.new named.new.items }
-    ensures taken { ArePlaces places.new named.new.items }
+    ensures placed { HavePlaces (places_of places.new) named.new.items }
+    ensures taken { ArePlaces (places_of places.new) named.new.items }
 {
-    while let Some(number) = named.pop() {
-        set_place(places, number, None);
-    }
+    places.clear();
+    named.clear();
 }
 
 // Sees a cell, which has no place yet if it is a new entry.
 fn see<'a>(
     seen: &mut IndexSet<Entry<'a>>,
-    places: &mut Vec<Option<usize>>,
+    places: &mut NumberPlaces,
     cell: ValueRef<'a>,
 ) -> Result<Option<usize>, AllocError>
-    requires { length places.old.items ≡ length seen.old.keys }
-    ensures count { length places.new.items ≡ length seen.new.keys }
-    ensures places { (n : ℕ) → get_or places.new.items n None ≡ get_or places.old.items n None }
+    requires { length places.old.written.items ≡ length seen.old.keys }
+    ensures count { length places.new.written.items ≡ length seen.new.keys }
+    ensures places { (n : ℕ) → get_or (places_of places.new) n None ≡ get_or (places_of places.old) n None }
     ensures distinct { AreDistinct (map entry_cell seen.old.keys) → AreDistinct (map entry_cell seen.new.keys) }
     ensures seen { OnOk result (map entry_cell seen.new.keys ≡ with_entry (map entry_cell seen.old.keys) (borrowed_cell cell.entry)) }
     ensures number { IfOk result (λ number. IsNumber (map entry_cell seen.new.keys) number (borrowed_cell cell.entry)) }
     ensures stay { (n : ℕ) → n < length (map entry_cell seen.old.keys)
         → get_or (map entry_cell seen.new.keys) n null ≡ get_or (map entry_cell seen.old.keys) n null }
 {
-    places.reserve(1)?;
+    places.reserve()?;
     let number = number_of(seen, cell)?;
-    if places.len() < seen.len() {
-        places.push_reserved(None);
+    if places.written.len() < seen.len() {
+        places.push_reserved();
     }
     Ok(number)
 }
@@ -183,7 +168,7 @@ impl<'a> KnownEntries<'a> {
     {
         KnownEntries {
             seen: IndexSet::new(alloc),
-            places: Vec::new(alloc),
+            places: NumberPlaces::none(alloc),
             named: Vec::new(alloc),
             dictionaries: Vec::new(alloc),
             are_new: false,
@@ -231,23 +216,23 @@ impl<'a> KnownEntries<'a> {
         ensures place { IfOk result (λ place. (c : Cell) → is_entry c (get_or (seen_cells self.old) number null) ≡ true
             → Some place ≡ code_in (named_cells self.new) c) }
     {
-        match place_at(&self.places, number) {
+        match self.places.all().at(number) {
             Some(place) => Ok(place),
             None => name(&mut self.places, &mut self.named, number),
         }
     }
 
-    /// The place of an entry of this number, if it is named. The list of places is given, so that a loop that writes keeps it in a register.
+    /// The place of an entry of this number, if it is named. The places are given, so that a loop that writes keeps them in registers.
     #[inline]
-    pub(crate) fn named_place(&self, places: &[Option<usize>], number: usize) -> Option<usize>
-        requires places { places.now ≡ self.now.places.items }
+    pub(crate) fn named_place(&self, places: WrittenPlaces<'_>, number: usize) -> Option<usize>
+        requires places { places_in places ≡ places_of self.now.places }
         requires within { number < length (seen_cells self.now) }
         ensures named { IfSome result (λ place. (c : Cell) → is_entry c (get_or (seen_cells self.now) number null) ≡ true
             → named_cells self.now ≡ with_entry (named_cells self.now) c) }
         ensures place { IfSome result (λ place. (c : Cell) → is_entry c (get_or (seen_cells self.now) number null) ≡ true
             → Some place ≡ code_in (named_cells self.now) c) }
     {
-        places[number]
+        places.at(number)
     }
 
     /// How many entries are named.
@@ -281,7 +266,7 @@ impl<'a> KnownEntries<'a> {
         ensures { self.new.named.items ≡ [] }
     {
         self.dictionaries.clear();
-        self.places.clear();
+        self.places.written.clear();
         self.seen.clear();
     }
 

@@ -14,6 +14,7 @@ mod known_entries;
 mod masked_codes;
 mod named_slots;
 mod number_bytes;
+mod number_places;
 mod run_codes;
 mod run_slots;
 mod same_dictionary;

@@ -7,6 +7,7 @@ ghost use Rattle.dictionary_codes.specs.inner.Codes.{AreCodedSlots, AreKnown, Ar
 ghost use Rattle.dictionary_codes.specs.Named.{named_cells, seen_cells};
 ghost use Rattle.dictionary_codes.specs.Masks.{IsMask, masked, masked_cells, run_bits, runs_bits};
 ghost use Rattle.dictionary_codes.specs.inner.MaskParts.{part_bits};
+ghost use Rattle.dictionary_codes.specs.inner.Places.{places_in, places_of};
 ghost use Rattle.dictionary_codes.specs.CodedCells.{is_coded};
 ghost use Rattle.columns.specs.Runs.{are_runs_sound, is_run_sound, run_cells, runs_cells};
 ghost use Rattle.columns.specs.declared.slot_runs.SlotRun.TheVariants.{Slots};
@@ -18,6 +19,7 @@ ghost use Rattle.cells.specs.Cell.{Cell};
 use crate::entry_numbers::put_code;
 use crate::known_entries::KnownEntries;
 use crate::masked_codes::put_part_codes;
+use crate::number_places::WrittenPlaces;
 use crate::run_slots::run_len;
 use crate::stamped_numbers::StampedNumbers;
 use arrow_schema::{BitWidth, DictSpec, Field};
@@ -202,13 +204,13 @@ fn put_slot_code<'a, const SIZE: usize, const SIGNED: bool>(
 #[inline]
 fn named_code<const SIZE: usize, const SIGNED: bool>(
     entries: &KnownEntries<'_>,
-    places: &[Option<usize>],
+    places: WrittenPlaces<'_>,
     known: &StampedNumbers,
     field: &Field,
     slots: CodedSlots<'_>,
     i: usize,
 ) -> Option<usize>
-    requires places { places.now ≡ entries.now.places.items }
+    requires places { places_in places ≡ places_of entries.now.places }
     requires size { SIZE ≡ (index_of slots.spec).bits / 8 }
     requires signed { SIGNED ≡ (index_of slots.spec).signed }
     requires slot { IsCodedSlot field.now slots i }
@@ -228,7 +230,7 @@ fn named_code<const SIZE: usize, const SIGNED: bool>(
 #[inline]
 fn put_named_code<const SIZE: usize, const SIGNED: bool>(
     entries: &KnownEntries<'_>,
-    places: &[Option<usize>],
+    places: WrittenPlaces<'_>,
     known: &StampedNumbers,
     indices: &mut [u8],
     valid: &mut [bool],
@@ -237,7 +239,7 @@ fn put_named_code<const SIZE: usize, const SIGNED: bool>(
     i: usize,
     place: usize,
 ) -> bool
-    requires places { places.now ≡ entries.now.places.items }
+    requires places { places_in places ≡ places_of entries.now.places }
     requires size { SIZE ≡ (index_of slots.spec).bits / 8 }
     requires signed { SIGNED ≡ (index_of slots.spec).signed }
     requires slot { IsCodedSlot field.now slots i }
@@ -295,7 +297,7 @@ fn put_named_codes<const SIZE: usize, const SIGNED: bool>(
         → IsPartWritten SIZE start all entries (cells_from cells first (to - first)) indices.old valid.old (first - from)
         → IsPartWritten SIZE start all entries (cells_from cells result (to - result)) indices.new valid.new (result - from) }
 {
-    let places = entries.places.as_slice();
+    let places = entries.places.all();
     for i in first..to {
         if !put_named_code::<SIZE, SIGNED>(
             entries,

@@ -26,11 +26,10 @@ pub returns-else-len-clause-count : goal.returns-else-len-clause-count
 returns-else-len-clause-count c =
     let before : List Cell = map entry_cell c.args.seen.now.keys in
     let after : length (map entry_cell c.number_of.new.seen.keys) ≡ length _ = ap length c.in_ok-number.ensures.seen in
-    let same : length c.reserve.new.self.items ≡ length c.args.places.now.items = ap length c.reserve.ensures.items in
     omega (
       arith,
       after,
-      same,
+      c.reserve.ensures.count,
       seen_grows before (borrowed_cell c.args.cell),
       length-map c.args.seen.now.keys entry_cell,
       length-map c.number_of.new.seen.keys entry_cell,
@@ -38,5 +37,5 @@ returns-else-len-clause-count c =
       c.len.ensures,
       c.len-2.ensures.len,
       c.requires,
-      c.reserve.new.self.ok.0,
+      c.reserve.new.self.written.ok.0,
     )

@@ -4,8 +4,8 @@ use Rattle.std.proofs.Common.{◌≡◌, ◌≤◌, ◌+◌, ◌-◌, ◌*◌, �
 use Rattle.std.proofs.Math.Nat.{mul-le-mul_left}
 use Rattle.arrow_schema.specs.View.{bits_of}
 use Rattle.dictionary_codes.specs.laws.AllCells.{all_front}
-use Rattle.dictionary_codes.proofs.MaskedCodes.{all_set_kept, alike_first}
-use Rattle.dictionary_codes.proofs.Written.{all_written, part_size, some_written}
+use Rattle.dictionary_codes.proofs.MaskedCodes.{all_left, all_set_kept, alike_first}
+use Rattle.dictionary_codes.proofs.Written.{all_written, none_written, part_size, some_written}
 use Rattle.dictionary_codes.proofs.masked_codes.put_part_codes.Goals as goal
 use Rattle.dictionary_codes.specs.inner.Codes.{IsPartWritten, coded_cell}
 use Rattle.dictionary_codes.specs.inner.MaskParts.{part_bits}
@@ -38,6 +38,21 @@ put_alike_codes-requires-clause-slots c = λ set.
       sound = c.requires.sound;
       within = omega (arith, c.requires.within, high);
       coded = sym (ap (list_all is_coded) cells) ∙ (all_front is_coded first left (sym (ap (list_all is_coded) split) ∙ c.loop-done.invariant.coded)).0;
+    }
+
+pub loop-done-init : goal.loop-done-init
+loop-done-init c =
+    let f : ℕ → Cell = coded_cell c.args.field.now c.args.slots in
+    let size : ℕ = bits_of c.args.slots.spec.index.width / 8 in
+    let start : List Cell = named_cells c.args.entries.now in
+    let all : List Cell = masked (part_bits c.args.mask.now c.args.at c.args.len) (cells_from f c.args.from c.args.len) in
+    let left = all_left f c.args.mask.now c.args.at c.args.from c.args.len in
+    record {
+      high = omega arith;
+      coded = ap (list_all is_coded) left ∙ c.requires.coded;
+      known = c.requires.known;
+      written = subst (λ (cs : List Cell). IsPartWritten size start all start cs c.args.indices.now c.args.valid.now 0) (sym left)
+          (none_written size start all c.args.indices.now c.args.valid.now 0 refl);
     }
 
 pub loop-done-preserved : goal.loop-done-preserved

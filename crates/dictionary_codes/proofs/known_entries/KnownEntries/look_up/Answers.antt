@@ -1,9 +1,12 @@
-use Rattle.std.proofs.Common.{◌≡◌, ◌∙◌, ap, length, sym}
+use Rattle.std.specs.Prelude.{Option}
+use Rattle.std.proofs.Common.{◌≡◌, ◌∙◌, ℕ, List, ap, length, sym}
 use Rattle.std.proofs.lemmas.List.{length-map}
 use Rattle.std.proofs.lemmas.Result.{on_ok_weaker}
 use Rattle.dictionary_codes.proofs.Known.{cells_stay, is_within}
 use Rattle.dictionary_codes.proofs.known_entries.KnownEntries.look_up.Goals as goal
 use Rattle.dictionary_codes.specs.Named.{seen_cells}
+use Rattle.dictionary_codes.specs.inner.PlaceFrom.{place_from}
+use Rattle.dictionary_codes.specs.inner.Places.{places_of}
 use Rattle.cells.specs.Dictionary.{is_entry}
 use Rattle.cells.specs.Entry.{entry_cell}
 
@@ -23,7 +26,9 @@ invariant_of-self-clause-known c = λ k d within n number some.
 
 pub returns-clause-named : goal.returns-clause-named
 returns-clause-named c =
-    let count : length c.args.self.now.places.items ≡ length (seen_cells c.args.self.now) = c.args.self.now.count ∙ sym (length-map c.args.self.now.seen.keys entry_cell) in
+    let places : List (Option ℕ) = places_of c.args.self.now.places in
+    let count : length places ≡ length (seen_cells c.args.self.now) =
+    length-map c.args.self.now.places.written.items (place_from c.args.self.now.places.first) ∙ c.args.self.now.count ∙ sym (length-map c.args.self.now.seen.keys entry_cell) in
     on_ok_weaker c.see.result
-    (λ seen. cells_stay (seen_cells c.args.self.now) _ c.args.self.now.places.items c.args.self.now.named.items count c.args.self.now.placed c.see.ensures.stay)
+    (λ seen. cells_stay (seen_cells c.args.self.now) _ places c.args.self.now.named.items count c.args.self.now.placed c.see.ensures.stay)
     c.see.ensures.seen
