@@ -5,10 +5,14 @@ use Rattle.text_import.specs.Part.{PlainPart, header_name, header_count, record_
 use Rattle.text_import.specs.declared.value_part.Reason.{Reason}
 use Rattle.text_import.specs.declared.value_part.Reason.TheVariants.{Value, Missing, Unknown, Count}
 use Rattle.cli_refusals.specs.declared.hint.Hint.{Hint}
-use Rattle.cli_refusals.specs.declared.hint.Hint.TheVariants.{Word, File, Input, Output, Part, Table, UnreadTable, ScriptLine, Field, OtherField, FieldCount}
+use Rattle.cli_refusals.specs.declared.hint.Hint.TheVariants.{Word, Sectors, File, Input, EmptyInput, Output, Part, Table, UnreadTable, ScriptLine, Field, OtherField, FieldCount}
 use Rattle.cli_refusals.specs.RefusedWord.{role_text}
 use Rattle.cli_refusals.specs.FailedFile.{reason_text}
 use Rattle.cli_refusals.specs.Shown.{shown}
+use Rattle.cli_refusals.specs.Form.{line_form, name_form, script_line_form}
+use Rattle.cli_refusals.specs.Remedies.{remedy}
+use Rattle.cli_refusals.specs.declared.refusal.Refusal.{Refusal}
+use Rattle.cli_refusals.specs.declared.remedies.TheConstants.{NUMBER_OF_SECTORS}
 
 -- the name of a field, and its text
 abbrev pub field_text : (name text : Option (List ℕ)) → List ℕ
@@ -72,21 +76,28 @@ line_part_text (Some (other_count items columns)) = counts_text (codes "record")
 line_part_text (Some (unknown_name name)) = name_text (shown name)
 
 unfoldable pub part_text : PlainPart → List ℕ
-part_text (header_name found wanted) = header_text (shown found) (shown wanted)
+part_text (header_name found wanted) = header_text (shown found) (shown wanted) ++ name_form found
 part_text (header_count names columns) = counts_text (codes "header") (codes "name") names columns
 part_text (record_count fields columns) = counts_text (codes "record") (codes "field") fields columns
 part_text (field name text) = field_text (shown name) (shown text)
-part_text (line part text) = line_text (shown text) ++ line_part_text part
+part_text (line part text) = line_text (shown text) ++ line_form text ++ line_part_text part
 
 unfoldable pub hint_text : Hint → List ℕ
 hint_text (Word word) = codes "The " ++ role_text word.role ++ codes " `" ++ word.text.now ++ codes "` is refused. "
+hint_text (Sectors number) = codes "The number of sectors `" ++ decimal number ++ codes "` is refused. "
 hint_text (File file) = codes "The file `" ++ file.path.now ++ codes "` " ++ reason_text file.reason ++ codes ". "
 hint_text (Input reason) = codes "The input cannot be read: " ++ reason.now ++ codes ". "
+hint_text EmptyInput = codes "The input is empty. "
 hint_text (Output reason) = codes "The output cannot be written: " ++ reason.now ++ codes ". "
 hint_text (Part part) = part_text (part_of part.now)
 hint_text (Table name others) = table_text (shown (string_bytes name.now)) ++ others.now
 hint_text (UnreadTable name) = table_text (shown name.now)
-hint_text (ScriptLine text) = line_text (shown text.now)
+hint_text (ScriptLine text) = line_text (shown text.now) ++ script_line_form text.now
 hint_text (Field name) = field_text (shown name.now) None
 hint_text (OtherField name found wanted) = other_field_text (shown name.now) (shown found.now) (shown wanted.now)
 hint_text (FieldCount fields columns) = counts_text (codes "input") (codes "field") fields columns
+
+-- what to do about a refusal of which this is known: a number of sectors has a sentence of its own
+abbrev pub remedy_of : Hint → Refusal → List ℕ
+remedy_of (Sectors number) refusal = NUMBER_OF_SECTORS.now
+remedy_of hint refusal = remedy refusal

@@ -2,6 +2,7 @@
 ghost use Rattle.std.specs.Prelude.{◌≡◌, option_map, None};
 ghost use Rattle.cli_refusals.specs.Shown.{shown};
 
+use crate::form::{line_form, name_form};
 use crate::shown::shown;
 use std::fmt;
 use text_import::{LinePart, Reason, RefusedPart};
@@ -342,7 +343,7 @@ impl fmt::Display for PartShown<'_> {
                     found: shown(found),
                     wanted: shown(wanted.as_bytes()),
                 };
-                write!(f, "{names}")
+                write!(f, "{names}{}", name_form(found))
             }
             RefusedPart::HeaderCount { names, columns } => {
                 let counts = Counts {
@@ -372,7 +373,7 @@ impl fmt::Display for PartShown<'_> {
             RefusedPart::Line { part, text } => {
                 let line = LineShown { text: shown(text) };
                 let part = LinePartShown { part };
-                write!(f, "{line}{part}")
+                write!(f, "{line}{}{part}", line_form(text))
             }
         }
     }
