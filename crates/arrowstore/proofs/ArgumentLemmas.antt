@@ -16,7 +16,7 @@ use Rattle.clap.specs.declared.error.kind.ErrorKind.{ErrorKind}
 use Rattle.clap.specs.declared.error.kind.ErrorKind.TheVariants.{DisplayHelp, DisplayVersion, UnknownArgument, InvalidSubcommand, TooManyValues, MissingSubcommand}
 use Rattle.clap.proofs.OnLiterals.{clap_on_literals}
 use Rattle.clap.proofs.FaultLemmas.{stopped_fault}
-use Rattle.arrowstore.specs.Arguments.{program_command, have_more_topics, AreRecode, IsHelpFlag, long, short, AskForHelp, flag, flag_of_recode}
+use Rattle.arrowstore.specs.Arguments.{program_command, have_extra_words, AreRecode, IsHelpFlag, long, short, AskForHelp, flag, flag_of_recode}
 use Rattle.arrowstore.proofs.WordLemmas.{help_asks}
 
 -- ---- a word that is read for flags
@@ -289,7 +289,7 @@ top_first name word rest k ks e =
 -- what the program makes of its arguments
 pub record Judged (arguments : List Text) (kinds : Kinds) : Type 0 where
   pub right : kinds ≡ [] → AreRecode arguments
-  pub help : have_more_topics arguments ≡ false → IsAmong DisplayHelp kinds → AskForHelp arguments
+  pub help : have_extra_words arguments ≡ false → IsAmong DisplayHelp kinds → AskForHelp arguments
   pub version : IsAmong DisplayVersion kinds → ⊥
 
 wrongly : (arguments : List Text) (kinds : Kinds) → IsWrong kinds → Judged arguments kinds
@@ -299,7 +299,7 @@ wrongly arguments kinds w = record {
   version = lacks is_version DisplayVersion refl kinds w.version;
 }
 
-helpfully : (arguments : List Text) (ks : Kinds) → list_any is_version ks ≡ false → (have_more_topics arguments ≡ false → AskForHelp arguments)
+helpfully : (arguments : List Text) (ks : Kinds) → list_any is_version ks ≡ false → (have_extra_words arguments ≡ false → AskForHelp arguments)
     → Judged arguments (DisplayHelp ∷ ks)
 helpfully arguments ks none asked = record {
   right = λ h. absurd (some_kind DisplayHelp ks h);

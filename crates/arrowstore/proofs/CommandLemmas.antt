@@ -10,7 +10,7 @@ use Rattle.clap.specs.declared.parser.matches.ArgMatches.{ArgMatches}
 use Rattle.clap.specs.declared.parser.matches.ArgMatches.TheViews.{out-ArgMatches, out-SubCommand}
 use Rattle.clap.specs.declared.parser.matches.SubCommand.{SubCommand}
 use Rattle.clap.proofs.OnLiterals.{clap_on_literals}
-use Rattle.arrowstore.specs.Arguments.{program_command, have_more_topics, AreRecode, AskForHelp}
+use Rattle.arrowstore.specs.Arguments.{program_command, have_extra_words, AreRecode, AskForHelp}
 use Rattle.cli_texts.specs.declared.status.Status.{Status}
 use Rattle.cli_texts.specs.declared.status.Status.TheVariants.{Done}
 use Rattle.cli_texts.specs.Reported.{IsRequest, IsWrong, status_code}
@@ -71,13 +71,13 @@ pub no_fault_right : (app : App) (arguments : List Text) → app ≡ program_com
 no_fault_right app arguments same none = (judged arguments).right (ap (λ a. fault_of a arguments) (sym same) ∙ none (ap is_simple_and_free same ∙ program_free))
 
 -- a request for a text of the program is one for help
-request_asks : (arguments : List Text) (kind : ErrorKind) → have_more_topics arguments ≡ false → (kind ≡ OutOfMemory) ⊎ IsAmong kind (fault_of program_command arguments) → IsRequest kind → AskForHelp arguments
+request_asks : (arguments : List Text) (kind : ErrorKind) → have_extra_words arguments ≡ false → (kind ≡ OutOfMemory) ⊎ IsAmong kind (fault_of program_command arguments) → IsRequest kind → AskForHelp arguments
 request_asks arguments kind few (inl memory) (inl help) = absurd (true≢false (sym (ap is_help help) ∙ ap is_help memory))
 request_asks arguments kind few (inl memory) (inr version) = absurd (true≢false (sym (ap is_version version) ∙ ap is_version memory))
 request_asks arguments kind few (inr among) (inl help) = (judged arguments).help few (subst (λ k. IsAmong k (fault_of program_command arguments)) help among)
 request_asks arguments kind few (inr among) (inr version) = absurd ((judged arguments).version (subst (λ k. IsAmong k (fault_of program_command arguments)) version among))
 
-pub fault_asks : (app : App) (arguments : List Text) (kind : ErrorKind) → app ≡ program_command → have_more_topics arguments ≡ false
+pub fault_asks : (app : App) (arguments : List Text) (kind : ErrorKind) → app ≡ program_command → have_extra_words arguments ≡ false
     → (is_simple_and_free app ≡ true → (kind ≡ OutOfMemory) ⊎ IsAmong kind (fault_of app arguments)) → IsRequest kind → AskForHelp arguments
 fault_asks app arguments kind same few fails =
     request_asks arguments kind few (subst (λ a. (kind ≡ OutOfMemory) ⊎ IsAmong kind (fault_of a arguments)) same (fails (ap is_simple_and_free same ∙ program_free)))

@@ -3,7 +3,7 @@ use Rattle.std.proofs.Common.{◌≡◌, ◌≤◌, ◌∙◌, ◌&&◌, ◌||�
 use Rattle.std.specs.Str.{bytes_eq}
 use Rattle.std.proofs.lemmas.Slice.Eq.{bytes_eq-Decides}
 use Rattle.clap.specs.Words.{Text}
-use Rattle.arrowstore.specs.Arguments.{have_more_topics, AreRecode, AskForHelp, command}
+use Rattle.arrowstore.specs.Arguments.{have_extra_words, AreRecode, AskForHelp, command}
 use Rattle.cli_texts.specs.OwnTexts.{is_own, asks_version, asks_refusals, asks_commands, is_version_word, is_refusals_topic, is_help_alone}
 use Rattle.cli_requests.specs.StoreWords.{is_of_store, is_store_word, changes_word, makes_word, reads_word, takes_input_word, reads_table_word, is_help_word, ask_help_of_command}
 
@@ -39,8 +39,8 @@ no_word_of_own : (name word : Text) (rest : List Text) → bytes_eq (codes "--ve
     → bytes_eq (codes "--help") word ≡ false → bytes_eq (codes "-h") word ≡ false → is_own (name ∷ word ∷ rest) ≡ false
 unfolding is_own asks_version asks_refusals asks_commands is_version_word is_refusals_topic is_help_alone
 no_word_of_own name word [] l s h a c = rw (l, s, h, a, c) refl
-no_word_of_own name word (topic ∷ []) l s h a c = rw (l, s, h) refl
-no_word_of_own name word (topic ∷ more ∷ rest) l s h a c = rw (l, s) refl
+no_word_of_own name word (topic ∷ []) l s h a c = rw h refl
+no_word_of_own name word (topic ∷ more ∷ rest) l s h a c = refl
 
 own_word_of_none : (name word : Text) (rest : List Text) (long short help asks letter : Bool) → bytes_eq (codes "--version") word ≡ long → bytes_eq (codes "-V") word ≡ short
     → bytes_eq (codes "help") word ≡ help → bytes_eq (codes "--help") word ≡ asks → bytes_eq (codes "-h") word ≡ letter
@@ -62,23 +62,23 @@ own_of_no_store (name ∷ word ∷ rest) own =
     refl refl refl refl refl own
 
 -- `help` without more than one word after it asks for help
-pub few_topics : (name : Text) (topics : List Text) → have_more_topics (name ∷ codes "help" ∷ topics) ≡ false → length topics ≤ 1
-unfolding have_more_topics
+pub few_topics : (name : Text) (topics : List Text) → have_extra_words (name ∷ codes "help" ∷ topics) ≡ false → length topics ≤ 1
+unfolding have_extra_words is_version_word
 few_topics name [] few = omega arith
 few_topics name (topic ∷ []) few = omega arith
 few_topics name (topic ∷ more ∷ rest) few = absurd (true≢false few)
 
-pub help_asks : (name : Text) (topics : List Text) → have_more_topics (name ∷ codes "help" ∷ topics) ≡ false → AskForHelp (name ∷ codes "help" ∷ topics)
+pub help_asks : (name : Text) (topics : List Text) → have_extra_words (name ∷ codes "help" ∷ topics) ≡ false → AskForHelp (name ∷ codes "help" ∷ topics)
 help_asks name topics few = command name topics (few_topics name topics few) refl
 
 -- so do `help` and a command of a store, and they do not ask for `recode`
 help_word_asks : (name word : Text) (topics : List Text) (help known : Bool) → bytes_eq (codes "help") word ≡ help → (help && known) ≡ true
-    → have_more_topics (name ∷ word ∷ topics) ≡ false → AskForHelp (name ∷ word ∷ topics)
+    → have_extra_words (name ∷ word ∷ topics) ≡ false → AskForHelp (name ∷ word ∷ topics)
 help_word_asks name word topics true known e is =
-    subst (λ (w : Text). have_more_topics (name ∷ w ∷ topics) ≡ false → AskForHelp (name ∷ w ∷ topics)) ((bytes_eq-Decides (codes "help") word).0 e) (help_asks name topics)
+    subst (λ (w : Text). have_extra_words (name ∷ w ∷ topics) ≡ false → AskForHelp (name ∷ w ∷ topics)) ((bytes_eq-Decides (codes "help") word).0 e) (help_asks name topics)
 help_word_asks name word topics false known e is = absurd (true≢false (sym is))
 
-pub help_of_command_asks : (arguments : List Text) → ask_help_of_command arguments ≡ true → have_more_topics arguments ≡ false → AskForHelp arguments
+pub help_of_command_asks : (arguments : List Text) → ask_help_of_command arguments ≡ true → have_extra_words arguments ≡ false → AskForHelp arguments
 unfolding ask_help_of_command
 help_of_command_asks [] asks few = absurd (true≢false (sym asks))
 help_of_command_asks (name ∷ []) asks few = absurd (true≢false (sym asks))
@@ -98,15 +98,15 @@ recode_is_not_help arguments are = elim are.1 [
   | inr ended ↦ ap ask_help_of_command ended ∙ recode_asks_no_help are.0 (codes "--" ∷ [])
 ]
 
-recode_is_no_topic : (name : Text) (rest : List Text) → have_more_topics (name ∷ codes "recode" ∷ rest) ≡ false
-unfolding have_more_topics
-recode_is_no_topic name [] = refl
-recode_is_no_topic name (topic ∷ []) = refl
-recode_is_no_topic name (topic ∷ more ∷ rest) = refl
+no_extra_words_of_recode : (name : Text) (rest : List Text) → have_extra_words (name ∷ codes "recode" ∷ rest) ≡ false
+unfolding have_extra_words is_version_word
+no_extra_words_of_recode name [] = refl
+no_extra_words_of_recode name (other ∷ []) = refl
+no_extra_words_of_recode name (other ∷ more ∷ rest) = refl
 
-pub recode_has_no_topics : (arguments : List Text) → AreRecode arguments → have_more_topics arguments ≡ false
+pub recode_has_no_extra_words : (arguments : List Text) → AreRecode arguments → have_extra_words arguments ≡ false
 unfolding AreRecode
-recode_has_no_topics arguments are = elim are.1 [
-  | inl alone ↦ ap have_more_topics alone ∙ recode_is_no_topic are.0 []
-  | inr ended ↦ ap have_more_topics ended ∙ recode_is_no_topic are.0 (codes "--" ∷ [])
+recode_has_no_extra_words arguments are = elim are.1 [
+  | inl alone ↦ ap have_extra_words alone ∙ no_extra_words_of_recode are.0 []
+  | inr ended ↦ ap have_extra_words ended ∙ no_extra_words_of_recode are.0 (codes "--" ∷ [])
 ]

@@ -1,8 +1,8 @@
 -- The arguments of the program: the command `recode`, which takes no arguments of its own, and requests for help.
-use Rattle.std.specs.Prelude.{◌≡◌, ◌⊎◌, ◌≤◌, Bool, true, false, List, [], ◌∷◌, length, codes, Some, slice_get}
+use Rattle.std.specs.Prelude.{◌≡◌, ◌⊎◌, ◌≤◌, ◌||◌, Bool, true, false, List, [], ◌∷◌, length, codes, Some, slice_get}
 use Rattle.std.specs.Str.{bytes_eq, chars}
 use Rattle.clap.specs.Words.{App, Text, new_app, with_subcommand}
-use Rattle.cli_texts.specs.OwnTexts.{is_own}
+use Rattle.cli_texts.specs.OwnTexts.{is_own, is_version_word}
 
 abbrev pub recode_command : App
 recode_command = new_app (codes "recode")
@@ -21,13 +21,13 @@ pub data IsHelpFlag (word : Text) : Type 0 where
   long : word ≡ codes "--help" → IsHelpFlag word
   short : (letters : Text) → word ≡ 45 ∷ letters → slice_get (chars letters) 0 ≡ Some 104 → IsHelpFlag word
 
--- more than one word follows `help`
-unfoldable pub have_more_topics : List Text → Bool
-have_more_topics [] = false
-have_more_topics (name ∷ []) = false
-have_more_topics (name ∷ word ∷ []) = false
-have_more_topics (name ∷ word ∷ topic ∷ []) = false
-have_more_topics (name ∷ word ∷ topic ∷ more ∷ rest) = bytes_eq (codes "help") word
+-- a word follows `--version` or `-V`, or more than one follows `help`
+unfoldable pub have_extra_words : List Text → Bool
+have_extra_words [] = false
+have_extra_words (name ∷ []) = false
+have_extra_words (name ∷ word ∷ []) = false
+have_extra_words (name ∷ word ∷ other ∷ []) = is_version_word word
+have_extra_words (name ∷ word ∷ other ∷ more ∷ rest) = is_version_word word || bytes_eq (codes "help") word
 
 -- the command `help` with one word at most, or a flag that asks for help, of the program or of `recode`
 pub data AskForHelp (arguments : List Text) : Type 0 where

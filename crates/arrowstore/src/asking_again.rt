@@ -4,14 +4,17 @@ use crate::Failures;
 use crate::copying_files::open_to_read;
 use crate::failed_file::KeptFile;
 use crate::failing::{is_of_failure, report_of_failure};
-use crate::in_place_of_store::{file_in_place_of_store, file_of_bad_size};
+use crate::in_place_of_store::{file_in_place_of_store, file_of_bad_size, refused_sectors};
 use crate::input_again::{FoundField, field_of_no_table, field_with_fault};
 use crate::script_again::line_of_script;
 use crate::unread_tables::unread_table;
 use cli_refusals::Refusal;
 use cli_requests::{StoreCommand, StoreRequest};
 use cli_texts::Audience;
+use commit::{Cause, OpeningRefusal};
+use ipc_message::Fault;
 use sector_dev::LockFile;
+use std::alloc::Global;
 use std::fs::OpenFile;
 use std::io::{Read, Seek, Write};
 use std::rt::Files;
@@ -21,10 +24,14 @@ use values::Table;
 #[derive(Drop)]
 pub(crate) enum AskedAgain {
     Nothing,
+    /// A number of sectors that no store has.
+    Sectors(u64),
     /// The file on which a call failed, and why.
     File(KeptFile),
     /// Why the input could not be read.
     Input(String),
+    /// That the input is empty.
+    EmptyInput,
     /// Why the output could not be written.
     Output(String),
     /// An empty table with the schema of the table that the refused query was for.
@@ -42,6 +49,8 @@ pub(crate) enum AskedAgain {
 pub(crate) struct Served<'a> {
     /// The first bytes of the input, as far as they were kept.
     pub(crate) start: &'a [u8],
+    /// Whether no byte of the input was read.
+    pub(crate) is_input_empty: bool,
     /// How the last system call failed, if it did.
     pub(crate) failures: &'a Failures,
 }
@@ -70,6 +79,22 @@ fn queried_table<
     }
 }
 
+// The file that is opened comes before the one that is made with a number of sectors.
+fn found_of_size<H: Files + AllocGlobal>(rt: &H, request: &StoreRequest<'_>) -> Option<AskedAgain> {
+    match file_of_bad_size(rt, request) {
+        Some(file) => Some(AskedAgain::File(file)),
+        None => Some(AskedAgain::Sectors(refused_sectors(request)?)),
+    }
+}
+
+fn found_in_stream(alloc: Global, served: Served<'_>, fault: Fault) -> Option<AskedAgain> {
+    if fault == Fault::NoSchema && served.is_input_empty {
+        return Some(AskedAgain::EmptyInput);
+    }
+    let field = field_with_fault(alloc, served.start, fault)?;
+    Some(AskedAgain::Field(field))
+}
+
 fn found_of<F: Read + Write + Seek + OpenFile + LockFile + Drop, H: Files<File = F> + AllocGlobal>(
     rt: &H,
     request: &StoreRequest<'_>,
@@ -86,9 +111,9 @@ fn found_of<F: Read + Write + Seek + OpenFile + LockFile + Drop, H: Files<File =
             let file = file_in_place_of_store(rt, request)?;
             Some(AskedAgain::File(file))
         }
-        Refusal::BadSize => {
-            let file = file_of_bad_size(rt, request)?;
-            Some(AskedAgain::File(file))
+        Refusal::BadSize => found_of_size(rt, request),
+        Refusal::Opening(OpeningRefusal::Damaged(Cause::DeviceSize)) => {
+            Some(AskedAgain::Sectors(refused_sectors(request)?))
         }
         Refusal::BadScript(number) => {
             let line = line_of_script(rt, request, *number)?;
@@ -106,8 +131,7 @@ fn found_of<F: Read + Write + Seek + OpenFile + LockFile + Drop, H: Files<File =
             Some(AskedAgain::Unread(name))
         }
         Refusal::Store(tables::Refusal::Import(fault)) => {
-            let field = field_with_fault(rt.alloc(), served.start, *fault)?;
-            Some(AskedAgain::Field(field))
+            found_in_stream(rt.alloc(), served, *fault)
         }
         Refusal::Store(tables::Refusal::SchemaMismatch) => {
             let field = field_of_no_table(rt, request, served.start)?;

@@ -2,13 +2,13 @@
 ghost use Rattle.std.specs.Prelude.{◌≡◌, false, map, codes, Some, IfOk, IfErr, OnOk, MatchResult};
 ghost use Rattle.clap.specs.Words.{app_of, kind_of, subcommand_name_of};
 ghost use Rattle.clap.specs.declared.error.kind.ErrorKind.TheVariants.{OutOfMemory, UnknownArgument};
-ghost use Rattle.arrowstore.specs.Arguments.{program_command, have_more_topics, AreRecode, AskForHelp};
+ghost use Rattle.arrowstore.specs.Arguments.{program_command, have_extra_words, AreRecode, AskForHelp};
 ghost use Rattle.cli_texts.specs.Reported.{IsRequest};
 
 use clap::error::ErrorKind;
 use clap::{Arg, ArgMatches, Command, Error};
 use cli_requests::{ask_help_of_command, cli_commands, help_of_command};
-use cli_texts::{abouts, help_page};
+use cli_texts::{abouts, help_page, is_version_word};
 use std::alloc::{AllocError, Global};
 use std::convert::AsStr;
 
@@ -26,40 +26,57 @@ pub(crate) fn action_of<S: AsStr>(alloc: Global, arguments: &[S]) -> Result<Acti
     ensures asked { OnOk result (AreRecode (map S.text arguments.now)) }
     ensures request { IfErr result (λ error. IsRequest (kind_of error) → AskForHelp (map S.text arguments.now)) }
 {
-    if have_more_topics(arguments) {
-        return Err(unexpected_topic(alloc, arguments)?);
+    if have_extra_words(arguments) {
+        return Err(unexpected_word(alloc, arguments)?);
     }
     action_of_few(alloc, arguments)
 }
 
-#[tactic(auto, unfolding(crate::specs::Arguments::have_more_topics))]
-fn have_more_topics<S: AsStr>(arguments: &[S]) -> bool
-    ensures { result ≡ have_more_topics (map S.text arguments.now) }
+#[tactic(auto, unfolding(crate::specs::Arguments::have_extra_words))]
+fn have_extra_words<S: AsStr>(arguments: &[S]) -> bool
+    ensures { result ≡ have_extra_words (map S.text arguments.now) }
 {
     match arguments {
-        [_, word, _, _, ..] => word.as_str() == "help",
+        [_, word, _] => is_version_word(word.as_str()),
+        [_, word, _, _, ..] => is_version_word(word.as_str()) || word.as_str() == "help",
         _ => false,
     }
 }
 
-// `help` takes at most one word, so the second one is the error.
-fn unexpected_topic<S: AsStr>(alloc: Global, arguments: &[S]) -> Result<Error, AllocError>
+// No word may follow the one that asks for the version, and at most one may follow `help`, so the next one is the error.
+fn unexpected_word<S: AsStr>(alloc: Global, arguments: &[S]) -> Result<Error, AllocError>
     ensures { IfOk result (λ error. kind_of error ≡ UnknownArgument) }
 {
-    let topic = match arguments {
-        [_, _, _, topic, ..] => topic.as_str(),
-        _ => "",
-    };
-    let message = format!(in alloc; "unexpected argument '{topic}' found")?;
-    let mut command = Command::new(alloc, "help")
+    match arguments {
+        [_, _, word] => unexpected(alloc, version_command(alloc)?, word.as_str()),
+        [_, first, word, ..] if is_version_word(first.as_str()) => {
+            unexpected(alloc, version_command(alloc)?, word.as_str())
+        }
+        [_, _, _, word, ..] => unexpected(alloc, help_command(alloc)?, word.as_str()),
+        _ => unexpected(alloc, help_command(alloc)?, ""),
+    }
+}
+
+fn version_command<'a>(alloc: Global) -> Result<Command<'a>, AllocError> {
+    Command::new(alloc, "version").bin_name("arrowstore --version")
+}
+
+fn help_command<'a>(alloc: Global) -> Result<Command<'a>, AllocError> {
+    Command::new(alloc, "help")
         .arg(Arg::new(alloc, "COMMAND"))?
-        .bin_name("arrowstore help")?;
+        .bin_name("arrowstore help")
+}
+
+fn unexpected(alloc: Global, mut command: Command<'_>, word: &str) -> Result<Error, AllocError>
+    ensures { IfOk result (λ error. kind_of error ≡ UnknownArgument) }
+{
+    let message = format!(in alloc; "unexpected argument '{word}' found")?;
     command.error(ErrorKind::UnknownArgument, message.as_str())
 }
 
-// `action_of` for arguments with at most one word after `help`.
+// `action_of` for arguments without such a word.
 fn action_of_few<S: AsStr>(alloc: Global, arguments: &[S]) -> Result<Action, Error>
-    requires { have_more_topics (map S.text arguments.now) ≡ false }
+    requires { have_extra_words (map S.text arguments.now) ≡ false }
     ensures understood { AreRecode (map S.text arguments.now)
         → MatchResult result (λ action. action ≡ Action.Recode) (λ error. kind_of error ≡ OutOfMemory) }
     ensures asked { OnOk result (AreRecode (map S.text arguments.now)) }

@@ -55,6 +55,20 @@ fn is_length_of_store(bytes: u64) -> bool {
     bytes % sector == 0 && (LEAST_SECTORS..=MOST_SECTORS).contains(&(bytes / sector))
 }
 
+/// Returns the number of sectors that a request gives to a new store or device, if no store can have it.
+pub(crate) fn refused_sectors(request: &StoreRequest<'_>) -> Option<u64> {
+    let sectors = match request {
+        StoreRequest::Format { sectors, .. } | StoreRequest::Copy { sectors, .. } => *sectors,
+        StoreRequest::Replay(words) => words.sectors,
+        StoreRequest::Salvage { .. } | StoreRequest::Command { .. } => return None,
+    };
+    if (LEAST_SECTORS..=MOST_SECTORS).contains(&sectors) {
+        None
+    } else {
+        Some(sectors)
+    }
+}
+
 fn reason_of_length<H: Files>(rt: &H, path: &str) -> Option<Reason> {
     let found = fs::metadata(rt, path).ok()?;
     // The length of a block device is not among its metadata.

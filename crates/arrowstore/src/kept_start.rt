@@ -12,6 +12,9 @@ pub const MOST_KEPT: usize = 65_536;
 pub trait Input {
     /// Returns the first bytes that were read, as far as they were kept.
     fn start(&self) -> &[u8];
+
+    /// Returns whether no byte was read.
+    fn is_empty(&self) -> bool;
 }
 
 /// A reader that passes on what `input` gives and keeps its first bytes.
@@ -20,6 +23,7 @@ pub struct KeptStart<R: Read> {
     input: R,
     start: Vec<u8>,
     room: usize,
+    is_empty: bool,
 }
 
 impl<R: Read> KeptStart<R> {
@@ -35,6 +39,7 @@ impl<R: Read> KeptStart<R> {
             input,
             start: Vec::new(alloc),
             room,
+            is_empty: true,
         }
     }
 }
@@ -52,6 +57,10 @@ impl<R: Read> Input for KeptStart<R> {
     fn start(&self) -> &[u8] {
         &self.start
     }
+
+    fn is_empty(&self) -> bool {
+        self.is_empty
+    }
 }
 
 impl<R: Read> Read for KeptStart<R> {
@@ -60,6 +69,7 @@ impl<R: Read> Read for KeptStart<R> {
     fn read(&mut self, buf: &mut [u8]) -> io::Result<usize> {
         let read = self.input.read(buf);
         if let Ok(count) = &read {
+            self.is_empty = self.is_empty && *count == 0;
             keep(&mut self.start, &mut self.room, &buf[..*count]);
         }
         read

@@ -75,8 +75,10 @@ fn found_hint<'a>(
     ensures { hinted_of result ≡ None }
 {
     match asked {
+        AskedAgain::Sectors(number) => Some(Hint::Sectors(*number)),
         AskedAgain::File(file) => Some(file.hint()),
         AskedAgain::Input(reason) => Some(Hint::Input(reason.as_str())),
+        AskedAgain::EmptyInput => Some(Hint::EmptyInput),
         AskedAgain::Output(reason) => Some(Hint::Output(reason.as_str())),
         AskedAgain::Unread(name) => Some(Hint::UnreadTable(name.as_str())),
         AskedAgain::Line(text) => Some(Hint::ScriptLine(text.as_slice())),
@@ -139,6 +141,7 @@ fn serve_and_report<
         None => {
             let served = Served {
                 start: input.start(),
+                is_input_empty: input.is_empty(),
                 failures,
             };
             let asked = ask_again(rt, request, served, &done, audience);

@@ -1,14 +1,18 @@
 -- What is reported on a terminal as refused, before what to do: a word of the command line, a file, the input or the output, a part of the input, a
 -- field of a stream, a table, or a line of a script.
 use Rattle.std.specs.Prelude.{ℕ, ◌==◌, ◌++◌, decimal, codes, List, [], Option, Some, None, string_bytes, if◌then◌else◌}
-use Rattle.text_import.specs.Part.{PlainPart, header_name, header_count, record_count, field, line, PlainLinePart, value_part, other_count, unknown_name, part_of}
+use Rattle.text_import.specs.Part.{PlainPart, nested_column, header_name, header_count, record_count, field, line, PlainLinePart, value_part, other_count, unknown_name, repeated_name, part_of}
 use Rattle.text_import.specs.declared.value_part.Reason.{Reason}
-use Rattle.text_import.specs.declared.value_part.Reason.TheVariants.{Value, Missing, Unknown, Count}
+use Rattle.text_import.specs.declared.value_part.Reason.TheVariants.{Value, Missing, Unknown, Repeated, Count}
 use Rattle.cli_refusals.specs.declared.hint.Hint.{Hint}
-use Rattle.cli_refusals.specs.declared.hint.Hint.TheVariants.{Word, File, Input, Output, Part, Table, UnreadTable, ScriptLine, Field, OtherField, FieldCount}
+use Rattle.cli_refusals.specs.declared.hint.Hint.TheVariants.{Word, Sectors, File, Input, EmptyInput, Output, Part, Table, UnreadTable, ScriptLine, Field, OtherField, FieldCount}
 use Rattle.cli_refusals.specs.RefusedWord.{role_text}
 use Rattle.cli_refusals.specs.FailedFile.{reason_text}
 use Rattle.cli_refusals.specs.Shown.{shown}
+use Rattle.cli_refusals.specs.Form.{line_form, name_form, script_line_form}
+use Rattle.cli_refusals.specs.Remedies.{remedy}
+use Rattle.cli_refusals.specs.declared.refusal.Refusal.{Refusal}
+use Rattle.cli_refusals.specs.declared.remedies.TheConstants.{NUMBER_OF_SECTORS}
 
 -- the name of a field, and its text
 abbrev pub field_text : (name text : Option (List ℕ)) → List ℕ
@@ -27,6 +31,11 @@ abbrev pub line_text : Option (List ℕ) → List ℕ
 line_text None = []
 line_text (Some text) = codes "The line `" ++ text ++ codes "` is refused. "
 
+-- the name of a column of lists or structs
+abbrev pub nested_text : Option (List ℕ) → List ℕ
+nested_text None = []
+nested_text (Some name) = codes "The column `" ++ name ++ codes "` is a list or a struct. "
+
 -- a name of a header, and the expected one
 abbrev pub header_text : (found wanted : Option (List ℕ)) → List ℕ
 header_text found None = []
@@ -37,6 +46,11 @@ header_text (Some found) (Some wanted) = codes "The header names `" ++ found ++ 
 abbrev pub name_text : Option (List ℕ) → List ℕ
 name_text None = []
 name_text (Some name) = codes "The name `" ++ name ++ codes "` is no column. "
+
+-- a name that two columns have
+abbrev pub repeated_text : Option (List ℕ) → List ℕ
+repeated_text None = []
+repeated_text (Some name) = codes "Two columns have the name `" ++ name ++ codes "`. "
 
 -- a number of things, by the noun for one of them
 abbrev pub counted : ℕ → List ℕ → List ℕ
@@ -57,6 +71,7 @@ path_text None reason = []
 path_text (Some path) Value = codes "The field `" ++ path ++ codes "` is refused. "
 path_text (Some path) Missing = codes "The name `" ++ path ++ codes "` is missing. "
 path_text (Some path) Unknown = codes "The name `" ++ path ++ codes "` is no field. "
+path_text (Some path) Repeated = codes "Two fields have the name `" ++ path ++ codes "`. "
 path_text (Some path) (Count items wanted) = items_text path items wanted
 
 -- the name of a table
@@ -70,23 +85,32 @@ line_part_text None = []
 line_part_text (Some (value_part part)) = path_text (shown part.path) part.reason
 line_part_text (Some (other_count items columns)) = counts_text (codes "record") (codes "field") items columns
 line_part_text (Some (unknown_name name)) = name_text (shown name)
+line_part_text (Some (repeated_name name)) = repeated_text (shown name)
 
 unfoldable pub part_text : PlainPart → List ℕ
-part_text (header_name found wanted) = header_text (shown found) (shown wanted)
+part_text (nested_column name) = nested_text (shown name)
+part_text (header_name found wanted) = header_text (shown found) (shown wanted) ++ name_form found
 part_text (header_count names columns) = counts_text (codes "header") (codes "name") names columns
 part_text (record_count fields columns) = counts_text (codes "record") (codes "field") fields columns
 part_text (field name text) = field_text (shown name) (shown text)
-part_text (line part text) = line_text (shown text) ++ line_part_text part
+part_text (line part text) = line_text (shown text) ++ line_form text ++ line_part_text part
 
 unfoldable pub hint_text : Hint → List ℕ
 hint_text (Word word) = codes "The " ++ role_text word.role ++ codes " `" ++ word.text.now ++ codes "` is refused. "
+hint_text (Sectors number) = codes "The number of sectors `" ++ decimal number ++ codes "` is refused. "
 hint_text (File file) = codes "The file `" ++ file.path.now ++ codes "` " ++ reason_text file.reason ++ codes ". "
 hint_text (Input reason) = codes "The input cannot be read: " ++ reason.now ++ codes ". "
+hint_text EmptyInput = codes "The input is empty. "
 hint_text (Output reason) = codes "The output cannot be written: " ++ reason.now ++ codes ". "
 hint_text (Part part) = part_text (part_of part.now)
 hint_text (Table name others) = table_text (shown (string_bytes name.now)) ++ others.now
 hint_text (UnreadTable name) = table_text (shown name.now)
-hint_text (ScriptLine text) = line_text (shown text.now)
+hint_text (ScriptLine text) = line_text (shown text.now) ++ script_line_form text.now
 hint_text (Field name) = field_text (shown name.now) None
 hint_text (OtherField name found wanted) = other_field_text (shown name.now) (shown found.now) (shown wanted.now)
 hint_text (FieldCount fields columns) = counts_text (codes "input") (codes "field") fields columns
+
+-- what to do about a refusal of which this is known: a number of sectors has a sentence of its own
+abbrev pub remedy_of : Hint → Refusal → List ℕ
+remedy_of (Sectors number) refusal = NUMBER_OF_SECTORS.now
+remedy_of hint refusal = remedy refusal

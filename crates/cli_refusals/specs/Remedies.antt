@@ -84,7 +84,7 @@ unfoldable pub remedy : Refusal → List ℕ
 remedy (Fault fault) = fault_remedy fault
 remedy TooManyBytes = remedies.GIVE_LESS.now
 remedy Io = remedies.CHECK_FILES.now
-remedy BadSize = remedies.SIZE_OF_A_STORE.now
+remedy BadSize = remedies.WHOLE_FILE.now
 remedy (BadScript line) = remedies.LINES_OF_A_SCRIPT.now
 remedy (Fields error) = fields_remedy error
 remedy (Text refused) = text_remedy refused.refusal

@@ -1,11 +1,13 @@
 // What is refused, if more of it is known than the refusal carries.
 ghost use Rattle.std.specs.Prelude.{◌≡◌, ◌++◌, option_map, string_bytes, OnOk};
-ghost use Rattle.cli_refusals.specs.Hint.{table_text};
+ghost use Rattle.cli_refusals.specs.Hint.{remedy_of, table_text};
 ghost use Rattle.cli_refusals.specs.Shown.{shown};
 
+use crate::form::script_line_form;
 use crate::part_shown::{Counts, FieldShown, LineShown, OtherFieldShown, PartShown};
+use crate::remedies::NUMBER_OF_SECTORS;
 use crate::shown::shown;
-use crate::{FailedFile, Word};
+use crate::{FailedFile, Refusal, Word};
 use std::alloc::AllocError;
 use std::fmt::{self, Write as _};
 use text_import::RefusedPart;
@@ -24,13 +26,17 @@ pub enum Hinted {
 pub enum Hint<'a> {
     /// A word of the command line.
     Word(Word<'a>),
+    /// A number of sectors that no store has.
+    Sectors(u64),
     /// A file that the command line or a script names and that can't be used, and why.
     File(FailedFile<'a>),
     /// The system's reason for a failed read of the input.
     Input(&'a str),
+    /// The input is empty.
+    EmptyInput,
     /// The system's reason for a failed write of the output.
     Output(&'a str),
-    /// A part of the input. Each of its strings is printed if a terminal may be shown it.
+    /// A part of the input. Each of its strings is printed if a terminal may be shown it, and what the bytes of a line or a name say about its form.
     Part(&'a RefusedPart),
     /// The name of a table that a command hints at, printed if a terminal may be shown it; and sentences about other tables, as [`report_table`]
     /// writes them, printed as they are.
@@ -40,7 +46,7 @@ pub enum Hint<'a> {
     },
     /// The name of a table that was found unreadable after the command, printed if a terminal may be shown it.
     UnreadTable(&'a str),
-    /// A line of a script, printed if a terminal may be shown it.
+    /// A line of a script, printed if a terminal may be shown it, and what its first or last bytes say about its form.
     ScriptLine(&'a [u8]),
     /// The name of a field of a stream, printed if a terminal may be shown it.
     Field(&'a [u8]),
@@ -98,6 +104,18 @@ pub fn report_table(text: &mut String, name: &str) -> Result<(), AllocError>
     write!(text, "{}", TableShown::new(name))
 }
 
+impl Hint<'_> {
+    /// Returns what to do about a refusal of which this is known, in a sentence.
+    pub fn remedy(&self, refusal: Refusal) -> &'static str
+        ensures { result.now ≡ remedy_of self.now refusal }
+    {
+        match self {
+            Hint::Sectors(_) => NUMBER_OF_SECTORS,
+            _ => refusal.remedy(),
+        }
+    }
+}
+
 /// Prints a sentence for each refused thing, each with a space after it, or nothing if none of it can be shown.
 impl fmt::Display for Hint<'_> {
     ghost use Rattle.std.specs.Prelude.{Some};
@@ -109,15 +127,20 @@ impl fmt::Display for Hint<'_> {
     fn fmt<W: fmt::Write>(&self, f: &mut fmt::Formatter<W>) -> fmt::Result {
         match self {
             Hint::Word(Word { role, text }) => write!(f, "The {role} `{text}` is refused. "),
+            Hint::Sectors(number) => write!(f, "The number of sectors `{number}` is refused. "),
             Hint::File(FailedFile { path, reason }) => write!(f, "The file `{path}` {reason}. "),
             Hint::Input(reason) => write!(f, "The input cannot be read: {reason}. "),
+            Hint::EmptyInput => f.write_str("The input is empty. "),
             Hint::Output(reason) => write!(f, "The output cannot be written: {reason}. "),
             Hint::Part(part) => write!(f, "{}", PartShown { part }),
             Hint::Table { name, others } => {
                 write!(f, "{}{others}", TableShown::new(name.as_str()))
             }
             Hint::UnreadTable(name) => write!(f, "{}", TableShown::new(name)),
-            Hint::ScriptLine(text) => write!(f, "{}", LineShown { text: shown(text) }),
+            Hint::ScriptLine(text) => {
+                let line = LineShown { text: shown(text) };
+                write!(f, "{line}{}", script_line_form(text))
+            }
             Hint::Field(name) => write!(f, "{}", FieldShown::of_name(name)),
             Hint::OtherField {
                 name,

@@ -10,6 +10,7 @@
 #![tactic(auto)]
 
 mod failed_file;
+mod form;
 mod hint;
 mod output;
 mod page;

@@ -7,15 +7,15 @@ use crate::remedies::{
     FILE_OF_A_STORE, FIX_RECORD, FIX_ROW, FORM_OF_A_CONDITION, FORM_OF_A_FIELD, FORM_OF_A_NAME,
     GIVE_A_STREAM, GIVE_ALL, GIVE_ARRAYS, GIVE_JSON_LINES, GIVE_LESS, IMPORT_AGAIN,
     LEAVE_OUT_MESSAGES, LINES_OF_A_SCRIPT, LITTLE_ENDIAN, LOOK_AGAIN, MORE_MEMORY, MORE_ROOM,
-    NAME_OF_A_TABLE, NAMES_FIRST, NAMES_OF_COLUMNS, NO_COMPRESSION, ONE_STREAM, OTHER_NAME,
-    SCHEMA_FIRST, SHORTER_BATCHES, SIZE_OF_A_STORE, SMALLER_FIELDS, TEST_FOR_NULL, TRY_AGAIN,
-    WRITE_AGAIN, WRITE_V5,
+    NAME_OF_A_TABLE, NAMES_FIRST, NAMES_OF_COLUMNS, NO_COMPRESSION, NUMBER_OF_SECTORS, ONE_STREAM,
+    OTHER_NAME, SCHEMA_FIRST, SHORTER_BATCHES, SMALLER_FIELDS, TEST_FOR_NULL, TRY_AGAIN,
+    WHOLE_FILE, WRITE_AGAIN, WRITE_V5,
 };
 use std::alloc::{AllocError, Global};
 
 /// What each refusal means and what to do about it: strings to be joined, among them the sentences of `remedies`. The file `docs/refusals.md` has
 /// the same bytes.
-pub const REFUSALS: [&str; 81] = [
+pub const REFUSALS: [&str; 85] = [
     "# What each refusal means
 
 A refusal is one line on standard error: `refused`, a code, a name, and for some of them a detail, as in
@@ -23,11 +23,13 @@ A refusal is one line on standard error: `refused`, a code, a name, and for some
 line is wrong.
 
 On a terminal a second line gives the advice of this page. Before it, this line says what is refused, if
-that is known and can be shown: a word of the command line; the file, the input or the output, with the
-system's message; a field of a stream; a part of a text; a line of a script; or the table that can't be
-read. For a part of a text it shows the name in the header and the one that the table has, the number of
-fields of a record, a field with its text, or a line and what is refused in it. In a line, `p.x[3]` is the
-fourth item of the list `x` in the struct `p`: items are counted from 0.
+that is known and can be shown: a word or a number of the command line; the file, the input or the output,
+with the system's message; an empty input; a field of a stream; a part of a text; a line of a script; or
+the table that can't be read. For a part of a text it shows the column that is a list or a struct, the name
+in the header and the one that the table has, the number of fields of a record, a field with its text, or a
+line and what is refused in it. In a line, `p.x[3]` is the fourth item of the list `x` in the struct `p`:
+items are counted from 0. It also says if a line begins with a byte order mark or, in a script, ends with a
+carriage return, and if the header has a tab, a semicolon or the mark of UTF-16.
 
 A refused command has changed no table, except as S9 and G1 say. It has written no output, except as G1
 says. `salvage` writes one segment after another, so it may have written some before S9 and OutOfMemory
@@ -117,8 +119,11 @@ or appended. If no advice follows a fault, the cause is the program that wrote t
   The given number of sectors, or the length of the file, is not possible. Such a file is not a store, or
   it was cut short or made longer, or a `copy` into it was interrupted. A folder, a named pipe, or a device
   that is not a disk is refused in the same way, if it is to be read as a store.
-  ",
-    SIZE_OF_A_STORE,
+  For the number of sectors: ",
+    NUMBER_OF_SECTORS,
+    "
+  For a file: ",
+    WHOLE_FILE,
     "
 - G3 BadScript N: `replay` cannot play line N of the script, counted from 1. Single spaces separate the
   words of a line. Either these words are not a command of a script, or a field text is refused (P).
@@ -144,6 +149,9 @@ or appended. If no advice follows a fault, the cause is the program that wrote t
   RunOverlap: the place of some rows overlaps that of other rows or of the list of tables.
   ",
     EARLIER_COPY,
+    "
+  For the number of sectors: ",
+    NUMBER_OF_SECTORS,
     "
 - C4 Device: the file could not be read or synced while it was opened; or `format` or `copy` could not
   read, write or sync the file that it made, and has removed it. No data is lost. If the disk can't read a
@@ -173,7 +181,7 @@ appended. If no advice follows a refusal, the cause is that record.
     FIX_RECORD,
     "
 
-- X1 Header 0: the first line does not consist of the names of the columns.
+- X1 Header 0: the first line does not consist of the names of the columns, separated by commas.
   ",
     NAMES_FIRST,
     "

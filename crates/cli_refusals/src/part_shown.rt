@@ -2,6 +2,7 @@
 ghost use Rattle.std.specs.Prelude.{◌≡◌, option_map, None};
 ghost use Rattle.cli_refusals.specs.Shown.{shown};
 
+use crate::form::{line_form, name_form};
 use crate::shown::shown;
 use std::fmt;
 use text_import::{LinePart, Reason, RefusedPart};
@@ -115,6 +116,26 @@ impl fmt::Display for LineShown<'_> {
     }
 }
 
+// The name of a column of lists or structs, if it may be shown.
+#[derive(Drop)]
+struct NestedShown<'a> {
+    name: Option<&'a str>,
+}
+
+impl fmt::Display for NestedShown<'_> {
+    ghost use Rattle.std.specs.Prelude.{Some, option_map};
+    ghost use Rattle.cli_refusals.specs.Hint.{nested_text};
+
+    ghost output = { λ shown. Some (nested_text (option_map (λ t. t.now) shown.name)) };
+
+    fn fmt<W: fmt::Write>(&self, f: &mut fmt::Formatter<W>) -> fmt::Result {
+        match self.name {
+            None => Ok(()),
+            Some(name) => write!(f, "The column `{name}` is a list or a struct. "),
+        }
+    }
+}
+
 // A name of a header and the expected one, if they may be shown.
 #[derive(Drop)]
 struct NamesShown<'a> {
@@ -163,6 +184,26 @@ impl fmt::Display for NameShown<'_> {
         match self.name {
             None => Ok(()),
             Some(name) => write!(f, "The name `{name}` is no column. "),
+        }
+    }
+}
+
+// A name that two columns have, if it may be shown.
+#[derive(Drop)]
+struct RepeatedShown<'a> {
+    name: Option<&'a str>,
+}
+
+impl fmt::Display for RepeatedShown<'_> {
+    ghost use Rattle.std.specs.Prelude.{Some, option_map};
+    ghost use Rattle.cli_refusals.specs.Hint.{repeated_text};
+
+    ghost output = { λ shown. Some (repeated_text (option_map (λ t. t.now) shown.name)) };
+
+    fn fmt<W: fmt::Write>(&self, f: &mut fmt::Formatter<W>) -> fmt::Result {
+        match self.name {
+            None => Ok(()),
+            Some(name) => write!(f, "Two columns have the name `{name}`. "),
         }
     }
 }
@@ -235,6 +276,7 @@ impl fmt::Display for PathShown<'_> {
             Reason::Value => write!(f, "The field `{path}` is refused. "),
             Reason::Missing => write!(f, "The name `{path}` is missing. "),
             Reason::Unknown => write!(f, "The name `{path}` is no field. "),
+            Reason::Repeated => write!(f, "Two fields have the name `{path}`. "),
             Reason::Count { items, wanted } => {
                 let items = ItemsShown {
                     path,
@@ -317,6 +359,12 @@ impl fmt::Display for LinePartShown<'_> {
                 };
                 write!(f, "{name}")
             }
+            Some(LinePart::RepeatedName { name }) => {
+                let name = RepeatedShown {
+                    name: shown(name.as_bytes()),
+                };
+                write!(f, "{name}")
+            }
         }
     }
 }
@@ -337,12 +385,18 @@ impl fmt::Display for PartShown<'_> {
     #[tactic(auto, unfolding(crate::specs::Hint::part_text))]
     fn fmt<W: fmt::Write>(&self, f: &mut fmt::Formatter<W>) -> fmt::Result {
         match self.part {
+            RefusedPart::NestedColumn { name } => {
+                let name = NestedShown {
+                    name: shown(name.as_bytes()),
+                };
+                write!(f, "{name}")
+            }
             RefusedPart::HeaderName { found, wanted } => {
                 let names = NamesShown {
                     found: shown(found),
                     wanted: shown(wanted.as_bytes()),
                 };
-                write!(f, "{names}")
+                write!(f, "{names}{}", name_form(found))
             }
             RefusedPart::HeaderCount { names, columns } => {
                 let counts = Counts {
@@ -372,7 +426,7 @@ impl fmt::Display for PartShown<'_> {
             RefusedPart::Line { part, text } => {
                 let line = LineShown { text: shown(text) };
                 let part = LinePartShown { part };
-                write!(f, "{line}{part}")
+                write!(f, "{line}{}{part}", line_form(text))
             }
         }
     }

@@ -45,8 +45,10 @@ pub const FEWER_ROWS: &str = "Give fewer rows.";
 pub const CHECK_FILES: &str =
     "Check the file, the input and the output. `tables` shows what a store contains.";
 
-pub const SIZE_OF_A_STORE: &str =
-    "Give 16 to 4,194,304 sectors, or the whole file of a store. If a `copy` was interrupted, delete its new file and copy again.";
+pub const NUMBER_OF_SECTORS: &str = "Give 16 to 4,194,304 sectors.";
+
+pub const WHOLE_FILE: &str =
+    "Give the whole file of a store. If a `copy` was interrupted, delete its new file and copy again.";
 
 pub const LINES_OF_A_SCRIPT: &str =
     "Write each line as `create NAME FIELD ..`, `import NAME FILE`, `append NAME FILE`, `rename FROM TO`, `drop NAME`, `compact`, `upgrade` or `reopen`.";
@@ -54,8 +56,7 @@ pub const LINES_OF_A_SCRIPT: &str =
 pub const FILE_OF_A_STORE: &str =
     "Give the file of a store. If a `format` or `copy` was interrupted, delete its new file and run the command again.";
 
-pub const EARLIER_COPY: &str =
-    "Use an earlier copy of the file. For `replay`, give 16 to 4,194,304 sectors.";
+pub const EARLIER_COPY: &str = "Use an earlier copy of the file.";
 
 pub const TRY_AGAIN: &str = "Check the disk, and try again.";
 
@@ -242,7 +243,7 @@ impl Refusal {
             Refusal::Fault(fault) => fault_remedy(fault),
             Refusal::TooManyBytes => GIVE_LESS,
             Refusal::Io => CHECK_FILES,
-            Refusal::BadSize => SIZE_OF_A_STORE,
+            Refusal::BadSize => WHOLE_FILE,
             Refusal::BadScript(_) => LINES_OF_A_SCRIPT,
             Refusal::Fields(error) => fields_remedy(error),
             Refusal::Text(refused) => text_remedy(refused.refusal),

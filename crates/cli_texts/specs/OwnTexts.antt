@@ -1,18 +1,10 @@
 -- The program's own texts: its version, the meaning of each refusal, and the help that lists all commands.
-use Rattle.std.specs.Prelude.{ℕ, Bool, false, ◌||◌, ◌&&◌, if◌then◌else◌, List, [], ◌∷◌, Option, Some, None, codes, flat_map, slice_get}
+use Rattle.std.specs.Prelude.{ℕ, Bool, false, ◌||◌, ◌&&◌, if◌then◌else◌, List, [], ◌∷◌, codes, flat_map}
 use Rattle.std.specs.Str.{bytes_eq}
 use Rattle.clap.specs.Words.{Text}
 use Rattle.cli_refusals.specs.Page.{refusals_page}
 use Rattle.cli_texts.specs.declared.help.TheConstants.{HELP}
 use Rattle.cli_texts.specs.declared.own_texts.TheConstants.{VERSION}
-
-abbrev pub word_or_none : Option Text → Text
-word_or_none None = []
-word_or_none (Some word) = word
-
--- the word at a place of a command line; empty if there is none
-abbrev pub word_at : List Text → ℕ → Text
-word_at arguments place = word_or_none (slice_get arguments place)
 
 unfoldable pub is_version_word : Text → Bool
 is_version_word word = bytes_eq (codes "--version") word || bytes_eq (codes "-V") word
@@ -20,9 +12,12 @@ is_version_word word = bytes_eq (codes "--version") word || bytes_eq (codes "-V"
 unfoldable pub is_refusals_topic : (word topic : Text) → Bool
 is_refusals_topic word topic = bytes_eq (codes "help") word && bytes_eq (codes "refusals") topic
 
--- after the program's name, whatever follows
+-- after the program's name only such a word
 unfoldable pub asks_version : List Text → Bool
-asks_version arguments = is_version_word (word_at arguments 1)
+asks_version [] = false
+asks_version (name ∷ []) = false
+asks_version (name ∷ word ∷ []) = is_version_word word
+asks_version (name ∷ word ∷ more ∷ rest) = false
 
 -- after the program's name exactly these two words
 unfoldable pub asks_refusals : List Text → Bool

@@ -5,14 +5,14 @@ use Rattle.cli_refusals.specs.declared.refusal.Refusal.TheVariants.{Io}
 use Rattle.cli_texts.specs.declared.telling.Audience.{Audience}
 use Rattle.cli_texts.specs.declared.telling.Audience.TheVariants.{Program, Terminal, Departed}
 use Rattle.cli_refusals.specs.declared.hint.Hint.{Hint}
-use Rattle.cli_refusals.specs.Hint.{hint_text}
+use Rattle.cli_refusals.specs.Hint.{hint_text, remedy_of}
 use Rattle.cli_refusals.specs.Remedies.{remedy}
 use Rattle.cli_texts.specs.Reported.{refusal_line}
 
 -- what to do; before it what is refused, if that is known
 unfoldable pub remedy_line : Option Hint → Refusal → List ℕ
 remedy_line None refusal = remedy refusal ++ 10 ∷ []
-remedy_line (Some hint) refusal = hint_text hint ++ remedy refusal ++ 10 ∷ []
+remedy_line (Some hint) refusal = hint_text hint ++ remedy_of hint refusal ++ 10 ∷ []
 
 -- a read or a write failed
 abbrev pub is_io : Refusal → Bool

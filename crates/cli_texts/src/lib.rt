@@ -23,7 +23,7 @@ mod watched;
 
 pub use help::{HELP, help_page};
 pub use left_out::{tell_lacking, tell_left_out};
-pub use own_texts::{VERSION, is_own, write_own_text};
+pub use own_texts::{VERSION, is_own, is_version_word, write_own_text};
 pub use reports::{
     end, end_output, report_arguments, report_signed_number, report_wrong_arguments,
 };

@@ -2,7 +2,7 @@
 ghost use Rattle.std.specs.Prelude.{◌≡◌, ◌≢◌, map, IfErr, OnOk};
 ghost use Rattle.std.specs.Io.KnownBytes.{Appends};
 ghost use Rattle.cli_texts.specs.Ending.{IsOfOutput};
-ghost use Rattle.cli_texts.specs.OwnTexts.{word_at, is_version_word, is_refusals_topic, is_help_alone};
+ghost use Rattle.cli_texts.specs.OwnTexts.{is_version_word, is_refusals_topic, is_help_alone};
 ghost use Rattle.cli_texts.specs.OwnTexts.{asks_version, asks_refusals, asks_commands, is_own, own_text};
 
 use crate::help_page;
@@ -14,8 +14,9 @@ use std::io::Write;
 /// The line that `--version` prints.
 pub const VERSION: &str = "arrowstore 0.1.0\n";
 
+/// Returns whether this word asks for the version.
 #[tactic(auto, unfolding(crate::specs::OwnTexts::is_version_word))]
-fn is_version_word(word: &str) -> bool
+pub fn is_version_word(word: &str) -> bool
     ensures { result ≡ is_version_word word.now }
 {
     word == "--version" || word == "-V"
@@ -28,21 +29,14 @@ fn is_refusals_topic(word: &str, topic: &str) -> bool
     word == "help" && topic == "refusals"
 }
 
-// Returns the word at a place of a command line, or an empty one if there is none.
-fn word_at<S: AsStr>(arguments: &[S], place: usize) -> &str
-    ensures { result.now ≡ word_at (map S.text arguments.now) place }
-{
-    match arguments.get(place) {
-        Some(word) => word.as_str(),
-        None => "",
-    }
-}
-
 #[tactic(auto, unfolding(crate::specs::OwnTexts::asks_version))]
 fn asks_version<S: AsStr>(arguments: &[S]) -> bool
     ensures { result ≡ asks_version (map S.text arguments.now) }
 {
-    is_version_word(word_at(arguments, 1))
+    match arguments {
+        [_, word] => is_version_word(word.as_str()),
+        _ => false,
+    }
 }
 
 #[tactic(auto, unfolding(crate::specs::OwnTexts::asks_refusals))]

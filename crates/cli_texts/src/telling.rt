@@ -84,12 +84,15 @@ pub(crate) fn tell<E: Write>(
 ) -> io::Result<()>
     ensures { OnOk result (Appends (E.contents errors.old) (E.contents errors.new) (told audience hint.entry refusal)) }
 {
-    let remedy = refusal.remedy();
     match (audience, hint) {
         (Audience::Program, _) => tell_line(refusal, errors),
         (Audience::Departed, _) => tell_unless_io(refusal, errors),
-        (Audience::Terminal, None) => writeln!(errors, "refused {refusal}\n{remedy}"),
+        (Audience::Terminal, None) => {
+            let remedy = refusal.remedy();
+            writeln!(errors, "refused {refusal}\n{remedy}")
+        }
         (Audience::Terminal, Some(hint)) => {
+            let remedy = hint.remedy(refusal);
             writeln!(errors, "refused {refusal}\n{hint}{remedy}")
         }
     }

@@ -1,5 +1,5 @@
 -- The part of a text that is refused is why it is.
-use Rattle.std.proofs.Common.{◌≡◌, ℕ, ◌+◌, ◌-◌, suc, Bool, true, false, List, [], ◌∷◌, refl, sym, ap, ◌∙◌, arith}
+use Rattle.std.proofs.Common.{◌≡◌, ℕ, ◌+◌, ◌-◌, ◌||◌, suc, Bool, true, false, List, [], ◌∷◌, refl, sym, ap, ◌∙◌, arith}
 use Rattle.std.specs.Prelude.{◌==◌, bytes_eq, is_some, length, Option, Some, None, IfSome, option_map, slice_get, if◌then◌else◌, Result, Ok, Err}
 use Rattle.std.specs.Option.{option_and_then, option_or}
 use Rattle.std.specs.List.{list_any}
@@ -23,10 +23,11 @@ use Rattle.text_import.specs.Flat.{field_cell}
 use Rattle.text_import.specs.Records.{field_cells, record_row, are_names, whole, rows_behind_header, is_nested_column, csv_rows_of, records_of}
 use Rattle.text_import.specs.Objects.{item_count, column_count, cells_by_place, cells_by_name, names_of, keys_of, repeats, has_unknown, value_row, line_value, line_row, lines_of, jsonl_rows_of}
 use Rattle.text_import.specs.Form.{rows_of_text}
-use Rattle.text_import.specs.ValuePart.{PlainValuePart, is_refused, first_unknown, part_by_place, part_by_name}
-use Rattle.text_import.specs.Part.{PlainPart, header_name, header_count, record_count, field, line, PlainLinePart, value_part, other_count, unknown_name, other_name, refused_names, header_of, refused_header, refused_field, refused_in_record, refused_in_value, refused_in_read, refused_in_line, refused_part}
-use Rattle.text_import.specs.Cause.{IsOtherName, IsOtherCount, IsRefusedField, IsRecordCause, IsCsvCause, IsRefusedBelow, IsLinePartCause, IsLineCause, IsCause}
-use Rattle.text_import.proofs.PartLemmas.{any_unknown}
+use Rattle.text_import.specs.ValuePart.{PlainValuePart, is_refused, first_repeated, first_unknown, part_by_place, part_by_name}
+use Rattle.text_import.specs.Part.{PlainPart, nested_column, header_name, header_count, record_count, field, line, PlainLinePart, value_part, other_count, unknown_name, repeated_name, nested_part, other_name, refused_names, header_of, refused_header, refused_field, refused_in_record, refused_in_value, refused_in_read, refused_in_line, refused_part}
+use Rattle.text_import.specs.Cause.{IsNestedColumn, IsOtherName, IsOtherCount, IsRefusedField, IsRecordCause, IsCsvCause, IsRefusedBelow, IsLinePartCause, IsLineCause, IsCause}
+use Rattle.text_import.proofs.NameLemmas.{any_repeated, repeated_there}
+use Rattle.text_import.proofs.PartLemmas.{any_unknown, column_nested, column_flat, none_nested}
 use Rattle.text_import.proofs.ExplainedParts.{Explained, Within, mapped_explained, unknown_among, place_explained, name_explained}
 
 -- the first of some records that is refused
@@ -104,11 +105,34 @@ record_cause s null_text ts part e names refuses = by (length ts == length s.col
 
 -- what is the cause of a record is that of its text
 of_record : (null_text : List ℕ) (cs : List Column) (t : List ℕ) (part : PlainPart) (e : Refusal) → IsRecordCause null_text cs part e → IsCsvCause null_text cs t part e
+of_record null_text cs t (nested_column name) e h = absurd h
 of_record null_text cs t (header_name found wanted) e h = absurd h
 of_record null_text cs t (header_count names columns) e h = absurd h
 of_record null_text cs t (record_count fields columns) e h = h
 of_record null_text cs t (field name text) e h = h
 of_record null_text cs t (line part text) e h = absurd h
+
+-- a column that is named is a list or a struct
+nested_cause : (cs : List Column) → list_any is_nested_column cs ≡ true → (name : List ℕ) × (nested_part cs ≡ Some (nested_column name)) × IsNestedColumn cs name
+nested_cause [] some = absurd cc
+nested_cause (c ∷ cs) some = by (is_nested_column c) refl some (nested_cause cs)
+  where
+    by : (b : Bool) → is_nested_column c ≡ b → (b || list_any is_nested_column cs) ≡ true
+        → (list_any is_nested_column cs ≡ true → (name : List ℕ) × (nested_part cs ≡ Some (nested_column name)) × IsNestedColumn cs name)
+        → (name : List ℕ) × (nested_part (c ∷ cs) ≡ Some (nested_column name)) × IsNestedColumn (c ∷ cs) name
+    by true is some more = (name_of_column c, column_nested c cs is, record { place = 0; column = c; stands = refl; named = refl; nested = is })
+    by false is some more =
+        let (name, names, cause) = more some in
+        (name, column_flat c cs is ∙ names, record { place = suc cause.place; column = cause.column; stands = cause.stands; named = cause.named; nested = cause.nested })
+
+flat_unnamed : (cs : List Column) → list_any is_nested_column cs ≡ false → nested_part cs ≡ None
+flat_unnamed [] none = none_nested
+flat_unnamed (c ∷ cs) none = by (is_nested_column c) refl none (flat_unnamed cs)
+  where
+    by : (b : Bool) → is_nested_column c ≡ b → (b || list_any is_nested_column cs) ≡ false → (list_any is_nested_column cs ≡ false → nested_part cs ≡ None)
+        → nested_part (c ∷ cs) ≡ None
+    by true is none more = absurd cc
+    by false is none more = column_flat c cs is ∙ more none
 
 -- a name that is named is another than that of the column at its place
 name_cause : (ts : List (List ℕ)) (cs : List Column) (part : PlainPart) → other_name ts cs ≡ Some part
@@ -167,7 +191,7 @@ csv_cause s null_text t r part h names = by (list_any is_nested_column s.columns
 
     of_header : list_any is_nested_column s.columns ≡ false → whole Header ≡ r → IsCsvCause null_text s.columns t part r.refusal
     of_header flat same =
-        let found = rw flat at (whole_names Header same) in
+        let found = rw (flat_unnamed s.columns flat) at (whole_names Header same) in
         rw (← same) (header_cause null_text s.columns t part found)
 
     of_rows : (header : List (List ℕ)) (rs : List (List (List ℕ))) → records_of t ≡ header ∷ rs → rows_from (record_row s null_text) 1 rs ≡ Err r → IsCsvCause null_text s.columns t part r.refusal
@@ -187,7 +211,12 @@ csv_cause s null_text t r part h names = by (list_any is_nested_column s.columns
     behind (header ∷ rs) all flat h = named (are_names header s.columns) header rs all flat h
 
     by : (b : Bool) → list_any is_nested_column s.columns ≡ b → (if b then Err (whole Nested) else rows_behind_header s null_text (records_of t)) ≡ Err r → IsCsvCause null_text s.columns t part r.refusal
-    by true nested h = (let none = rw nested at (whole_names Nested cc) in absurd cc)
+    by true nested h =
+        let one : whole Nested ≡ r = cc in
+        let (name, is, cause) = nested_cause s.columns nested in
+        let told = rw is at (whole_names Nested one) in
+        let same : nested_column name ≡ part = cc in
+        rw (← one, ← same) (refl, cause)
     by false flat h = behind (records_of t) refl flat h
 
 -- counts of columns
@@ -241,7 +270,7 @@ value_cause s (json.array ds) part e names h = by (item_count ds == column_count
         let same : part ≡ other_count (item_count ds) (column_count cs) = cc in
         let one : e ≡ Width = cc in
         rw same (one, counts_differ s.columns (item_count ds) (column_count cs) is (columns_counted s.columns))
-value_cause s (json.object ms) part e names h = by (repeats (names_of cs)) names h
+value_cause s (json.object ms) part e names h = by (first_repeated (names_of cs)) refl names h
   where
     cs : Columns
     cs = columns_of s.columns
@@ -259,12 +288,19 @@ value_cause s (json.object ms) part e names h = by (repeats (names_of cs)) names
         let same : part ≡ unknown_name name = cc in
         rw same (one, (unknown_among (names_of cs) (keys_of ms) name is).0)
 
-    by : (b : Bool)
-        → (if b then None else option_or (option_map unknown_name (first_unknown (names_of cs) (keys_of ms))) (option_map value_part (part_by_name [] cs ms))) ≡ Some part
-        → and_then (given cell_list (if b then Err AmbiguousNames else if has_unknown (names_of cs) (keys_of ms) then Err UnknownName else cells_by_name cs ms)) (accepted s) ≡ Err e
+    by : (r : Option (List ℕ)) → first_repeated (names_of cs) ≡ r
+        → option_or (option_map repeated_name r) (option_or (option_map unknown_name (first_unknown (names_of cs) (keys_of ms))) (option_map value_part (part_by_name [] cs ms))) ≡ Some part
+        → and_then (given cell_list (if repeats (names_of cs) then Err AmbiguousNames else if has_unknown (names_of cs) (keys_of ms) then Err UnknownName else cells_by_name cs ms)) (accepted s) ≡ Err e
         → IsLinePartCause s.columns (json.object ms) part e
-    by true names h = absurd cc
-    by false names h = key (first_unknown (names_of cs) (keys_of ms)) refl names h
+    by (Some name) twice names h =
+        let some : repeats (names_of cs) ≡ true = sym (any_repeated (names_of cs)) ∙ ap is_some twice in
+        let told = rw some at h in
+        let one : e ≡ AmbiguousNames = cc in
+        let same : part ≡ repeated_name name = cc in
+        rw same (one, repeated_there (names_of cs) name twice)
+    by None twice names h =
+        let none : repeats (names_of cs) ≡ false = sym (any_repeated (names_of cs)) ∙ ap is_some twice in
+        key (first_unknown (names_of cs) (keys_of ms)) refl names (rw none at h)
 
 line_cause : (s : PlainSchema) (t : List ℕ) (e : Refusal) → line_row s t ≡ Err e → IsLineCause s (refused_in_line s t) e
 line_cause s t e h = (h, by (line_value t) refl h)

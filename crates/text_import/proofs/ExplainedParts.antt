@@ -12,11 +12,12 @@ use Rattle.arrow_schema.specs.Parts.{name_of_column, is_nullable_column, kind_of
 use Rattle.cells.specs.Cell.{Cell, Cells, items, parts, and_cell}
 use Rattle.text_import.specs.declared.refusal.Refusal.{Refusal}
 use Rattle.text_import.specs.declared.refusal.Refusal.TheVariants.{Width, AmbiguousNames, UnknownName, WrongKind}
-use Rattle.text_import.specs.declared.value_part.Reason.TheVariants.{Value, Missing, Count}
+use Rattle.text_import.specs.declared.value_part.Reason.TheVariants.{Value, Missing, Unknown, Repeated, Count}
 use Rattle.text_import.specs.Refusals.{and_then, given}
 use Rattle.text_import.specs.Objects.{item_count, column_count, list_in, each_item, fixed_list_in, absent, member_in, has_name, names_of, keys_of, repeats, has_unknown, cell_in, kind_in, cells_by_place, cells_by_name, cells_in}
-use Rattle.text_import.specs.ValuePart.{PlainValuePart, item_step, dot, below, itself, flat_part, items_part, list_part, sized_part, fixed_list_part, member_part, first_unknown, unknown_part, names_part, struct_part, cell_part, kind_part, part_by_place, part_by_name}
-use Rattle.text_import.specs.Cause.{item_of_kind, size_of_kind, value_at, IsRefusedAt, is_refused_value, is_missing, is_count, is_unknown, in_item, in_field}
+use Rattle.text_import.specs.ValuePart.{PlainValuePart, item_step, dot, below, itself, flat_part, items_part, list_part, sized_part, fixed_list_part, member_part, first_repeated, first_unknown, at_name, names_part, struct_part, cell_part, kind_part, part_by_place, part_by_name}
+use Rattle.text_import.specs.Cause.{item_of_kind, size_of_kind, value_at, IsRefusedAt, is_refused_value, is_missing, is_count, is_unknown, is_repeated, in_item, in_field}
+use Rattle.text_import.proofs.NameLemmas.{any_repeated, repeated_there}
 use Rattle.text_import.proofs.PartLemmas.{any_unknown}
 
 -- an outcome of reading, and the refused part: there is one exactly if the outcome is a refusal, and it is why
@@ -149,19 +150,23 @@ struct_explained c cs kind places names (json.array ds) same = by (item_count ds
         → Explained (Why c (Some (json.array ds))) (if b then cells_by_place cs ds else Err Width) (if b then part_by_place dot cs ds else Some (itself (Count (item_count ds) (column_count cs))))
     by true counted = places ds (eqb-true (item_count ds) (column_count cs) counted)
     by false counted = is_count c ds (column_count cs) (ap size_of_kind kind) (eqb-false (item_count ds) (column_count cs) counted) refl
-struct_explained c cs kind places names (json.object ms) same = by (repeats (names_of cs)) refl (first_unknown (names_of cs) (keys_of ms)) refl
+struct_explained c cs kind places names (json.object ms) same = by (first_repeated (names_of cs)) refl (first_unknown (names_of cs) (keys_of ms)) refl
   where
-    by : (b : Bool) → repeats (names_of cs) ≡ b → (o : Option (List ℕ)) → first_unknown (names_of cs) (keys_of ms) ≡ o
-        → Explained (Why c (Some (json.object ms))) (if b then Err AmbiguousNames else if has_unknown (names_of cs) (keys_of ms) then Err UnknownName else cells_by_name cs ms)
-        (option_or (if b then Some (itself Value) else option_map unknown_part o) (part_by_name dot cs ms))
-    by true twice o found = is_refused_value c (json.object ms) (same AmbiguousNames (rw twice refl))
-    by false twice None found =
+    by : (r : Option (List ℕ)) → first_repeated (names_of cs) ≡ r → (o : Option (List ℕ)) → first_unknown (names_of cs) (keys_of ms) ≡ o
+        → Explained (Why c (Some (json.object ms))) (if repeats (names_of cs) then Err AmbiguousNames else if has_unknown (names_of cs) (keys_of ms) then Err UnknownName else cells_by_name cs ms)
+        (option_or (option_or (option_map (at_name Repeated) r) (option_map (at_name Unknown) o)) (part_by_name dot cs ms))
+    by (Some name) twice o found =
+        let some : repeats (names_of cs) ≡ true = sym (any_repeated (names_of cs)) ∙ ap is_some twice in
+        rw some (is_repeated c cs ms name kind (repeated_there (names_of cs) name twice) refl)
+    by None twice None found =
+        let none : repeats (names_of cs) ≡ false = sym (any_repeated (names_of cs)) ∙ ap is_some twice in
         let all : has_unknown (names_of cs) (keys_of ms) ≡ false = sym (any_unknown (names_of cs) (keys_of ms)) ∙ ap is_some found in
-        rw all (names ms)
-    by false twice (Some name) found =
+        rw (none, all) (names ms)
+    by None twice (Some name) found =
+        let none : repeats (names_of cs) ≡ false = sym (any_repeated (names_of cs)) ∙ ap is_some twice in
         let some : has_unknown (names_of cs) (keys_of ms) ≡ true = sym (any_unknown (names_of cs) (keys_of ms)) ∙ ap is_some found in
         let is = unknown_among (names_of cs) (keys_of ms) name found in
-        rw some (is_unknown c cs ms name kind is.0 is.1 refl)
+        rw (none, some) (is_unknown c cs ms name kind is.0 is.1 refl)
 
 member_explained : (c : Column) (o : Option Data) → ((d : Data) → Explained (Why c (Some d)) (cell_in c d) (cell_part c d))
     → Explained (Why c o) (member_in (is_nullable_column c) (cell_in c) o) (member_part (is_nullable_column c) (cell_part c) o)

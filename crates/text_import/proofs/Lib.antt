@@ -2,6 +2,7 @@ pub mod NumberLemmas
 pub mod RecordLemmas
 pub mod RowLemmas
 pub mod ObjectLemmas
+pub mod NameLemmas
 pub mod FittingCells
 pub mod AcceptedRows
 pub mod PartLemmas

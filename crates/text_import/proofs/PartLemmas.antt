@@ -1,6 +1,5 @@
 -- The refused part of a header, a record or a line, found item by item; and the line at a place of a text.
 use Rattle.std.proofs.Common.{◌≡◌, ℕ, ◌+◌, ◌-◌, ◌≤◌, ◌<◌, zero, suc, Bool, true, false, List, [], ◌∷◌, length, drop, refl, ap, ◌∙◌, arith, length-drop}
-use Rattle.std.specs.List.{list_any}
 use Rattle.std.specs.Prelude.{◌==◌, ◌||◌, not, bytes_eq, filter, get_or, is_some, map, Option, Some, None, option_map, slice_get, if◌then◌else◌}
 use Rattle.std.proofs.lemmas.Bool.{ne_eqb, eq-eqb}
 use Rattle.std.specs.Borrow.{Bor}
@@ -17,9 +16,9 @@ use Rattle.arrow_schema.specs.declared.types.Field.{Field}
 use Rattle.arrow_schema.specs.Parts.{name_of_column}
 use Rattle.text_import.specs.Flat.{field_cell}
 use Rattle.text_import.specs.Records.{is_nested_column, records_of}
-use Rattle.text_import.specs.Objects.{is_blank, has_name, names_of, keys_of, repeats, has_unknown}
-use Rattle.text_import.specs.ValuePart.{is_refused, first_unknown, part_by_place, part_by_name}
-use Rattle.text_import.specs.Part.{header_name, header_count, field, value_part, other_count, unknown_name, other_name, refused_header, refused_field, refused_in_items, refused_in_members}
+use Rattle.text_import.specs.Objects.{is_blank, has_name, names_of, keys_of, has_unknown}
+use Rattle.text_import.specs.ValuePart.{is_refused, first_repeated, first_unknown, part_by_place, part_by_name}
+use Rattle.text_import.specs.Part.{nested_column, header_name, header_count, field, value_part, other_count, unknown_name, repeated_name, nested_part, other_name, refused_names, header_of, refused_field, refused_in_items, refused_in_members}
 use Rattle.text_import.proofs.ObjectLemmas.{item_count_is, column_count_is}
 use Rattle.text_import.proofs.RecordLemmas.{field_here, field_past}
 
@@ -63,10 +62,23 @@ no_header_names : (cs : List Column) → other_name [] cs ≡ None
 unfolding other_name
 no_header_names cs = refl
 
+-- a column that is a list or a struct, one that is not, and the end
+pub column_nested : (c : Column) (cs : List Column) → is_nested_column c ≡ true → nested_part (c ∷ cs) ≡ Some (nested_column (name_of_column c))
+unfolding nested_part
+column_nested c cs e = rw e refl
+
+pub column_flat : (c : Column) (cs : List Column) → is_nested_column c ≡ false → nested_part (c ∷ cs) ≡ nested_part cs
+unfolding nested_part
+column_flat c cs e = rw e refl
+
+pub none_nested : nested_part [] ≡ None
+unfolding nested_part
+none_nested = refl
+
 -- a text without records
-pub headless : (fs : List Field) (t : List ℕ) → list_any is_nested_column (map column_of fs) ≡ false → slice_get (records_of t) 0 ≡ None
-    → refused_header (map column_of fs) t ≡ (if 0 == length fs then None else Some (header_count 0 (length fs)))
-headless fs t flat none = rw (flat, none, no_header_names (map column_of fs), length-map fs column_of) refl
+pub headless : (fs : List Field) (t : List ℕ) → slice_get (records_of t) 0 ≡ None
+    → refused_names (map column_of fs) (header_of t) ≡ (if 0 == length fs then None else Some (header_count 0 (length fs)))
+headless fs t none = rw (none, no_header_names (map column_of fs), length-map fs column_of) refl
 
 -- a field that is refused, one that is not, and the end
 pub field_named : (null_text : List ℕ) (c : Column) (cs : List Column) (t : List ℕ) (ts : List (List ℕ)) → is_refused (field_cell null_text c t) ≡ true
@@ -95,18 +107,18 @@ counted_yes fs vs h = rw (item_count_is vs, column_count_is fs, eq-eqb (length v
 pub ruleset counted_rules = (counted_no, counted_yes)
 
 -- the tests of names
-pub names_repeated : (cs : Columns) (ms : Members) → repeats (names_of cs) ≡ true → refused_in_members cs ms ≡ None
-names_repeated cs ms e = rw e refl
+pub name_repeated : (cs : Columns) (ms : Members) (name : List ℕ) → first_repeated (names_of cs) ≡ Some name → refused_in_members cs ms ≡ Some (repeated_name name)
+name_repeated cs ms name e = rw e refl
 
-pub name_unknown : (cs : Columns) (ms : Members) (name : List ℕ) → repeats (names_of cs) ≡ false → first_unknown (names_of cs) (keys_of ms) ≡ Some name
+pub name_unknown : (cs : Columns) (ms : Members) (name : List ℕ) → first_repeated (names_of cs) ≡ None → first_unknown (names_of cs) (keys_of ms) ≡ Some name
     → refused_in_members cs ms ≡ Some (unknown_name name)
 name_unknown cs ms name e is = rw (e, is) refl
 
-pub names_known : (cs : Columns) (ms : Members) → repeats (names_of cs) ≡ false → first_unknown (names_of cs) (keys_of ms) ≡ None
+pub names_known : (cs : Columns) (ms : Members) → first_repeated (names_of cs) ≡ None → first_unknown (names_of cs) (keys_of ms) ≡ None
     → refused_in_members cs ms ≡ option_map value_part (part_by_name [] cs ms)
 names_known cs ms e is = rw (e, is) refl
 
-pub ruleset named_rules = (names_repeated, name_unknown, names_known)
+pub ruleset named_rules = (name_repeated, name_unknown, names_known)
 
 -- the item at a place, from what stands there
 pub at_here : {X : Type 0} (xs : List X) (i : ℕ) (x : X) (ys : List X) → drop i xs ≡ x ∷ ys → slice_get xs i ≡ Some x

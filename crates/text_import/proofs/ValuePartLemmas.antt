@@ -1,6 +1,7 @@
 -- The refused part of a value, found item by item.
 use Rattle.std.proofs.Common.{◌≡◌, ℕ, ◌+◌, Bool, true, false, List, [], ◌∷◌, ◌++◌, length, refl}
 use Rattle.std.specs.Prelude.{is_some, Option, Some, None, option_map, if◌then◌else◌, Ok, Err}
+use Rattle.std.specs.Option.{option_or}
 use Rattle.std.proofs.lemmas.Bool.{ne_eqb, eq-eqb}
 use Rattle.serde_json.specs.Data.{Data, Items, Members}
 use Rattle.serde_json.specs.View.{view, items_view}
@@ -10,9 +11,10 @@ use Rattle.arrow_schema.specs.Parts.{name_of_column}
 use Rattle.text_import.specs.declared.refusal.Refusal.TheVariants.{AmbiguousNames, UnknownName}
 use Rattle.text_import.specs.declared.value_part.Reason.TheVariants as reasons
 use Rattle.text_import.specs.Objects.{keys_of, repeats, has_unknown}
-use Rattle.text_import.specs.ValuePart.{PlainValuePart, item_step, below, itself, items_part, sized_part, first_unknown, unknown_part, names_part, cell_part, part_by_place, part_by_name}
+use Rattle.text_import.specs.ValuePart.{PlainValuePart, item_step, below, itself, items_part, sized_part, first_repeated, first_unknown, at_name, names_part, cell_part, part_by_place, part_by_name}
 use Rattle.text_import.specs.inner.Names.{member_part_of, tested}
 use Rattle.text_import.proofs.ObjectLemmas.{item_count_is, column_count_is}
+use Rattle.text_import.proofs.NameLemmas.{any_repeated}
 use Rattle.text_import.proofs.PartLemmas.{any_unknown}
 
 -- the number of items
@@ -62,10 +64,11 @@ no_name before ms = refl
 
 -- names that are not refused
 pub names_pass : (names : List (List ℕ)) (ms : Members) → tested names ms ≡ Ok ms → names_part names ms ≡ None
-names_pass names ms e = by (repeats names) (first_unknown names (keys_of ms)) (any_unknown names (keys_of ms)) e
+names_pass names ms e = by (first_repeated names) (any_repeated names) (first_unknown names (keys_of ms)) (any_unknown names (keys_of ms)) e
   where
-    by : (b : Bool) (o : Option (List ℕ)) → is_some o ≡ has_unknown names (keys_of ms)
-        → (if b then Err AmbiguousNames else if has_unknown names (keys_of ms) then Err UnknownName else Ok ms) ≡ Ok ms → (if b then Some (itself reasons.Value) else option_map unknown_part o) ≡ None
-    by true o is e = absurd cc
-    by false None is e = refl
-    by false (Some name) is e = (let told = rw (← is) at e in absurd cc)
+    by : (r : Option (List ℕ)) → is_some r ≡ repeats names → (o : Option (List ℕ)) → is_some o ≡ has_unknown names (keys_of ms)
+        → (if repeats names then Err AmbiguousNames else if has_unknown names (keys_of ms) then Err UnknownName else Ok ms) ≡ Ok ms
+        → option_or (option_map (at_name reasons.Repeated) r) (option_map (at_name reasons.Unknown) o) ≡ None
+    by (Some name) twice o is e = (let told = rw (← twice) at e in absurd cc)
+    by None twice None is e = refl
+    by None twice (Some name) is e = (let told = rw (← twice, ← is) at e in absurd cc)

@@ -1,5 +1,5 @@
 -- Why a part of a text is refused.
-use Rattle.std.specs.Prelude.{◌≡◌, ◌≢◌, ◌++◌, ℕ, true, false, List, [], length, Option, Some, None, IfSome, Ok, Err, slice_get}
+use Rattle.std.specs.Prelude.{◌≡◌, ◌≢◌, ◌<◌, ◌++◌, ℕ, true, false, List, [], length, Option, Some, None, IfSome, Ok, Err, slice_get}
 use Rattle.serde_json.specs.Data.{Data, Items, Members}
 use Rattle.serde_json.specs.Data as json
 use Rattle.serde_json.specs.Find.{get_item, get_member}
@@ -8,13 +8,30 @@ use Rattle.arrow_schema.specs.Parts.{name_of_column, is_nullable_column, kind_of
 use Rattle.text_import.specs.declared.form.TextForm.{TextForm}
 use Rattle.text_import.specs.declared.form.TextForm.TheVariants.{Csv, JsonLines}
 use Rattle.text_import.specs.declared.refusal.Refusal.{Refusal}
-use Rattle.text_import.specs.declared.refusal.Refusal.TheVariants.{Header, Width, UnknownName, MissingName}
+use Rattle.text_import.specs.declared.refusal.Refusal.TheVariants.{Header, Width, Nested, UnknownName, MissingName, AmbiguousNames}
 use Rattle.text_import.specs.declared.value_part.Reason.{Reason}
-use Rattle.text_import.specs.declared.value_part.Reason.TheVariants.{Value, Missing, Unknown, Count}
+use Rattle.text_import.specs.declared.value_part.Reason.TheVariants.{Value, Missing, Unknown, Repeated, Count}
 use Rattle.text_import.specs.Flat.{field_cell}
+use Rattle.text_import.specs.Records.{is_nested_column}
 use Rattle.text_import.specs.Objects.{item_count, column_count, cell_in, has_name, names_of, keys_of, line_value, line_row}
 use Rattle.text_import.specs.ValuePart.{PlainValuePart, item_step, dot}
-use Rattle.text_import.specs.Part.{PlainPart, header_name, header_count, record_count, field, line, PlainLinePart, value_part, other_count, unknown_name, header_of}
+use Rattle.text_import.specs.Part.{PlainPart, nested_column, header_name, header_count, record_count, field, line, PlainLinePart, value_part, other_count, unknown_name, repeated_name, header_of}
+
+-- a column of this name is a list or a struct
+pub record IsNestedColumn (cs : List Column) (name : List ℕ) : Type 0 where
+  pub place : ℕ
+  pub column : Column
+  pub stands : slice_get cs place ≡ Some column
+  pub named : name_of_column column ≡ name
+  pub nested : is_nested_column column ≡ true
+
+-- two of these names are this one
+pub record IsRepeated (names : List (List ℕ)) (name : List ℕ) : Type 0 where
+  pub first : ℕ
+  pub second : ℕ
+  pub before : first < second
+  pub stands : slice_get names first ≡ Some name
+  pub again : slice_get names second ≡ Some name
 
 -- a header and the columns have these names at one place, and they differ
 pub record IsOtherName (header : List (List ℕ)) (cs : List Column) (found wanted : List ℕ) : Type 0 where
@@ -46,6 +63,7 @@ IsRecordCause null_text cs part e = ⊥
 
 -- for a CSV text
 abbrev pub IsCsvCause : List ℕ → List Column → List ℕ → PlainPart → Refusal → Type 0
+IsCsvCause null_text cs t (nested_column name) e = (e ≡ Nested) × IsNestedColumn cs name
 IsCsvCause null_text cs t (header_name found wanted) e = (e ≡ Header) × IsOtherName (header_of t) cs found wanted
 IsCsvCause null_text cs t (header_count names columns) e = (e ≡ Header) × (names ≡ length (header_of t)) × IsOtherCount cs names columns
 IsCsvCause null_text cs t part e = IsRecordCause null_text cs part e
@@ -84,6 +102,9 @@ pub data IsRefusedAt (e : Refusal) : Column → Option Data → (path : List ℕ
   -- a name of an object that is not that of a field
   is_unknown : (c : Column) (cs : Columns) (ms : Members) (name : List ℕ) → kind_of_column c ≡ structs cs → has_name (names_of cs) name ≡ false
       → has_name (keys_of ms) name ≡ true → e ≡ UnknownName → IsRefusedAt e c (Some (json.object ms)) (dot ++ name) Unknown
+  -- an object for a struct that has two fields of this name
+  is_repeated : (c : Column) (cs : Columns) (ms : Members) (name : List ℕ) → kind_of_column c ≡ structs cs → IsRepeated (names_of cs) name
+      → e ≡ AmbiguousNames → IsRefusedAt e c (Some (json.object ms)) (dot ++ name) Repeated
   -- in an item of a list
   in_item : (c item : Column) (ds : Items) (d : Data) (place : ℕ) (path : List ℕ) (reason : Reason) → item_of_kind (kind_of_column c) ≡ Some item
       → get_item place ds ≡ Some d → IsRefusedAt e item (Some d) path reason → IsRefusedAt e c (Some (json.array ds)) (item_step place ++ path) reason
@@ -106,6 +127,7 @@ abbrev pub IsLinePartCause : List Column → Data → PlainLinePart → Refusal 
 IsLinePartCause cs value (value_part part) e = IsRefusedBelow cs value part e
 IsLinePartCause cs value (other_count items columns) e = (e ≡ Width) × IsOtherCount cs items columns
 IsLinePartCause cs value (unknown_name name) e = (e ≡ UnknownName) × (has_name (names_of (columns_of cs)) name ≡ false)
+IsLinePartCause cs value (repeated_name name) e = (e ≡ AmbiguousNames) × IsRepeated (names_of (columns_of cs)) name
 
 -- for a line, which is refused with this refusal
 abbrev pub IsLineCause : PlainSchema → PlainPart → Refusal → Type 0
@@ -113,8 +135,8 @@ IsLineCause s (line part text) e =
     (line_row s text ≡ Err e) × IfSome part (λ p. (value : Data) × (line_value text ≡ Ok value) × IsLinePartCause s.columns value p e)
 IsLineCause s part e = ⊥
 
--- a part is refused with this refusal: in CSV a name or the number of names of the header, the number of fields of the record, or the text of the
--- field; in JSON Lines the line, and its part if there is one
+-- a part is refused with this refusal: in CSV a column that is a list or a struct, a name or the number of names of the header, the number of fields
+-- of the record, or the text of the field; in JSON Lines the line, and its part if there is one
 abbrev pub IsCause : TextForm → PlainSchema → List ℕ → PlainPart → Refusal → Type 0
 IsCause (Csv null_text) s t part e = IsCsvCause null_text.now s.columns t part e
 IsCause JsonLines s t part e = IsLineCause s part e

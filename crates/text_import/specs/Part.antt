@@ -1,6 +1,5 @@
 -- The part of a text that is refused: the first one in a header or a record that is refused by itself, or a line with its refused part.
 use Rattle.std.specs.Prelude.{ℕ, ◌-◌, ◌==◌, bytes_eq, List, [], ◌∷◌, length, Option, Some, None, option_map, unwrap_or, Result, Ok, Err, string_bytes, slice_get, if◌then◌else◌}
-use Rattle.std.specs.List.{list_any}
 use Rattle.std.specs.Option.{option_and_then, option_or}
 use Rattle.serde_json.specs.Data.{Data, Items, Members}
 use Rattle.serde_json.specs.Data as json
@@ -15,19 +14,21 @@ use Rattle.text_import.specs.declared.part.RefusedPart.TheVariants as parts
 use Rattle.text_import.specs.declared.refusal.Refusal.{Refusal}
 use Rattle.text_import.specs.Flat.{field_cell}
 use Rattle.text_import.specs.Records.{is_nested_column, records_of}
-use Rattle.text_import.specs.Objects.{item_count, column_count, names_of, keys_of, repeats, line_value, lines_of}
-use Rattle.text_import.specs.ValuePart.{PlainValuePart, value_part_of, is_refused, first_unknown, part_by_place, part_by_name}
+use Rattle.text_import.specs.Objects.{item_count, column_count, names_of, keys_of, line_value, lines_of}
+use Rattle.text_import.specs.ValuePart.{PlainValuePart, value_part_of, is_refused, first_unknown, first_repeated, part_by_place, part_by_name}
 
 -- the refused part of a line of JSON Lines: a part of its value in a column, with the path from the line; an array whose number of items differs from
--- the number of columns; or a name that is not that of a column
+-- the number of columns; a name that is not that of a column; or one that two columns have
 pub data PlainLinePart : Type 0 where
   value_part : PlainValuePart → PlainLinePart
   other_count : (items columns : ℕ) → PlainLinePart
   unknown_name : (name : List ℕ) → PlainLinePart
+  repeated_name : (name : List ℕ) → PlainLinePart
 
--- in a CSV header, a name and the one that is wanted at its place, or the number of names; in a CSV record, the number of fields, or a field with its
--- text; or a line with its refused part
+-- for CSV, a column that is a list or a struct; in its header, a name and the one that is wanted at its place, or the number of names; in a record, the
+-- number of fields, or a field with its text; or a line with its refused part
 pub data PlainPart : Type 0 where
+  nested_column : (name : List ℕ) → PlainPart
   header_name : (found wanted : List ℕ) → PlainPart
   header_count : (names columns : ℕ) → PlainPart
   record_count : (fields columns : ℕ) → PlainPart
@@ -38,13 +39,20 @@ abbrev pub line_part_of : LinePart → PlainLinePart
 line_part_of (line_parts.Value part) = value_part (value_part_of part)
 line_part_of (line_parts.Count items columns) = other_count items columns
 line_part_of (line_parts.Name name) = unknown_name (string_bytes name)
+line_part_of (line_parts.RepeatedName name) = repeated_name (string_bytes name)
 
 abbrev pub part_of : RefusedPart → PlainPart
+part_of (parts.NestedColumn name) = nested_column (string_bytes name)
 part_of (parts.HeaderName found wanted) = header_name found.items (string_bytes wanted)
 part_of (parts.HeaderCount names columns) = header_count names columns
 part_of (parts.RecordCount fields columns) = record_count fields columns
 part_of (parts.Field name text) = field (string_bytes name) text.items
 part_of (parts.Line part text) = line (option_map line_part_of part) text.items
+
+-- the first column that is a list or a struct
+unfoldable pub nested_part : List Column → Option PlainPart
+nested_part [] = None
+nested_part (c ∷ cs) = if is_nested_column c then Some (nested_column (name_of_column c)) else nested_part cs
 
 -- the first name of a header that differs from that of the column at its place
 unfoldable pub other_name : List (List ℕ) → List Column → Option PlainPart
@@ -62,7 +70,7 @@ header_of t = unwrap_or (slice_get (records_of t) 0) []
 
 -- lists and structs are refused before the header is tested
 abbrev pub refused_header : List Column → List ℕ → Option PlainPart
-refused_header cs t = if list_any is_nested_column cs then None else refused_names cs (header_of t)
+refused_header cs t = option_or (nested_part cs) (refused_names cs (header_of t))
 
 -- the first field whose text is refused for its column
 unfoldable pub refused_field : List ℕ → List Column → List (List ℕ) → Option PlainPart
@@ -79,11 +87,11 @@ abbrev pub refused_in_items : Columns → Items → Option PlainLinePart
 refused_in_items cs ds =
     if item_count ds == column_count cs then option_map value_part (part_by_place [] cs ds) else Some (other_count (item_count ds) (column_count cs))
 
--- names are tested before any member; if two columns have the same name, no part of the line is refused by itself
+-- names are tested before any member, first those of the columns
 abbrev pub refused_in_members : Columns → Members → Option PlainLinePart
 refused_in_members cs ms =
-    if repeats (names_of cs) then None
-    else option_or (option_map unknown_name (first_unknown (names_of cs) (keys_of ms))) (option_map value_part (part_by_name [] cs ms))
+    option_or (option_map repeated_name (first_repeated (names_of cs)))
+    (option_or (option_map unknown_name (first_unknown (names_of cs) (keys_of ms))) (option_map value_part (part_by_name [] cs ms)))
 
 abbrev pub refused_in_value : Columns → Data → Option PlainLinePart
 refused_in_value cs (json.array ds) = refused_in_items cs ds

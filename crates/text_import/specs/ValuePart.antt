@@ -1,5 +1,5 @@
 -- The part of a JSON value that is refused when the value is read for a column: the first one in the order in which a cell is read (`Objects.antt`).
-use Rattle.std.specs.Prelude.{ℕ, ◌+◌, ◌++◌, ◌==◌, Bool, true, false, codes, decimal, not, List, [], find, Option, Some, None, option_map, Result, Ok, Err, string_bytes, if◌then◌else◌}
+use Rattle.std.specs.Prelude.{ℕ, ◌+◌, ◌++◌, ◌==◌, Bool, true, false, codes, decimal, not, List, [], ◌∷◌, find, Option, Some, None, option_map, Result, Ok, Err, string_bytes, if◌then◌else◌}
 use Rattle.std.specs.Option.{option_or}
 use Rattle.serde_json.specs.Data.{Data, Items, no_items, item, Members}
 use Rattle.serde_json.specs.Data as json
@@ -9,9 +9,9 @@ use Rattle.arrow_schema.specs.Parts.{name_of_column, is_nullable_column}
 use Rattle.cells.specs.Cell.{Cell}
 use Rattle.text_import.specs.declared.refusal.Refusal.{Refusal}
 use Rattle.text_import.specs.declared.value_part.Reason.{Reason}
-use Rattle.text_import.specs.declared.value_part.Reason.TheVariants.{Value, Missing, Unknown, Count}
+use Rattle.text_import.specs.declared.value_part.Reason.TheVariants.{Value, Missing, Unknown, Repeated, Count}
 use Rattle.text_import.specs.declared.value_part.ValuePart.{ValuePart}
-use Rattle.text_import.specs.Objects.{item_count, column_count, first_item, other_items, kind_in, has_name, names_of, keys_of, repeats}
+use Rattle.text_import.specs.Objects.{item_count, column_count, first_item, other_items, kind_in, has_name, names_of, keys_of}
 
 -- the refused part of a value: the path to it, which is empty for the value itself, and what is refused there
 pub record PlainValuePart : Type 0 where
@@ -75,12 +75,18 @@ member_part nullable f (Some d) = f d
 abbrev pub first_unknown : List (List ℕ) → List (List ℕ) → Option (List ℕ)
 first_unknown names keys = find (λ k. not (has_name names k)) keys
 
-abbrev pub unknown_part : List ℕ → PlainValuePart
-unknown_part name = record { path = dot ++ name; reason = Unknown }
+-- the first of these names that is also a later one
+abbrev pub first_repeated : List (List ℕ) → Option (List ℕ)
+first_repeated [] = None
+first_repeated (name ∷ names) = if has_name names name then Some name else first_repeated names
 
--- names are tested before any member; if two fields have the same name, the object is refused as a whole
+-- a name in an object or of a field of its struct
+abbrev pub at_name : Reason → List ℕ → PlainValuePart
+at_name reason name = record { path = dot ++ name; reason = reason }
+
+-- names are tested before any member, first those of the fields
 abbrev pub names_part : List (List ℕ) → Members → Option PlainValuePart
-names_part names ms = if repeats names then Some (itself Value) else option_map unknown_part (first_unknown names (keys_of ms))
+names_part names ms = option_or (option_map (at_name Repeated) (first_repeated names)) (option_map (at_name Unknown) (first_unknown names (keys_of ms)))
 
 abbrev pub struct_part : (Items → Option PlainValuePart) → (Members → Option PlainValuePart) → Data → Option PlainValuePart
 struct_part f g (json.array ds) = f ds

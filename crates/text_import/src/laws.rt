@@ -19,9 +19,10 @@ pub fn rows_of_texts_are_rows()
     ensures jsonl { (s : PlainSchema) (text : List ℕ) (rows : List (List Cell)) → jsonl_rows_of s text ≡ Ok rows → AllPass (is_row s) rows }
 {}
 
-/// The part of a refused text is the cause of the refusal: a name in the header differs from that of the table's column, or their numbers differ; the
-/// record has another number of fields, or the text of a field is refused for a column of its name; or the line is refused, and if a part of it is
-/// named, that is the cause: another number of items, an unknown name, or what is at the end of a path through its lists and structs.
+/// The part of a refused text is the cause of the refusal: for CSV a column of this name is a list or a struct; a name in the header differs from that of
+/// the table's column, or their numbers differ; the record has another number of fields, or the text of a field is refused for a column of its name; or
+/// the line is refused, and if a part of it is named, that is the cause: another number of items, a name that two columns have, an unknown name, or what
+/// is at the end of a path through its lists and structs.
 pub fn refused_parts_are_causes()
     ensures { (form : TextForm) (s : PlainSchema) (text : List ℕ) (r : Refused) (part : PlainPart) → rows_of_text form s text ≡ Err r
         → refused_part form s text r.number ≡ Some part → IsCause form s text part r.refusal }

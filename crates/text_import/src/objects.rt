@@ -15,7 +15,7 @@ ghost use Rattle.text_import.specs.Refusals.{given, refusal_of};
 ghost use Rattle.facts.specs.Outcomes.{Gives};
 ghost use Rattle.text_import.specs.Objects.{boolean_in, number_in, text_in, bytes_in, list_in, each_item, fixed_list_in, cell_in, kind_in, cells_by_place, cells_by_name, cells_in, absent, sized, column_count, has_name, names_of, keys_of, repeats, has_unknown, value_row};
 ghost use Rattle.facts.specs.Texts.{text_list};
-ghost use Rattle.text_import.specs.ValuePart.{first_unknown};
+ghost use Rattle.text_import.specs.ValuePart.{first_repeated, first_unknown};
 ghost use Rattle.text_import.specs.inner.Names.{IsText, member_of, tested};
 
 use crate::flat::{hex_cell, number_cell, own_text};
@@ -132,16 +132,25 @@ fn has_name(fields: &[Field], name: &str) -> bool
     false
 }
 
-// Returns whether two fields have the same name.
-pub(crate) fn repeat_names(fields: &[Field]) -> bool
-    ensures { result ≡ repeats (names_of (columns_of (map column_of fields.now))) }
+// Returns the first name that two fields have.
+pub(crate) fn first_repeated(fields: &[Field]) -> Option<&str>
+    ensures { IsText (first_repeated (names_of (columns_of (map column_of fields.now)))) result }
 {
     for (i, field) in fields.iter().enumerate() {
-        if has_name(&fields[i + 1..], name_of(field)) {
-            return true;
+        let name = name_of(field);
+        if has_name(&fields[i + 1..], name) {
+            return Some(name);
         }
     }
-    false
+    None
+}
+
+// Returns whether two fields have the same name.
+#[tactic(auto, using(crate::proofs::NameLemmas::repeated_found))]
+fn repeat_names(fields: &[Field]) -> bool
+    ensures { result ≡ repeats (names_of (columns_of (map column_of fields.now))) }
+{
+    first_repeated(fields).is_some()
 }
 
 // Returns the first key that is not the name of a field.

@@ -9,14 +9,14 @@ ghost use Rattle.arrow_schema.specs.View.{column_of, schema_of};
 ghost use Rattle.text_import.specs.Records.{records_of};
 ghost use Rattle.text_import.specs.Objects.{lines_of, line_value};
 ghost use Rattle.text_import.specs.ValuePart.{value_part_of};
-ghost use Rattle.text_import.specs.Part.{part_of, line_part_of, other_name, refused_names, refused_header, refused_field, refused_in_record, refused_in_items, refused_in_members, refused_in_value, refused_in_read, refused_in_line, numbered_part, refused_part};
+ghost use Rattle.text_import.specs.Part.{part_of, line_part_of, nested_part, other_name, refused_names, header_of, refused_header, refused_field, refused_in_record, refused_in_items, refused_in_members, refused_in_value, refused_in_read, refused_in_line, numbered_part, refused_part};
 ghost use Rattle.text_import.specs.Part as plain;
 
 use crate::TextForm;
 use crate::flat::field_cell;
 use crate::jsonl::{line_at, line_value};
-use crate::objects::{first_unknown, repeat_names};
-use crate::records::{has_nested, record_at, record_field};
+use crate::objects::{first_repeated, first_unknown};
+use crate::records::{is_nested, record_at, record_field};
 use crate::refusal::CellError;
 use crate::texts::{is_name_of, name_of};
 use crate::value_part::{ValuePart, is_refused, part_by_name, part_by_place};
@@ -34,11 +34,17 @@ pub enum LinePart {
     Count { items: usize, columns: usize },
     /// A name that is not that of a column.
     Name { name: String },
+    /// A name that two columns have. No line can be an object then.
+    RepeatedName { name: String },
 }
 
 /// The part of a text that is refused.
 #[derive(Drop)]
 pub enum RefusedPart {
+    /// A column that is a list or a struct, which CSV cannot express.
+    NestedColumn {
+        name: String,
+    },
     /// A name in a CSV header, and the different name of the column at its place.
     HeaderName {
         found: Vec<u8>,
@@ -64,6 +70,25 @@ pub enum RefusedPart {
         part: Option<LinePart>,
         text: Vec<u8>,
     },
+}
+
+fn nested_column(alloc: Global, field: &Field) -> Result<RefusedPart, AllocError>
+    ensures { IfOk result (λ part. part_of part ≡ plain.nested_column (name_of_column (column_of field.now))) }
+{
+    let name = String::from_str(alloc, name_of(field))?;
+    Ok(RefusedPart::NestedColumn { name })
+}
+
+// Returns the first column that is a list or a struct.
+fn nested_part(alloc: Global, fields: &[Field]) -> Result<Option<RefusedPart>, AllocError>
+    ensures { IfOk result (λ part. option_map part_of part ≡ nested_part (map column_of fields.now)) }
+{
+    for field in fields {
+        if is_nested(field) {
+            return Ok(Some(nested_column(alloc, field)?));
+        }
+    }
+    Ok(None)
 }
 
 fn name_part(alloc: Global, found: &[u8], field: &Field) -> Result<RefusedPart, AllocError>
@@ -119,6 +144,22 @@ fn refused_names(
 }
 
 // Returns the refused part of the header of a CSV text.
+fn part_of_header(
+    alloc: Global,
+    fields: &[Field],
+    text: &[u8],
+) -> Result<Option<RefusedPart>, AllocError>
+    ensures { IfOk result (λ part. option_map part_of part ≡ refused_names (map column_of fields.now) (header_of text.now)) }
+{
+    let mut header = ByteRecord::new(alloc);
+    if record_at(alloc, text, &mut header, 0)? {
+        refused_names(alloc, fields, &header)
+    } else {
+        Ok(header_count(0, fields.len()))
+    }
+}
+
+// Returns the first column that no CSV text has, or else the refused part of the header.
 fn refused_header(
     alloc: Global,
     fields: &[Field],
@@ -126,14 +167,9 @@ fn refused_header(
 ) -> Result<Option<RefusedPart>, AllocError>
     ensures { IfOk result (λ part. option_map part_of part ≡ refused_header (map column_of fields.now) text.now) }
 {
-    if has_nested(fields) {
-        return Ok(None);
-    }
-    let mut header = ByteRecord::new(alloc);
-    if record_at(alloc, text, &mut header, 0)? {
-        refused_names(alloc, fields, &header)
-    } else {
-        Ok(header_count(0, fields.len()))
+    match nested_part(alloc, fields)? {
+        Some(part) => Ok(Some(part)),
+        None => part_of_header(alloc, fields, text),
     }
 }
 
@@ -235,8 +271,10 @@ fn refused_in_members(
     ensures { IfOk result (λ part. option_map line_part_of part
         ≡ refused_in_members (columns_of (map column_of fields.now)) (members_view members.now.entries)) }
 {
-    if repeat_names(fields) {
-        return Ok(None);
+    if let Some(name) = first_repeated(fields) {
+        return Ok(Some(LinePart::RepeatedName {
+            name: String::from_str(alloc, name)?,
+        }));
     }
     if let Some(name) = first_unknown(fields, members) {
         return Ok(Some(LinePart::Name {
@@ -316,10 +354,11 @@ fn numbered_part(
 
 /// Returns the part of a text that is refused, for the number in the refusal of its rows.
 ///
-/// For CSV and the number 0, this is the first name of the header that differs from that of the column at its place, or the number of names if those
-/// that both have are equal; `None` if the table has lists or structs. For another number it is the number of fields in the record if it differs from
+/// For CSV and the number 0, this is the first column that is a list or a struct, or else the first name of the header that differs from that of the
+/// column at its place, or the number of names if those that both have are equal. For another number it is the number of fields in the record if it differs from
 /// the number of columns, or the first field whose text is refused for its column; `None` if every text is a cell. For JSON Lines it is the line with
-/// its refused part: the number of its items, its first unknown name, or the first part of a value that is refused for its column, with the path to it.
+/// its refused part: the number of its items, the first name that two columns have if it is an object, its first unknown name, or the first part of a
+/// value that is refused for its column, with the path to it.
 ///
 /// # Errors
 /// `AllocError` if memory was refused.

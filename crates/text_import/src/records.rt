@@ -68,13 +68,13 @@ pub fn read_next(reader: &mut Reader<&[u8]>, row: &mut ByteRecord) -> Result<boo
     Ok(found)
 }
 
-fn is_nested(field: &Field) -> bool
+pub(crate) fn is_nested(field: &Field) -> bool
     ensures { result ≡ is_nested_column (column_of field.now) }
 {
     field.data_type.is_nested()
 }
 
-pub(crate) fn has_nested(fields: &[Field]) -> bool
+fn has_nested(fields: &[Field]) -> bool
     ensures { result ≡ list_any is_nested_column (map column_of fields.now) }
 {
     for field in fields {

@@ -11,11 +11,10 @@ ghost use Rattle.facts.specs.Outcomes.{Gives};
 ghost use Rattle.text_import.specs.declared.refusal.Refusal.{Refusal};
 ghost use Rattle.text_import.specs.Refusals.{refusal_of};
 ghost use Rattle.text_import.specs.Objects.{column_count, kind_in, names_of};
-ghost use Rattle.text_import.specs.ValuePart as plain;
-ghost use Rattle.text_import.specs.ValuePart.{value_part_of, item_step, dot, below, itself, is_refused, flat_part, items_part, list_part, sized_part, fixed_list_part, names_part, struct_part, cell_part, kind_part, part_by_place, part_by_name};
+ghost use Rattle.text_import.specs.ValuePart.{value_part_of, item_step, dot, below, itself, at_name, is_refused, flat_part, items_part, list_part, sized_part, fixed_list_part, names_part, struct_part, cell_part, kind_part, part_by_place, part_by_name};
 ghost use Rattle.text_import.specs.inner.Names.{member_part_of};
 
-use crate::objects::{first_unknown, member, repeat_names, test_names, typed_in};
+use crate::objects::{first_repeated, first_unknown, member, test_names, typed_in};
 use crate::refusal::CellError;
 use crate::texts::name_of;
 use arrow_schema::{DataType, Field};
@@ -32,6 +31,8 @@ pub enum Reason {
     Missing,
     /// A name in an object that is not that of a field.
     Unknown,
+    /// A name that two fields of the struct have, which therefore takes no object.
+    Repeated,
     /// An array whose number of items is not that of the fields of its struct, or that of its fixed-size list.
     Count { items: usize, wanted: usize },
 }
@@ -64,12 +65,12 @@ fn itself(alloc: Global, reason: Reason) -> ValuePart
     }
 }
 
-fn unknown_part(alloc: Global, name: &str) -> Result<ValuePart, AllocError>
-    ensures { IfOk result (λ part. value_part_of part ≡ plain.unknown_part name.now) }
+fn at_name(alloc: Global, reason: Reason, name: &str) -> Result<ValuePart, AllocError>
+    ensures { IfOk result (λ part. value_part_of part ≡ at_name reason name.now) }
 {
     Ok(ValuePart {
         path: format!(in alloc; ".{name}")?,
-        reason: Reason::Unknown,
+        reason,
     })
 }
 
@@ -275,12 +276,12 @@ fn refused_names_part(
     ensures { IfOk result (λ part. option_map value_part_of part
         ≡ names_part (names_of (columns_of (map column_of fields.now))) (members_view members.now.entries)) }
 {
-    if repeat_names(fields) {
-        return Ok(Some(itself(alloc, Reason::Value)));
+    if let Some(name) = first_repeated(fields) {
+        return Ok(Some(at_name(alloc, Reason::Repeated, name)?));
     }
     match first_unknown(fields, members) {
         None => Ok(None),
-        Some(name) => Ok(Some(unknown_part(alloc, name)?)),
+        Some(name) => Ok(Some(at_name(alloc, Reason::Unknown, name)?)),
     }
 }
 
