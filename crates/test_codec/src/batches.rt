@@ -1,10 +1,9 @@
 // Tests of batches that are built from rows (batch_build). The expected values are worked out by hand from the standard (Arrow columnar format,
 // "Physical Memory Layout").
-use crate::made::{NotMade, assert_no_row, schema_of_columns, table_of_rows};
+use crate::made::{NotMade, assert_no_row, table_of_lines};
 use batch_build::{Buffer, BuiltBatch, BuiltDictionary, build};
 use columns::rows_can_be_built;
 use std::alloc::Global;
-use text_import::jsonl_rows;
 use values::Table;
 
 // The numbers of slots and of nulls of each node.
@@ -189,14 +188,6 @@ fn batches(part: usize) -> Option<&'static [Case]> {
     })
 }
 
-fn table_of(alloc: Global, fields: &[&str], row: &str) -> Result<Table, NotMade> {
-    let schema = schema_of_columns(alloc, fields)?;
-    match jsonl_rows(alloc, &schema, row.as_bytes()) {
-        Ok(rows) => table_of_rows(alloc, fields, rows),
-        Err(_) => Err(NotMade),
-    }
-}
-
 // Builds the batch of the first row of a table.
 fn batch_of_row(alloc: Global, table: &Table) -> Result<BuiltBatch<'_>, NotMade> {
     rows_can_be_built();
@@ -263,7 +254,7 @@ fn is_built_of(alloc: Global, table: &Table, case: &Case) -> Result<bool, NotMad
 }
 
 fn is_built(alloc: Global, case: &Case) -> Result<bool, NotMade> {
-    is_built_of(alloc, &table_of(alloc, case.0, case.1)?, case)
+    is_built_of(alloc, &table_of_lines(alloc, case.0, case.1)?, case)
 }
 
 fn wrongly_built(alloc: Global, cases: &[Case]) -> Result<Option<usize>, NotMade> {

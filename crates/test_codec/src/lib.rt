@@ -9,11 +9,21 @@ mod batches;
 #[cfg(test)]
 mod bitmaps;
 #[cfg(test)]
+mod dictionaries;
+#[cfg(test)]
+mod dictionary_batches;
+#[cfg(test)]
 mod made;
 #[cfg(test)]
 mod messages;
 #[cfg(test)]
+mod queries;
+#[cfg(test)]
 mod read_streams;
+#[cfg(test)]
+mod record_batches;
+#[cfg(test)]
+mod several_parts;
 #[cfg(test)]
 mod stream_bytes;
 #[cfg(test)]

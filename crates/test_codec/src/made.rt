@@ -3,6 +3,7 @@ use arrow_schema::Schema;
 use field_texts::{ParseError, parse_fields};
 use std::alloc::{AllocError, AllocFailed, Global};
 use std::process::Abort;
+use text_import::jsonl_rows;
 use values::{Row, Table, Value, ValueRef, Values};
 
 /// Nothing was made: memory was refused, or a row of a test does not have its form.
@@ -61,6 +62,15 @@ pub fn table_of_rows(alloc: Global, columns: &[&str], rows: Vec<Row>) -> Result<
         return Err(NotMade);
     }
     Table::new(alloc, schema, rows).map_err(|_| NotMade)
+}
+
+/// Makes the table of the rows of a text of JSON Lines.
+pub fn table_of_lines(alloc: Global, columns: &[&str], text: &str) -> Result<Table, NotMade> {
+    let schema = schema_of_columns(alloc, columns)?;
+    match jsonl_rows(alloc, &schema, text.as_bytes()) {
+        Ok(rows) => table_of_rows(alloc, columns, rows),
+        Err(_) => Err(NotMade),
+    }
 }
 
 // Returns whether a text is the one after `'`, or has the length in bytes that follows `#`.
