@@ -19,8 +19,8 @@ use Rattle.tables.specs.declared.refusal.Refusal.TheVariants as refusals
 use Rattle.tables.specs.Tables.{Tables}
 use Rattle.tables.specs.Verdict.{after}
 use Rattle.store.specs.declared.store.Store.{Store}
-use Rattle.store_changes.specs.declared.compacting.Compaction.{Compaction}
-use Rattle.store_changes.specs.declared.compacting.Compaction.TheVariants as compactions
+use Rattle.store_runs.specs.declared.compacting.Compaction.{Compaction}
+use Rattle.store_runs.specs.declared.compacting.Compaction.TheVariants as compactions
 use Rattle.store_runs.specs.Calls.{PlainReply, compact_call, done, nothing, refused, is_failure, counted, is_change, is_device_reply}
 use Rattle.store_runs.specs.Machine.{Setting, Machine, running}
 use Rattle.store_runs.specs.Steps.{Step}
@@ -32,7 +32,7 @@ use Rattle.store.specs.Exported.{AreExportable}
 use Rattle.store.specs.Reading.{OnlyReadsStore}
 use Rattle.store.specs.Applying.{GoesOn, EndsAs, IsKept, IsCarryingAtEachMoment, IsCarriedOnDisk}
 use Rattle.store.specs.Compacting.{reply_of}
-use Rattle.store_changes.specs.Compacting.{IsStep, UnreadsStep}
+use Rattle.store_runs.specs.Compacting.{IsStep, UnreadsStep}
 use Rattle.store_changes.specs.LawsBelow.{LawsBelow, TableLaws}
 use Rattle.store_changes.specs.ReadSegment.{FailsReading}
 use Rattle.store.proofs.Asked.{not_running, still}

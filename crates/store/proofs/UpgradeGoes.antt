@@ -32,7 +32,7 @@ use Rattle.store.specs.Exported.{AreExportable}
 use Rattle.store_runs.specs.Reading.{Unreads}
 use Rattle.store.specs.Reading.{OnlyReadsStore}
 use Rattle.store.specs.Applying.{GoesOn, EndsAs, IsKept, IsCarryingAtEachMoment, IsCarriedOnDisk}
-use Rattle.store_changes.specs.Digesting.{IsUpgrade, StopsReading}
+use Rattle.store_runs.specs.Digesting.{IsUpgrade, StopsReading}
 use Rattle.store_changes.specs.LawsBelow.{TableLaws}
 use Rattle.store_changes.specs.ReadSegment.{FailsReading}
 use Rattle.store_changes.specs.laws.Named.{entry_has}

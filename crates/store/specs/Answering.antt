@@ -34,8 +34,8 @@ use Rattle.store.specs.Applying.{GoesOn, IsApplied, IsKept, IsApplyingAtEachMome
 use Rattle.store.specs.Listing.{RefusesTables, RefusesSchema}
 use Rattle.store_runs.specs.Reading.{RefusesRead, ReadsTable, ended}
 use Rattle.store.specs.Reading.{OnlyReadsStore}
-use Rattle.store_changes.specs.declared.compacting.Compaction.{Compaction}
-use Rattle.store_changes.specs.declared.compacting.Compaction.TheVariants as compactions
+use Rattle.store_runs.specs.declared.compacting.Compaction.{Compaction}
+use Rattle.store_runs.specs.declared.compacting.Compaction.TheVariants as compactions
 use Rattle.store_changes.specs.Exchanging.{Shrinks}
 use Rattle.store.specs.Compacting.{step_reply, HasStepped, RefusesStep, IsSteppingAtEachMoment, HasSteppedOnDisk}
 use Rattle.store.specs.declared.upgrading.Upgraded.{Upgraded}

@@ -19,7 +19,7 @@ use Rattle.catalogue.specs.laws.Kept.{entry_is}
 use Rattle.commit.specs.Standing.{InSome}
 use Rattle.catalogue.specs.Edits.{with_digest, with_digests, entry_digested, digested}
 use Rattle.store_runs.specs.Held.{is_undamaged, bytes_of, rows_in_segment, segment_rows, joined_rows, rows_held, table_of_rows, table_held, with_held, tables_held}
-use Rattle.store_changes.specs.Digesting.{segments_of, AreDigests}
+use Rattle.store_runs.specs.Digesting.{segments_of, AreDigests}
 use Rattle.store_changes.specs.laws.Digests.{rows_undamaged}
 use Rattle.store_changes.specs.laws.ExchangedRuns.{run_of}
 use Rattle.store.specs.laws.Exported.{in_either}

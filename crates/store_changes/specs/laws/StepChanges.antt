@@ -28,8 +28,8 @@ use Rattle.catalogue.specs.laws.Changed.{found_passes, exchanged_is}
 use Rattle.commit.specs.Placing.{Takes, sectors_of as sectors_in}
 use Rattle.commit.specs.Standing.{InSome}
 use Rattle.commit.specs.laws.Placed.{took_length}
-use Rattle.store_changes.specs.declared.compacting.Compaction.{Compaction}
-use Rattle.store_changes.specs.declared.compacting.Compaction.TheVariants as compactions
+use Rattle.store_runs.specs.declared.compacting.Compaction.{Compaction}
+use Rattle.store_runs.specs.declared.compacting.Compaction.TheVariants as compactions
 use Rattle.pages.specs.Paging.{page_sizes, text_size, settled}
 use Rattle.pages.specs.laws.Sizes.{settled_sum}
 use Rattle.store_runs.specs.Held.{rows_held, tables_held}
@@ -39,7 +39,7 @@ use Rattle.commit.specs.declared.sector.FormatVersion.{FormatVersion}
 use Rattle.store_runs.specs.Carrying.{IsCarried, unplaced, asked_sizes, outline}
 use Rattle.store_runs.specs.Deciding.{pieces_put}
 use Rattle.store_changes.specs.Exchanging.{starts_sum, Shrinks}
-use Rattle.store_changes.specs.Compacting.{pair_of, is_one_piece, IsMerge, IsMove, IsStep}
+use Rattle.store_runs.specs.Compacting.{pair_of, is_one_piece, IsMerge, IsMove, IsStep}
 use Rattle.store_changes.specs.LawsBelow.{LawsBelow}
 use Rattle.store_changes.specs.laws.Changed.{streams_held}
 use Rattle.store_changes.specs.laws.Exchanged.{exchanged_held}

@@ -13,7 +13,7 @@ use Rattle.store_runs.specs.Calls.{done}
 use Rattle.store_runs.specs.Changes.{digest, CanChange}
 use Rattle.store_runs.specs.Deciding.{names_changed}
 use Rattle.store.specs.Fits.{listed_in}
-use Rattle.store_changes.specs.Digesting.{IsUpgrade}
+use Rattle.store_runs.specs.Digesting.{IsUpgrade}
 use Rattle.store.specs.Upgrading.{RefusesUpgrade}
 use Rattle.store.proofs.Asked.{is_running}
 use Rattle.store.proofs.ReadsStore.{fits_reading}
