@@ -37,7 +37,7 @@ pub record Steps {D : Type 0} {g : Ghosts D} (old : Store D g) (taken : Compacti
   -- on a store that lies on its disk each stop leaves the old state or the step's change carried out, and each table as it was; in the end it is carried out
   pub writes : g.tells ≡ true → IsOnDisk g.size g.story old → IsSteppingAtEachMoment g.size g.story g.tells old new
   pub written : g.tells ≡ true → IsOnDisk g.size g.story old → HasSteppedOnDisk g.size g.story g.tells old taken new
-  pub tables : g.tells ≡ true → IsOnDisk g.size g.story old → KeepsEachTable g.size g.story old new
+  pub each_table : g.tells ≡ true → IsOnDisk g.size g.story old → KeepsEachTable g.size g.story old new
 
 -- such steps, one after another
 abbrev pub StepsTo : {D : Type 0} {g : Ghosts D} → (old : Store D g) → List Compaction → (new : Store D g) → Type 0
@@ -50,7 +50,7 @@ pub record StopsBy {D : Type 0} {g : Ghosts D} (old : Store D g) (r : tables.Ref
   pub kept : IsKept old new
   pub reads : r ≢ refusals.Device → g.tells ≡ true → OnlyReads (g.story (device_of old)) (g.story (device_of new))
   pub writes : g.tells ≡ true → IsOnDisk g.size g.story old → IsSteppingAtEachMoment g.size g.story g.tells old new
-  pub tables : g.tells ≡ true → IsOnDisk g.size g.story old → KeepsEachTable g.size g.story old new
+  pub each_table : g.tells ≡ true → IsOnDisk g.size g.story old → KeepsEachTable g.size g.story old new
 
 -- the last step: nothing was left to do, and the store was only read; or it was refused
 abbrev pub EndsSteps : {D : Type 0} {g : Ghosts D} → (old : Store D g) → Result (Unit {0}) tables.Refusal → (new : Store D g) → Type 0

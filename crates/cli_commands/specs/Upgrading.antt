@@ -43,7 +43,7 @@ pub record AnswersUpgrade {D : Type 0} {g : Ghosts D} (size : D → ℕ) (story 
   -- on a store that lies on its disk each stop leaves the old state or the upgrade carried out, and each table as it was; once it is answered as done, it is
   pub writes : tells ≡ true → IsOnDisk size story old → IsUpgradingAtEachMoment size story tells old new
   pub written : IfOk answer (λ upgraded. upgraded ≡ Done → tells ≡ true → IsOnDisk size story old → HasUpgradedOnDisk size story tells old new)
-  pub tables : tells ≡ true → IsOnDisk size story old → KeepsEachTable size story old new
+  pub each_table : tells ≡ true → IsOnDisk size story old → KeepsEachTable size story old new
   -- the device keeps its size, its failure is counted, and the open exports stay as they are
   pub size_kept : size (device_of new) ≡ size (device_of old)
   pub count : failed (device_of new) ≡ counted (upgrade_ended answer) (failed (device_of old))

@@ -24,9 +24,12 @@ use Rattle.store_runs.specs.Carrying.{IsInUse, IsCarriedOut, HasNoChange}
 abbrev pub CommandDecides : (before : Disk) → PlainCommand → Commit → PlainCatalogue → PlainChange → Type 0
 CommandDecides before command k c change = IsDecided true (shown_image before) c command (Ok change)
 
--- a step of a compaction, or `None` if there is nothing to do
-abbrev pub StepDecides : (size : ℕ) → (pinned : List Run) → (before : Disk) → Compaction → Commit → PlainCatalogue → Option PlainChange → Type 0
-StepDecides size pinned before kind k c change = IsStep true (shown_image before) size (IsInUse k c pinned) c kind change
+-- a step of a compaction of this kind; `None` if there is nothing to do
+abbrev pub StepFinds : (size : ℕ) → (pinned : List Run) → (before : Disk) → Compaction → Commit → PlainCatalogue → Option PlainChange → Type 0
+StepFinds size pinned before kind k c change = IsStep true (shown_image before) size (IsInUse k c pinned) c kind change
+
+abbrev pub StepDecides : (size : ℕ) → (pinned : List Run) → (before : Disk) → Commit → PlainCatalogue → PlainChange → Type 0
+StepDecides size pinned before k c change = (kind : Compaction) × StepFinds size pinned before kind k c (Some change)
 
 -- an upgrade: of a store of version 1
 abbrev pub UpgradeDecides : (before : Disk) → Commit → PlainCatalogue → PlainChange → Type 0
@@ -46,12 +49,14 @@ TellsRoomOf size pinned c (refused r) before after = RoomFrom (origin_of r) size
 TellsRoomOf size pinned c _ before after = Unit {0}
 
 -- so did a step of a compaction, or it found nothing to do
+abbrev pub StepEnds : ℕ → (pinned : List Run) → Compaction → (before after : Disk) → Type 0
+StepEnds size pinned kind before after = IsCarriedOut size pinned before after (λ k c change. StepFinds size pinned before kind k c (Some change)) (Ok tt)
+
 abbrev pub TellsStep : ℕ → (pinned : List Run) → PlainReply → (before after : Disk) → Type 0
-TellsStep size pinned merged before after = IsCarriedOut size pinned before after (λ k c change. StepDecides size pinned before Merged k c (Some change)) (Ok tt)
-TellsStep size pinned moved before after = IsCarriedOut size pinned before after (λ k c change. StepDecides size pinned before Moved k c (Some change)) (Ok tt)
-TellsStep size pinned nothing before after = HasNoChange size before (λ k c. StepDecides size pinned before Nothing k c None)
-TellsStep size pinned (refused r) before after =
-    RoomFrom (origin_of r) size pinned before after (λ k c change. (kind : Compaction) × StepDecides size pinned before kind k c (Some change)) r
+TellsStep size pinned merged before after = StepEnds size pinned Merged before after
+TellsStep size pinned moved before after = StepEnds size pinned Moved before after
+TellsStep size pinned nothing before after = HasNoChange size before (λ k c. StepFinds size pinned before Nothing k c None)
+TellsStep size pinned (refused r) before after = RoomFrom (origin_of r) size pinned before after (StepDecides size pinned before) r
 TellsStep size pinned _ before after = Unit {0}
 
 -- so did an upgrade, or the store already was of version 2
