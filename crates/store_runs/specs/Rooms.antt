@@ -48,10 +48,11 @@ TellsRoomOf size pinned c done before after = IsCarriedOut size pinned before af
 TellsRoomOf size pinned c (refused r) before after = RoomFrom (origin_of r) size pinned before after (CommandDecides before c) r
 TellsRoomOf size pinned c _ before after = Unit {0}
 
--- so did a step of a compaction, or it found nothing to do
+-- a step of this kind was carried out
 abbrev pub StepEnds : ℕ → (pinned : List Run) → Compaction → (before after : Disk) → Type 0
 StepEnds size pinned kind before after = IsCarriedOut size pinned before after (λ k c change. StepFinds size pinned before kind k c (Some change)) (Ok tt)
 
+-- a step of a compaction was carried out, found nothing to do or found no room, by the same state
 abbrev pub TellsStep : ℕ → (pinned : List Run) → PlainReply → (before after : Disk) → Type 0
 TellsStep size pinned merged before after = StepEnds size pinned Merged before after
 TellsStep size pinned moved before after = StepEnds size pinned Moved before after
@@ -59,13 +60,14 @@ TellsStep size pinned nothing before after = HasNoChange size before (λ k c. St
 TellsStep size pinned (refused r) before after = RoomFrom (origin_of r) size pinned before after (StepDecides size pinned before) r
 TellsStep size pinned _ before after = Unit {0}
 
--- so did an upgrade, or the store already was of version 2
+-- an upgrade was carried out, found a store of version 2 or found no room
 abbrev pub TellsUpgrade : ℕ → (pinned : List Run) → PlainReply → (before after : Disk) → Type 0
 TellsUpgrade size pinned done before after = IsCarriedOut size pinned before after (UpgradeDecides before) (Ok tt)
 TellsUpgrade size pinned already before after = HasNoChange size before (λ k c. k.version ≡ Two)
 TellsUpgrade size pinned (refused r) before after = RoomFrom (origin_of r) size pinned before after (UpgradeDecides before) r
 TellsUpgrade size pinned _ before after = Unit {0}
 
+-- the other calls need no room
 abbrev pub TellsRoom : Setting → (pinned : List Run) → PlainCall → PlainReply → (before after : Disk) → Type 0
 TellsRoom s pinned (apply_call c) reply before after = TellsRoomOf s.size pinned c reply before after
 TellsRoom s pinned (stream_call c) reply before after = TellsRoomOf s.size pinned c reply before after
