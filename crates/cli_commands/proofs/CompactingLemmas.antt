@@ -19,10 +19,10 @@ use Rattle.tables.specs.Verdict.{after}
 use Rattle.tables.specs.declared.refusal.Limit.TheVariants as limits
 use Rattle.tables.specs.declared.refusal.Refusal as tables
 use Rattle.tables.specs.declared.refusal.Refusal.TheVariants as refusals
-use Rattle.store_changes.specs.declared.compacting.Compaction.{Compaction}
-use Rattle.store_changes.specs.declared.compacting.Compaction.TheVariants.{Merged, Moved, Nothing}
+use Rattle.store_runs.specs.declared.compacting.Compaction.{Compaction}
+use Rattle.store_runs.specs.declared.compacting.Compaction.TheVariants.{Merged, Moved, Nothing}
 use Rattle.store.specs.declared.store.Store.{Store}
-use Rattle.store.specs.Applying.{GoesOn}
+use Rattle.store.specs.Applying.{GoesOn, KeepsEachTable}
 use Rattle.store_runs.specs.Calls.{PlainCall, compact_call, PlainReply, nothing, refused, counted}
 use Rattle.store.specs.Compacting.{reply_of, step_reply, HasStepped, IsSteppingAtEachMoment, HasSteppedOnDisk}
 use Rattle.store_changes.specs.Exchanging.{Shrinks, ShrinkInTurn, AreOnDevice}
@@ -239,14 +239,15 @@ module _ {D : Type 0} {g : Ghosts D} where
       → ((Ok done ≡ Err refusals.Halted) ↔ (is_halted mid ≡ true)) → (is_halted mid ≡ false → (is_halted new ≡ true) ↔ (Ok done ≡ Err refusals.Device))
       → g.size (device_of new) ≡ g.size (device_of mid) → g.failed (device_of new) ≡ counted (step_reply (Ok done)) (g.failed (device_of mid)) → book_of new ≡ book_of mid
       → (g.tells ≡ true → IsOnDisk g.size g.story mid → IsSteppingAtEachMoment g.size g.story g.tells mid new)
-      → (done ≢ Nothing → g.tells ≡ true → IsOnDisk g.size g.story mid → HasSteppedOnDisk g.size g.story g.tells mid done new) → SoFar (count + 1) old new
-  so_far_more count old mid new done so did goes stepped shrinks halted_if halts size failures book writes written =
+      → (done ≢ Nothing → g.tells ≡ true → IsOnDisk g.size g.story mid → HasSteppedOnDisk g.size g.story g.tells mid done new)
+      → (g.tells ≡ true → IsOnDisk g.size g.story mid → KeepsEachTable g.size g.story mid new) → SoFar (count + 1) old new
+  so_far_more count old mid new done so did goes stepped shrinks halted_if halts size failures book writes written each =
       let on : is_halted mid ≡ false = is_on (is_halted mid) (λ h. err_differs done refusals.Halted (halted_if.1 h)) in
       let on_then : is_halted new ≡ false = is_on (is_halted new) (λ h. err_differs done refusals.Device ((halts on).0 h)) in
       record {
         taken = so.taken ++ done ∷ [];
         counted_so = steps_count so.taken done ∙ ap (λ (n : ℕ). n + 1) so.counted_so;
-        steps = steps_more old so.taken mid done new so.steps (record { did = did; stepped = stepped; shrinks = shrinks did; size = size; writes = writes; written = written did });
+        steps = steps_more old so.taken mid done new so.steps (record { did = did; stepped = stepped; shrinks = shrinks did; size = size; writes = writes; written = written did; each_table = each });
         size = size ∙ so.size;
         failures = failures ∙ no_failure done (g.failed (device_of mid)) ∙ so.failures;
         book = book ∙ so.book;

@@ -9,10 +9,10 @@ use Rattle.tables.specs.Tables.{Tables}
 use Rattle.tables.specs.Verdict.{after}
 use Rattle.tables.specs.declared.refusal.Refusal as tables
 use Rattle.tables.specs.declared.refusal.Refusal.TheVariants as refusals
-use Rattle.store_changes.specs.declared.compacting.Compaction.{Compaction}
-use Rattle.store_changes.specs.declared.compacting.Compaction.TheVariants.{Nothing}
+use Rattle.store_runs.specs.declared.compacting.Compaction.{Compaction}
+use Rattle.store_runs.specs.declared.compacting.Compaction.TheVariants.{Nothing}
 use Rattle.store.specs.declared.store.Store.{Store}
-use Rattle.store.specs.Applying.{IsKept}
+use Rattle.store.specs.Applying.{IsKept, KeepsEachTable}
 use Rattle.store_runs.specs.Calls.{PlainCall, compact_call, PlainReply, nothing, refused, counted}
 use Rattle.store.specs.Compacting.{reply_of, HasStepped, RefusesStep, IsSteppingAtEachMoment, HasSteppedOnDisk}
 use Rattle.store_changes.specs.Exchanging.{Shrinks}
@@ -34,9 +34,10 @@ pub record Steps {D : Type 0} {g : Ghosts D} (old : Store D g) (taken : Compacti
   pub stepped : HasStepped g.size g.story g.tells old taken new
   pub shrinks : Shrinks (listed_in old) (listed_in new)
   pub size : g.size (device_of new) ≡ g.size (device_of old)
-  -- on a store that lies on its disk each stop leaves the old state or the step's change carried out, and in the end it is carried out
+  -- on a store that lies on its disk each stop leaves the old state or the step's change carried out, and each table as it was; in the end it is carried out
   pub writes : g.tells ≡ true → IsOnDisk g.size g.story old → IsSteppingAtEachMoment g.size g.story g.tells old new
   pub written : g.tells ≡ true → IsOnDisk g.size g.story old → HasSteppedOnDisk g.size g.story g.tells old taken new
+  pub each_table : g.tells ≡ true → IsOnDisk g.size g.story old → KeepsEachTable g.size g.story old new
 
 -- such steps, one after another
 abbrev pub StepsTo : {D : Type 0} {g : Ghosts D} → (old : Store D g) → List Compaction → (new : Store D g) → Type 0
@@ -49,6 +50,7 @@ pub record StopsBy {D : Type 0} {g : Ghosts D} (old : Store D g) (r : tables.Ref
   pub kept : IsKept old new
   pub reads : r ≢ refusals.Device → g.tells ≡ true → OnlyReads (g.story (device_of old)) (g.story (device_of new))
   pub writes : g.tells ≡ true → IsOnDisk g.size g.story old → IsSteppingAtEachMoment g.size g.story g.tells old new
+  pub each_table : g.tells ≡ true → IsOnDisk g.size g.story old → KeepsEachTable g.size g.story old new
 
 -- the last step: nothing was left to do, and the store was only read; or it was refused
 abbrev pub EndsSteps : {D : Type 0} {g : Ghosts D} → (old : Store D g) → Result (Unit {0}) tables.Refusal → (new : Store D g) → Type 0

@@ -10,7 +10,7 @@ use Rattle.store.specs.declared.store.Store as stores
 use Rattle.store.specs.declared.upgrading.Upgraded.{Upgraded}
 use Rattle.store.specs.declared.upgrading.Upgraded.TheVariants.{Already, Done}
 use Rattle.store_runs.specs.Calls.{counted}
-use Rattle.store.specs.Applying.{IsKept}
+use Rattle.store.specs.Applying.{IsKept, KeepsEachTable}
 use Rattle.store.specs.Fits.{commit_of, device_of, is_halted, book_of, IsOnDisk}
 use Rattle.store.specs.Upgrading.{upgrade_ended, HasUpgraded, RefusesUpgrade, IsUpgradingAtEachMoment, HasUpgradedOnDisk}
 use Rattle.cli_refusals.specs.declared.refusal.Refusal.{Refusal}
@@ -40,9 +40,10 @@ pub record AnswersUpgrade {D : Type 0} {g : Ghosts D} (size : D → ℕ) (story 
   pub halted : (answer ≡ Err refusals.Halted) ↔ (is_halted old ≡ true)
   pub still : is_halted old ≡ true → new ≡ old
   pub halts : is_halted old ≡ false → (is_halted new ≡ true) ↔ (answer ≡ Err refusals.Device)
-  -- on a store that lies on its disk each stop leaves the old state or the upgrade carried out; once it is answered as done, it is
+  -- on a store that lies on its disk each stop leaves the old state or the upgrade carried out, and each table as it was; once it is answered as done, it is
   pub writes : tells ≡ true → IsOnDisk size story old → IsUpgradingAtEachMoment size story tells old new
   pub written : IfOk answer (λ upgraded. upgraded ≡ Done → tells ≡ true → IsOnDisk size story old → HasUpgradedOnDisk size story tells old new)
+  pub each_table : tells ≡ true → IsOnDisk size story old → KeepsEachTable size story old new
   -- the device keeps its size, its failure is counted, and the open exports stay as they are
   pub size_kept : size (device_of new) ≡ size (device_of old)
   pub count : failed (device_of new) ≡ counted (upgrade_ended answer) (failed (device_of old))

@@ -1,7 +1,7 @@
 // Compacts an open store.
 ghost use Rattle.std.specs.Prelude.{◌≡◌, ◌≢◌, List, length, Ok, Err, IfOk, IfErr, OnOk};
 ghost use Rattle.std.specs.Io.KnownBytes.{Appends};
-ghost use Rattle.store_changes.specs.declared.compacting.Compaction as steps;
+ghost use Rattle.store_runs.specs.declared.compacting.Compaction as steps;
 ghost use Rattle.cli_commands.specs.Compacting.{Compacted, Compacts, steps_text};
 
 use cli_refusals::Refusal;

@@ -28,7 +28,8 @@ use Rattle.pages.specs.Stored.{stored_reading}
 use Rattle.store_runs.specs.Machine.{pinned_by, Setting, Machine, running, halted, tables_now, has_written, AllowsEach, SparesKept}
 use Rattle.store.specs.Reading.{OnlyReadsStore}
 use Rattle.store_runs.specs.Reading.{ended}
-use Rattle.store_runs.specs.Runs.{Goes, TellsFound, TellsRoom}
+use Rattle.store_runs.specs.Runs.{Goes, TellsFound}
+use Rattle.store_runs.specs.Rooms.{TellsRoom}
 use Rattle.store_runs.specs.Steps.{Step, RefusesFrom}
 use Rattle.store.specs.Fits.{setting_of, StoreFits, commit_of, listed_in, IsOnDisk}
 use Rattle.store.specs.Applying.{EndsAs, IsKept, IsCarryingAtEachMoment, IsCarriedOnDisk, IsApplyingAtEachMoment, IsDoneOnDisk, GoesOn}

@@ -35,6 +35,7 @@ use Rattle.store_runs.specs.Calls.{apply_call, refused, counted}
 use Rattle.store_runs.specs.Machine.{pinned_by, Machine, running, tables_now, Allows, AllowsEach, has_written, SparesKept}
 use Rattle.store_runs.specs.Steps.{Step, RefusesFrom}
 use Rattle.store_runs.specs.Runs.{Goes}
+use Rattle.store_runs.specs.Rooms.{CommandDecides}
 use Rattle.pages.specs.Stored.{stored_reading}
 use Rattle.store.specs.declared.store.Store.{Store}
 use Rattle.store.specs.Fits.{book_of, setting_of, listed_in}
@@ -71,7 +72,7 @@ module _ (size : ℕ) (base : Tables) (m : Machine) (c : PlainCommand) (new : Ta
     refused_step s0 _ carried other = absurd carried
 
     pub refused_goes : (s0 : Story) (failed : ℕ) (r : Refusal) → LeavesOnly (Allows (setting_of size base) m) (now s0) → IsCarried size used k was change (Err r) k was → r ≢ refusals.Device
-        → IsCarriedOut size (pinned_by m) (now s0) (now s0) c (Err r) → Goes (setting_of size base) m (apply_call c) (refused r) s0 s0 failed failed m
+        → IsCarriedOut size (pinned_by m) (now s0) (now s0) (CommandDecides (now s0) c) (Err r) → Goes (setting_of size base) m (apply_call c) (refused r) s0 s0 failed failed m
     unfolding Step
     refused_goes s0 failed r allows carried other ended = record {
       step = refused_step s0 r carried other;
@@ -80,7 +81,7 @@ module _ (size : ℕ) (base : Tables) (m : Machine) (c : PlainCommand) (new : Ta
       quiet = λ no device. refl;
       counts = uncounted r failed other;
       tells = tt;
-      room = room_by (origin_of r) size (pinned_by m) (now s0) (now s0) c r ended;
+      room = room_by (origin_of r) size (pinned_by m) (now s0) (now s0) (CommandDecides (now s0) c) r (λ room. ended);
       spares = λ needs. stays (SparesKept m (now s0)) s0;
     }
 

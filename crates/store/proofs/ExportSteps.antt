@@ -39,7 +39,8 @@ use Rattle.store.specs.declared.store.Store.{Store}
 use Rattle.store_runs.specs.Calls.{PlainCall, open_export_call, export_next_call, close_export_call, PlainReply, done, export_is, piece_is, refused, is_device_reply}
 use Rattle.store_runs.specs.Machine.{Setting, Machine, Export, running, halted, tables_now, Allows, pinned_by, export_at, gave, is_of}
 use Rattle.store_runs.specs.Steps.{Step, IsExportOf}
-use Rattle.store_runs.specs.Runs.{TellsFound, TellsRoom}
+use Rattle.store_runs.specs.Runs.{TellsFound}
+use Rattle.store_runs.specs.Rooms.{TellsRoom}
 use Rattle.store_runs.specs.Held.{table_held, rows_each, rows_held, pieces_held, segment_rows}
 use Rattle.store.specs.Fits.{setting_of, StoreFits, IsSound, ExportFits, ExportsFit, book_of, commit_of, listed_in}
 use Rattle.store.specs.Applying.{GoesOn}

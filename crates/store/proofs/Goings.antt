@@ -24,6 +24,7 @@ use Rattle.store.specs.declared.store.Store.{Store}
 use Rattle.store_runs.specs.Calls.{apply_call, done, refused, counted}
 use Rattle.store_runs.specs.Machine.{holds, Setting, Machine, running, halted, tables_now, Allows, meanwhile, has_written, settle, halt}
 use Rattle.store_runs.specs.Steps.{Step}
+use Rattle.store_runs.specs.Rooms.{CommandDecides}
 use Rattle.store_runs.specs.Runs.{Goes}
 use Rattle.store_runs.specs.Held.{tables_held, held_tables, held_by}
 use Rattle.pages.specs.Stored.{stored_reading}
@@ -174,7 +175,7 @@ module _ {D : Type 0} {g : Ghosts D} (size : D → ℕ) (story : D → Story) (f
           quiet = λ no device. absurd (cc no);
           counts = count;
           tells = tt;
-          room = carried_out size story base m old sound c change (Ok tt) new.opened.commit (listed_in new) s1 decided
+          room = carried_out size story base m old sound (CommandDecides (now (story old.device)) c) change decided (Ok tt) new.opened.commit (listed_in new) s1
               (ap (standing stored_reading (size old.device)) (shown_is_synced s1 does.stands.quiet.shown) ∙ stands) carried;
           spares = λ needs. spares_in size story base m old new sound book exportable change carries;
         };
@@ -232,7 +233,7 @@ module _ {D : Type 0} {g : Ghosts D} (size : D → ℕ) (story : D → Story) (f
       → failed new.device ≡ failed old.device → new.halted ≡ false → IsKept old new → story new.device ≡ story old.device → GoesOn size story failed base m (apply_call c) (refused r) old new
   refused_on r carried other count quiet kept same =
       let stood = refused_goes (size old.device) base m c u on makes old.opened.commit (listed_in old) (IsUsedIn old.opened.map.entries) change (story old.device) (failed old.device) r fits.device.allows carried other
-      (refused_out size story base m old sound c change r decided carried) in
+      (refused_out size story base m old sound (CommandDecides (now (story old.device)) c) change decided r carried) in
       let disk : now (story new.device) ≡ now (story old.device) = ap now same in
       record {
         next = m;

@@ -19,6 +19,7 @@ mod StepReads
 mod Staying
 mod Stepped
 mod UpgradeGoes
+mod EachTable
 mod OpenExports
 mod ExportSteps
 mod ExportAnswers

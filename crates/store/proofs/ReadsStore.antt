@@ -27,7 +27,8 @@ use Rattle.store.specs.declared.store.Store.{Store}
 use Rattle.store_runs.specs.Calls.{PlainCall, read_call, export_call, PlainReply, refused, is_device_reply, may_be_done}
 use Rattle.store_runs.specs.Machine.{pinned_by, SparesKept, Setting, Machine, running, halted, halt, meanwhile, has_written, tables_now, Allows, AllowsEach}
 use Rattle.store_runs.specs.Steps.{Step, Stays, RefusesReading}
-use Rattle.store_runs.specs.Runs.{TellsFound, TellsRoom}
+use Rattle.store_runs.specs.Runs.{TellsFound}
+use Rattle.store_runs.specs.Rooms.{TellsRoom}
 use Rattle.store_runs.specs.Held.{tables_held, table_held}
 use Rattle.pages.specs.Stored.{stored_reading}
 use Rattle.store.specs.Fits.{book_of, setting_of, StoreFits, DeviceFits, ExportsFit, IsSound, listed_in}

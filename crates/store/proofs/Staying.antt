@@ -24,7 +24,8 @@ use Rattle.store.specs.declared.store.Store.{Store}
 use Rattle.store_runs.specs.Calls.{PlainCall, PlainReply, compact_call, upgrade_call, refused, counted, is_change, is_device_reply, may_be_done}
 use Rattle.store_runs.specs.Machine.{pinned_by, holds, Setting, Machine, running, halted, Allows, AllowsEach, SparesKept, meanwhile, has_written, halt}
 use Rattle.store_runs.specs.Steps.{Step}
-use Rattle.store_runs.specs.Runs.{Goes, TellsFound, TellsRoom}
+use Rattle.store_runs.specs.Runs.{Goes, TellsFound}
+use Rattle.store_runs.specs.Rooms.{TellsRoom}
 use Rattle.store_runs.specs.Held.{tables_held, held_tables, held_by}
 use Rattle.pages.specs.Stored.{stored_reading}
 use Rattle.store.specs.Fits.{book_of, setting_of, listed_in, ExportsFit, StoreFits, IsSound}
@@ -36,7 +37,7 @@ use Rattle.store.specs.Reading.{OnlyReadsStore}
 use Rattle.store.specs.Applying.{GoesOn, EndsAs, IsKept, IsCarryingAtEachMoment, IsCarriedOnDisk}
 use Rattle.store_changes.specs.OnDisk.{HasCarried, IsOldOrCarried, IsCarrying}
 use Rattle.store_changes.specs.laws.Frame.{held_is, same_tables}
-use Rattle.store.proofs.Asked.{not_less}
+use Rattle.store.proofs.Asked.{not_less, refused_elsewhere}
 use Rattle.store.proofs.StillFits.{fits_halted, fits_unwritten}
 use Rattle.store.proofs.ReadsStore.{moments_read, spared_reading}
 use Rattle.store.proofs.Spares.{spares_in, exports_on}
@@ -50,7 +51,6 @@ own_image d n = inl refl
 pub record Staying (call : PlainCall) : Type 0 where
   pub undoubted : (s : Setting) (m : Machine) (begun : Bool) (image : Image) → Allows s m image → Allows s (meanwhile call m begun) image
   pub off : (s : Setting) (m : Machine) (wrote : Bool) (image : Image) → Allows s m image → Allows s (halt call wrote m) image
-  pub room : (s : Setting) (pinned : List Run) (reply : PlainReply) (before after : Disk) → TellsRoom s pinned call reply before after
   pub failed : (s : Setting) (m : Machine) (wrote : Bool) → m.phase ≡ running → Step s m call (refused refusals.Device) wrote (halt call wrote m)
   pub epochs : (s : Setting) (m : Machine) → m.phase ≡ running → Step s m call (refused (refusals.TooMany limits.Epochs)) false m
   pub full : (s : Setting) (m : Machine) (count : ℕ) → m.phase ≡ running → Step s m call (refused (refusals.NoRoom count)) false m
@@ -71,7 +71,6 @@ unfolding Step
 compact_stays = record {
   undoubted = undoubted_compact;
   off = off_compact;
-  room = λ s pinned reply before after. tt;
   failed = λ s m wrote on. (on, refl);
   epochs = λ s m on. (on, (refl, refl));
   full = λ s m count on. (on, (refl, refl));
@@ -93,7 +92,6 @@ unfolding Step
 upgrade_stays = record {
   undoubted = undoubted_upgrade;
   off = off_upgrade;
-  room = λ s pinned reply before after. tt;
   failed = λ s m wrote on. (on, refl);
   epochs = λ s m on. (on, (refl, refl));
   full = λ s m count on. (on, (refl, refl));
@@ -164,9 +162,9 @@ module _ {D : Type 0} {g : Ghosts D} (size : D → ℕ) (story : D → Story) (f
   -- ---- how it ends
 
   pub changed_goes : (reply : PlainReply) → Step s m call reply true m → is_change call reply ≡ true → is_device_reply reply ≡ false → TellsFound s reply before → failed new.device ≡ failed old.device → new.halted ≡ false
-      → IsCarryingAtEachMoment size story old change new → IsCarriedOnDisk size story old change new → GoesOn size story failed base m call reply old new
+      → TellsRoom s (pinned_by m) call reply before (now (story new.device)) → IsCarryingAtEachMoment size story old change new → IsCarriedOnDisk size story old change new → GoesOn size story failed base m call reply old new
   unfolding Allows held_by
-  changed_goes reply step changes works found count quiet carries does =
+  changed_goes reply step changes works found count quiet room carries does =
       let s1 = now (story new.device) in
       let image = synced_image s1 in
       let last = (last_moment carries).leaves image (own_image s1) in
@@ -183,7 +181,7 @@ module _ {D : Type 0} {g : Ghosts D} (size : D → ℕ) (story : D → Story) (f
           quiet = λ no device. absurd (true≢false (sym changes ∙ no));
           counts = count ∙ sym (ap (λ (b : Bool). if b then min (failed old.device + 1) (2 ^ 64 - 1) else failed old.device) works);
           tells = found;
-          room = staying.room s (pinned_by m) reply before (now (story new.device));
+          room = room;
           spares = λ needs. spares_in size story base m old new sound book exportable change carries;
         };
         fits = record {
@@ -231,15 +229,15 @@ module _ {D : Type 0} {g : Ghosts D} (size : D → ℕ) (story : D → Story) (f
           quiet = λ no device. absurd (cc device);
           counts = count;
           tells = tt;
-          room = staying.room s (pinned_by m) (refused refusals.Device) before s1;
+          room = refused_elsewhere s (pinned_by m) call refusals.Device before s1 (λ is. cc is);
           spares = λ needs. spares_in size story base m old new sound book exportable change carries;
         };
         fits = fits_halted size story base m old new fits sized call wrote stopped settles;
       }
 
   refused_stays : (r : Refusal) → Step s m call (refused r) false m → is_device_reply (refused r) ≡ false → failed new.device ≡ failed old.device → new.halted ≡ false → IsKept old new
-      → story new.device ≡ story old.device → GoesOn size story failed base m call (refused r) old new
-  refused_stays r step works count quiet kept same =
+      → TellsRoom s (pinned_by m) call (refused r) before (now (story new.device)) → story new.device ≡ story old.device → GoesOn size story failed base m call (refused r) old new
+  refused_stays r step works count quiet kept room same =
       let disk : now (story new.device) ≡ before = ap now same in
       let moments : Grows (λ (d : Disk). d ≡ before) (story old.device) (story new.device) = subst (λ (t : Story). Grows (λ (d : Disk). d ≡ before) (story old.device) t) (sym same) (stays (λ (d : Disk). d ≡ before) (story old.device)) in
       record {
@@ -252,7 +250,7 @@ module _ {D : Type 0} {g : Ghosts D} (size : D → ℕ) (story : D → Story) (f
           quiet = λ no device. disk;
           counts = count ∙ sym (ap (λ (b : Bool). if b then min (failed old.device + 1) (2 ^ 64 - 1) else failed old.device) works);
           tells = tt;
-          room = staying.room s (pinned_by m) (refused r) before (now (story new.device));
+          room = room;
           spares = λ needs. spared_reading m (story old.device) (story new.device) moments;
         };
         fits = fits_unwritten size story base m old new fits sized m.exports m.next_id on quiet kept.0 kept.1 disk
@@ -260,15 +258,15 @@ module _ {D : Type 0} {g : Ghosts D} (size : D → ℕ) (story : D → Story) (f
       }
 
   -- however it is refused
-  pub refusal_goes : segment_count (outline old.opened.commit.version (listed_in old) change) ≤ MAX_SEGMENTS → (r : Refusal) → failed new.device ≡ counted (refused r) (failed old.device) → EndsAs size old (Ok change) (Err r) new
+  pub refusal_goes : segment_count (outline old.opened.commit.version (listed_in old) change) ≤ MAX_SEGMENTS → (r : Refusal) → failed new.device ≡ counted (refused r) (failed old.device) → EndsAs size old (Ok change) (Err r) new → TellsRoom s (pinned_by m) call (refused r) before (now (story new.device))
       → (new.halted ≡ is_device_reply (refused r)) → IsKept old new → (r ≢ refusals.Device → story new.device ≡ story old.device) → IsCarryingAtEachMoment size story old change new
       → GoesOn size story failed base m call (refused r) old new
-  refusal_goes few refusals.Device count carried halts kept quiet carries = failed_goes count halts carries
-  refusal_goes few (refusals.TooMany limits.Epochs) count carried halts kept quiet carries = refused_stays (refusals.TooMany limits.Epochs) (staying.epochs s m on) refl count halts kept (quiet (λ is. cc is))
-  refusal_goes few (refusals.TooMany limits.Segments) count carried halts kept quiet carries = absurd (let many = carried.1 in omega (arith, few, many))
-  refusal_goes few (refusals.NoRoom n) count carried halts kept quiet carries = refused_stays (refusals.NoRoom n) (staying.full s m n on) refl count halts kept (quiet (λ is. cc is))
-  refusal_goes few refusals.OutOfMemory count carried halts kept quiet carries = refused_stays refusals.OutOfMemory (staying.memory s m on) refl count halts kept (quiet (λ is. cc is))
-  refusal_goes few _ count carried halts kept quiet carries = absurd carried
+  refusal_goes few refusals.Device count carried room halts kept quiet carries = failed_goes count halts carries
+  refusal_goes few (refusals.TooMany limits.Epochs) count carried room halts kept quiet carries = refused_stays (refusals.TooMany limits.Epochs) (staying.epochs s m on) refl count halts kept room (quiet (λ is. cc is))
+  refusal_goes few (refusals.TooMany limits.Segments) count carried room halts kept quiet carries = absurd (let many = carried.1 in omega (arith, few, many))
+  refusal_goes few (refusals.NoRoom n) count carried room halts kept quiet carries = refused_stays (refusals.NoRoom n) (staying.full s m n on) refl count halts kept room (quiet (λ is. cc is))
+  refusal_goes few refusals.OutOfMemory count carried room halts kept quiet carries = refused_stays refusals.OutOfMemory (staying.memory s m on) refl count halts kept room (quiet (λ is. cc is))
+  refusal_goes few _ count carried room halts kept quiet carries = absurd carried
 
 -- ---- after the reads
 
@@ -293,7 +291,7 @@ module _ {D : Type 0} {g : Ghosts D} (size : D → ℕ) (story : D → Story) (f
           quiet = λ no device. own.quiet no device ∙ later;
           counts = own.counts ∙ ap (counted reply) (reads.device.count ∙ ap (λ (b : Bool). if b then min (failed old.device + 1) (2 ^ 64 - 1) else failed old.device) quiet);
           tells = found;
-          room = staying.room s (pinned_by m) reply (now (story old.device)) (now (story new.device));
+          room = subst (λ (d : Disk). TellsRoom s (pinned_by m) call reply d (now (story new.device))) later own.room;
           spares = λ needs. goes_on (spared_reading m (story old.device) (story mid.device) moments)
               (subst (λ (d : Disk). Grows (SparesKept m d) (story mid.device) (story new.device)) later (own.spares needs));
         };

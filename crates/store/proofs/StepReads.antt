@@ -17,7 +17,7 @@ use Rattle.tables.specs.Tables.{Tables}
 use Rattle.store_runs.specs.Held.{is_undamaged, bytes_of, rows_in_segment, segment_rows, joined_rows, rows_held, table_held, tables_held}
 use Rattle.store_runs.specs.Changes.{rows_under}
 use Rattle.store_runs.specs.Reading.{LacksBytes}
-use Rattle.store_changes.specs.Compacting.{pair_of, UnreadsPair, UnreadsInPairs, UnreadsMoving, UnreadsStep}
+use Rattle.store_runs.specs.Compacting.{pair_of, UnreadsPair, UnreadsInPairs, UnreadsMoving, UnreadsStep}
 use Rattle.store_changes.specs.LawsBelow.{TableLaws}
 use Rattle.store_changes.specs.ReadSegment.{FailsReading}
 use Rattle.store_changes.specs.laws.Changed.{rows_behind}

@@ -1,5 +1,5 @@
 -- A step of a compaction, in the words of the machine: whatever its change does, the tables stay as they are.
-use Rattle.std.specs.Prelude.{◌≡◌, ◌≢◌, ◌+◌, ◌-◌, ◌^◌, ℕ, min, Bool, true, false, ◌↔◌, List, Option, Some, Ok, Err, refl, if◌then◌else◌}
+use Rattle.std.specs.Prelude.{◌≡◌, ◌≢◌, ◌+◌, ◌-◌, ◌^◌, ℕ, min, Bool, true, false, ◌↔◌, List, Option, Some, None, Ok, Err, refl, if◌then◌else◌}
 use Rattle.std.proofs.Common.{sym, ap, ◌∙◌, subst}
 use Rattle.std.proofs.lemmas.Bool.{true≢false, false_from_ne_true}
 use Rattle.sector_dev.specs.Disk.{Disk, Story, Image, now, synced_image, shown_image}
@@ -10,21 +10,23 @@ use Rattle.segments.specs.Usages.{IsUsedIn}
 use Rattle.catalogue.specs.declared.entry.Segment.{Segment}
 use Rattle.catalogue.specs.Entries.{PlainCatalogue, runs_of}
 use Rattle.catalogue.specs.laws.Kept.{catalogue_is}
-use Rattle.commit.specs.Standing.{InSome}
+use Rattle.commit.specs.Standing.{rules, standing, InSome}
 use Rattle.commit.specs.declared.recovery.Opened.{Opened}
 use Rattle.catalogue.specs.View.{catalogue_of}
 use Rattle.pages.specs.declared.stored.StoredCatalogue.{StoredCatalogue}
+use Rattle.pages.specs.Stored.{stored_reading}
 use Rattle.tables.specs.declared.refusal.Refusal.{Refusal}
 use Rattle.tables.specs.declared.refusal.Refusal.TheVariants as refusals
 use Rattle.tables.specs.Tables.{Tables}
 use Rattle.tables.specs.Verdict.{after}
 use Rattle.store.specs.declared.store.Store.{Store}
-use Rattle.store_changes.specs.declared.compacting.Compaction.{Compaction}
-use Rattle.store_changes.specs.declared.compacting.Compaction.TheVariants as compactions
+use Rattle.store_runs.specs.declared.compacting.Compaction.{Compaction}
+use Rattle.store_runs.specs.declared.compacting.Compaction.TheVariants as compactions
 use Rattle.store_runs.specs.Calls.{PlainReply, compact_call, done, nothing, refused, is_failure, counted, is_change, is_device_reply}
-use Rattle.store_runs.specs.Machine.{Setting, Machine, running}
+use Rattle.store_runs.specs.Machine.{Setting, Machine, running, pinned_by}
 use Rattle.store_runs.specs.Steps.{Step}
 use Rattle.store_runs.specs.Runs.{TellsFound}
+use Rattle.store_runs.specs.Rooms.{StepFinds, StepDecides, StepEnds, TellsStep}
 use Rattle.store_runs.specs.Held.{tables_held}
 use Rattle.store.specs.Fits.{book_of, setting_of, listed_in, StoreFits}
 use Rattle.store_runs.specs.Changes.{PlainChange, edited, HoldsStreams}
@@ -32,15 +34,17 @@ use Rattle.store.specs.Exported.{AreExportable}
 use Rattle.store.specs.Reading.{OnlyReadsStore}
 use Rattle.store.specs.Applying.{GoesOn, EndsAs, IsKept, IsCarryingAtEachMoment, IsCarriedOnDisk}
 use Rattle.store.specs.Compacting.{reply_of}
-use Rattle.store_changes.specs.Compacting.{IsStep, UnreadsStep}
+use Rattle.store_runs.specs.Compacting.{IsStep, UnreadsStep}
 use Rattle.store_changes.specs.LawsBelow.{LawsBelow, TableLaws}
 use Rattle.store_changes.specs.ReadSegment.{FailsReading}
 use Rattle.store.proofs.Asked.{not_running, still}
 use Rattle.store.proofs.Applied.{is_device, refused_by}
 use Rattle.store_changes.specs.laws.Synced.{shown_is_synced}
+use Rattle.store_changes.specs.laws.Frame.{tables_by_each}
 use Rattle.store.proofs.ReadsStore.{stays_reading, halts_reading}
 use Rattle.store_changes.specs.laws.StepChanges.{step_keeps, step_few}
 use Rattle.store.proofs.StepReads.{step_fails}
+use Rattle.store.proofs.Roomed.{in_use, unchanged, carried_out, room_refused}
 use Rattle.store.proofs.Staying.{compact_stays, changed_goes, refusal_goes, goes_behind}
 
 -- something was done
@@ -69,6 +73,11 @@ done_found : (s : Setting) (done : Compaction) (d : Disk) → TellsFound s (repl
 done_found s compactions.Merged d = tt
 done_found s compactions.Moved d = tt
 done_found s compactions.Nothing d = tt
+
+done_told : (size : ℕ) (pinned : List Run) (done : Compaction) (before after : Disk) → IsDone done → StepEnds size pinned done before after → TellsStep size pinned (reply_of done) before after
+done_told size pinned compactions.Merged before after is ended = ended
+done_told size pinned compactions.Moved before after is ended = ended
+done_told size pinned compactions.Nothing before after is ended = absurd is
 
 -- ---- of a step that was found
 
@@ -106,17 +115,29 @@ module _ {D : Type 0} {g : Ghosts D} (size : D → ℕ) (story : D → Story) (f
       → HoldsStreams image others change.streams change.counts → tables_held image (edited (listed_in mid) change.edit others) ≡ tables_held image (listed_in mid)
   keeps image same others =
       let shown : shown_image (now (story mid.device)) ≡ synced_image (now (story mid.device)) = shown_is_synced (now (story mid.device)) (there.sound on).stands.quiet.shown in
-      step_keeps laws (listed_in mid) (catalogue_is (listed_in mid) mid.opened.catalogue.list.kept) tells told (shown_image (now (story mid.device))) image (λ n within. same n within ∙ ap (λ (i : Image). i n) (sym shown))
-      (size mid.device) (IsUsedIn mid.opened.map.entries) made change behind others
+      λ holds. tables_by_each image image (edited (listed_in mid) change.edit others) (listed_in mid)
+      (step_keeps laws (listed_in mid) (catalogue_is (listed_in mid) mid.opened.catalogue.list.kept) tells told (shown_image (now (story mid.device))) image (λ n within. same n within ∙ ap (λ (i : Image). i n) (sym shown))
+      (size mid.device) (IsUsedIn mid.opened.map.entries) made change behind others holds)
+
+  -- what was found, by the runs in use as the machine knows them
+  finds : StepFinds (size mid.device) (pinned_by m) (now (story mid.device)) made mid.opened.commit (listed_in mid) (Some change)
+  finds =
+      in_use size story base m mid (there.sound on) (λ used. IsStep true (shown_image (now (story mid.device))) (size mid.device) used (listed_in mid) made (Some change))
+      (subst (λ (t : Bool). IsStep t (shown_image (now (story mid.device))) (size mid.device) (IsUsedIn mid.opened.map.entries) (listed_in mid) made (Some change)) told behind)
 
   done_is : IsDone made
   done_is = is_done tells (shown_image (now (story mid.device))) (size mid.device) (IsUsedIn mid.opened.map.entries) (listed_in mid) made change behind
 
-  pub made_goes : failed new.device ≡ failed mid.device → new.halted ≡ false → IsCarriedOnDisk size story mid change new → GoesOn size story failed base m compact_call (reply_of made) old new
-  made_goes count quiet does =
+  pub made_goes : failed new.device ≡ failed mid.device → EndsAs size mid (Ok change) (Ok tt) new → new.halted ≡ false → IsCarriedOnDisk size story mid change new → GoesOn size story failed base m compact_call (reply_of made) old new
+  made_goes count carried quiet does =
+      let s1 = now (story new.device) in
+      let stands : standing stored_reading (size mid.device) (shown_image s1) ≡ rules new.opened.commit (listed_in new) =
+      ap (standing stored_reading (size mid.device)) (shown_is_synced s1 does.stands.quiet.shown) ∙ ap (λ (n : ℕ). standing stored_reading n (synced_image s1)) (sym sized) ∙ does.stands.found in
+      let ended : StepEnds (size mid.device) (pinned_by m) made (now (story mid.device)) s1 =
+      carried_out size story base m mid (there.sound on) (λ k c x. StepFinds (size mid.device) (pinned_by m) (now (story mid.device)) made k c (Some x)) change finds (Ok tt) new.opened.commit (listed_in new) s1 stands carried in
       goes_behind size story failed base m tells told old mid new compact_call compact_stays done (reply_of made) refl fits reads (done_found (setting_of (size old.device) base) made (now (story old.device)))
       (changed_goes size story failed base m mid new there on sized book exportable change compact_call compact_stays keeps (reply_of made) (done_step (setting_of (size mid.device) base) m made done_is on there.started) (done_changes made done_is)
-      (done_works made) (done_found (setting_of (size mid.device) base) made (now (story mid.device))) count quiet carries does)
+      (done_works made) (done_found (setting_of (size mid.device) base) made (now (story mid.device))) count quiet (done_told (size mid.device) (pinned_by m) made (now (story mid.device)) s1 done_is ended) carries does)
 
   pub refused_goes : (r : Refusal) → failed new.device ≡ counted (refused r) (failed mid.device) → EndsAs size mid (Ok change) (Err r) new → (new.halted ≡ true) ↔ (refused_by r ≡ Err refusals.Device) → IsKept mid new
       → (r ≢ refusals.Device → story new.device ≡ story mid.device) → GoesOn size story failed base m compact_call (refused r) old new
@@ -124,7 +145,7 @@ module _ {D : Type 0} {g : Ghosts D} (size : D → ℕ) (story : D → Story) (f
       goes_behind size story failed base m tells told old mid new compact_call compact_stays done (refused r) refl fits reads tt
       (refusal_goes size story failed base m mid new there on sized book exportable change compact_call compact_stays keeps
       (step_few mid.opened.commit.version (listed_in mid) (catalogue_is (listed_in mid) mid.opened.catalogue.list.kept) tells (shown_image (now (story mid.device))) (size mid.device) (IsUsedIn mid.opened.map.entries) made change behind)
-      r count carried (halts_by new.halted r halts) kept quiet carries)
+      r count carried (room_refused size story base m mid (there.sound on) (StepDecides (size mid.device) (pinned_by m) (now (story mid.device))) change (made, finds) r new carried kept quiet) (halts_by new.halted r halts) kept quiet carries)
 
 -- ---- nothing was decided
 
@@ -135,9 +156,15 @@ module _ {D : Type 0} {g : Ghosts D} (size : D → ℕ) (story : D → Story) (f
   off_goes off = still size story failed base m compact_call (refused refusals.Halted) old (not_running m.phase old.halted fits.phase off, (refl, refl)) refl fits tt tt
 
   -- there is nothing to do
-  pub none_goes : m.phase ≡ running → OnlyReadsStore size story failed tells done old new → GoesOn size story failed base m compact_call nothing old new
+  pub none_goes : m.phase ≡ running → IsStep tells (shown_image (now (story old.device))) (size old.device) (IsUsedIn old.opened.map.entries) (listed_in old) compactions.Nothing None
+      → OnlyReadsStore size story failed tells done old new → GoesOn size story failed base m compact_call nothing old new
   unfolding Step
-  none_goes on reads = stays_reading size story failed base m tells told old new fits compact_call nothing done refl refl tt tt (on, (refl, refl)) reads
+  none_goes on none reads =
+      let found : StepFinds (size old.device) (pinned_by m) (now (story old.device)) compactions.Nothing old.opened.commit (listed_in old) None =
+      in_use size story base m old (fits.sound on) (λ used. IsStep true (shown_image (now (story old.device))) (size old.device) used (listed_in old) compactions.Nothing None)
+      (subst (λ (t : Bool). IsStep t (shown_image (now (story old.device))) (size old.device) (IsUsedIn old.opened.map.entries) (listed_in old) compactions.Nothing None) told none) in
+      stays_reading size story failed base m tells told old new fits compact_call nothing done refl refl tt
+      (unchanged size story base m old (fits.sound on) (λ k c. StepFinds (size old.device) (pinned_by m) (now (story old.device)) compactions.Nothing k c None) found) (on, (refl, refl)) reads
 
   -- a segment that is read, where all are held
   pub unread_goes : TableLaws → m.phase ≡ running → (r : Refusal) → UnreadsStep tells (shown_image (now (story old.device))) (listed_in old) r → OnlyReadsStore size story failed tells (refused r) old new

@@ -12,10 +12,12 @@ use Rattle.catalogue.specs.View.{catalogue_of}
 use Rattle.catalogue.specs.laws.Changed.{found_passes}
 use Rattle.catalogue.specs.laws.Digests.{digested_count}
 use Rattle.catalogue.specs.laws.Kept.{entry_is, catalogue_is}
-use Rattle.commit.specs.Standing.{InSome}
+use Rattle.commit.specs.Standing.{rules, standing, InSome}
 use Rattle.commit.specs.declared.recovery.Opened.{Opened}
 use Rattle.commit.specs.declared.sector.FormatVersion.{FormatVersion}
+use Rattle.commit.specs.declared.sector.FormatVersion.TheVariants.{One, Two}
 use Rattle.pages.specs.declared.stored.StoredCatalogue.{StoredCatalogue}
+use Rattle.pages.specs.Stored.{stored_reading}
 use Rattle.tables.specs.declared.refusal.Refusal.{Refusal}
 use Rattle.tables.specs.declared.refusal.Refusal.TheVariants as refusals
 use Rattle.tables.specs.Tables.{Tables}
@@ -24,7 +26,8 @@ use Rattle.store.specs.declared.store.Store.{Store}
 use Rattle.store_runs.specs.Calls.{PlainReply, upgrade_call, done, already, refused, counted}
 use Rattle.store_runs.specs.Machine.{Setting, Machine, running}
 use Rattle.store_runs.specs.Steps.{Step}
-use Rattle.store_runs.specs.Held.{tables_held}
+use Rattle.store_runs.specs.Held.{tables_held, each_held}
+use Rattle.store_runs.specs.Rooms.{UpgradeDecides}
 use Rattle.store.specs.Fits.{book_of, setting_of, listed_in, StoreFits}
 use Rattle.store_runs.specs.Changes.{PlainChange, CanChange, IsChange, edited, HoldsStreams}
 use Rattle.store_runs.specs.Carrying.{outline}
@@ -32,16 +35,18 @@ use Rattle.store.specs.Exported.{AreExportable}
 use Rattle.store_runs.specs.Reading.{Unreads}
 use Rattle.store.specs.Reading.{OnlyReadsStore}
 use Rattle.store.specs.Applying.{GoesOn, EndsAs, IsKept, IsCarryingAtEachMoment, IsCarriedOnDisk}
-use Rattle.store_changes.specs.Digesting.{IsUpgrade, StopsReading}
+use Rattle.store_runs.specs.Digesting.{IsUpgrade, StopsReading}
 use Rattle.store_changes.specs.LawsBelow.{TableLaws}
 use Rattle.store_changes.specs.ReadSegment.{FailsReading}
 use Rattle.store_changes.specs.laws.Named.{entry_has}
-use Rattle.store.specs.laws.Upgraded.{digests_number, segments_number, digests_are, digests_held}
+use Rattle.store.specs.laws.Upgraded.{digests_number, segments_number, digests_are, digests_each}
 use Rattle.store.proofs.Asked.{not_running, still}
 use Rattle.store.proofs.Applied.{refused_by}
 use Rattle.store_changes.specs.laws.ReadTables.{unread_not_held, damaged_not_held}
 use Rattle.store_changes.specs.laws.Synced.{shown_is_synced}
+use Rattle.store_changes.specs.laws.Frame.{tables_by_each}
 use Rattle.store.proofs.ReadsStore.{stays_reading, halts_reading}
+use Rattle.store.proofs.Roomed.{unchanged, carried_out, room_refused}
 use Rattle.store.proofs.Staying.{upgrade_stays, changed_goes, refusal_goes, goes_behind}
 use Rattle.store_changes.specs.laws.StepParts.{at_name}
 use Rattle.store.proofs.Stepped.{halts_by}
@@ -63,11 +68,11 @@ module _ (tells : Bool) (image : Image) (c : PlainCatalogue) (change : PlainChan
   upgrade_few v k =
       subst (λ (x : PlainChange). segment_count (outline v c x) ≤ MAX_SEGMENTS) (sym u.is) (let most = k.segments in let count = digested_count c u.digests in omega (arith, most, count))
 
-  -- each image that has in the segments what reads showed has the same tables
+  -- each image that has in the segments what reads showed has the same of each table
   pub upgrade_keeps : tells ≡ true → IsCatalogue c → (other : Image) → ((n : ℕ) → InSome (runs_of c) n → other n ≡ image n) → (others : List Segment) → HoldsStreams other others change.streams change.counts
-      → tables_held other (edited c change.edit others) ≡ tables_held other c
+      → each_held other (edited c change.edit others) ≡ each_held other c
   upgrade_keeps told k other same others holds =
-      ap (λ (x : PlainChange). tables_held other (edited c x.edit others)) u.is ∙ digests_held tells told image other c u.digests k same u.own
+      ap (λ (x : PlainChange). each_held other (edited c x.edit others)) u.is ∙ digests_each tells told image other c u.digests k same u.own
 
 -- it is so of the store that was read
 pub upgrade_behind : {D : Type 0} {g : Ghosts D} (size : D → ℕ) (story : D → Story) (failed : D → ℕ) (tells : Bool) → tells ≡ true → (old mid : Store D g) (ends : PlainReply) → OnlyReadsStore size story failed tells ends old mid → (change : PlainChange)
@@ -85,10 +90,16 @@ made_step s m on started = (on, started, refl, refl)
 
 module _ {D : Type 0} {g : Ghosts D} (size : D → ℕ) (story : D → Story) (failed : D → ℕ) (base : Tables) (m : Machine) (tells : Bool) (told : tells ≡ true) (old mid new : Store D g)
     (fits : StoreFits size story base m old) (on : m.phase ≡ running) (there : StoreFits size story base m mid) (reads : OnlyReadsStore size story failed tells done old mid) (change : PlainChange)
-    (upgrade : IsUpgrade tells (shown_image (now (story old.device))) (listed_in old) change)
+    (first : old.opened.commit.version ≡ One) (upgrade : IsUpgrade tells (shown_image (now (story old.device))) (listed_in old) change)
     (sized : size new.device ≡ size mid.device) (book : book_of new ≡ book_of mid) (exportable : AreExportable (size mid.device) (book_of mid).exports) (carries : IsCarryingAtEachMoment size story mid change new) where
   behind : IsUpgrade tells (shown_image (now (story mid.device))) (listed_in mid) change
   behind = upgrade_behind size story failed tells told old mid done reads change upgrade
+
+  decides : UpgradeDecides (now (story mid.device)) mid.opened.commit (listed_in mid) change
+  decides = (
+    ap (λ (o : Opened StoredCatalogue). o.commit.version) reads.kept ∙ first,
+    subst (λ (t : Bool). IsUpgrade t (shown_image (now (story mid.device))) (listed_in mid) change) told behind,
+  )
 
   catalogue : IsCatalogue (listed_in mid)
   catalogue = catalogue_is (listed_in mid) mid.opened.catalogue.list.kept
@@ -97,19 +108,25 @@ module _ {D : Type 0} {g : Ghosts D} (size : D → ℕ) (story : D → Story) (f
       → HoldsStreams image others change.streams change.counts → tables_held image (edited (listed_in mid) change.edit others) ≡ tables_held image (listed_in mid)
   keeps image same others holds =
       let shown : shown_image (now (story mid.device)) ≡ synced_image (now (story mid.device)) = shown_is_synced (now (story mid.device)) (there.sound on).stands.quiet.shown in
-      upgrade_keeps tells (shown_image (now (story mid.device))) (listed_in mid) change behind told catalogue image (λ n within. same n within ∙ ap (λ (i : Image). i n) (sym shown)) others holds
+      tables_by_each image image (edited (listed_in mid) change.edit others) (listed_in mid)
+      (upgrade_keeps tells (shown_image (now (story mid.device))) (listed_in mid) change behind told catalogue image (λ n within. same n within ∙ ap (λ (i : Image). i n) (sym shown)) others holds)
 
-  pub upgraded_goes : failed new.device ≡ failed mid.device → new.halted ≡ false → IsCarriedOnDisk size story mid change new → GoesOn size story failed base m upgrade_call done old new
-  upgraded_goes count quiet does =
+  pub upgraded_goes : failed new.device ≡ failed mid.device → EndsAs size mid (Ok change) (Ok tt) new → new.halted ≡ false → IsCarriedOnDisk size story mid change new → GoesOn size story failed base m upgrade_call done old new
+  upgraded_goes count carried quiet does =
+      let s1 = now (story new.device) in
+      let stands : standing stored_reading (size mid.device) (shown_image s1) ≡ rules new.opened.commit (listed_in new) =
+      ap (standing stored_reading (size mid.device)) (shown_is_synced s1 does.stands.quiet.shown) ∙ ap (λ (n : ℕ). standing stored_reading n (synced_image s1)) (sym sized) ∙ does.stands.found in
       goes_behind size story failed base m tells told old mid new upgrade_call upgrade_stays done done refl fits reads tt
-      (changed_goes size story failed base m mid new there on sized book exportable change upgrade_call upgrade_stays keeps done (made_step (setting_of (size mid.device) base) m on there.started) refl refl tt count quiet carries does)
+      (changed_goes size story failed base m mid new there on sized book exportable change upgrade_call upgrade_stays keeps done (made_step (setting_of (size mid.device) base) m on there.started) refl refl tt count quiet
+      (carried_out size story base m mid (there.sound on) (UpgradeDecides (now (story mid.device))) change decides (Ok tt) new.opened.commit (listed_in new) s1 stands carried) carries does)
 
   pub unmade_goes : (r : Refusal) → failed new.device ≡ counted (refused r) (failed mid.device) → EndsAs size mid (Ok change) (Err r) new → (new.halted ≡ true) ↔ (refused_by r ≡ Err refusals.Device) → IsKept mid new
       → (r ≢ refusals.Device → story new.device ≡ story mid.device) → GoesOn size story failed base m upgrade_call (refused r) old new
   unmade_goes r count carried halts kept quiet =
       goes_behind size story failed base m tells told old mid new upgrade_call upgrade_stays done (refused r) refl fits reads tt
       (refusal_goes size story failed base m mid new there on sized book exportable change upgrade_call upgrade_stays keeps
-      (upgrade_few tells (shown_image (now (story mid.device))) (listed_in mid) change behind mid.opened.commit.version catalogue) r count carried (halts_by new.halted r halts) kept quiet carries)
+      (upgrade_few tells (shown_image (now (story mid.device))) (listed_in mid) change behind mid.opened.commit.version catalogue) r count carried
+      (room_refused size story base m mid (there.sound on) (UpgradeDecides (now (story mid.device))) change decides r new carried kept quiet) (halts_by new.halted r halts) kept quiet carries)
 
 -- ---- nothing was decided
 
@@ -141,9 +158,9 @@ module _ {D : Type 0} {g : Ghosts D} (size : D → ℕ) (story : D → Story) (f
   off_upgrade_goes off = still size story failed base m upgrade_call (refused refusals.Halted) old (not_running m.phase old.halted fits.phase off, (refl, refl)) refl fits tt tt
 
   -- one of version 2
-  pub already_goes : m.phase ≡ running → GoesOn size story failed base m upgrade_call already old old
+  pub already_goes : m.phase ≡ running → old.opened.commit.version ≡ Two → GoesOn size story failed base m upgrade_call already old old
   unfolding Step
-  already_goes on = still size story failed base m upgrade_call already old (on, (refl, refl)) refl fits tt tt
+  already_goes on two = still size story failed base m upgrade_call already old (on, (refl, refl)) refl fits tt (unchanged size story base m old (fits.sound on) (λ k c. k.version ≡ Two) two)
 
   -- a table that is read, where all are held
   pub stopped_goes : TableLaws → m.phase ≡ running → (r : Refusal) → StopsReading tells (shown_image (now (story old.device))) (listed_in old) r → OnlyReadsStore size story failed tells (refused r) old new

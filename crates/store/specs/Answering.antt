@@ -30,12 +30,12 @@ use Rattle.pages.specs.Stored.{stored_reading}
 use Rattle.store_runs.specs.Machine.{Machine}
 use Rattle.store.specs.Fits.{StoreFits, book_of, device_of, commit_of, listed_in, is_halted, IsOnDisk, FindsStore, FormatsStore, IsNewStore}
 use Rattle.store_runs.specs.Deciding.{reads_device}
-use Rattle.store.specs.Applying.{GoesOn, IsApplied, IsKept, IsApplyingAtEachMoment, IsDoneOnDisk}
+use Rattle.store.specs.Applying.{GoesOn, IsApplied, IsKept, IsApplyingAtEachMoment, IsDoneOnDisk, KeepsEachTable}
 use Rattle.store.specs.Listing.{RefusesTables, RefusesSchema}
 use Rattle.store_runs.specs.Reading.{RefusesRead, ReadsTable, ended}
 use Rattle.store.specs.Reading.{OnlyReadsStore}
-use Rattle.store_changes.specs.declared.compacting.Compaction.{Compaction}
-use Rattle.store_changes.specs.declared.compacting.Compaction.TheVariants as compactions
+use Rattle.store_runs.specs.declared.compacting.Compaction.{Compaction}
+use Rattle.store_runs.specs.declared.compacting.Compaction.TheVariants as compactions
 use Rattle.store_changes.specs.Exchanging.{Shrinks}
 use Rattle.store.specs.Compacting.{step_reply, HasStepped, RefusesStep, IsSteppingAtEachMoment, HasSteppedOnDisk}
 use Rattle.store.specs.declared.upgrading.Upgraded.{Upgraded}
@@ -191,6 +191,7 @@ pub record Compacts {D : Type 0} {g : Ghosts D} (size : D → ℕ) (story : D �
   pub halts : is_halted old ≡ false → (is_halted new ≡ true) ↔ (result ≡ Err refusals.Device)
   pub writes : tells ≡ true → IsOnDisk size story old → IsSteppingAtEachMoment size story tells old new
   pub written : IfOk result (λ done. done ≢ compactions.Nothing → tells ≡ true → IsOnDisk size story old → HasSteppedOnDisk size story tells old done new)
+  pub each_table : tells ≡ true → IsOnDisk size story old → KeepsEachTable size story old new
   pub book : book_of new ≡ book_of old
 
 abbrev pub AnswersCompact : {D : Type 0} {g : Ghosts D} → (size : D → ℕ) → (story : D → Story) → (failed : D → ℕ) → (tells : Bool) → Store D g → PlainReply → Store D g → Type 0
@@ -208,6 +209,7 @@ pub record Upgrades {D : Type 0} {g : Ghosts D} (size : D → ℕ) (story : D �
   pub halts : is_halted old ≡ false → (is_halted new ≡ true) ↔ (result ≡ Err refusals.Device)
   pub writes : tells ≡ true → IsOnDisk size story old → IsUpgradingAtEachMoment size story tells old new
   pub written : IfOk result (λ upgraded. upgraded ≡ upgradeds.Done → tells ≡ true → IsOnDisk size story old → HasUpgradedOnDisk size story tells old new)
+  pub each_table : tells ≡ true → IsOnDisk size story old → KeepsEachTable size story old new
   pub book : book_of new ≡ book_of old
 
 abbrev pub AnswersUpgrade : {D : Type 0} {g : Ghosts D} → (size : D → ℕ) → (story : D → Story) → (tells : Bool) → Store D g → PlainReply → Store D g → Type 0

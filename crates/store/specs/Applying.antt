@@ -1,9 +1,13 @@
 -- How commands are decided and carried out, and the state after each call of an open store.
 use Rattle.std.specs.Prelude.{◌≡◌, ◌⊎◌, ◌<◌, ℕ, Bool, Result, Ok, Err}
-use Rattle.sector_dev.specs.Disk.{Story, now, shown_image, synced_image}
-use Rattle.sector_dev.specs.Time.{Grows, OnlyReads}
+use Rattle.sector_dev.specs.Disk.{Image, Story, now, shown_image, synced_image}
+use Rattle.sector_dev.specs.Time.{Grows, LeavesOnly, OnlyReads}
 use Rattle.sector_dev.specs.declared.device.SectorDevice.{Ghosts}
 use Rattle.segments.specs.Usages.{IsUsedIn, SameUsages}
+use Rattle.catalogue.specs.Entries.{PlainCatalogue}
+use Rattle.commit.specs.declared.sector.Commit.{Commit}
+use Rattle.commit.specs.Standing.{rules, standing}
+use Rattle.pages.specs.Stored.{stored_reading}
 use Rattle.tables.specs.declared.refusal.Refusal.{Refusal}
 use Rattle.tables.specs.Tables.{Tables}
 use Rattle.tables.specs.Commands.{PlainCommand}
@@ -11,6 +15,7 @@ use Rattle.store.specs.declared.store.Store.{Store}
 use Rattle.store_runs.specs.Calls.{PlainCall, PlainReply}
 use Rattle.store_runs.specs.Machine.{Machine}
 use Rattle.store_runs.specs.Runs.{Goes}
+use Rattle.store_runs.specs.Held.{each_held}
 use Rattle.store.specs.Fits.{setting_of, StoreFits, device_of, commit_of, listed_in, IsOnDisk}
 use Rattle.store_runs.specs.Deciding.{IsAnswered}
 use Rattle.store_runs.specs.Changes.{PlainChange}
@@ -57,6 +62,18 @@ IsChangingAtEachMoment size story old Decides new =
 -- after it has carried one out
 abbrev pub IsChangedOnDisk : {D : Type 0} {g : Ghosts D} → (size : D → ℕ) → (story : D → Story) → (old : Store D g) → (PlainChange → Type 0) → (new : Store D g) → Type 0
 IsChangedOnDisk size story old Decides new = (change : PlainChange) × Decides change × IsCarriedOnDisk size story old change new
+
+-- an image holds each table that another image holds of this catalogue, also one that can't be read
+pub record HoldsSameTables (size : ℕ) (before : Image) (c : PlainCatalogue) (image : Image) : Type 0 where
+  pub commit : Commit
+  pub catalogue : PlainCatalogue
+  pub stands : standing stored_reading size image ≡ rules commit catalogue
+  pub same : each_held image catalogue ≡ each_held before c
+
+-- at each moment of a call of a store that lies on its disk a stop leaves each of its tables as it was
+abbrev pub KeepsEachTable : {D : Type 0} {g : Ghosts D} → (size : D → ℕ) → (story : D → Story) → (old new : Store D g) → Type 0
+KeepsEachTable size story old new =
+    Grows (LeavesOnly (HoldsSameTables (size (device_of old)) (synced_image (now (story (device_of old)))) (listed_in old))) (story (device_of old)) (story (device_of new))
 
 -- at each moment of a command of a store that lies on its disk
 abbrev pub IsApplyingAtEachMoment : {D : Type 0} {g : Ghosts D} → (size : D → ℕ) → (story : D → Story) → (old : Store D g) → PlainCommand

@@ -5,14 +5,14 @@ use Rattle.sector_dev.specs.declared.device.SectorDevice.{Ghosts}
 use Rattle.segments.specs.Usages.{IsUsedIn}
 use Rattle.tables.specs.declared.refusal.Refusal.{Refusal}
 use Rattle.tables.specs.declared.refusal.Refusal.TheVariants as refusals
-use Rattle.store_changes.specs.declared.compacting.Compaction.{Compaction}
-use Rattle.store_changes.specs.declared.compacting.Compaction.TheVariants as compactions
+use Rattle.store_runs.specs.declared.compacting.Compaction.{Compaction}
+use Rattle.store_runs.specs.declared.compacting.Compaction.TheVariants as compactions
 use Rattle.store.specs.declared.store.Store.{Store}
 use Rattle.store_runs.specs.Calls.{PlainReply, merged, moved, nothing, refused}
 use Rattle.store_runs.specs.Changes.{PlainChange}
 use Rattle.store.specs.Fits.{device_of, listed_in}
 use Rattle.store.specs.Applying.{EndsAs, IsChangingAtEachMoment, IsChangedOnDisk}
-use Rattle.store_changes.specs.Compacting.{IsStep, UnreadsStep}
+use Rattle.store_runs.specs.Compacting.{IsStep, UnreadsStep}
 
 -- as a reply
 abbrev pub reply_of : Compaction → PlainReply

@@ -3,12 +3,13 @@ use Rattle.std.specs.Prelude.{◌≡◌, ◌≤◌, ◌+◌, ◌&&◌, ◌++◌,
 use Rattle.sector_dev.specs.declared.device.SectorDevice.{Ghosts}
 use Rattle.segments.specs.declared.run.Run.{Run}
 use Rattle.segments.specs.Runs.{IsFree}
-use Rattle.segments.specs.Usages.{IsUsedIn, is_among}
+use Rattle.segments.specs.Usages.{is_among}
 use Rattle.catalogue.specs.Entries.{segment_count}
 use Rattle.commit.specs.Sector.{version_number}
 use Rattle.commit.specs.Standing.{used_runs, are_apart}
 use Rattle.export_book.specs.Book.{runs_kept}
 use Rattle.pages.specs.Stored.{stored_reading}
+use Rattle.store_runs.specs.Carrying.{IsInUse}
 use Rattle.store.specs.declared.store.Store.{Store}
 use Rattle.store.specs.declared.summary.Summary.{Summary}
 use Rattle.store.specs.Fits.{book_of, commit_of, listed_in}
@@ -37,6 +38,6 @@ pub record IsSummary {D : Type 0} {g : Ghosts D} (size : ℕ) (store : Store D g
   pub used : s.used ≡ used_sectors store
   pub kept : CountsKept (used_runs stored_reading (commit_of store) (listed_in store)) (runs_kept (book_of store).exports) s.kept
   pub free : s.used + s.free + s.kept ≡ size
-  pub largest : IsLargest size (IsUsedIn store.opened.map.entries) s.largest_free_run
+  pub largest : IsLargest size (IsInUse (commit_of store) (listed_in store) (runs_kept (book_of store).exports)) s.largest_free_run
   pub tables : s.tables ≡ length (listed_in store)
   pub segments : s.segments ≡ segment_count (listed_in store)

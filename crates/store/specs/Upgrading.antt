@@ -12,7 +12,7 @@ use Rattle.store_runs.specs.Calls.{PlainReply, done, already, refused}
 use Rattle.store_runs.specs.Changes.{PlainChange}
 use Rattle.store.specs.Fits.{device_of, commit_of, listed_in}
 use Rattle.store.specs.Applying.{EndsAs, IsChangingAtEachMoment, IsChangedOnDisk}
-use Rattle.store_changes.specs.Digesting.{IsUpgrade, StopsReading}
+use Rattle.store_runs.specs.Digesting.{IsUpgrade, StopsReading}
 
 -- as a reply
 abbrev pub upgrade_reply : Upgraded → PlainReply

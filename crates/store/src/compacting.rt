@@ -4,7 +4,7 @@ ghost use Rattle.sector_dev.specs.Disk.{now, shown_image};
 ghost use Rattle.sector_dev.specs.Time.{OnlyReads};
 ghost use Rattle.segments.specs.Usages.{IsUsedIn};
 ghost use Rattle.store_runs.specs.Reading.{ended};
-ghost use Rattle.store_changes.specs.Compacting.{UnreadsStep};
+ghost use Rattle.store_runs.specs.Compacting.{UnreadsStep};
 ghost use Rattle.store_changes.specs.Finding.{FindsStep};
 
 use crate::Store;
@@ -12,7 +12,8 @@ use crate::reading::halts;
 use ipc_encode::pieces_are_tables;
 use sector_dev::SectorDevice;
 use std::alloc::Global;
-use store_changes::{Compaction, Step, decide_step, laws_below};
+use store_changes::{Step, decide_step, laws_below};
+use store_runs::Compaction;
 use tables::Refusal;
 
 impl<D: SectorDevice> Store<D> {
@@ -22,7 +23,7 @@ impl<D: SectorDevice> Store<D> {
     ghost use Rattle.store_changes.specs.Exchanging.{Shrinks};
     ghost use Rattle.store.specs.Fits.{StoreFits, device_of, listed_in, book_of, is_halted, IsOnDisk};
     ghost use Rattle.store.specs.Reading.{OnlyReadsStore};
-    ghost use Rattle.store.specs.Applying.{GoesOn, IsKept};
+    ghost use Rattle.store.specs.Applying.{GoesOn, IsKept, KeepsEachTable};
     ghost use Rattle.store.specs.Compacting.{reply_of, step_reply, HasStepped, RefusesStep, IsSteppingAtEachMoment, HasSteppedOnDisk};
 
     // Returns what the next step does. Only reads.
@@ -72,6 +73,8 @@ impl<D: SectorDevice> Store<D> {
         ensures writes { D.tells ≡ true → IsOnDisk D.size D.story self.old → IsSteppingAtEachMoment D.size D.story D.tells self.old self.new }
         ensures written { IfOk result (λ done. done ≢ Compaction.Nothing → D.tells ≡ true → IsOnDisk D.size D.story self.old
             → HasSteppedOnDisk D.size D.story D.tells self.old done self.new) }
+        // Each table stays, also beside one that can't be read.
+        ensures tables { D.tells ≡ true → IsOnDisk D.size D.story self.old → KeepsEachTable D.size D.story self.old self.new }
         ensures size { D.size (device_of self.new) ≡ D.size (device_of self.old) }
         ensures count { D.failed (device_of self.new) ≡ counted (step_reply result) (D.failed (device_of self.old)) }
         ensures book { book_of self.new ≡ book_of self.old }

@@ -43,12 +43,11 @@ pub use running::{answer, run};
 pub use salvaging::LeftOut;
 pub use store::Store;
 pub use store_changes::{
-    Compaction, compactions_end, decisions_are_verdicts, rows_have_their_digest,
-    what_is_done_is_the_verdict,
+    compactions_end, decisions_are_verdicts, rows_have_their_digest, what_is_done_is_the_verdict,
 };
 pub use store_runs::{
-    a_stop_keeps_what_was_acknowledged, acknowledged_commands_are_settled, each_stop_is_allowed,
-    runs_go_on, runs_tell_no_damage, snapshots_give_their_table,
+    Compaction, a_stop_keeps_what_was_acknowledged, acknowledged_commands_are_settled,
+    each_stop_is_allowed, runs_go_on, runs_tell_no_damage, snapshots_give_their_table,
     undisturbed_runs_settle_what_was_acknowledged, undisturbed_runs_tell_no_failure,
     undisturbed_runs_tell_no_halt,
 };

@@ -5,7 +5,7 @@ ghost use Rattle.sector_dev.specs.Time.{OnlyReads};
 ghost use Rattle.cells.specs.Cell.{PlainTable};
 ghost use Rattle.catalogue.specs.Entries.{PlainEntry};
 ghost use Rattle.store_runs.specs.Reading.{IsRead, ended};
-ghost use Rattle.store_changes.specs.Digesting.{segments_of, AreDigests, StopsReading};
+ghost use Rattle.store_runs.specs.Digesting.{segments_of, AreDigests, StopsReading};
 
 use crate::Store;
 use crate::reading::halts;
@@ -31,7 +31,7 @@ impl<D: SectorDevice> Store<D> {
     ghost use Rattle.store_runs.specs.Machine.{Machine};
     ghost use Rattle.store.specs.Fits.{StoreFits, device_of, commit_of, listed_in, book_of, is_halted, IsOnDisk};
     ghost use Rattle.store.specs.Reading.{OnlyReadsStore};
-    ghost use Rattle.store.specs.Applying.{GoesOn, IsKept};
+    ghost use Rattle.store.specs.Applying.{GoesOn, IsKept, KeepsEachTable};
     ghost use Rattle.store.specs.Upgrading.{upgrade_reply, upgrade_ended, HasUpgraded, RefusesUpgrade, IsUpgradingAtEachMoment, HasUpgradedOnDisk};
 
     // Returns the digests of all segments. Only reads.
@@ -80,6 +80,8 @@ impl<D: SectorDevice> Store<D> {
         ensures writes { D.tells ≡ true → IsOnDisk D.size D.story self.old → IsUpgradingAtEachMoment D.size D.story D.tells self.old self.new }
         ensures written { IfOk result (λ upgraded. upgraded ≡ Upgraded.Done → D.tells ≡ true → IsOnDisk D.size D.story self.old
             → HasUpgradedOnDisk D.size D.story D.tells self.old self.new) }
+        // Each table stays, also beside one that can't be read.
+        ensures tables { D.tells ≡ true → IsOnDisk D.size D.story self.old → KeepsEachTable D.size D.story self.old self.new }
         ensures size { D.size (device_of self.new) ≡ D.size (device_of self.old) }
         ensures count { D.failed (device_of self.new) ≡ counted (upgrade_ended result) (D.failed (device_of self.old)) }
         ensures book { book_of self.new ≡ book_of self.old }

@@ -13,7 +13,7 @@ use Rattle.tables.specs.declared.refusal.Refusal.{Refusal}
 use Rattle.tables.specs.declared.refusal.Refusal.TheVariants as refusals
 use Rattle.store_runs.specs.Held.{is_undamaged, bytes_of}
 use Rattle.store_runs.specs.Reading.{IsCopy, LacksBytes, IsUnread, IsDamaged, IsRead, Unreads}
-use Rattle.store_changes.specs.Digesting.{segments_of, AreDigests, AreRead}
+use Rattle.store_runs.specs.Digesting.{segments_of, AreDigests, AreRead}
 use Rattle.store_changes.specs.inner.Digesting.{LacksCopy}
 use Rattle.store_changes.specs.laws.Digests.{copy_then}
 use Rattle.store_changes.proofs.StepFound.{last_then, below_or_at}

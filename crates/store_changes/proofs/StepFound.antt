@@ -22,7 +22,7 @@ use Rattle.store_changes.specs.declared.moving.Last.{Last}
 use Rattle.store_runs.specs.Held.{is_undamaged, bytes_of, table_held}
 use Rattle.store_runs.specs.Changes.{PlainChange}
 use Rattle.store_runs.specs.Reading.{LacksBytes, IsRead, IsUnread, IsDamaged}
-use Rattle.store_changes.specs.Compacting.{pair_of, StaysTwo, FirstStay, AllStay, IsMergeIn, IsLast, IsMove, UnreadsPair, UnreadsInPairs, UnreadsMoving}
+use Rattle.store_runs.specs.Compacting.{pair_of, StaysTwo, FirstStay, AllStay, IsMergeIn, IsLast, IsMove, UnreadsPair, UnreadsInPairs, UnreadsMoving}
 use Rattle.store_changes.specs.Finding.{UnreadsIn, later_of, IsLastIn, StandsIn, IsLastOf}
 use Rattle.store_changes.specs.laws.Digests.{copy_then, have_then}
 use Rattle.store_changes.specs.laws.ReadTables.{runs_on_device}

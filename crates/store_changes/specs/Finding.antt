@@ -11,10 +11,10 @@ use Rattle.tables.specs.declared.refusal.Refusal.{Refusal}
 use Rattle.store_changes.specs.declared.change.Change.{Change}
 use Rattle.store_changes.specs.declared.moving.Last.{Last}
 use Rattle.store_changes.specs.declared.compacting.Step.{Step}
-use Rattle.store_changes.specs.declared.compacting.Compaction.TheVariants.{Nothing}
+use Rattle.store_runs.specs.declared.compacting.Compaction.TheVariants.{Nothing}
 use Rattle.store_changes.specs.Change.{change_of}
 use Rattle.store_runs.specs.Reading.{IsRead}
-use Rattle.store_changes.specs.Compacting.{pair_of, is_one_piece, StaysTwo, FirstStay, AllStay, IsMergeIn, IsMerge, UnreadsPair, IsMove, IsLastStill, HasNone, IsStep}
+use Rattle.store_runs.specs.Compacting.{pair_of, is_one_piece, StaysTwo, FirstStay, AllStay, IsMergeIn, IsMerge, UnreadsPair, IsMove, IsLastStill, HasNone, IsStep}
 
 -- ---- pairs
 

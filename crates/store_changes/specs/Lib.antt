@@ -1,11 +1,9 @@
 pub mod Change
-pub mod Digesting
 pub mod Finding
 pub mod OnDisk
 pub mod ReadSegment
 pub mod Exchanging
 pub mod Under
-pub mod Compacting
 pub mod Verdicts
 pub mod Digests
 pub mod Tests

@@ -5,7 +5,7 @@ ghost use Rattle.segments.specs.Usages.{IsUsedIn};
 ghost use Rattle.catalogue.specs.Entries.{plain_entry, runs_of, IsCatalogue};
 ghost use Rattle.commit.specs.Standing.{is_size, all_on_device};
 ghost use Rattle.store_runs.specs.Reading.{OnlyReadsDevice, ended};
-ghost use Rattle.store_changes.specs.Compacting.{UnreadsStep};
+ghost use Rattle.store_runs.specs.Compacting.{UnreadsStep};
 ghost use Rattle.store_changes.specs.Finding.{FindsStep};
 
 use crate::change::Change;
@@ -15,18 +15,8 @@ use catalogue::TableEntry;
 use sector_dev::SectorDevice;
 use segments::FreeMap;
 use std::alloc::Global;
+use store_runs::Compaction;
 use tables::Refusal;
-
-/// The kind of a step of a compaction.
-#[derive(Clone, Copy, Debug, PartialEq, Eq)]
-pub enum Compaction {
-    /// Two neighbouring segments of a table are joined.
-    Merged,
-    /// The segment with the greatest start is moved to a lower start.
-    Moved,
-    /// There is nothing to do.
-    Nothing,
-}
 
 /// A step of a compaction, and the change that does it.
 #[derive(Drop)]

@@ -7,7 +7,7 @@ ghost use Rattle.cells.specs.Cell.{PlainTable};
 ghost use Rattle.catalogue.specs.Entries.{PlainEntry, plain_entry, is_segment, is_entry, runs_of, IsCatalogue};
 ghost use Rattle.commit.specs.Standing.{is_size, all_on_device};
 ghost use Rattle.store_runs.specs.Reading.{IsRead, Unreads, OnlyReadsDevice, ended};
-ghost use Rattle.store_changes.specs.Digesting.{segments_of, AreDigests, StopsReading};
+ghost use Rattle.store_runs.specs.Digesting.{segments_of, AreDigests, StopsReading};
 ghost use Rattle.store_changes.specs.ReadSegment.{runs_in};
 ghost use Rattle.store_changes.specs.inner.Digesting.{LacksCopy};
 

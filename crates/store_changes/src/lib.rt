@@ -20,7 +20,7 @@ mod table_builder;
 
 pub use appending::append_to_entry;
 pub use change::{Change, Edit, NewSegments, SegmentRows};
-pub use compacting::{Compaction, Step, decide_step};
+pub use compacting::{Step, decide_step};
 pub use deciding::{
     decide_create, decide_drop, decide_import, decide_rename, has_table, put_table, test_create,
 };

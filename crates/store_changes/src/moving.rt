@@ -9,7 +9,7 @@ ghost use Rattle.commit.specs.Standing.{is_size, all_on_device};
 ghost use Rattle.store_changes.specs.Change.{change_of};
 ghost use Rattle.store_runs.specs.Changes.{exchange};
 ghost use Rattle.store_runs.specs.Reading.{OnlyReadsDevice, ended};
-ghost use Rattle.store_changes.specs.Compacting.{UnreadsMoving};
+ghost use Rattle.store_runs.specs.Compacting.{UnreadsMoving};
 ghost use Rattle.store_changes.specs.Finding.{later_of, IsLastIn, IsLastOf, FindsMove};
 
 use crate::change::{Change, Edit, NewSegments};

@@ -9,7 +9,7 @@ ghost use Rattle.store_changes.specs.Change.{change_of};
 ghost use Rattle.store_runs.specs.Changes.{exchange};
 ghost use Rattle.store_runs.specs.Deciding.{pieces_put};
 ghost use Rattle.store_runs.specs.Reading.{IsRead, OnlyReadsDevice, ended};
-ghost use Rattle.store_changes.specs.Compacting.{pair_of, is_one_piece, UnreadsPair, UnreadsInPairs};
+ghost use Rattle.store_runs.specs.Compacting.{pair_of, is_one_piece, UnreadsPair, UnreadsInPairs};
 ghost use Rattle.store_changes.specs.ReadSegment.{runs_in};
 ghost use Rattle.store_changes.specs.Finding.{IsPair, FindsIn, UnreadsFew, UnreadsIn, FindsPair};
 

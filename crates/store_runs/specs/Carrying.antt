@@ -14,11 +14,9 @@ use Rattle.commit.specs.Standing.{rules, standing, used_runs}
 use Rattle.tables.specs.declared.refusal.Refusal.{Refusal}
 use Rattle.tables.specs.declared.refusal.Refusal.TheVariants as refusals
 use Rattle.tables.specs.declared.refusal.Limit.TheVariants as limits
-use Rattle.tables.specs.Commands.{PlainCommand}
 use Rattle.pages.specs.Stored.{stored_reading}
 use Rattle.pages.specs.Paging.{kind_of, page_sizes, text_size, settled}
 use Rattle.store_runs.specs.Changes.{PlainChange, version_after, digest_for, edited, placed_segments}
-use Rattle.store_runs.specs.Deciding.{IsDecided}
 
 -- new segments whose places are not known yet
 abbrev pub unplaced : FormatVersion → (streams : List (List ℕ)) → (counts : List ℕ) → List Segment
@@ -73,14 +71,22 @@ IsCarried size used k c change (Err _) k' c' = ⊥
 abbrev pub IsInUse : Commit → PlainCatalogue → (pinned : List Run) → Run → Type 0
 IsInUse k c pinned run = (is_among (used_runs stored_reading k c) run || is_among pinned run) ≡ true
 
--- how a command ended for which a change was decided, by what reads showed when it was called and after it
-pub record IsCarriedOut (size : ℕ) (pinned : List Run) (before after : Disk) (command : PlainCommand) (result : Result (Unit {0}) Refusal) : Type 0 where
+-- how a call ended that decided on a change, by what reads showed when it was called and after it: `Decides` holds for the commit, the catalogue and the change
+pub record IsCarriedOut (size : ℕ) (pinned : List Run) (before after : Disk) (Decides : Commit → PlainCatalogue → PlainChange → Type 0)
+    (result : Result (Unit {0}) Refusal) : Type 0 where
   pub commit : Commit
   pub catalogue : PlainCatalogue
   pub stood : standing stored_reading size (shown_image before) ≡ rules commit catalogue
   pub change : PlainChange
-  pub decides : IsDecided true (shown_image before) catalogue command (Ok change)
+  pub decides : Decides commit catalogue change
   pub new_commit : Commit
   pub new_catalogue : PlainCatalogue
   pub stands : standing stored_reading size (shown_image after) ≡ rules new_commit new_catalogue
   pub carried : IsCarried size (IsInUse commit catalogue pinned) commit catalogue change result new_commit new_catalogue
+
+-- a call that had nothing to change: `P` holds for the commit and the catalogue that reads showed when it was called
+pub record HasNoChange (size : ℕ) (before : Disk) (P : Commit → PlainCatalogue → Type 0) : Type 0 where
+  pub commit : Commit
+  pub catalogue : PlainCatalogue
+  pub stood : standing stored_reading size (shown_image before) ≡ rules commit catalogue
+  pub is : P commit catalogue

@@ -1,5 +1,5 @@
 -- The tables that an image holds, if each segment can be read.
-use Rattle.std.specs.Prelude.{◌==◌, ℕ, Bool, true, nat_eq, List, [], ◌∷◌, ◌++◌, length, Option, Some, None, option_map, Result, Ok, Err, if◌then◌else◌}
+use Rattle.std.specs.Prelude.{◌==◌, ℕ, Bool, true, nat_eq, List, [], ◌∷◌, ◌++◌, length, map, Option, Some, None, option_map, Result, Ok, Err, if◌then◌else◌}
 use Rattle.std.specs.List.{starts_with}
 use Rattle.std.specs.Str.{bytes_eq}
 use Rattle.sha2.specs.Sha256.{sha256}
@@ -14,7 +14,7 @@ use Rattle.ipc_write.specs.Written.{schema_message}
 use Rattle.ipc_canonical.specs.Canonical.{stream_parts}
 use Rattle.ipc_stream.specs.Meaning.{meaning}
 use Rattle.catalogue.specs.declared.entry.Segment.{Segment}
-use Rattle.catalogue.specs.Entries.{PlainEntry, PlainCatalogue}
+use Rattle.catalogue.specs.Entries.{PlainEntry, PlainCatalogue, row_count}
 use Rattle.commit.specs.Standing as standings
 use Rattle.commit.specs.Standing.{Standing, standing}
 use Rattle.pages.specs.Stored.{stored_reading}
@@ -100,6 +100,10 @@ with_held name (Some table) others = option_map (λ tables. with_table tables na
 unfoldable pub tables_held : Image → PlainCatalogue → Option Tables
 tables_held image [] = Some no_tables
 tables_held image (entry ∷ entries) = with_held entry.name (table_held image entry) (tables_held image entries)
+
+-- each table of a catalogue by itself: its name, its schema, the number of its rows, and the rows if they can be read
+abbrev pub each_held : Image → PlainCatalogue → List (List ℕ × PlainSchema × ℕ × Option (List (List Cell)))
+each_held image c = map (λ (e : PlainEntry). (e.name, e.schema, row_count e, rows_held e.schema e.segments image)) c
 
 abbrev pub held_tables : Option Tables → Held
 held_tables None = broken

@@ -10,6 +10,9 @@ pub mod Reached
 pub mod Held
 pub mod Changes
 pub mod Deciding
+pub mod Compacting
+pub mod Digesting
 pub mod Carrying
+pub mod Rooms
 pub mod Reading
 pub mod laws

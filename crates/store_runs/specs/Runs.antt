@@ -1,14 +1,10 @@
 -- Calls one after another.
-use Rattle.std.specs.Prelude.{◌≡◌, ◌≢◌, ℕ, true, false, List, [], ◌∷◌, Ok, Err}
+use Rattle.std.specs.Prelude.{◌≡◌, ◌≢◌, ℕ, true, false, List, [], ◌∷◌}
 use Rattle.sector_dev.specs.Disk.{Disk, Story, now, shown_image}
 use Rattle.sector_dev.specs.Time.{Grows, LeavesOnly}
-use Rattle.tables.specs.declared.refusal.Refusal.{Refusal}
-use Rattle.tables.specs.Refusals.{Origin, by_room, origin_of}
-use Rattle.tables.specs.Commands.{PlainCommand}
 use Rattle.commit.specs.declared.opening_refusal.OpeningRefusal.TheVariants as openings
-use Rattle.segments.specs.declared.run.Run.{Run as Sectors}
-use Rattle.store_runs.specs.Calls.{PlainCall, apply_call, stream_call, needs_store, PlainReply, done, refused, shut_by, is_device_reply, is_change, counted}
-use Rattle.store_runs.specs.Carrying.{IsCarriedOut}
+use Rattle.store_runs.specs.Calls.{PlainCall, needs_store, PlainReply, shut_by, is_device_reply, is_change, counted}
+use Rattle.store_runs.specs.Rooms.{TellsRoom}
 use Rattle.store_runs.specs.Machine.{no_store, Setting, Machine, Allows, AllowsEach, SparesKept, has_written, pinned_by}
 use Rattle.store_runs.specs.Steps.{Step}
 
@@ -17,22 +13,6 @@ abbrev pub TellsFound : Setting → PlainReply → Disk → Type 0
 TellsFound s (shut_by openings.AlreadyAStore) d = s.held (shown_image d) ≢ no_store
 TellsFound s (shut_by openings.NotAStore) d = s.held (shown_image d) ≡ no_store
 TellsFound s _ d = Unit {0}
-
--- the reason why there is no room for a command is true of the state when the call began
-abbrev pub RoomFrom : Origin → ℕ → (pinned : List Sectors) → (before after : Disk) → PlainCommand → Refusal → Type 0
-RoomFrom by_room size pinned before after c r = IsCarriedOut size pinned before after c (Err r)
-RoomFrom _ size pinned before after c r = Unit {0}
-
--- a command was applied, or found no room, by the state when the call began: its epoch, the number of segments after it, and the runs in use
-abbrev pub TellsRoomOf : ℕ → (pinned : List Sectors) → PlainCommand → PlainReply → (before after : Disk) → Type 0
-TellsRoomOf size pinned c done before after = IsCarriedOut size pinned before after c (Ok tt)
-TellsRoomOf size pinned c (refused r) before after = RoomFrom (origin_of r) size pinned before after c r
-TellsRoomOf size pinned c _ before after = Unit {0}
-
-abbrev pub TellsRoom : Setting → (pinned : List Sectors) → PlainCall → PlainReply → (before after : Disk) → Type 0
-TellsRoom s pinned (apply_call c) reply before after = TellsRoomOf s.size pinned c reply before after
-TellsRoom s pinned (stream_call c) reply before after = TellsRoomOf s.size pinned c reply before after
-TellsRoom s pinned _ reply before after = Unit {0}
 
 -- one call: its reply, how the machine continues, and what a stop during it and after it may leave. A call that did not succeed, or only reads, changes
 -- nothing, unless its device failed.

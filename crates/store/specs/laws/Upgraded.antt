@@ -1,5 +1,5 @@
 -- Adding digests to segments leaves the rows of their tables as they are, if they are the digests of the bytes in the segments.
-use Rattle.std.specs.Prelude.{◌≡◌, ◌++◌, ◌+◌, ℕ, Bool, true, List, [], ◌∷◌, length, map, take, drop, Some, refl}
+use Rattle.std.specs.Prelude.{◌≡◌, ◌++◌, ◌+◌, ℕ, Bool, true, List, [], ◌∷◌, length, map, take, drop, sum_by, Some, refl}
 use Rattle.std.specs.List.{list_all}
 use Rattle.std.proofs.Common.{inl, inr, ⊎_elim, sym, ap, ◌∙◌, subst, arith}
 use Rattle.std.proofs.lemmas.Bool.{and_parts, and_from, eq-eqb}
@@ -14,12 +14,12 @@ use Rattle.arrow_schema.specs.Column.{PlainSchema}
 use Rattle.catalogue.specs.declared.entry.Segment.{Segment}
 use Rattle.segments.specs.declared.run.Run.{Run}
 use Rattle.segments.specs.laws.ReadBack.{same_bytes}
-use Rattle.catalogue.specs.Entries.{PlainEntry, PlainCatalogue, is_digest, is_segment, is_entry, page_runs, runs_in, runs_of, segment_count, IsCatalogue}
+use Rattle.catalogue.specs.Entries.{PlainEntry, PlainCatalogue, is_digest, is_segment, is_entry, page_runs, runs_in, runs_of, row_count, segment_count, IsCatalogue}
 use Rattle.catalogue.specs.laws.Kept.{entry_is}
 use Rattle.commit.specs.Standing.{InSome}
 use Rattle.catalogue.specs.Edits.{with_digest, with_digests, entry_digested, digested}
-use Rattle.store_runs.specs.Held.{is_undamaged, bytes_of, rows_in_segment, segment_rows, joined_rows, rows_held, table_of_rows, table_held, with_held, tables_held}
-use Rattle.store_changes.specs.Digesting.{segments_of, AreDigests}
+use Rattle.store_runs.specs.Held.{is_undamaged, bytes_of, rows_in_segment, segment_rows, joined_rows, rows_held, each_held}
+use Rattle.store_runs.specs.Digesting.{segments_of, AreDigests}
 use Rattle.store_changes.specs.laws.Digests.{rows_undamaged}
 use Rattle.store_changes.specs.laws.ExchangedRuns.{run_of}
 use Rattle.store.specs.laws.Exported.{in_either}
@@ -70,13 +70,22 @@ rows_same image schema (g ∷ gs) [] own = absurd own
 rows_same image schema (g ∷ gs) (d ∷ ds) own =
     λ i. joined_rows (segment_same image schema g d own.0.0 own.0.1 own.0.2 own.0.3 i) (rows_same image schema gs ds own.1 i)
 
-pub digested_held : (image : Image) (c : PlainCatalogue) (ds : List (List ℕ)) → OwnDigests image (segments_of c) ds → tables_held image (digested c ds) ≡ tables_held image c
-unfolding digested tables_held
-digested_held image [] ds own = refl
-digested_held image (e ∷ es) ds own =
+-- as many as before
+same_number : (gs : List Segment) (ds : List (List ℕ)) → sum_by (λ (g : Segment). g.rows) (with_digests gs ds) ≡ sum_by (λ (g : Segment). g.rows) gs
+same_number [] ds = refl
+same_number (g ∷ gs) [] = omega (arith, same_number gs [], sum_by-cons (λ (x : Segment). x.rows) g (with_digests gs []), sum_by-cons (λ (x : Segment). x.rows) g gs)
+same_number (g ∷ gs) (d ∷ ds) =
+    omega (arith, same_number gs ds, sum_by-cons (λ (x : Segment). x.rows) (with_digest g d) (with_digests gs ds), sum_by-cons (λ (x : Segment). x.rows) g gs)
+
+pub digested_each : (image : Image) (c : PlainCatalogue) (ds : List (List ℕ)) → OwnDigests image (segments_of c) ds → each_held image (digested c ds) ≡ each_held image c
+unfolding digested
+digested_each image [] ds own = refl
+digested_each image (e ∷ es) ds own =
     let parts = own_parts image e.segments (segments_of es) ds own in
-    let one : table_held image (entry_digested e (take (length e.segments) ds)) ≡ table_held image e = ap (table_of_rows e.schema) (rows_same image e.schema e.segments (take (length e.segments) ds) parts.0) in
-    λ i. with_held e.name (one i) (digested_held image es (drop (length e.segments) ds) parts.1 i)
+    let own_ds = take (length e.segments) ds in
+    let number : row_count (entry_digested e own_ds) ≡ row_count e = same_number e.segments own_ds in
+    let rows = rows_same image e.schema e.segments own_ds parts.0 in
+    λ i. (e.name, e.schema, number i, rows i) ∷ digested_each image es (drop (length e.segments) ds) parts.1 i
 
 -- ---- from the digests of what was read
 
@@ -106,5 +115,5 @@ module _ (tells : Bool) (told : tells ≡ true) (shown image : Image) where
       let there : bytes_of g image ≡ bytes_of g shown = same_bytes image shown g.place.run.start g.place.bytes (λ j lt. same (g.place.run.start + j) (inl (omega arith, omega (arith, count, lt)))) in
       ((bytes, there ∙ are.0.1.held told, are.0.1.undamaged, are.0.2), each_own gs ds parts.1 (λ n within. same n (inr within)) are.1)
 
-  pub digests_held : (c : PlainCatalogue) (ds : List (List ℕ)) → IsCatalogue c → ((n : ℕ) → InSome (runs_of c) n → image n ≡ shown n) → AreDigests tells shown (segments_of c) ds → tables_held image (digested c ds) ≡ tables_held image c
-  digests_held c ds k same are = digested_held image c ds (each_own (segments_of c) ds (segments_sound c k.entries) (λ n within. same n (own_sectors c n within)) are)
+  pub digests_each : (c : PlainCatalogue) (ds : List (List ℕ)) → IsCatalogue c → ((n : ℕ) → InSome (runs_of c) n → image n ≡ shown n) → AreDigests tells shown (segments_of c) ds → each_held image (digested c ds) ≡ each_held image c
+  digests_each c ds k same are = digested_each image c ds (each_own (segments_of c) ds (segments_sound c k.entries) (λ n within. same n (own_sectors c n within)) are)

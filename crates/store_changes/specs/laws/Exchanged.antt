@@ -1,15 +1,24 @@
 -- Segments that are exchanged for others with the same rows leave the tables as they are.
-use Rattle.std.specs.Prelude.{◌≡◌, ◌++◌, ℕ, List, take, drop, Option, Some, None}
-use Rattle.std.proofs.Common.{sym, ap, ◌∙◌, take-append-drop}
+use Rattle.std.specs.Prelude.{◌≡◌, ◌++◌, ◌+◌, ℕ, List, take, drop, sum_by, Option, Some, None}
+use Rattle.std.proofs.Common.{sym, ap, ◌∙◌, arith, take-append-drop}
+use Rattle.std.proofs.lemmas.List.Sums.{sum_by-append}
 use Rattle.sector_dev.specs.Disk.{Image}
 use Rattle.arrow_schema.specs.Column.{PlainSchema}
 use Rattle.cells.specs.Cell.{Cell}
 use Rattle.catalogue.specs.declared.entry.Segment.{Segment}
 use Rattle.catalogue.specs.Entries.{PlainEntry, PlainCatalogue}
-use Rattle.catalogue.specs.Edits.{with_segments, from_place, with_others, with_exchanged}
-use Rattle.store_runs.specs.Held.{joined_rows, rows_held, tables_held}
+use Rattle.catalogue.specs.Edits.{entry_of, with_segments, from_place, with_others, with_exchanged}
+use Rattle.catalogue.specs.laws.Changed.{parted, exchanged_is}
+use Rattle.store_runs.specs.Held.{joined_rows, rows_held, tables_held, each_held}
 use Rattle.store_changes.specs.Exchanging.{HoldsSame}
-use Rattle.store_changes.specs.laws.Changed.{rows_behind, same_with}
+use Rattle.store_changes.specs.laws.Changed.{rows_behind, same_with, each_with}
+
+-- how many rows are in segments
+abbrev pub row_sum : List Segment → ℕ
+row_sum gs = sum_by (λ (g : Segment). g.rows) gs
+
+row_sum_both : (a b : List Segment) → row_sum (a ++ b) ≡ row_sum a + row_sum b
+row_sum_both a b = sum_by-append (λ (g : Segment). g.rows) a b
 
 module _ (image : Image) where
   -- the rows of all
@@ -32,3 +41,20 @@ module _ (image : Image) where
       let e = has.entry in
       ap (λ (o : Option PlainEntry). tables_held image (elim o [ None ↦ c | Some x ↦ with_segments c name (with_others x.segments place count others) ])) has.found
       ∙ same_with image c name e (with_others e.segments place count others) has.found (same_rows e.schema e.segments others place count has.same)
+
+  -- the number of all
+  same_count : (segments others : List Segment) (place count : ℕ) → row_sum others ≡ row_sum (from_place segments place count) → row_sum (with_others segments place count others) ≡ row_sum segments
+  same_count segments others place count same =
+      let front = take place segments in
+      let gone = from_place segments place count in
+      let rest = drop count (drop place segments) in
+      let whole : row_sum (front ++ (gone ++ rest)) ≡ row_sum segments = ap row_sum (sym (parted segments place count)) in
+      omega (arith, same, whole, row_sum_both front (gone ++ rest), row_sum_both gone rest, row_sum_both front (others ++ rest), row_sum_both others rest)
+
+  -- each table by itself, if there are as many rows
+  pub exchanged_each : (c : PlainCatalogue) (name : List ℕ) (e : PlainEntry) → entry_of c name ≡ Some e → (place count : ℕ) (others : List Segment)
+      → rows_held e.schema others image ≡ rows_held e.schema (from_place e.segments place count) image → row_sum others ≡ row_sum (from_place e.segments place count)
+      → each_held image (with_exchanged c name place count others) ≡ each_held image c
+  exchanged_each c name e found place count others same many =
+      ap (each_held image) (exchanged_is c name e found place count others)
+      ∙ each_with image c name e (with_others e.segments place count others) found (same_rows e.schema e.segments others place count same) (same_count e.segments others place count many)

@@ -1,20 +1,22 @@
 -- What an image holds depends on the runs of its catalogue alone.
-use Rattle.std.specs.Prelude.{◌≡◌, ◌≤◌, ◌<◌, ◌+◌, ◌^◌, ◌==◌, ◌&&◌, ℕ, true, nat_le, nat_lt, List, [], ◌∷◌, ◌++◌, map, refl}
+use Rattle.std.specs.Prelude.{◌≡◌, ◌≤◌, ◌<◌, ◌+◌, ◌^◌, ◌==◌, ◌&&◌, ℕ, true, nat_le, nat_lt, List, [], ◌∷◌, ◌++◌, map, Option, Some, refl}
 use Rattle.std.specs.List.{list_all}
-use Rattle.std.proofs.Common.{inl, inr, ap, arith}
+use Rattle.std.proofs.Common.{inl, inr, sym, ap, ◌∙◌, arith}
 use Rattle.std.proofs.lemmas.Bool.{and_parts, eqb-true}
 use Rattle.sector_dev.specs.Disk.{Image}
 use Rattle.segments.specs.Sectors.{sector_count}
 use Rattle.segments.specs.laws.ReadBack.{same_bytes}
 use Rattle.segments.specs.declared.run.Run.{Run}
 use Rattle.arrow_schema.specs.Column.{PlainSchema}
+use Rattle.cells.specs.Cell.{Cell}
 use Rattle.catalogue.specs.declared.entry.Segment.{Segment}
 use Rattle.catalogue.specs.declared.limits.TheConstants.{MAX_SEGMENT_ROWS}
-use Rattle.catalogue.specs.Entries.{PlainEntry, PlainCatalogue, is_between, is_filled, is_digest, is_segment, is_entry, page_runs, runs_in_segments, runs_in, runs_of}
+use Rattle.catalogue.specs.Entries.{PlainEntry, PlainCatalogue, is_between, is_filled, is_digest, is_segment, is_entry, page_runs, runs_in_segments, runs_in, runs_of, row_count}
 use Rattle.catalogue.specs.laws.Kept.{entry_is}
 use Rattle.commit.specs.declared.sector.Commit.{Commit}
 use Rattle.commit.specs.Standing.{rules, standing, InSome}
-use Rattle.store_runs.specs.Held.{rows_in_segment, segment_rows, joined_rows, rows_held, table_of_rows, table_held, with_held, tables_held, held_of, held_by}
+use Rattle.tables.specs.Tables.{Tables, no_tables}
+use Rattle.store_runs.specs.Held.{rows_in_segment, segment_rows, joined_rows, rows_held, table_of_rows, table_held, with_held, tables_held, each_held, held_of, held_by}
 use Rattle.pages.specs.Stored.{stored_reading}
 
 pub in_left : (rs ss : List Run) (n : ℕ) → InSome rs n → InSome (rs ++ ss) n
@@ -34,6 +36,24 @@ sectors_of segment sound =
     let some = and_parts (nat_lt e.run.start (2 ^ 64) && nat_lt e.bytes (2 ^ 64)) (nat_le 1 e.bytes && (e.run.count == sector_count e.bytes)) filled.0 in
     eqb-true e.run.count (sector_count e.bytes) (and_parts (nat_le 1 e.bytes) (e.run.count == sector_count e.bytes) some.1).1
 
+-- ---- each table by itself
+
+-- the tables that are made of each by itself
+tables_from : List (List ℕ × PlainSchema × ℕ × Option (List (List Cell))) → Option Tables
+tables_from [] = Some no_tables
+tables_from ((name, schema, count, rows) ∷ others) = with_held name (table_of_rows schema rows) (tables_from others)
+
+from_each : (image : Image) (c : PlainCatalogue) → tables_held image c ≡ tables_from (each_held image c)
+unfolding tables_held tables_from
+from_each image [] = refl
+from_each image (e ∷ es) = ap (with_held e.name (table_held image e)) (from_each image es)
+
+-- where each is the same, so are the tables
+pub tables_by_each : (a b : Image) (c d : PlainCatalogue) → each_held a c ≡ each_held b d → tables_held a c ≡ tables_held b d
+tables_by_each a b c d same = from_each a c ∙ ap tables_from same ∙ sym (from_each b d)
+
+-- ---- images that agree
+
 module _ (a b : Image) where
   pub same_segment : (schema : PlainSchema) (segment : Segment) → is_segment segment ≡ true
       → ((n : ℕ) → segment.place.run.start ≤ n → n < segment.place.run.start + segment.place.run.count → b n ≡ a n) → segment_rows schema segment b ≡ segment_rows schema segment a
@@ -52,18 +72,20 @@ module _ (a b : Image) where
       let others = same_rows schema segments parts.1 (λ n some. same n (inr some)) in
       λ i. joined_rows (first i) (others i)
 
-  same_table : (entry : PlainEntry) → is_entry entry ≡ true → ((n : ℕ) → InSome (runs_in entry) n → b n ≡ a n) → table_held b entry ≡ table_held a entry
-  same_table entry sound same = ap (table_of_rows entry.schema) (same_rows entry.schema entry.segments (entry_is entry sound).segments (λ n some. same n (in_right (page_runs entry.page) (runs_in_segments entry.segments) n some)))
-
-  -- images that agree on the runs of a catalogue hold the same tables of it
-  pub same_tables : (c : PlainCatalogue) → list_all is_entry c ≡ true → ((n : ℕ) → InSome (runs_of c) n → b n ≡ a n) → tables_held b c ≡ tables_held a c
-  unfolding tables_held
-  same_tables [] sound same = refl
-  same_tables (entry ∷ entries) sound same =
+  -- images that agree on the runs of a catalogue hold the same of each of its tables
+  pub same_each : (c : PlainCatalogue) → list_all is_entry c ≡ true → ((n : ℕ) → InSome (runs_of c) n → b n ≡ a n) → each_held b c ≡ each_held a c
+  same_each [] sound same = refl
+  same_each (entry ∷ entries) sound same =
       let parts = and_parts (is_entry entry) (list_all is_entry entries) sound in
-      let first = same_table entry parts.0 (λ n some. same n (in_left (runs_in entry) (runs_of entries) n some)) in
-      let others = same_tables entries parts.1 (λ n some. same n (in_right (runs_in entry) (runs_of entries) n some)) in
-      λ i. with_held entry.name (first i) (others i)
+      let rows : rows_held entry.schema entry.segments b ≡ rows_held entry.schema entry.segments a =
+      same_rows entry.schema entry.segments (entry_is entry parts.0).segments
+      (λ n some. same n (in_left (runs_in entry) (runs_of entries) n (in_right (page_runs entry.page) (runs_in_segments entry.segments) n some))) in
+      let others = same_each entries parts.1 (λ n some. same n (in_right (runs_in entry) (runs_of entries) n some)) in
+      λ i. (entry.name, entry.schema, row_count entry, rows i) ∷ others i
+
+  -- and so the same tables
+  pub same_tables : (c : PlainCatalogue) → list_all is_entry c ≡ true → ((n : ℕ) → InSome (runs_of c) n → b n ≡ a n) → tables_held b c ≡ tables_held a c
+  same_tables c sound same = tables_by_each b a c c (same_each c sound same)
 
 -- what an image holds that a commit and its catalogue rule
 pub held_is : (size : ℕ) (image : Image) (k : Commit) (c : PlainCatalogue) → standing stored_reading size image ≡ rules k c → held_by size image ≡ held_of image (rules k c)

@@ -45,7 +45,7 @@ segment_counted schema count (Some bytes) rows is = by_test (starts_with nat_eq 
     by_test true h = rows_counted count (meaning supported_codes bytes) rows h
     by_test false h = absurd (cc h)
 
-segments_counted : (schema : PlainSchema) (segments : List Segment) (image : Image) (rows : List (List Cell)) → rows_held schema segments image ≡ Some rows
+pub segments_counted : (schema : PlainSchema) (segments : List Segment) (image : Image) (rows : List (List Cell)) → rows_held schema segments image ≡ Some rows
     → length rows ≡ sum_by (λ (s : Segment). s.rows) segments
 unfolding rows_held segment_rows
 segments_counted schema [] image rows is = let none : [] ≡ rows = cc is in ap length (sym none)

@@ -28,24 +28,25 @@ use Rattle.catalogue.specs.laws.Changed.{found_passes, exchanged_is}
 use Rattle.commit.specs.Placing.{Takes, sectors_of as sectors_in}
 use Rattle.commit.specs.Standing.{InSome}
 use Rattle.commit.specs.laws.Placed.{took_length}
-use Rattle.store_changes.specs.declared.compacting.Compaction.{Compaction}
-use Rattle.store_changes.specs.declared.compacting.Compaction.TheVariants as compactions
+use Rattle.store_runs.specs.declared.compacting.Compaction.{Compaction}
+use Rattle.store_runs.specs.declared.compacting.Compaction.TheVariants as compactions
 use Rattle.pages.specs.Paging.{page_sizes, text_size, settled}
 use Rattle.pages.specs.laws.Sizes.{settled_sum}
-use Rattle.store_runs.specs.Held.{rows_held, tables_held}
+use Rattle.store_runs.specs.Held.{rows_held, each_held}
 use Rattle.store_runs.specs.Changes.{PlainChange, CanChange, digest_for, edited, exchange, placed_segments, stream_rows, HoldsStreams}
 use Rattle.commit.specs.declared.sector.Commit.{Commit}
 use Rattle.commit.specs.declared.sector.FormatVersion.{FormatVersion}
 use Rattle.store_runs.specs.Carrying.{IsCarried, unplaced, asked_sizes, outline}
 use Rattle.store_runs.specs.Deciding.{pieces_put}
 use Rattle.store_changes.specs.Exchanging.{starts_sum, Shrinks}
-use Rattle.store_changes.specs.Compacting.{pair_of, is_one_piece, IsMerge, IsMove, IsStep}
+use Rattle.store_runs.specs.Compacting.{pair_of, is_one_piece, IsMerge, IsMove, IsStep}
 use Rattle.store_changes.specs.LawsBelow.{LawsBelow}
 use Rattle.store_changes.specs.laws.Changed.{streams_held}
-use Rattle.store_changes.specs.laws.Exchanged.{exchanged_held}
+use Rattle.store_changes.specs.laws.Exchanged.{row_sum, exchanged_each}
 use Rattle.store_changes.specs.laws.ExchangedRuns.{merged_shrinks, exchanged_count}
 use Rattle.store_changes.specs.laws.Edited.{length_from}
 use Rattle.store_changes.specs.laws.Frame.{same_rows, sectors_of}
+use Rattle.store_changes.specs.laws.Listed.{segments_counted}
 use Rattle.store_changes.specs.laws.Named.{held_has}
 use Rattle.store_changes.specs.laws.Pieces.{pieces_each, pieces_some, pieces_few}
 use Rattle.store_changes.specs.laws.Same.{moved_same}
@@ -103,14 +104,20 @@ module _ (c : PlainCatalogue) (k : IsCatalogue c) (tells : Bool) (image : Image)
   can_step each size used compactions.Moved change step = move_can size used change step.1
   can_step each size used compactions.Nothing change step = absurd step
 
--- ---- it keeps the tables
+-- ---- it keeps each table
+
+-- one new segment has as many rows as are said of its stream
+one_sum : (image : Image) (others : List Segment) (bytes : List ℕ) (count : ℕ) → HoldsStreams image others (bytes ∷ []) (count ∷ []) → row_sum others ≡ count + 0
+one_sum image [] bytes count holds = absurd (cc holds)
+one_sum image (g ∷ []) bytes count holds = let rows = holds.1 in omega (arith, rows, sum_by-cons (λ (x : Segment). x.rows) g [])
+one_sum image (g ∷ h ∷ gs) bytes count holds = absurd holds.3
 
 module _ (laws : LawsBelow) (c : PlainCatalogue) (k : IsCatalogue c) (tells : Bool) (told : tells ≡ true) (shown image : Image) (same : (n : ℕ) → InSome (runs_of c) n → image n ≡ shown n) where
   entry_sound : (e : PlainEntry) → entry_of c e.name ≡ Some e → list_all is_segment e.segments ≡ true
   entry_sound e found = (entry_is e (found_passes is_entry c e.name e k.entries found)).segments
 
   abbrev Keeps : PlainChange → List Segment → Type 0
-  Keeps change others = HoldsStreams image others change.streams change.counts → tables_held image (edited c change.edit others) ≡ tables_held image c
+  Keeps change others = HoldsStreams image others change.streams change.counts → each_held image (edited c change.edit others) ≡ each_held image c
 
   -- the rows of neighbours are those that were shown
   pair_kept : (i : ℕ) (e : PlainEntry) (place : ℕ) → slice_get c i ≡ Some e → rows_held e.schema (from_place e.segments place 2) image ≡ rows_held e.schema (from_place e.segments place 2) shown
@@ -135,12 +142,13 @@ module _ (laws : LawsBelow) (c : PlainCatalogue) (k : IsCatalogue c) (tells : Bo
       means : stream_rows e.schema (piece_streams t) (piece_counts t) ≡ Some t.rows
       means = subst (λ (s : PlainSchema). stream_rows s (piece_streams t) (piece_counts t) ≡ Some t.rows) m.merge.read.schema (laws.held t m.merge.read.kept)
 
-      keeps : HoldsStreams image others (piece_streams t) (piece_counts t) → tables_held image (with_exchanged c e.name m.merge.place 2 others) ≡ tables_held image c
-      keeps holds = exchanged_held image c e.name m.merge.place 2 others (record {
-        entry = e;
-        found = at_name c m.number e k.order m.at;
-        same = streams_held image e.schema others (piece_streams t) (piece_counts t) holds ∙ means ∙ sym (pair_kept m.number e m.merge.place m.at ∙ held);
-      })
+      keeps : HoldsStreams image others (piece_streams t) (piece_counts t) → each_held image (with_exchanged c e.name m.merge.place 2 others) ≡ each_held image c
+      keeps holds =
+          let gone = from_place e.segments m.merge.place 2 in
+          let new : rows_held e.schema others image ≡ Some t.rows = streams_held image e.schema others (piece_streams t) (piece_counts t) holds ∙ means in
+          let old : rows_held e.schema gone image ≡ Some t.rows = pair_kept m.number e m.merge.place m.at ∙ held in
+          exchanged_each image c e.name e (at_name c m.number e k.order m.at) m.merge.place 2 others (new ∙ sym old)
+          (sym (segments_counted e.schema others image t.rows new) ∙ segments_counted e.schema gone image t.rows old)
 
   move_keeps : (size : ℕ) (used : Run → Type 0) (change : PlainChange) → IsMove tells shown size used c change → (others : List Segment) → Keeps change others
   move_keeps size used change m others = subst (λ (x : PlainChange). Keeps x others) (sym m.is) keeps
@@ -166,8 +174,13 @@ module _ (laws : LawsBelow) (c : PlainCatalogue) (k : IsCatalogue c) (tells : Bo
       held : bytes_at image g.place.run.start g.place.bytes ≡ Some m.bytes
       held = same_bytes image shown g.place.run.start g.place.bytes own ∙ m.copy.held told
 
-      keeps : HoldsStreams image others (m.bytes ∷ []) (g.rows ∷ []) → tables_held image (with_exchanged c e.name m.place 1 others) ≡ tables_held image c
-      keeps holds = exchanged_held image c e.name m.place 1 others (moved_same image c e.name e found m.place others g m.bytes (one_from e.segments m.place g m.last.at) held m.copy.undamaged holds)
+      gone : from_place e.segments m.place 1 ≡ g ∷ []
+      gone = one_from e.segments m.place g m.last.at
+
+      keeps : HoldsStreams image others (m.bytes ∷ []) (g.rows ∷ []) → each_held image (with_exchanged c e.name m.place 1 others) ≡ each_held image c
+      keeps holds =
+          exchanged_each image c e.name e found m.place 1 others (moved_same image e m.place others g m.bytes gone held m.copy.undamaged holds)
+          (one_sum image others m.bytes g.rows holds ∙ sym (ap row_sum gone ∙ sum_by-cons (λ (x : Segment). x.rows) g []))
 
   pub step_keeps : (size : ℕ) (used : Run → Type 0) (done : Compaction) (change : PlainChange) → IsStep tells shown size used c done (Some change) → (others : List Segment) → Keeps change others
   step_keeps size used compactions.Merged change step = merge_keeps change step

@@ -8,7 +8,7 @@ use Rattle.commit.specs.Standing.{is_size, all_on_device}
 use Rattle.tables.specs.declared.refusal.Refusal.{Refusal}
 use Rattle.tables.specs.declared.refusal.Refusal.TheVariants as refusals
 use Rattle.store_runs.specs.Calls.{done, refused}
-use Rattle.store_changes.specs.Digesting.{segments_of, AreDigests}
+use Rattle.store_runs.specs.Digesting.{segments_of, AreDigests}
 use Rattle.store_changes.specs.laws.ReadTables.{reads_none, reads_more, reads_ended, image_then, runs_on_device}
 use Rattle.store_changes.specs.laws.StepParts.{at_name}
 use Rattle.store_changes.proofs.StepFound.{item_at, read_then}

@@ -3,7 +3,7 @@ use Rattle.sector_dev.specs.Disk.{now, shown_image}
 use Rattle.catalogue.specs.Entries.{plain_entry}
 use Rattle.store_runs.specs.Calls.{done}
 use Rattle.store_runs.specs.Reading.{OnlyReadsDevice}
-use Rattle.store_changes.specs.Digesting.{segments_of, AreDigests, AreRead}
+use Rattle.store_runs.specs.Digesting.{segments_of, AreDigests, AreRead}
 use Rattle.store_changes.proofs.digests.all_digests.Given as goal
 
 -- the tables so far were read, and these are the digests of their segments

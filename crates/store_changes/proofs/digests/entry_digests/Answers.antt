@@ -6,7 +6,7 @@ use Rattle.catalogue.specs.Entries.{plain_entry, is_segment}
 use Rattle.catalogue.specs.laws.Kept.{entry_is}
 use Rattle.commit.specs.Standing.{is_size, all_on_device}
 use Rattle.store_runs.specs.Calls.{done, refused}
-use Rattle.store_changes.specs.Digesting.{AreDigests}
+use Rattle.store_runs.specs.Digesting.{AreDigests}
 use Rattle.store_changes.specs.ReadSegment.{runs_in}
 use Rattle.store_changes.specs.inner.Digesting.{LacksCopy}
 use Rattle.store_changes.specs.inner.TableBuilder.{table_so_far}

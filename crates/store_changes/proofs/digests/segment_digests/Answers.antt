@@ -13,7 +13,7 @@ use Rattle.commit.specs.Standing.{is_size, is_on_device}
 use Rattle.tables.specs.declared.refusal.Refusal.{Refusal}
 use Rattle.tables.specs.declared.refusal.Refusal.TheVariants as refusals
 use Rattle.store_runs.specs.Calls.{done, refused}
-use Rattle.store_changes.specs.Digesting.{AreDigests}
+use Rattle.store_runs.specs.Digesting.{AreDigests}
 use Rattle.store_changes.specs.laws.Digests.{copy_then}
 use Rattle.store_changes.specs.laws.ReadTables.{run_at, reads_more, reads_none, reads_ended, image_then}
 use Rattle.store_changes.proofs.StepFound.{last_then}

@@ -2,7 +2,7 @@ use Rattle.std.proofs.Common.{take}
 use Rattle.sector_dev.specs.Disk.{now, shown_image}
 use Rattle.store_runs.specs.Calls.{done}
 use Rattle.store_runs.specs.Reading.{OnlyReadsDevice}
-use Rattle.store_changes.specs.Digesting.{AreDigests}
+use Rattle.store_runs.specs.Digesting.{AreDigests}
 use Rattle.store_changes.proofs.digests.segment_digests.Given as goal
 
 -- the digests of the segments so far

@@ -3,7 +3,7 @@ use Rattle.sector_dev.specs.Disk.{now, shown_image}
 use Rattle.catalogue.specs.Entries.{plain_entry}
 use Rattle.store_runs.specs.Calls.{done}
 use Rattle.store_runs.specs.Reading.{OnlyReadsDevice}
-use Rattle.store_changes.specs.Compacting.{AllStay}
+use Rattle.store_runs.specs.Compacting.{AllStay}
 use Rattle.store_changes.proofs.pairs.first_pair.Given as goal
 
 -- the pairs of the tables so far stay two segments

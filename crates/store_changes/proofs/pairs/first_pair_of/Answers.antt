@@ -5,7 +5,7 @@ use Rattle.catalogue.specs.declared.entry.Segment.{Segment}
 use Rattle.catalogue.specs.Entries.{plain_entry}
 use Rattle.tables.specs.declared.refusal.Refusal.TheVariants.{OutOfMemory}
 use Rattle.store_runs.specs.Calls.{done, refused}
-use Rattle.store_changes.specs.Compacting.{pair_of}
+use Rattle.store_runs.specs.Compacting.{pair_of}
 use Rattle.store_changes.specs.laws.ReadTables.{reads_more, image_then}
 use Rattle.store_changes.proofs.StepFound.{read_then, stays_then, pair_then, stays_more}
 use Rattle.store_changes.proofs.pairs.first_pair_of.Goals as goal

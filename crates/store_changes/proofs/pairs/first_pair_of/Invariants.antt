@@ -2,7 +2,7 @@ use Rattle.sector_dev.specs.Disk.{now, shown_image}
 use Rattle.catalogue.specs.Entries.{plain_entry}
 use Rattle.store_runs.specs.Calls.{done}
 use Rattle.store_runs.specs.Reading.{OnlyReadsDevice}
-use Rattle.store_changes.specs.Compacting.{FirstStay}
+use Rattle.store_runs.specs.Compacting.{FirstStay}
 use Rattle.store_changes.proofs.pairs.first_pair_of.Given as goal
 
 -- the pairs so far stay two segments

@@ -5,7 +5,7 @@ use Rattle.table_cut.specs.Cut.{pieces}
 use Rattle.table_cut.specs.Piece.{within_piece}
 use Rattle.columns.specs.Borrowed.{borrowed_cells}
 use Rattle.values.specs.TableView.{table_of}
-use Rattle.store_changes.specs.Compacting.{is_one_piece}
+use Rattle.store_runs.specs.Compacting.{is_one_piece}
 use Rattle.store_changes.proofs.StepFound.{one_is}
 use Rattle.store_changes.proofs.pairs.is_one_piece.Goals as goal
 

@@ -2,7 +2,7 @@ use Rattle.std.proofs.Common.{◌≡◌, true, drop, refl, sym, subst}
 use Rattle.catalogue.specs.Entries.{PlainEntry, plain_entry, is_entry}
 use Rattle.catalogue.specs.laws.Kept.{entry_is, entry_stands}
 use Rattle.commit.specs.Standing.{all_on_device}
-use Rattle.store_changes.specs.Compacting.{pair_of}
+use Rattle.store_runs.specs.Compacting.{pair_of}
 use Rattle.store_changes.specs.ReadSegment.{runs_in}
 use Rattle.store_changes.specs.laws.StepParts.{front_passes, back_passes, front_placed, back_placed}
 use Rattle.store_changes.proofs.pairs.read_pair.Goals as goal

@@ -10,7 +10,7 @@ use Rattle.catalogue.specs.laws.Kept.{catalogue_is}
 use Rattle.commit.specs.declared.recovery.Opened.{Opened}
 use Rattle.tables.specs.declared.refusal.Refusal.{Refusal}
 use Rattle.tables.specs.declared.refusal.Refusal.TheVariants as refusals
-use Rattle.store_changes.specs.declared.compacting.Compaction.{Compaction}
+use Rattle.store_runs.specs.declared.compacting.Compaction.{Compaction}
 use Rattle.pages.specs.declared.stored.StoredCatalogue.{StoredCatalogue}
 use Rattle.store_runs.specs.Calls.{done}
 use Rattle.store_changes.specs.Change.{change_of}
@@ -22,6 +22,7 @@ use Rattle.store.proofs.ReadsStore.{fits_reading}
 use Rattle.store.proofs.Applied.{ends_after, on_disk_after, carries_after, carried_after}
 use Rattle.store_changes.specs.laws.StepChanges.{can_step, carried_shrinks}
 use Rattle.store.proofs.Stepped.{done_counts, never_nothing, nothing_read, made_goes, refused_goes, off_goes, none_goes, unread_goes}
+use Rattle.store.proofs.EachTable.{each_read, step_each}
 use Rattle.store.proofs.store.Store.compact_step.Goals as goal
 
 -- an answer of a step
@@ -54,7 +55,7 @@ returns-in-Ok-clause-goes g c = λ told base m fits.
     let there = fits_reading D.size D.story D.failed base m D.tells told old mid fits done refl reads in
     let ends = c.in-Ok.ensures in
     made_goes D.size D.story D.failed base m D.tells told c.laws_below.ensures old mid c.carry_out.new.self fits runs there reads c.in-Ok-Some.step.done (change_of c.in-Ok-Some.step.change)
-    (rw c.in-Ok-Some.field-0-is at c.in-Ok-Some.ensures.found) ends.size ends.book mid.exported (ends.carries told (there.sound runs).stands) ends.count (false_from_ne_true c.carry_out.new.self.halted (λ is. cc (ends.halts.0 is)))
+    (rw c.in-Ok-Some.field-0-is at c.in-Ok-Some.ensures.found) ends.size ends.book mid.exported (ends.carries told (there.sound runs).stands) ends.count ends.carried (false_from_ne_true c.carry_out.new.self.halted (λ is. cc (ends.halts.0 is)))
     (ends.done told (there.sound runs).stands)
 
 pub returns-in-Ok-clause-step : goal.returns-in-Ok-clause-step
@@ -116,6 +117,12 @@ returns-in-Ok-clause-writes g c = λ told on.
           (c.in-Ok.ensures.carries told (on_disk_after D.size D.story D.failed D.tells old mid done reads told on)),
     )
 
+pub returns-in-Ok-clause-tables : goal.returns-in-Ok-clause-tables
+returns-in-Ok-clause-tables g c = λ told on.
+    let D = g.D.SectorDevice in
+    let old = c.args.self.now in
+    step_each D.size D.story old c.carry_out.new.self on D.tells told c.laws_below.ensures (returns-in-Ok-clause-writes g c told on)
+
 pub returns-in-Ok-clause-written : goal.returns-in-Ok-clause-written
 returns-in-Ok-clause-written g c = λ other told on.
     let D = g.D.SectorDevice in
@@ -145,8 +152,20 @@ returns-in-Ok-Some-clause-writes g c = λ told on.
           (c.in-Err-carry_out.ensures.carries told (on_disk_after D.size D.story D.failed D.tells old mid done reads told on)),
     )
 
+pub returns-in-Ok-Some-clause-tables : goal.returns-in-Ok-Some-clause-tables
+returns-in-Ok-Some-clause-tables g c = λ told on.
+    let D = g.D.SectorDevice in
+    let old = c.args.self.now in
+    step_each D.size D.story old c.carry_out.new.self on D.tells told c.laws_below.ensures (returns-in-Ok-Some-clause-writes g c told on)
+
 pub returns-clause-writes : goal.returns-clause-writes
 returns-clause-writes g c = λ told on. inl (c.in-Err.ensures.reads.device.moments told)
+
+pub returns-clause-tables : goal.returns-clause-tables
+returns-clause-tables g c = λ told on.
+    let D = g.D.SectorDevice in
+    let old = c.args.self.now in
+    step_each D.size D.story old c.find_step.new.self on D.tells told c.laws_below.ensures (returns-clause-writes g c told on)
 
 pub returns-in-Ok-Some-clause-refused : goal.returns-in-Ok-Some-clause-refused
 returns-in-Ok-Some-clause-refused g c = λ told base m fits.
@@ -191,6 +210,12 @@ returns-clause-refused g c = λ told base m fits.
 pub returns-in-Ok-None-clause-writes : goal.returns-in-Ok-None-clause-writes
 returns-in-Ok-None-clause-writes g c = λ told on. inl (c.in-Ok-None.ensures.reads.device.moments told)
 
+pub returns-in-Ok-None-clause-tables : goal.returns-in-Ok-None-clause-tables
+returns-in-Ok-None-clause-tables g c = λ told on.
+    let D = g.D.SectorDevice in
+    let old = c.args.self.now in
+    step_each D.size D.story old c.find_step.new.self on D.tells told c.laws_below.ensures (returns-in-Ok-None-clause-writes g c told on)
+
 pub returns-in-Ok-None-clause-written : goal.returns-in-Ok-None-clause-written
 returns-in-Ok-None-clause-written g c = λ other. absurd (other refl)
 
@@ -198,7 +223,8 @@ pub returns-in-Ok-None-clause-goes : goal.returns-in-Ok-None-clause-goes
 returns-in-Ok-None-clause-goes g c = λ told base m fits.
     let D = g.D.SectorDevice in
     let old = c.args.self.now in
-    none_goes D.size D.story D.failed base m D.tells told old c.find_step.new.self fits (is_running m.phase old.halted fits.phase c.if-self.false) c.in-Ok-None.ensures.reads
+    none_goes D.size D.story D.failed base m D.tells told old c.find_step.new.self fits (is_running m.phase old.halted fits.phase c.if-self.false)
+    (rw c.in-Ok-None.field-0-is at c.in-Ok-None.ensures.found) c.in-Ok-None.ensures.reads
 
 pub returns-in-Ok-None-clause-step : goal.returns-in-Ok-None-clause-step
 returns-in-Ok-None-clause-step g c = record { change = None; step = rw c.in-Ok-None.field-0-is at c.in-Ok-None.ensures.found; ends = c.in-Ok-None.ensures.reads.kept }
@@ -232,6 +258,11 @@ returns-in-Ok-None-clause-book g c = c.in-Ok-None.ensures.reads.book
 pub returns-then-self-clause-writes : goal.returns-then-self-clause-writes
 returns-then-self-clause-writes g c = λ told on.
     let story = g.D.SectorDevice.story c.args.self.now.device in inl (stays (λ (d : Disk). d ≡ now story) story)
+
+pub returns-then-self-clause-tables : goal.returns-then-self-clause-tables
+returns-then-self-clause-tables g c = λ told on.
+    let D = g.D.SectorDevice in
+    let story = D.story c.args.self.now.device in each_read D.size D.story c.args.self.now c.args.self.now on (stays (λ (d : Disk). d ≡ now story) story)
 
 pub returns-then-self-clause-refused : goal.returns-then-self-clause-refused
 returns-then-self-clause-refused g c = λ told base m fits.

@@ -10,7 +10,7 @@ use Rattle.store_runs.specs.Calls.{is_device_reply}
 use Rattle.store.specs.Fits.{book_of, listed_in}
 use Rattle.store.specs.Exported.{AreExportable}
 use Rattle.store_runs.specs.Reading.{IsRead, ended}
-use Rattle.store_changes.specs.Digesting.{segments_of, AreDigests, StopsReading}
+use Rattle.store_runs.specs.Digesting.{segments_of, AreDigests, StopsReading}
 use Rattle.store.proofs.store.Store.find_digests.Goals as goal
 
 pub all_digests-digests-requires-clause-placed : goal.all_digests-digests-requires-clause-placed

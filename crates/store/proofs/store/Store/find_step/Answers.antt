@@ -10,7 +10,7 @@ use Rattle.store_runs.specs.Calls.{is_device_reply}
 use Rattle.store.specs.Fits.{book_of, listed_in}
 use Rattle.store_runs.specs.Reading.{ended}
 use Rattle.store.specs.Exported.{AreExportable}
-use Rattle.store_changes.specs.Compacting.{UnreadsStep}
+use Rattle.store_runs.specs.Compacting.{UnreadsStep}
 use Rattle.store_changes.specs.Finding.{FindsStep}
 use Rattle.store.proofs.store.Store.find_step.Goals as goal
 

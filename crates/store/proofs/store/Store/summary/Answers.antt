@@ -6,6 +6,7 @@ use Rattle.catalogue.specs.Entries.{runs_of}
 use Rattle.store.specs.Fits.{commit_of, listed_in}
 use Rattle.store.specs.Summary.{CountsKept, IsLargest}
 use Rattle.store.proofs.Fitted.{used_fit, used_are}
+use Rattle.store.proofs.Roomed.{in_kept}
 use Rattle.store.proofs.store.Store.summary.Goals as goal
 
 pub sectors_of-requires : goal.sectors_of-requires
@@ -43,7 +44,8 @@ returns g c =
         kept = subst (λ (rs : List Run). CountsKept (text ∷ runs_of (listed_in store)) rs kept) pinned
             (subst (λ (rs : List Run). CountsKept (text ∷ rs) c.deref-3.result.now kept) (c.deref-2.ensures.value ∙ c.in_ok-runs.ensures) c.in_ok-kept.ensures.kept);
         free = omega (arith, c.in_ok-kept.ensures.fits, same, c.sectors_of.ensures, c.sectors-sectors.ensures);
-        largest = subst (λ (n : ℕ). IsLargest n (IsUsedIn store.opened.map.entries) c.largest_free.result) c.sectors-sectors.ensures c.largest_free.ensures;
+        largest = in_kept store (λ used. IsLargest (g.D.SectorDevice.size store.device) used c.largest_free.result)
+            (subst (λ (n : ℕ). IsLargest n (IsUsedIn store.opened.map.entries) c.largest_free.result) c.sectors-sectors.ensures c.largest_free.ensures);
         tables = c.len.ensures.tables;
         segments = c.segment_count.ensures;
       },

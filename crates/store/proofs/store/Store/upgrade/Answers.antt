@@ -13,12 +13,13 @@ use Rattle.store_runs.specs.Calls.{done}
 use Rattle.store_runs.specs.Changes.{digest, CanChange}
 use Rattle.store_runs.specs.Deciding.{names_changed}
 use Rattle.store.specs.Fits.{listed_in}
-use Rattle.store_changes.specs.Digesting.{IsUpgrade}
+use Rattle.store_runs.specs.Digesting.{IsUpgrade}
 use Rattle.store.specs.Upgrading.{RefusesUpgrade}
 use Rattle.store.proofs.Asked.{is_running}
 use Rattle.store.proofs.ReadsStore.{fits_reading}
 use Rattle.store.proofs.Applied.{ends_after, kept_after, on_disk_after, carries_after, carried_after}
 use Rattle.store.proofs.UpgradeGoes.{can_upgrade, upgraded_goes, unmade_goes, off_upgrade_goes, already_goes, stopped_goes}
+use Rattle.store.proofs.EachTable.{each_read, upgrade_each}
 use Rattle.store.proofs.store.Store.upgrade.Goals as goal
 
 -- ---- what is asked of the change
@@ -45,8 +46,8 @@ returns-in-Ok-carry_out-clause-goes g c = λ told base m fits.
     let runs = is_running m.phase old.halted fits.phase c.if-self.false in
     let there = fits_reading D.size D.story D.failed base m D.tells told old mid fits done refl reads in
     let ends = c.in-Ok-carry_out.ensures in
-    upgraded_goes D.size D.story D.failed base m D.tells told old mid c.carry_out.new.self fits runs there reads (names_changed (digest c.in-Ok.digests.items)) (record { digests = c.in-Ok.digests.items; read = c.in-Ok.ensures.read; own = c.in-Ok.ensures.found; is = refl }) ends.size ends.book mid.exported (ends.carries told (there.sound runs).stands)
-    ends.count (false_from_ne_true c.carry_out.new.self.halted (λ is. cc (ends.halts.0 is))) (ends.done told (there.sound runs).stands)
+    upgraded_goes D.size D.story D.failed base m D.tells told old mid c.carry_out.new.self fits runs there reads (names_changed (digest c.in-Ok.digests.items)) c.in-One.is (record { digests = c.in-Ok.digests.items; read = c.in-Ok.ensures.read; own = c.in-Ok.ensures.found; is = refl }) ends.size ends.book mid.exported (ends.carries told (there.sound runs).stands)
+    ends.count ends.carried (false_from_ne_true c.carry_out.new.self.halted (λ is. cc (ends.halts.0 is))) (ends.done told (there.sound runs).stands)
 
 pub returns-in-Ok-carry_out-clause-upgraded : goal.returns-in-Ok-carry_out-clause-upgraded
 returns-in-Ok-carry_out-clause-upgraded g c =
@@ -93,6 +94,12 @@ returns-in-Ok-carry_out-clause-writes g c = λ told on.
           (c.in-Ok-carry_out.ensures.carries told (on_disk_after D.size D.story D.failed D.tells old mid done reads told on)),
     )
 
+pub returns-in-Ok-carry_out-clause-tables : goal.returns-in-Ok-carry_out-clause-tables
+returns-in-Ok-carry_out-clause-tables g c = λ told on.
+    let D = g.D.SectorDevice in
+    let old = c.args.self.now in
+    upgrade_each D.size D.story old c.carry_out.new.self on D.tells told (returns-in-Ok-carry_out-clause-writes g c told on)
+
 pub returns-in-Ok-carry_out-clause-written : goal.returns-in-Ok-carry_out-clause-written
 returns-in-Ok-carry_out-clause-written g c = λ is told on.
     let D = g.D.SectorDevice in
@@ -120,6 +127,12 @@ returns-in-Ok-clause-writes g c = λ told on.
           (c.in-Err-carry_out.ensures.carries told (on_disk_after D.size D.story D.failed D.tells old mid done reads told on)),
     )
 
+pub returns-in-Ok-clause-tables : goal.returns-in-Ok-clause-tables
+returns-in-Ok-clause-tables g c = λ told on.
+    let D = g.D.SectorDevice in
+    let old = c.args.self.now in
+    upgrade_each D.size D.story old c.carry_out.new.self on D.tells told (returns-in-Ok-clause-writes g c told on)
+
 pub returns-in-Ok-clause-refused : goal.returns-in-Ok-clause-refused
 returns-in-Ok-clause-refused g c = λ told base m fits.
     let D = g.D.SectorDevice in
@@ -129,7 +142,7 @@ returns-in-Ok-clause-refused g c = λ told base m fits.
     let runs = is_running m.phase old.halted fits.phase c.if-self.false in
     let there = fits_reading D.size D.story D.failed base m D.tells told old mid fits done refl reads in
     let ends = c.in-Err-carry_out.ensures in
-    unmade_goes D.size D.story D.failed base m D.tells told old mid c.carry_out.new.self fits runs there reads (names_changed (digest c.in-Ok.digests.items)) (record { digests = c.in-Ok.digests.items; read = c.in-Ok.ensures.read; own = c.in-Ok.ensures.found; is = refl }) ends.size ends.book mid.exported (ends.carries told (there.sound runs).stands)
+    unmade_goes D.size D.story D.failed base m D.tells told old mid c.carry_out.new.self fits runs there reads (names_changed (digest c.in-Ok.digests.items)) c.in-One.is (record { digests = c.in-Ok.digests.items; read = c.in-Ok.ensures.read; own = c.in-Ok.ensures.found; is = refl }) ends.size ends.book mid.exported (ends.carries told (there.sound runs).stands)
     c.in-Err-carry_out.refusal ends.count ends.carried ends.halts ends.kept ends.quiet
 
 pub returns-in-Ok-clause-told : goal.returns-in-Ok-clause-told
@@ -165,6 +178,12 @@ returns-in-Ok-clause-reads g c = λ other told.
 pub returns-clause-writes : goal.returns-clause-writes
 returns-clause-writes g c = λ told on. inl (c.in-Err.ensures.reads.device.moments told)
 
+pub returns-clause-tables : goal.returns-clause-tables
+returns-clause-tables g c = λ told on.
+    let D = g.D.SectorDevice in
+    let old = c.args.self.now in
+    upgrade_each D.size D.story old c.find_digests.new.self on D.tells told (returns-clause-writes g c told on)
+
 pub returns-clause-refused : goal.returns-clause-refused
 returns-clause-refused g c = λ told base m fits.
     let D = g.D.SectorDevice in
@@ -185,6 +204,12 @@ pub returns-in-Two-clause-writes : goal.returns-in-Two-clause-writes
 returns-in-Two-clause-writes g c = λ told on.
     let story = g.D.SectorDevice.story c.args.self.now.device in inl (stays (λ (d : Disk). d ≡ now story) story)
 
+pub returns-in-Two-clause-tables : goal.returns-in-Two-clause-tables
+returns-in-Two-clause-tables g c = λ told on.
+    let D = g.D.SectorDevice in
+    let old = c.args.self.now in
+    upgrade_each D.size D.story old c.args.self.now on D.tells told (returns-in-Two-clause-writes g c told on)
+
 pub returns-in-Two-clause-written : goal.returns-in-Two-clause-written
 returns-in-Two-clause-written g c = λ is. absurd (cc is)
 
@@ -192,7 +217,7 @@ pub returns-in-Two-clause-goes : goal.returns-in-Two-clause-goes
 returns-in-Two-clause-goes g c = λ told base m fits.
     let D = g.D.SectorDevice in
     let old = c.args.self.now in
-    already_goes D.size D.story D.failed base m D.tells told old old fits (is_running m.phase old.halted fits.phase c.if-self.false)
+    already_goes D.size D.story D.failed base m D.tells told old old fits (is_running m.phase old.halted fits.phase c.if-self.false) c.in-Two.is
 
 pub returns-in-Two-clause-upgraded : goal.returns-in-Two-clause-upgraded
 returns-in-Two-clause-upgraded g c = (c.in-Two.is, refl)
@@ -208,6 +233,11 @@ returns-in-Two-clause-halts g c = λ on. (λ is. absurd (true≢false (sym is �
 pub returns-then-self-clause-writes : goal.returns-then-self-clause-writes
 returns-then-self-clause-writes g c = λ told on.
     let story = g.D.SectorDevice.story c.args.self.now.device in inl (stays (λ (d : Disk). d ≡ now story) story)
+
+pub returns-then-self-clause-tables : goal.returns-then-self-clause-tables
+returns-then-self-clause-tables g c = λ told on.
+    let D = g.D.SectorDevice in
+    let story = D.story c.args.self.now.device in each_read D.size D.story c.args.self.now c.args.self.now on (stays (λ (d : Disk). d ≡ now story) story)
 
 pub returns-then-self-clause-refused : goal.returns-then-self-clause-refused
 returns-then-self-clause-refused g c = λ told base m fits.
