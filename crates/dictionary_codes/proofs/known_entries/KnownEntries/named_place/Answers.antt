@@ -1,5 +1,5 @@
 use Rattle.std.specs.Prelude.{None, Option, get_or}
-use Rattle.std.proofs.Common.{◌≡◌, ◌<◌, ◌∙◌, ℕ, List, ap, arith, length}
+use Rattle.std.proofs.Common.{◌≡◌, ◌∙◌, ℕ, List, ap, arith, length}
 use Rattle.std.proofs.lemmas.List.{length-map}
 use Rattle.std.proofs.lemmas.Option.{IfSome_then}
 use Rattle.dictionary_codes.proofs.Known.{AreNumbered, place_is_named}

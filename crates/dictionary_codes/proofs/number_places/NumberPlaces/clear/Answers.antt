@@ -1,5 +1,4 @@
-use Rattle.std.specs.Prelude.{replicate}
-use Rattle.std.proofs.Common.{◌≡◌, ◌<◌, arith, length, subst, sym}
+use Rattle.std.proofs.Common.{arith, subst, sym}
 use Rattle.dictionary_codes.specs.inner.PlaceFrom.{AreBelow}
 use Rattle.dictionary_codes.proofs.Places.{below_none, none_placed}
 use Rattle.dictionary_codes.proofs.number_places.NumberPlaces.clear.Goals as goal
