@@ -1,1 +1,2 @@
 mod FirstRow
+mod OnlyBatch

@@ -1,12 +1,16 @@
 // Tests of queries and of the lines of rows (query). The expected answers are worked out by hand from docs/using.md, "Conditions" and "What `query`
 // prints".
-ghost use Rattle.std.specs.Prelude.{◌≤◌, ◌*◌, length};
+ghost use Rattle.std.specs.Prelude.{◌≡◌, ◌≤◌, ◌*◌, length, true, IfSome};
+ghost use Rattle.arrow_schema.specs.Column.{columns_of};
+ghost use Rattle.query.specs.BatchArrays.{is_readable};
+ghost use Rattle.values.specs.TableView.{table_of};
 
 use crate::made::{NotMade, assert_no_row, schema_of_columns, table_of_lines};
 use ipc_encode::encode;
 use ipc_stream::decode;
 use query::{
-    Choice, Condition, Query, QueryError, RowForm, are_named_apart, choose, next_set, push_line_in,
+    BatchArrays, Choice, Condition, Query, QueryError, RowForm, are_named_apart, choose, next_set,
+    push_line_in, push_set_lines,
 };
 use std::alloc::{AllocError, Global};
 use values::Table;
@@ -109,9 +113,12 @@ fn names_of(alloc: Global, columns: &[&str]) -> Result<Vec<String>, AllocError> 
 }
 
 fn conditions_of(alloc: Global, texts: &[&str]) -> Result<Vec<Condition>, QueryError> {
-    let mut conditions = Vec::with_capacity(alloc, texts.len())?;
+    let mut conditions = Vec::new(alloc);
     for text in texts {
-        conditions.push_reserved(Condition::parse(alloc, text)?);
+        let condition = Condition::parse(alloc, text)?;
+        if conditions.push(condition).is_err() {
+            return Err(QueryError::OutOfMemory);
+        }
     }
     Ok(conditions)
 }
@@ -191,13 +198,14 @@ fn wrong_of_rows(alloc: Global) -> Result<Option<usize>, NotMade> {
     wrong_part(alloc, &table_of_lines(alloc, COLUMNS, LINES)?)
 }
 
-// The same of the table that is kept in a record batch.
-fn wrong_of_arrays(alloc: Global) -> Result<Option<usize>, NotMade> {
+// The same table, kept in one record batch.
+fn table_in_arrays(alloc: Global) -> Result<Table, NotMade> {
     let stream = encode(alloc, &table_of_lines(alloc, COLUMNS, LINES)?)?;
-    match decode(alloc, stream) {
-        Ok(table) => wrong_part(alloc, &table),
-        Err(_) => Err(NotMade),
-    }
+    decode(alloc, stream).map_err(|_| NotMade)
+}
+
+fn wrong_of_arrays(alloc: Global) -> Result<Option<usize>, NotMade> {
+    wrong_part(alloc, &table_in_arrays(alloc)?)
 }
 
 #[test]
@@ -255,6 +263,87 @@ fn wrongly_printed(alloc: Global) -> Result<Option<usize>, NotMade> {
 #[test]
 fn rows_are_printed_in_both_forms(rt: HostRuntime) {
     assert_no_row(&rt, wrongly_printed(rt.alloc()));
+}
+
+// A mask, the place of the bit of the first row, and the maximum number of rows; and the places of the rows whose lines are printed.
+const MASKS: &[(&[u8], usize, u64, &[usize])] = &[
+    (&[0x2d, 0], 0, 9, &[0, 2, 3, 5]),
+    (&[0xb4, 0], 2, 9, &[0, 2, 3, 5]),
+    (&[0, 0x1e], 8, 9, &[1, 2, 3, 4]),
+    (&[0x3f, 0], 0, 2, &[0, 1]),
+    (&[0xc0, 0xff], 0, 9, &[]),
+];
+
+// Returns the arrays of the only record batch of a table.
+fn only_batch(table: &Table) -> Option<BatchArrays<'_>>
+    ensures { IfSome result (λ b. is_readable (columns_of (table_of table.now).schema.columns) b ≡ true) }
+{
+    // For the proof: a table is within all limits.
+    let _schema = table.schema();
+    let Some([part]) = table.parts() else {
+        return None;
+    };
+    let [batch] = part.batches.as_slice() else {
+        return None;
+    };
+    Some(BatchArrays {
+        arrays: &batch.arrays,
+        bytes: &part.bytes,
+        dictionaries: &part.dictionaries,
+        rows: batch.rows,
+    })
+}
+
+// Appends the lines of the rows of the only record batch of a table, of at most eight, and returns their number.
+fn push_lines(
+    alloc: Global,
+    text: &mut Vec<u8>,
+    table: &Table,
+    mask: &[u8],
+    start: usize,
+    most: u64,
+) -> Result<u64, NotMade> {
+    let fields = &table.schema().fields;
+    let Some(batch) = only_batch(table) else {
+        return Err(NotMade);
+    };
+    if batch.rows > 8 || start > 8 || mask.len() < 2 {
+        return Err(NotMade);
+    }
+    let form = RowForm::Array;
+    let count = push_set_lines(alloc, text, form, fields, batch, mask, start, most)?;
+    Ok(count)
+}
+
+// Returns the lines of these rows.
+fn lines_of(alloc: Global, rows: &[usize]) -> Result<String, AllocError> {
+    let mut text = String::new(alloc);
+    for row in rows {
+        text.push_str(LINES.lines().nth(*row).unwrap_or_default())?;
+        text.push_str("\n")?;
+    }
+    Ok(text)
+}
+
+fn wrongly_masked(alloc: Global, table: &Table) -> Result<Option<usize>, NotMade> {
+    for (place, (mask, start, most, rows)) in MASKS.iter().enumerate() {
+        let mut text = Vec::new(alloc);
+        let count = push_lines(alloc, &mut text, table, mask, *start, *most)?;
+        let want = lines_of(alloc, rows)?;
+        if count != rows.len() as u64 || text.as_slice() != want.as_bytes() {
+            return Ok(Some(place));
+        }
+    }
+    Ok(None)
+}
+
+fn wrong_mask(alloc: Global) -> Result<Option<usize>, NotMade> {
+    wrongly_masked(alloc, &table_in_arrays(alloc)?)
+}
+
+#[test]
+fn rows_that_a_mask_selects_are_printed(rt: HostRuntime) {
+    assert_no_row(&rt, wrong_mask(rt.alloc()));
 }
 
 // Fields, and whether no two have the same name: those below others do not count.
