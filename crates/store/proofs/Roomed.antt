@@ -47,7 +47,7 @@ pins_are pinned run = by_case (is_among pinned run) refl
 
 module _ {D : Type 0} {g : Ghosts D} (store : Store D g) where
   -- the runs in use are those of the commit and its catalogue, and those that exports keep
-  pub same_used : (run : Run) → is_used (usage_of store.opened.map.entries run)
+  same_used : (run : Run) → is_used (usage_of store.opened.map.entries run)
       ≡ (is_among (used_runs stored_reading store.opened.commit (listed_in store)) run || is_among (runs_kept (book_of store).exports) run)
   same_used run =
       ap is_used (store.uses run) ∙ ap (λ (b : Bool). is_among (used_runs stored_reading store.opened.commit (listed_in store)) run || b) (pins_are (runs_kept (book_of store).exports) run)

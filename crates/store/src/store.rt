@@ -33,7 +33,7 @@ pub struct Store<D: SectorDevice> {
 }
 
 impl<D: SectorDevice> Store<D> {
-    ghost use Rattle.std.specs.Prelude.{◌≢◌, ◌↔◌, false, IfOk, IfErr, OnOk};
+    ghost use Rattle.std.specs.Prelude.{◌≢◌, false, IfOk, IfErr, OnOk};
     ghost use Rattle.sector_dev.specs.Disk.{now};
     ghost use Rattle.sector_dev.specs.Time.{Grows};
     ghost use Rattle.commit.specs.Opening.{IsOpening, standing_shown};
@@ -43,10 +43,7 @@ impl<D: SectorDevice> Store<D> {
     ghost use Rattle.store_runs.specs.Machine.{Machine};
     ghost use Rattle.export_book.specs.Book.{no_exports};
     ghost use Rattle.store.specs.Fits as fits;
-    ghost use Rattle.segments.specs.declared.run.Run.{Run};
-    ghost use Rattle.segments.specs.Usages.{IsUsedIn};
-    ghost use Rattle.store_runs.specs.Carrying.{IsInUse};
-    ghost use Rattle.store.specs.Fits.{DeviceFits, FindsStore, Opens, Shuts, commit_of, listed_in, device_of, is_halted};
+    ghost use Rattle.store.specs.Fits.{DeviceFits, FindsStore, Opens, Shuts, commit_of, device_of, is_halted};
     ghost use Rattle.pages.specs.Stored.{stored_reading};
     ghost use Rattle.store.specs.Opening.{TellsOpening};
 
@@ -102,15 +99,6 @@ impl<D: SectorDevice> Store<D> {
         ensures { result ≡ (commit_of self.now).version }
     {
         self.opened.commit.version
-    }
-
-    /// The runs that a change of the store does not take are those of its commit and its catalogue, and those that its open exports keep. This holds on any
-    /// device. The function does nothing: its contract is a law.
-    pub fn used_runs_are_named(&self)
-        ensures { (run : Run) → IsUsedIn self.now.opened.map.entries run
-            ↔ IsInUse (commit_of self.now) (listed_in self.now) (runs_kept (fits.book_of self.now).exports) run }
-    {
-        let _ = self;
     }
 
     /// Closes the store, even a halted one, and returns its device. Makes no call of the device.
