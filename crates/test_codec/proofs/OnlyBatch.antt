@@ -28,16 +28,14 @@ only_rows columns p b is =
     ∙ ap (λ (batches : List Batch). flat_map (batch_rows columns p) batches) is
     ∙ append-nil (batch_rows columns p b)
 
-only_sound : (columns : Columns) (p : TablePart) (b : Batch) → p.batches.items ≡ b ∷ [] → are_parts_sound columns (p ∷ []) ≡ true
-    → is_batch_sound columns p b ≡ true
+only_sound : (columns : Columns) (p : TablePart) (b : Batch) → p.batches.items ≡ b ∷ [] → are_parts_sound columns (p ∷ []) ≡ true → is_batch_sound columns p b ≡ true
 only_sound columns p b is sound =
     let own = (and_parts (list_all (is_batch_sound columns p) p.batches.items) true sound).0 in
     (and_parts (is_batch_sound columns p b) true (ap (λ (batches : List Batch). list_all (is_batch_sound columns p) batches) (sym is) ∙ own)).0
 
 pub only_batch_is_readable : (t : PlainTable) (parts : List TablePart) (p : TablePart) (b : Batch) → IsTable t → t ≡ parts_table t.schema parts
     → are_parts_sound (columns_of t.schema.columns) parts ≡ true → parts ≡ p ∷ [] → p.batches.items ≡ b ∷ []
-    → (are_sound (columns_of t.schema.columns) b.rows (arrays_with p b)
-    && list_all has_texts (rows_in (columns_of t.schema.columns) (arrays_with p b) b.rows)) ≡ true
+    → (are_sound (columns_of t.schema.columns) b.rows (arrays_with p b) && list_all has_texts (rows_in (columns_of t.schema.columns) (arrays_with p b) b.rows)) ≡ true
 only_batch_is_readable t parts p b is rows sound only batches =
     let columns : Columns = columns_of t.schema.columns in
     let own : are_parts_sound columns (p ∷ []) ≡ true = ap (λ (ps : List TablePart). are_parts_sound columns ps) (sym only) ∙ sound in
