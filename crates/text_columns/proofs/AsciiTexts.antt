@@ -1,21 +1,13 @@
 -- Fields of ASCII, where they are in a text.
-use Rattle.std.specs.Prelude.{bit_or, not, nat_lt, get_or, slice_index}
+use Rattle.std.specs.Prelude.{bit_or, not, get_or, slice_index}
 use Rattle.std.specs.List.{list_all}
 use Rattle.std.specs.Str.{is_utf8}
 use Rattle.std.proofs.Common.{◌≡◌, ℕ, zero, suc, ◌+◌, ◌-◌, ◌≤◌, ◌<◌, Bool, true, List, [], ◌∷◌, length, take, drop, arith, ap}
 use Rattle.std.proofs.lemmas.Bool.{and_parts, lt-ltb, ltb-true}
 use Rattle.std.proofs.lemmas.Nat.{le_or_l, le_or_r}
 use Rattle.std.proofs.lemmas.Str.{IsUtf8-from_ascii, is_utf8-from_IsUtf8}
-use Rattle.text_columns.specs.inner.Plain.{AllBetween, IsTextAt, ends_field}
+use Rattle.text_columns.specs.inner.Plain.{AllBetween, IsScanned, IsTextAt, below_128, ends_field}
 use Rattle.text_columns.proofs.PlainText.{one_between}
-
-abbrev pub below_128 : ℕ → Bool
-below_128 b = nat_lt b 128
-
--- the bytes of a field so far
-pub record IsScanned (text : List ℕ) (from i bits : ℕ) : Type 0 where
-  pub plain : AllBetween (λ b. not (ends_field b)) text from i
-  pub ascii : bits < 128 → AllBetween below_128 text from i
 
 pub none_scanned : (text : List ℕ) (from : ℕ) → IsScanned text from from 0
 none_scanned text from =

@@ -28,6 +28,18 @@ digit_is b h = omega (arith, digit_value_digit b (digit_bounds b h))
 pub digit_below : (b : ℕ) → is_ascii_digit b ≡ true → b - 48 ≤ 9
 digit_below b h = let p = digit_bounds b h in omega arith
 
+-- no digit yet
+pub no_digits : (text : List ℕ) (from : ℕ) → from ≤ length text → AreDigits text from from 0
+no_digits text from le =
+    let none : from - from ≡ 0 = omega arith in
+    record {
+      low = omega arith;
+      high = le;
+      digits = ap (λ (n : ℕ). list_all is_ascii_digit (take n (drop from text))) none;
+      spelled = sym (ap (λ (n : ℕ). digits_value 10 (take n (drop from text))) none);
+      small = rw none (omega arith);
+    }
+
 pub digit_small : (text : List ℕ) (from i number : ℕ) → AreDigits text from i number → i < from + 18 → number * 10 + 9 < 2 ^ 64
 digit_small text from i number h few =
     let place : i - from ≤ 17 = omega arith in

@@ -1,9 +1,9 @@
 // Texts of ASCII, read where they are in a text.
-ghost use Rattle.std.specs.Prelude.{◌≡◌, ◌≤◌, true, length, IfOk, IfSome};
+ghost use Rattle.std.specs.Prelude.{◌≡◌, ◌+◌, ◌≤◌, ◌<◌, true, length, slice_index, IfOk, IfSome};
 ghost use Rattle.std.specs.Str.{is_utf8};
 ghost use Rattle.text_columns.specs.declared.builder.ColumnBuilder.{Flat};
 ghost use Rattle.text_columns.specs.inner.Kept.{KeepsField};
-ghost use Rattle.text_columns.specs.inner.Plain.{IsTextAt};
+ghost use Rattle.text_columns.specs.inner.Plain.{IsScanned, IsTextAt, ends_field};
 
 use crate::builder::ColumnBuilder;
 use crate::coding;
@@ -18,23 +18,64 @@ pub(crate) struct TextField {
     pub(crate) bits: u8,
 }
 
-/// Where the field that begins at a place ends, and the bits of its bytes.
-pub(crate) fn text_field(text: &[u8], from: usize) -> TextField
-    requires { from ≤ length text.now }
+// Where the field that begins at a place ends, and the bits of its bytes. Those before another place were scanned.
+fn scan_on(text: &[u8], from: usize, at: usize, scanned: u8) -> TextField
+    requires scanned { IsScanned text.now from at scanned }
+    requires low { from ≤ at }
+    requires high { at ≤ length text.now }
     ensures { IsTextAt text.now from result }
 {
-    let mut bits = 0;
-    for i in from..text.len() {
-        let byte = text[i];
-        if ends_field(byte) {
+    let mut bits = scanned;
+    for i in at..text.len() {
+        if ends_field(text[i]) {
             return TextField { end: i, bits };
         }
-        bits |= byte;
+        bits |= text[i];
     }
     TextField {
         end: text.len(),
         bits,
     }
+}
+
+// The same of at most sixteen bytes. The compiler writes a loop of so many rounds out, without a count or a test for the end.
+fn scan_sixteen(text: &[u8], from: usize) -> TextField
+    requires { from + 16 ≤ length text.now }
+    ensures scanned { IsScanned text.now from result.end result.bits }
+    ensures low { from ≤ result.end }
+    ensures high { result.end ≤ from + 16 }
+    ensures stops { result.end < from + 16 → ends_field (slice_index text.now result.end) ≡ true }
+{
+    let mut bits = 0;
+    for k in 0..16 {
+        let byte = text[from + k];
+        if ends_field(byte) {
+            return TextField {
+                end: from + k,
+                bits,
+            };
+        }
+        bits |= byte;
+    }
+    TextField {
+        end: from + 16,
+        bits,
+    }
+}
+
+/// Where the field that begins at a place ends, and the bits of its bytes.
+pub(crate) fn text_field(text: &[u8], from: usize) -> TextField
+    requires { from ≤ length text.now }
+    ensures { IsTextAt text.now from result }
+{
+    if text.len() - from < 16 {
+        return scan_on(text, from, from, 0);
+    }
+    let field = scan_sixteen(text, from);
+    if field.end < from + 16 {
+        return field;
+    }
+    scan_on(text, from, field.end, field.bits)
 }
 
 impl FlatBuilder {
@@ -51,9 +92,11 @@ impl FlatBuilder {
         if self.is_null(null_text, text) {
             return self.push_null();
         }
-        let taken = coding::push_utf8(&mut self.values, &mut self.coding, text)?;
+        let Some(heavy) = coding::push_utf8(&mut self.values, &mut self.coding, text)? else {
+            return Ok(None);
+        };
         self.valid.push(true)?;
-        Ok(taken)
+        Ok(Some(heavy))
     }
 }
 

@@ -11,6 +11,7 @@ use crate::builder::ColumnBuilder;
 use crate::placing::{Placed, place_all};
 use crate::starting::no_rows;
 use arrow_schema::Schema;
+use cells::MAX_PIECE_ROWS;
 use columns::{
     built_reads_back, dictionaries_are_written_alone, listed_reads_back, rows_can_be_built,
     written_arrays_have_their_shape, written_arrays_pass,
@@ -19,12 +20,27 @@ use std::alloc::{AllocError, Global};
 use std::mem;
 use values::{Batch, TablePart};
 
-/// The record batches that have ended, and the columns and the number of rows of the one that is being read.
+/// How many rows a record batch has if no column has parts or a dictionary: those of a piece of a stream. So its buffers are still in the processor's caches
+/// when they are copied, the next batch takes their memory, and a piece is written from one batch.
+const BATCH_ROWS: usize = MAX_PIECE_ROWS;
+
+/// The record batches that have ended; the columns and the number of rows of the one that is being read; and how many rows it may have.
 #[derive(Drop)]
 pub(crate) struct Batches {
     pub(crate) parts: Vec<TablePart>,
     pub(crate) builders: Vec<ColumnBuilder>,
     pub(crate) rows: usize,
+    pub(crate) most: usize,
+}
+
+// How many rows a record batch of such columns has. Those with dictionaries have one batch, so that each entry is kept once.
+fn most_rows(builders: &[ColumnBuilder]) -> usize {
+    for builder in builders {
+        if !builder.is_plain() {
+            return usize::MAX;
+        }
+    }
+    BATCH_ROWS
 }
 
 // Makes the record batch of the buffers of columns, with `rows` rows.
@@ -64,6 +80,7 @@ pub(crate) fn end_batches(alloc: Global, batches: Batches) -> Result<Vec<TablePa
         mut parts,
         builders,
         rows,
+        most: _,
     } = batches;
     let part = build_part(alloc, builders, rows)?;
     parts.push(part)?;
@@ -77,10 +94,12 @@ pub(crate) fn no_batches(alloc: Global, schema: &Schema) -> Result<Option<Batche
     let Some(builders) = no_rows(alloc, &schema.fields)? else {
         return Ok(None);
     };
+    let most = most_rows(&builders);
     Ok(Some(Batches {
         parts: Vec::new(alloc),
         builders,
         rows: 0,
+        most,
     }))
 }
 
@@ -92,6 +111,7 @@ fn next_batch(
 ) -> Result<Option<Batches>, AllocError>
     ensures { IfOk result (λ next. IfSome next (HoldsSame (schema_of schema.now) batches)) }
 {
+    let most = batches.most;
     let parts = end_batches(alloc, batches)?;
     let Some(builders) = no_rows(alloc, &schema.fields)? else {
         return Ok(None);
@@ -100,6 +120,7 @@ fn next_batch(
         parts,
         builders,
         rows: 0,
+        most,
     }))
 }
 
@@ -132,6 +153,7 @@ impl Batches {
             parts: Vec::new(alloc),
             builders: Vec::new(alloc),
             rows: 0,
+            most: 0,
         };
         let ended = mem::replace(self, none);
         let Some(next) = next_batch(alloc, schema, ended)? else {
@@ -141,7 +163,8 @@ impl Batches {
         Ok(true)
     }
 
-    /// If `ends`, and a dictionary has no room for one more entry, ends the record batch and begins the next one. Returns false if no columns can be begun.
+    /// If it has as many rows as it may have, or if `ends` and a dictionary has no room for one more entry, ends the record batch and begins the next one.
+    /// Returns false if no columns can be begun.
     #[inline(always)]
     pub(crate) fn make_room(
         &mut self,
@@ -151,7 +174,7 @@ impl Batches {
     ) -> Result<bool, AllocError>
         ensures { IfOk result (λ done. done ≡ true → HoldsSame (schema_of schema.now) self.old self.new) }
     {
-        if !ends || self.has_room() {
+        if self.rows < self.most && (!ends || self.has_room()) {
             return Ok(true);
         }
         self.begin_next(alloc, schema)

@@ -145,6 +145,14 @@ impl ColumnBuilder {
         }
     }
 
+    /// Whether the column has neither parts nor a dictionary.
+    pub(crate) fn is_plain(&self) -> bool {
+        match self {
+            ColumnBuilder::Flat(flat) => flat.coding.is_none(),
+            _ => false,
+        }
+    }
+
     /// What a null of the column weighs.
     pub(crate) fn null_weight(&self) -> u64
         ensures { result ≡ null_heavy_of self.now }

@@ -56,9 +56,11 @@ impl FlatBuilder {
         if self.is_null(null_text, text) {
             return self.push_null();
         }
-        let taken = coding::push_text(&mut self.values, &mut self.coding, text)?;
+        let Some(heavy) = coding::push_text(&mut self.values, &mut self.coding, text)? else {
+            return Ok(None);
+        };
         self.valid.push(true)?;
-        Ok(taken)
+        Ok(Some(heavy))
     }
 
     /// Appends n nulls, whether the column is nullable or not: what is below a null is null.

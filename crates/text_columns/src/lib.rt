@@ -8,8 +8,9 @@
 //! buffers of their own. It also returns `None` if the text is refused, if an object has a name twice, or if a dictionary below a list or a struct has
 //! indices of fewer than 32 bits.
 //!
-//! The rows are one record batch. Only if a column gets more entries than its indices can name, the text is read again, and a record batch ends before
-//! each row for which a dictionary might have no room. Each record batch has dictionaries of its own.
+//! A record batch has at most as many rows as a piece of a stream. If a column has parts or a dictionary, all rows are one record batch. Only if such a
+//! column gets more entries than its indices can name, the text is read again, and a record batch ends before each row for which a dictionary might have no
+//! room. Each record batch has dictionaries of its own.
 //!
 //! ```
 //! let fields = field_texts::parse_fields(alloc, &["a:int32?", "s:utf8"])?;

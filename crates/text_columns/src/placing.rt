@@ -237,6 +237,43 @@ fn place_fields(
     Ok(arrays)
 }
 
+// How many bytes values have, or somewhat more.
+fn values_size(values: &ColumnValues) -> usize {
+    match values {
+        ColumnValues::Nulls => 0,
+        ColumnValues::Booleans(bits) => bits.len() / 8 + 1,
+        ColumnValues::Integers(_, values) => values.len(),
+        ColumnValues::Texts(_, offsets, contents) => offsets.len().saturating_add(contents.len()),
+        ColumnValues::Binaries(_, offsets, contents) => {
+            offsets.len().saturating_add(contents.len())
+        }
+        ColumnValues::FixedBinaries(_, values) => values.len(),
+    }
+}
+
+// The same of a column without parts.
+fn column_size(column: &FlatBuilder) -> usize {
+    let indices = match &column.coding {
+        Some(coding) => coding.indices.len(),
+        None => 0,
+    };
+    let validity = column.valid.len() / 8 + 1;
+    values_size(&column.values)
+        .saturating_add(indices)
+        .saturating_add(validity)
+}
+
+// The same of all columns without parts. So their bytes are never moved to a larger buffer.
+fn columns_size(columns: &[ColumnBuilder]) -> usize {
+    let mut size: usize = 0;
+    for column in columns {
+        if let ColumnBuilder::Flat(flat) = column {
+            size = size.saturating_add(column_size(flat));
+        }
+    }
+    size
+}
+
 /// The arrays of columns, and the bytes and the dictionaries that they are in.
 #[derive(Drop)]
 pub(crate) struct Placed {
@@ -249,7 +286,7 @@ pub(crate) struct Placed {
 pub(crate) fn place_all(alloc: Global, columns: Vec<ColumnBuilder>) -> Result<Placed, AllocError>
     ensures { IfOk result (λ placed. ArePlaced columns.items placed.bytes.items placed.dictionaries.items placed.arrays.items) }
 {
-    let mut bytes = Vec::new(alloc);
+    let mut bytes = Vec::with_capacity(alloc, columns_size(&columns))?;
     let mut dictionaries = Vec::new(alloc);
     let mut arrays = Vec::with_capacity(alloc, columns.len())?;
     for column in columns {

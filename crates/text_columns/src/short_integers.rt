@@ -19,16 +19,18 @@ pub(crate) struct ShortInteger {
     pub(crate) number: i64,
 }
 
-// Where the digits from a place on end, at the latest at a limit, and the number that they spell.
-fn read_digits(text: &[u8], from: usize, limit: usize) -> (usize, u64)
-    requires low { from ≤ limit }
+// Where the digits from a place on end, at the latest at a limit, and the number that they spell. Those before another place were read.
+#[inline(never)]
+fn read_on(text: &[u8], from: usize, at: usize, read: u64, limit: usize) -> (usize, u64)
+    requires read { AreDigits text.now from at read }
+    requires low { at ≤ limit }
     requires high { limit ≤ length text.now }
     requires few { limit ≤ from + 18 }
     ensures digits { AreDigits text.now from result.0 result.1 }
     ensures few { result.0 ≤ from + 18 }
 {
-    let mut number = 0;
-    for i in from..limit {
+    let mut number = read;
+    for i in at..limit {
         if !text[i].is_ascii_digit() {
             return (i, number);
         }
@@ -37,17 +39,27 @@ fn read_digits(text: &[u8], from: usize, limit: usize) -> (usize, u64)
     (limit, number)
 }
 
-fn has_minus(text: &[u8], at: usize) -> bool
-    requires { at ≤ length text.now }
-    ensures { result ≡ begins_with 45 (drop at text.now) }
+// The same of at most ten digits, as numbers of 32 bits have. The compiler writes a loop of so many rounds out, without a count or a test for the limit.
+fn read_ten(text: &[u8], from: usize) -> (usize, u64)
+    requires { from + 10 ≤ length text.now }
+    ensures digits { AreDigits text.now from result.0 result.1 }
+    ensures few { result.0 ≤ from + 10 }
 {
-    at < text.len() && text[at] == b'-'
+    let mut number = 0;
+    for k in 0..10 {
+        let byte = text[from + k];
+        if !byte.is_ascii_digit() {
+            return (from + k, number);
+        }
+        number = number * 10 + u64::from(byte - b'0');
+    }
+    (from + 10, number)
 }
 
 // Where the last of 18 digits from a place on can end.
 fn last_digit(text: &[u8], from: usize) -> usize
     requires { from ≤ length text.now }
-    ensures low { from ≤ result }
+    ensures many { from + 10 ≤ length text.now → from + 10 ≤ result }
     ensures high { result ≤ length text.now }
     ensures few { result ≤ from + 18 }
 {
@@ -56,6 +68,29 @@ fn last_digit(text: &[u8], from: usize) -> usize
     } else {
         text.len()
     }
+}
+
+// Where the digits from a place on end, at the latest behind 18, and the number that they spell.
+fn read_digits(text: &[u8], from: usize) -> (usize, u64)
+    requires { from ≤ length text.now }
+    ensures digits { AreDigits text.now from result.0 result.1 }
+    ensures few { result.0 ≤ from + 18 }
+{
+    if text.len() - from < 10 {
+        return read_on(text, from, from, 0, text.len());
+    }
+    let (end, number) = read_ten(text, from);
+    if end < from + 10 {
+        return (end, number);
+    }
+    read_on(text, from, end, number, last_digit(text, from))
+}
+
+fn has_minus(text: &[u8], at: usize) -> bool
+    requires { at ≤ length text.now }
+    ensures { result ≡ begins_with 45 (drop at text.now) }
+{
+    at < text.len() && text[at] == b'-'
 }
 
 // Whether a field ends at a place.
@@ -71,7 +106,7 @@ fn unsigned(text: &[u8], from: usize) -> Option<ShortInteger>
     requires { from ≤ length text.now }
     ensures { IfSome result (IsShortInteger text.now from) }
 {
-    let (end, number) = read_digits(text, from, last_digit(text, from));
+    let (end, number) = read_digits(text, from);
     if end == from || !ends_at(text, end) {
         return None;
     }
@@ -85,7 +120,7 @@ fn negative(text: &[u8], from: usize) -> Option<ShortInteger>
     ensures { IfSome result (IsShortInteger text.now from) }
 {
     let first = from + 1;
-    let (end, number) = read_digits(text, first, last_digit(text, first));
+    let (end, number) = read_digits(text, first);
     if end == first || !ends_at(text, end) {
         return None;
     }
@@ -133,9 +168,11 @@ impl FlatBuilder {
         if self.is_null(null_text, text) {
             return self.push_null();
         }
-        let taken = coding::push_short(&mut self.values, &mut self.coding, short)?;
+        let Some(heavy) = coding::push_short(&mut self.values, &mut self.coding, short)? else {
+            return Ok(None);
+        };
         self.valid.push(true)?;
-        Ok(taken)
+        Ok(Some(heavy))
     }
 }
 

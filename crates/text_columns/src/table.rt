@@ -31,9 +31,9 @@ fn build_table(alloc: Global, schema: &Schema, batches: Batches) -> Result<Table
     Ok(table)
 }
 
-/// Returns the table of the rows of a CSV text, and their weight. It is kept in one record batch, or in several if a column has more entries than its
-/// indices can name. `None` for some schemas with lists or structs, or if the rows are too heavy for a table: the rows are then those of
-/// `text_import::csv_rows`, or its refusal.
+/// Returns the table of the rows of a CSV text, and their weight. It is kept in record batches with the rows of a piece, or with dictionaries in one, or
+/// in several if a column has more entries than its indices can name. `None` for some schemas with lists or structs, or if the rows are too heavy for a
+/// table: the rows are then those of `text_import::csv_rows`, or its refusal.
 ///
 /// # Errors
 ///

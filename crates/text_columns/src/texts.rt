@@ -44,6 +44,7 @@ pub(crate) fn push_contents(
 }
 
 /// The same of a text that is known to be UTF-8.
+#[inline(always)]
 pub(crate) fn push_utf8(
     offsets: &mut Vec<u8>,
     contents: &mut Vec<u8>,

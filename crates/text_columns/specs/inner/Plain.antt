@@ -1,5 +1,5 @@
 -- Records without quotes, by where they stand in a text.
-use Rattle.std.specs.Prelude.{◌≡◌, ◌≤◌, ◌<◌, ◌+◌, ◌-◌, ◌^◌, ◌==◌, ◌||◌, ℕ, Bool, false, true, not, List, [], ◌∷◌, length, drop, take, slice_index, Some}
+use Rattle.std.specs.Prelude.{◌≡◌, ◌≤◌, ◌<◌, ◌+◌, ◌-◌, ◌^◌, ◌==◌, ◌||◌, ℕ, Bool, false, true, nat_lt, not, List, [], ◌∷◌, length, drop, take, slice_index, Some}
 use Rattle.std.specs.List.{list_all}
 use Rattle.std.specs.Char.{is_ascii_digit}
 use Rattle.std.specs.Str.{is_utf8}
@@ -54,6 +54,14 @@ pub record IsShortInteger (text : List ℕ) (from : ℕ) (s : ShortInteger) : Ty
   pub field : IsFieldAt text from s.end
   pub unquoted : begins_quoted (drop from text) ≡ false
   pub spelled : typed_integer (take (s.end - from) (drop from text)) ≡ Some s.number
+
+abbrev pub below_128 : ℕ → Bool
+below_128 b = nat_lt b 128
+
+-- the bytes of a field up to a place, which are ASCII where the bits of all are below 128
+pub record IsScanned (text : List ℕ) (from at bits : ℕ) : Type 0 where
+  pub plain : AllBetween (λ b. not (ends_field b)) text from at
+  pub ascii : bits < 128 → AllBetween below_128 text from at
 
 -- a field, whose bytes are ASCII where the bits of all are below 128
 pub record IsTextAt (text : List ℕ) (from : ℕ) (t : TextField) : Type 0 where

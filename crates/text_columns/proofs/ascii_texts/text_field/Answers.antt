@@ -1,21 +1,12 @@
-use Rattle.std.specs.Prelude.{not}
-use Rattle.std.proofs.Common.{◌≡◌, ℕ, ◌∙◌, ap, arith, length, subst, sym}
-use Rattle.text_columns.proofs.AsciiTexts.{IsScanned, none_scanned, one_scanned, text_scanned}
+use Rattle.std.proofs.Common.{◌≤◌, arith, length}
+use Rattle.text_columns.proofs.AsciiTexts.{none_scanned, text_scanned}
 use Rattle.text_columns.proofs.ascii_texts.text_field.Goals as goal
 
-pub loop-i-init : goal.loop-i-init
-loop-i-init c = none_scanned c.args.text.now c.args.from
+pub scan_on-requires-clause-scanned : goal.scan_on-requires-clause-scanned
+scan_on-requires-clause-scanned c = none_scanned c.args.text.now c.args.from
 
-pub loop-i-preserved : goal.loop-i-preserved
-loop-i-preserved c =
-    one_scanned c.args.text.now c.args.from c.loop-i.i c.loop-i.bits (omega (arith, c.loop-i.auto.i)) c.loop-i-test.true (ap not (sym c.ends_field.ensures ∙ c.if-ends_field.false)) c.loop-i.invariant
-
-pub returns-then-ends_field : goal.returns-then-ends_field
-returns-then-ends_field c =
-    text_scanned c.args.text.now c.args.from c.loop-i.i c.loop-i.bits c.loop-i.invariant (omega (arith, c.loop-i.auto.i)) (omega (arith, c.loop-i-test.true)) (λ lt. sym c.ends_field.ensures ∙ c.if-ends_field.true)
-
-pub returns : goal.returns
-returns c =
-    let all : c.loop-i.i ≡ length c.args.text.now = omega (arith, c.loop-i-test.false, c.loop-i.auto.i-end, c.requires) in
-    let whole = subst (λ (n : ℕ). IsScanned c.args.text.now c.args.from n c.loop-i.bits) all c.loop-i.invariant in
-    text_scanned c.args.text.now c.args.from (length c.args.text.now) c.loop-i.bits whole c.requires (omega arith) (λ lt. absurd (omega arith))
+pub returns-then-field-from : goal.returns-then-field-from
+returns-then-field-from c =
+    let s = c.scan_sixteen-field.ensures in
+    let end = c.scan_sixteen-field.result.end in
+    text_scanned c.args.text.now c.args.from end c.scan_sixteen-field.result.bits s.scanned s.low (omega (arith, s.high, c.if-text-from-lt16.false)) (λ _. s.stops c.if-field-from.true)

@@ -4,7 +4,7 @@ use Rattle.text_columns.proofs.placing.place_all.Goals as goal
 
 pub loop-column-init : goal.loop-column-init
 loop-column-init c =
-    let none : SoFar [] c.new-bytes.result.items c.new-dictionaries.result.items c.in_ok-arrays.arrays.items = rw c.in_ok-arrays.ensures.items (none_placed _ _) in
+    let none : SoFar [] c.in_ok-bytes.bytes.items c.new-dictionaries.result.items c.in_ok-arrays.arrays.items = rw c.in_ok-arrays.ensures.items (none_placed _ _) in
     record { next = tt; ends = tt; so_far = none; placed = all_placed _ _ _ _ none }
 
 pub loop-column-preserved : goal.loop-column-preserved

@@ -1,5 +1,4 @@
 use Rattle.std.proofs.Common.{◌∙◌, refl, sym}
-use Rattle.std.proofs.lemmas.Option.{IfSome_then}
 use Rattle.text_columns.specs.declared.flat.FlatBuilder.{FlatBuilder}
 use Rattle.text_columns.proofs.Taken.{field_kept, null_field}
 use Rattle.text_columns.proofs.flat.FlatBuilder.push_short.Goals as goal
@@ -11,6 +10,5 @@ returns-then-is_null c =
 pub returns : goal.returns
 returns c =
     let new : FlatBuilder = record { nullable = c.args.self.now.nullable; valid = c.push.new.self; values = c.push_short.new.values; coding = c.push_short.new.coding } in
-    IfSome_then c.in_ok-taken.taken (c.in_ok-taken.ensures c.args.text.now c.requires)
-    (λ heavy takes.
-    field_kept c.args.null_text.now c.args.text.now heavy c.args.self.now new (sym c.is_null.ensures ∙ c.if-is_null.false) refl c.in_ok-push.ensures.items takes)
+    field_kept c.args.null_text.now c.args.text.now c.in-Some.heavy c.args.self.now new (sym c.is_null.ensures ∙ c.if-is_null.false) refl c.in_ok-push.ensures.items
+    (rw c.in-Some.is at (c.in_ok-heavy.ensures c.args.text.now c.requires))
