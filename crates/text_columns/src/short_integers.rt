@@ -70,8 +70,8 @@ fn last_digit(text: &[u8], from: usize) -> usize
     }
 }
 
-// Where the digits from a place on end, at the latest behind 18, and the number that they spell.
-fn read_digits(text: &[u8], from: usize) -> (usize, u64)
+/// Where the digits from a place on end, at the latest behind 18, and the number that they spell.
+pub(crate) fn read_digits(text: &[u8], from: usize) -> (usize, u64)
     requires { from ≤ length text.now }
     ensures digits { AreDigits text.now from result.0 result.1 }
     ensures few { result.0 ≤ from + 18 }
