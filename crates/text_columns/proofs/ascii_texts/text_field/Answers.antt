@@ -1,4 +1,4 @@
-use Rattle.std.proofs.Common.{◌≤◌, arith, length}
+use Rattle.std.proofs.Common.{arith}
 use Rattle.text_columns.proofs.AsciiTexts.{none_scanned, text_scanned}
 use Rattle.text_columns.proofs.ascii_texts.text_field.Goals as goal
 
