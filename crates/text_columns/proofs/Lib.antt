@@ -21,3 +21,6 @@ pub mod StructFields
 pub mod Nulls
 pub mod ListCells
 pub mod Starts
+pub mod LexemeGrammar
+pub mod ShortNumbers
+pub mod LineSteps

@@ -1,12 +1,13 @@
 -- Rows of lines of JSON that come after others, by the buffers of their columns.
-use Rattle.std.specs.Borrow.{Bor}
 use Rattle.std.specs.Global.{Vec}
 use Rattle.std.specs.Str.{is_utf8}
 use Rattle.std.specs.Cmp.Lexicographic.{slice_cmp}
 use Rattle.std.specs.Ordering.{match_ordering, nat_cmp}
-use Rattle.std.specs.Prelude.{Option, Some, None, Ok, Err, Result, IfOk, IfSome, slice_get, get_or, bytes_eq, not, nat_lt, ◌||◌, filter, is_some, MatchOption, option_map, if◌then◌else◌}
+use Rattle.std.specs.Prelude.{Option, Some, None, Ok, Err, Result, IfOk, IfSome, slice_get, get_or, bytes_eq, not, nat_lt, ◌||◌, filter, is_some, ◌==◌, option_map, if◌then◌else◌}
 use Rattle.std.proofs.Common.{Ordering, Less, Equal, Greater, ◌≡◌, ℕ, zero, suc, ◌+◌, ◌-◌, ◌≤◌, ◌<◌, Bool, true, false, List, [], ◌∷◌, ◌++◌, length, take, drop, set, refl, arith, ap, sym, subst, ◌∙◌, inl, inr, length-append}
-use Rattle.std.proofs.lemmas.Bool.{cases_lt, false≢true, le-ltb, or_from}
+use Rattle.std.specs.List.{All, slice_split}
+use Rattle.std.proofs.lemmas.Bool.{cases_lt, eq-eqb, false≢true, le-ltb, ne_eqb, or_from}
+use Rattle.std.proofs.lemmas.List.Splits.{slice_split_at, slice_split_none}
 use Rattle.std.proofs.lemmas.List.Sums.{sum_by-append}
 use Rattle.std.proofs.lemmas.Option.{slice_get_within}
 use Rattle.std.proofs.lemmas.Slice.Eq.{bytes_eq-Decides}
@@ -25,13 +26,12 @@ use Rattle.arrow_schema.specs.View.{column_of}
 use Rattle.arrow_schema.specs.declared.types.Field.{Field}
 use Rattle.arrow_schema.specs.laws.Parts.{field_parts}
 use Rattle.std.specs.Prelude.{map, string_bytes}
-use Rattle.std.proofs.lemmas.List.{map-append, take_more}
+use Rattle.std.proofs.lemmas.List.{drop_more, get_or-take, get_or_default, length-take-le, map-append, take-append-drop, take_more}
 use Rattle.text_import.specs.declared.refusal.Refusal.{Refusal}
 use Rattle.cells.specs.Cell.{Cell, Cells, null, cells_of}
 use Rattle.cells.specs.Dictionary.{dictionaries_fit}
 use Rattle.cells.specs.Weight.{parts_weight, row_weight, table_weight}
 use Rattle.cells.specs.laws.Cells.{cells_listed}
-use Rattle.facts.specs.Texts.{text_list}
 use Rattle.text_import.specs.Objects.{cells_by_name, cells_in, has_name, has_unknown, is_blank, keys_of, line_row, line_value, names_of, repeats}
 use Rattle.text_import.specs.Refusals.{numbered}
 use Rattle.text_import.specs.Rows.{rows_from}
@@ -329,37 +329,50 @@ object_kept names inside rest heavy bs bs2 ends k =
 
 -- ---- the rows of lines
 
+-- the first line of a text that has a line feed, and the others
+pub first_of_lines : (t : List ℕ) (end : ℕ) → end < length t → ((k : ℕ) → k < end → (get_or t k 0 == 10) ≡ true → ⊥) → get_or t end 0 ≡ 10
+    → slice_split (λ b. b == 10) t ≡ take end t ∷ slice_split (λ b. b == 10) (drop (end + 1) t)
+first_of_lines t end lt none is =
+    let parts : t ≡ take end t ++ 10 ∷ drop (end + 1) t = sym (take-append-drop end t) ∙ ap (λ (ys : List ℕ). take end t ++ ys) (drop_more t end 0 lt ∙ ap (λ (x : ℕ). x ∷ drop (end + 1) t) is) in
+    let front : All (λ b. (b == 10) ≡ false) (take end t) = λ k d within. (let before : k < end = omega (arith, length-take-le end t (omega arith)) in
+    ne_eqb (get_or (take end t) k d) 10 (λ e. none k before (eq-eqb (get_or t k 0) 10 (sym (get_or-take end t k 0 before) ∙ get_or_default (take end t) k 0 d within ∙ e)))) in
+    ap (slice_split (λ b. b == 10)) parts ∙ slice_split_at (λ b. b == 10) (take end t) 10 (drop (end + 1) t) front refl
+
+-- a text without one is its only line
+pub only_line : (t : List ℕ) → ((k : ℕ) → k < length t → (get_or t k 0 == 10) ≡ true → ⊥) → slice_split (λ b. b == 10) t ≡ t ∷ []
+only_line t none = slice_split_none (λ b. b == 10) t (λ k d within. ne_eqb (get_or t k d) 10 (λ e. none k within (eq-eqb (get_or t k 0) 10 (get_or_default t k 0 d within ∙ e))))
+
 -- the lines that are no blanks
-abbrev pub filled : List (Bor (List ℕ)) → List (List ℕ)
-filled lines = filter (λ line. not (is_blank line)) (text_list lines)
+abbrev pub filled : List (List ℕ) → List (List ℕ)
+filled lines = filter (λ line. not (is_blank line)) lines
 
 -- some lines have come as rows, and the others are left
-pub record LinesRead (s : PlainSchema) (lines left : List (Bor (List ℕ))) (heavy : ℕ) (b : Batches) : Type 0 where
+pub record LinesRead (s : PlainSchema) (lines left : List (List ℕ)) (heavy : ℕ) (b : Batches) : Type 0 where
   pub number : ℕ
   pub rows : List (List Cell)
   pub read : behind rows (rows_from (line_row s) (number + 1) (filled left)) ≡ rows_from (line_row s) 1 (filled lines)
   pub weighs : table_weight s rows ≡ heavy
   pub holds : HoldRows s rows b
 
-pub lines_none : (s : PlainSchema) (lines : List (Bor (List ℕ))) (b : Batches) → HoldRows s [] b → LinesRead s lines lines 0 b
+pub lines_none : (s : PlainSchema) (lines : List (List ℕ)) (b : Batches) → HoldRows s [] b → LinesRead s lines lines 0 b
 lines_none s lines b k = record { number = 0; rows = []; read = behind_none _; weighs = refl; holds = k }
 
 -- the same rows in other batches
-pub lines_same : (s : PlainSchema) (lines left : List (Bor (List ℕ))) (heavy : ℕ) (old new : Batches) → HoldsSame s old new → LinesRead s lines left heavy old → LinesRead s lines left heavy new
+pub lines_same : (s : PlainSchema) (lines left : List (List ℕ)) (heavy : ℕ) (old new : Batches) → HoldsSame s old new → LinesRead s lines left heavy old → LinesRead s lines left heavy new
 lines_same s lines left heavy old new same h = record { number = h.number; rows = h.rows; read = h.read; weighs = h.weighs; holds = same h.rows h.holds }
 
-filled_at : (line : Bor (List ℕ)) (lines : List (Bor (List ℕ))) → is_blank line.now ≡ false → filled (line ∷ lines) ≡ line.now ∷ filled lines
+filled_at : (line : List ℕ) (lines : List (List ℕ)) → is_blank line ≡ false → filled (line ∷ lines) ≡ line ∷ filled lines
 filled_at line lines e = rw e refl
 
-skipped_at : (line : Bor (List ℕ)) (lines : List (Bor (List ℕ))) → is_blank line.now ≡ true → filled (line ∷ lines) ≡ filled lines
+skipped_at : (line : List ℕ) (lines : List (List ℕ)) → is_blank line ≡ true → filled (line ∷ lines) ≡ filled lines
 skipped_at line lines e = rw e refl
 
-pub lines_skipped : (s : PlainSchema) (lines : List (Bor (List ℕ))) (n heavy : ℕ) (line : Bor (List ℕ)) (b : Batches) → drop n lines ≡ line ∷ drop (n + 1) lines → is_blank line.now ≡ true
-    → LinesRead s lines (drop n lines) heavy b → LinesRead s lines (drop (n + 1) lines) heavy b
-lines_skipped s lines n heavy line b here blank h = record {
+pub lines_skipped : (s : PlainSchema) (lines left others : List (List ℕ)) (heavy : ℕ) (line : List ℕ) (b : Batches) → left ≡ line ∷ others → is_blank line ≡ true
+    → LinesRead s lines left heavy b → LinesRead s lines others heavy b
+lines_skipped s lines left others heavy line b here blank h = record {
   number = h.number;
   rows = h.rows;
-  read = ap (λ (xs : List (List ℕ)). behind h.rows (rows_from (line_row s) (h.number + 1) xs)) (sym (ap filled here ∙ skipped_at line (drop (n + 1) lines) blank)) ∙ h.read;
+  read = ap (λ (xs : List (List ℕ)). behind h.rows (rows_from (line_row s) (h.number + 1) xs)) (sym (ap filled here ∙ skipped_at line others blank)) ∙ h.read;
   weighs = h.weighs;
   holds = h.holds;
 }
@@ -371,30 +384,30 @@ line_accepted s line d row heavy value cells weighs few full =
     let light : nat_lt 16777216 (row_weight s row) ≡ false = le-ltb _ _ (omega (arith, weighs, few)) in
     rw (value, cells, cells_listed row, light, full) refl
 
-pub lines_more : (s : PlainSchema) (names : List (List ℕ)) (lines : List (Bor (List ℕ))) (n heavy more : ℕ) (line : Bor (List ℕ)) (b b2 : Batches) → drop n lines ≡ line ∷ drop (n + 1) lines
-    → is_blank line.now ≡ false → names_of (columns_of s.columns) ≡ names → repeats names ≡ false → more ≤ 16777216 → KeepsLine names line.now more b.builders.items b2.builders.items → AddsRow b b2
-    → LinesRead s lines (drop n lines) heavy b → LinesRead s lines (drop (n + 1) lines) (heavy + more) b2
-lines_more s names lines n heavy more line b b2 here blank named distinct few keeps adds h =
+pub lines_more : (s : PlainSchema) (names : List (List ℕ)) (lines left others : List (List ℕ)) (heavy more : ℕ) (line : List ℕ) (b b2 : Batches) → left ≡ line ∷ others
+    → is_blank line ≡ false → names_of (columns_of s.columns) ≡ names → repeats names ≡ false → more ≤ 16777216 → KeepsLine names line more b.builders.items b2.builders.items → AddsRow b b2
+    → LinesRead s lines left heavy b → LinesRead s lines others (heavy + more) b2
+lines_more s names lines left others heavy more line b b2 here blank named distinct few keeps adds h =
     let held = h.holds in
     let v = keeps.keeps s.columns held.last named distinct held.keeps in
     let full = row_fits s held.last b.builders.items v.row held.keeps in
-    let row = line_accepted s line.now keeps.data_is v.row more keeps.read v.read v.weighs few full in
+    let row = line_accepted s line keeps.data_is v.row more keeps.read v.read v.weighs few full in
     let i = h.number in
-    let given : numbered (i + 1) (line_row s line.now) ≡ Ok v.row = rw row refl in
-    let left = ap filled here ∙ filled_at line (drop (n + 1) lines) blank in
+    let given : numbered (i + 1) (line_row s line) ≡ Ok v.row = rw row refl in
+    let next = ap filled here ∙ filled_at line others blank in
     let joined = sum_by-append (row_weight s) h.rows (v.row ∷ []) in
     record {
       number = i + 1;
       rows = h.rows ++ v.row ∷ [];
-      read = sym (row_more (line_row s) (i + 1) h.rows line.now (filled (drop (n + 1) lines)) v.row given)
-          ∙ ap (λ (xs : List (List ℕ)). behind h.rows (rows_from (line_row s) (i + 1) xs)) (sym left) ∙ h.read;
+      read = sym (row_more (line_row s) (i + 1) h.rows line (filled others) v.row given)
+          ∙ ap (λ (xs : List (List ℕ)). behind h.rows (rows_from (line_row s) (i + 1) xs)) (sym next) ∙ h.read;
       weighs = omega (arith, joined, h.weighs, v.weighs);
       holds = held_more s h.rows v.row b b2 held adds v.keeps;
     }
 
-pub lines_all : (s : PlainSchema) (lines : List (Bor (List ℕ))) (n heavy : ℕ) (b : Batches) → drop n lines ≡ [] → heavy ≤ 268435456
-    → LinesRead s lines (drop n lines) heavy b → HasRows s (rows_from (line_row s) 1 (filled lines)) heavy b
-lines_all s lines n heavy b none few h = record {
+pub lines_all : (s : PlainSchema) (lines left : List (List ℕ)) (heavy : ℕ) (b : Batches) → left ≡ [] → heavy ≤ 268435456
+    → LinesRead s lines left heavy b → HasRows s (rows_from (line_row s) 1 (filled lines)) heavy b
+lines_all s lines left heavy b none few h = record {
   rows = h.rows;
   are_read = sym (rw none at h.read) ∙ rows_end (line_row s) (h.number + 1) h.rows;
   weighs = h.weighs;
@@ -439,10 +452,6 @@ free_at [] i d lt e = absurd (omega arith)
 free_at (None ∷ ws) zero d lt e = refl
 free_at (Some w ∷ ws) zero d lt e = absurd (false≢true (sym e))
 free_at (w ∷ ws) (suc i) d lt e = free_at ws i d (omega arith) e
-
-pub none_next : {X : Type 0} (o : Option X) (P : Type 0) (Q : X → Type 0) → is_some o ≡ false → MatchOption o P Q → P
-none_next None P Q e h = h
-none_next (Some x) P Q e h = absurd (false≢true (sym e))
 
 -- ---- the names of fields, one after another
 

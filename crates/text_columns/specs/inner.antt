@@ -5,3 +5,6 @@ pub mod Plain
 pub mod Columns
 pub mod Lines
 pub mod Batches
+pub mod Lexemes
+pub mod Stands
+pub mod Sources

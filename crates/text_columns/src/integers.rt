@@ -60,9 +60,13 @@ fn push_signed(values: &mut Vec<u8>, width: BitWidth, number: i64) -> Result<boo
     Ok(true)
 }
 
-// Appends the bytes of a number of 64 bits, where the type holds it.
+/// Appends the bytes of a number of 64 bits, where the type holds it.
 #[inline(always)]
-fn push_small(values: &mut Vec<u8>, integer: IntegerType, number: i64) -> Result<bool, AllocError>
+pub(crate) fn push_small(
+    values: &mut Vec<u8>,
+    integer: IntegerType,
+    number: i64,
+) -> Result<bool, AllocError>
     ensures { IfOk result (λ pushed. pushed ≡ true → AppendsInteger (bits_of integer.width) integer.signed number values.old.items values.new.items) }
 {
     if integer.signed {

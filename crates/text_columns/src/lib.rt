@@ -5,8 +5,8 @@
 //! structs, which `csv_rows` refuses, and if the rows are too heavy for a table.
 //!
 //! [`jsonl_table`] does the same for JSON Lines, token by token: no tree is made of a line, and the items of a list and the members of a struct go into
-//! buffers of their own. It also returns `None` if the text is refused, if an object has a name twice, or if a dictionary below a list or a struct has
-//! indices of fewer than 32 bits.
+//! buffers of their own. It also returns `None` if the text is refused, if an object has a name twice, if two columns, or two fields of a struct, have one
+//! name (even if all lines are arrays), or if a dictionary below a list or a struct has indices of fewer than 32 bits.
 //!
 //! The rows are one record batch. Only if a column gets more entries than its indices can name, the text is read again, and a record batch ends before
 //! each row for which a dictionary might have no room. Each record batch has dictionaries of its own.
@@ -29,11 +29,14 @@ mod column_values;
 mod complete;
 mod flat;
 mod integers;
+mod lexemes;
+mod line_reader;
 mod lines;
 mod members;
 mod next;
 mod placing;
 mod plain;
+mod plain_reader;
 mod reading;
 mod records;
 mod short_integers;

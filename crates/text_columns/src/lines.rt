@@ -1,46 +1,49 @@
 // Lines of JSON, member by member into the buffers of their columns.
-ghost use Rattle.std.specs.Prelude.{◌≡◌, ◌≤◌, ◌==◌, ℕ, List, not, [], ◌∷◌, false, IfOk, IfSome};
-ghost use Rattle.std.specs.List.{filter, slice_split};
+ghost use Rattle.std.specs.Prelude.{◌≡◌, ◌≤◌, ◌<◌, ℕ, List, [], ◌∷◌, false, Some, IfOk, IfSome};
 ghost use Rattle.arrow_schema.specs.Column.{columns_of};
 ghost use Rattle.arrow_schema.specs.View.{schema_of};
-ghost use Rattle.facts.specs.Texts.{text_list};
 ghost use Rattle.json.specs.Token as tokens;
-ghost use Rattle.text_import.specs.Objects.{is_blank, line_row, names_of, repeats};
-ghost use Rattle.text_import.specs.Rows.{rows_from};
+ghost use Rattle.text_import.specs.Objects.{jsonl_rows_of, names_of, repeats};
 ghost use Rattle.text_columns.specs.inner.Batches.{AddsRow, HasRows, HoldRows};
 ghost use Rattle.text_columns.specs.inner.Kept.{key_list};
-ghost use Rattle.text_columns.specs.inner.Lines.{KeepsLine, KeepsTokens};
+ghost use Rattle.text_columns.specs.inner.Lines.{KeepsLine, KeepsTokens, lines_left, size_left};
 
 use crate::batches::Batches;
 use crate::builder::ColumnBuilder;
+use crate::line_reader::{LineReader, has_escape};
 use crate::next::{push_fields, push_items};
 use arrow_schema::Schema;
 use cells::{MAX_ROW_WEIGHT, MAX_TABLE_WEIGHT};
 use indexmap::IndexSet;
-use json::{Reader, Scratch, Token};
-use simdutf8::basic::from_utf8;
+use json::{Scratch, Token};
+use memchr::memchr;
 use std::alloc::{AllocError, Global};
 use text_import::is_blank;
 
 // How deep the values of a line's object or array may nest.
 const BELOW: u32 = 126;
 
-// The lines of a text. The last one is empty if the text ends with a line feed.
-fn lines_of(alloc: Global, text: &str) -> Result<Vec<&str>, AllocError>
-    ensures { IfOk result (λ lines. text_list lines.items ≡ slice_split (λ b. b == 10) text.now) }
-{
-    text.split('\n').collect(alloc)
+// The first line of a text, and what follows its line feed, where it has one.
+#[derive(Clone, Copy)]
+struct FirstLine<'a> {
+    line: &'a str,
+    behind: Option<&'a str>,
 }
 
-/// Splits a text at its line feeds; none where it is not UTF-8, so that no line has to be tested.
-pub(crate) fn split_lines(alloc: Global, text: &[u8]) -> Result<Option<Vec<&str>>, AllocError>
-    ensures { IfOk result (λ found. IfSome found (λ lines. text_list lines.items ≡ slice_split (λ b. b == 10) text.now)) }
+fn first_line<'a>(text: &'a str) -> FirstLine<'a>
+    ensures line { lines_left (Some text.entry) ≡ result.line.now ∷ lines_left result.behind }
+    ensures less { size_left result.behind < size_left (Some text.entry) }
 {
-    let Ok(text) = from_utf8(text) else {
-        return Ok(None);
-    };
-    let lines = lines_of(alloc, text)?;
-    Ok(Some(lines))
+    match memchr(b'\n', text.as_bytes()) {
+        Some(end) => FirstLine {
+            line: &text[..end],
+            behind: Some(&text[end + 1..]),
+        },
+        None => FirstLine {
+            line: text,
+            behind: None,
+        },
+    }
 }
 
 // Appends the cells of the object that a reader is in, and answers what its row weighs; none where it does not go in.
@@ -49,7 +52,7 @@ fn push_object(
     order: &mut [usize],
     builders: &mut [ColumnBuilder],
     heavies: &mut [Option<u64>],
-    reader: &mut Reader<'_>,
+    reader: &mut LineReader<'_>,
 ) -> Result<Option<u64>, AllocError>
     ensures few { IfOk result (λ taken. IfSome taken (λ heavy. heavy ≤ MAX_ROW_WEIGHT)) }
     ensures kept { IfOk result (λ taken. IfSome taken (λ heavy.
@@ -58,7 +61,7 @@ fn push_object(
     let Some(weight) = push_fields(names, order, builders, heavies, reader, BELOW)? else {
         return Ok(None);
     };
-    if reader.next().is_some() {
+    if !reader.is_at_end() {
         return Ok(None);
     }
     Ok(Some(weight))
@@ -67,7 +70,7 @@ fn push_object(
 // The same of the array that a reader is in, by the places of its items.
 fn push_array(
     builders: &mut [ColumnBuilder],
-    reader: &mut Reader<'_>,
+    reader: &mut LineReader<'_>,
 ) -> Result<Option<u64>, AllocError>
     ensures few { IfOk result (λ taken. IfSome taken (λ heavy. heavy ≤ MAX_ROW_WEIGHT)) }
     ensures kept { IfOk result (λ taken. IfSome taken (λ heavy. (names : List (List ℕ))
@@ -76,7 +79,7 @@ fn push_array(
     let Some(weight) = push_items(builders, reader, BELOW)? else {
         return Ok(None);
     };
-    if reader.next().is_some() {
+    if !reader.is_at_end() {
         return Ok(None);
     }
     Ok(Some(weight))
@@ -88,7 +91,7 @@ fn push_value(
     order: &mut [usize],
     builders: &mut [ColumnBuilder],
     heavies: &mut [Option<u64>],
-    reader: &mut Reader<'_>,
+    reader: &mut LineReader<'_>,
 ) -> Result<Option<u64>, AllocError>
     ensures few { IfOk result (λ taken. IfSome taken (λ heavy. heavy ≤ MAX_ROW_WEIGHT)) }
     ensures kept { IfOk result (λ taken. IfSome taken (λ heavy. KeepsTokens (key_list names.now.keys) reader.old heavy builders.old builders.new)) }
@@ -108,11 +111,12 @@ fn push_line(
     heavies: &mut [Option<u64>],
     scratch: &mut Scratch,
     line: &str,
+    escapes: bool,
 ) -> Result<Option<u64>, AllocError>
     ensures few { IfOk result (λ taken. IfSome taken (λ heavy. heavy ≤ MAX_ROW_WEIGHT)) }
     ensures kept { IfOk result (λ taken. IfSome taken (λ heavy. KeepsLine (key_list names.now.keys) line.now heavy builders.old builders.new)) }
 {
-    let mut reader = Reader::new(line, scratch)?;
+    let mut reader = LineReader::new(line, scratch, escapes)?;
     push_value(names, order, builders, heavies, &mut reader)
 }
 
@@ -124,6 +128,7 @@ fn push_row(
     heavies: &mut [Option<u64>],
     scratch: &mut Scratch,
     line: &str,
+    escapes: bool,
 ) -> Result<Option<u64>, AllocError>
     ensures few { IfOk result (λ taken. IfSome taken (λ heavy. heavy ≤ MAX_ROW_WEIGHT)) }
     ensures kept { IfOk result (λ taken. IfSome taken (λ heavy.
@@ -132,29 +137,33 @@ fn push_row(
 {
     batches.count_row()?;
     let builders = batches.builders.as_mut_slice();
-    push_line(names, order, builders, heavies, scratch, line)
+    push_line(names, order, builders, heavies, scratch, line, escapes)
 }
 
-/// Appends the rows of lines, of which those that are blank are skipped; none where a line is no object of members, each of the name of a column, and no
-/// array of an item for each column, or where the rows are too heavy for a table. `ends` is whether a record batch ends if a dictionary is full.
+/// Appends the rows of the lines of a text, of which those that are blank are skipped; none where a line is no object of members, each of the name of a
+/// column, and no array of an item for each column, or where the rows are too heavy for a table. `ends` is whether a record batch ends if a dictionary is full.
 pub(crate) fn push_lines(
     alloc: Global,
     schema: &Schema,
     names: &IndexSet<Vec<u8>>,
-    lines: &[&str],
+    text: &str,
     batches: &mut Batches,
     ends: bool,
 ) -> Result<Option<u64>, AllocError>
     requires { repeats (key_list names.now.keys) ≡ false }
     ensures { names_of (columns_of (schema_of schema.now).columns) ≡ key_list names.now.keys → HoldRows (schema_of schema.now) [] batches.old
         → IfOk result (λ read. IfSome read (λ heavy.
-        HasRows (schema_of schema.now) (rows_from (line_row (schema_of schema.now)) 1 (filter (λ line. not (is_blank line)) (text_list lines.now))) heavy batches.new)) }
+        HasRows (schema_of schema.now) (jsonl_rows_of (schema_of schema.now) text.now) heavy batches.new)) }
 {
     let mut scratch = Scratch::new(alloc);
     let mut heavies = vec![in alloc; None; schema.fields.len()]?;
     let mut order = vec![in alloc; 0; schema.fields.len()]?;
+    let escapes = has_escape(text);
     let mut weight = 0;
-    for line in lines {
+    let mut left = Some(text);
+    while let Some(rest) = left {
+        let FirstLine { line, behind } = first_line(rest);
+        left = behind;
         if is_blank(line.as_bytes()) {
             continue;
         }
@@ -168,6 +177,7 @@ pub(crate) fn push_lines(
             heavies.as_mut_slice(),
             &mut scratch,
             line,
+            escapes,
         )?
         else {
             return Ok(None);

@@ -6,10 +6,11 @@ ghost use Rattle.text_columns.specs.inner.Lines.{EndsFixedList, EndsList, EndsSt
 
 use crate::builder::{ColumnBuilder, ListOffsets, Names, Slots};
 use crate::complete::{clear, complete_row};
+use crate::line_reader::LineReader;
 use crate::members::find;
 use cells::MAX_ROW_WEIGHT;
 use indexmap::IndexSet;
-use json::{Reader, Token};
+use json::Token;
 use std::alloc::AllocError;
 
 /// How many items were read, and what their list weighs.
@@ -69,7 +70,7 @@ fn end_struct(slots: &mut Slots, taken: Option<u64>) -> Result<Option<u64>, Allo
 #[cycle(next)]
 fn push_list_items(
     items: &mut ColumnBuilder,
-    reader: &mut Reader<'_>,
+    reader: &mut LineReader<'_>,
     depth: u32,
 ) -> Result<Option<ItemsTaken>, AllocError>
     ensures { IfOk result (λ found. IfSome found (λ taken. KeepsListItems depth reader.old reader.new taken items.old items.new)) }
@@ -95,7 +96,7 @@ fn push_list_items(
 #[cycle(next)]
 pub(crate) fn push_items(
     builders: &mut [ColumnBuilder],
-    reader: &mut Reader<'_>,
+    reader: &mut LineReader<'_>,
     depth: u32,
 ) -> Result<Option<u64>, AllocError>
     ensures few { IfOk result (λ taken. IfSome taken (λ heavy. heavy ≤ MAX_ROW_WEIGHT)) }
@@ -125,7 +126,7 @@ fn push_member(
     builders: &mut [ColumnBuilder],
     heavies: &mut [Option<u64>],
     at: usize,
-    reader: &mut Reader<'_>,
+    reader: &mut LineReader<'_>,
     depth: u32,
 ) -> Result<bool, AllocError>
     ensures { IfOk result (λ done. done ≡ true → PushesMember depth at reader.old reader.new heavies.old heavies.new builders.old builders.new) }
@@ -150,7 +151,7 @@ fn push_members(
     order: &mut [usize],
     builders: &mut [ColumnBuilder],
     heavies: &mut [Option<u64>],
-    reader: &mut Reader<'_>,
+    reader: &mut LineReader<'_>,
     depth: u32,
 ) -> Result<bool, AllocError>
     ensures { IfOk result (λ done. done ≡ true
@@ -185,7 +186,7 @@ pub(crate) fn push_fields(
     order: &mut [usize],
     builders: &mut [ColumnBuilder],
     heavies: &mut [Option<u64>],
-    reader: &mut Reader<'_>,
+    reader: &mut LineReader<'_>,
     depth: u32,
 ) -> Result<Option<u64>, AllocError>
     ensures few { IfOk result (λ taken. IfSome taken (λ heavy. heavy ≤ MAX_ROW_WEIGHT)) }
@@ -206,7 +207,7 @@ pub(crate) fn push_fields(
 #[cycle(next)]
 fn push_parts(
     fields: &mut Vec<ColumnBuilder>,
-    reader: &mut Reader<'_>,
+    reader: &mut LineReader<'_>,
     depth: u32,
 ) -> Result<Option<u64>, AllocError>
     ensures { IfOk result (λ taken. IfSome taken (λ heavy. KeepsItems depth reader.old reader.new heavy fields.old.items fields.new.items)) }
@@ -219,7 +220,7 @@ fn push_parts(
 fn push_named(
     names: &mut Names,
     fields: &mut Vec<ColumnBuilder>,
-    reader: &mut Reader<'_>,
+    reader: &mut LineReader<'_>,
     depth: u32,
 ) -> Result<Option<u64>, AllocError>
     ensures kept { IfOk result (λ taken. IfSome taken (λ heavy.
@@ -239,7 +240,11 @@ fn push_named(
 impl ColumnBuilder {
     // Appends the list of the array that a reader is in, and answers what it weighs; none where the column has no lists, or it does not go in.
     #[cycle(next)]
-    fn push_array(&mut self, reader: &mut Reader<'_>, depth: u32) -> Result<Option<u64>, AllocError>
+    fn push_array(
+        &mut self,
+        reader: &mut LineReader<'_>,
+        depth: u32,
+    ) -> Result<Option<u64>, AllocError>
         ensures { IfOk result (λ taken. IfSome taken (λ heavy. KeepsArray depth reader.old reader.new heavy self.old self.new)) }
     {
         match self {
@@ -263,7 +268,7 @@ impl ColumnBuilder {
     #[cycle(next)]
     fn push_object(
         &mut self,
-        reader: &mut Reader<'_>,
+        reader: &mut LineReader<'_>,
         depth: u32,
     ) -> Result<Option<u64>, AllocError>
         ensures { IfOk result (λ taken. IfSome taken (λ heavy. KeepsObject depth reader.old reader.new heavy self.old self.new)) }
@@ -281,7 +286,7 @@ impl ColumnBuilder {
     #[cycle(next)]
     fn push_nested(
         &mut self,
-        reader: &mut Reader<'_>,
+        reader: &mut LineReader<'_>,
         depth: u32,
     ) -> Result<Option<u64>, AllocError>
         ensures { IfOk result (λ taken. IfSome taken (λ heavy. KeepsNext depth reader.old reader.new heavy self.old self.new)) }
@@ -302,7 +307,7 @@ impl ColumnBuilder {
     #[cycle(next)]
     pub(crate) fn push_next(
         &mut self,
-        reader: &mut Reader<'_>,
+        reader: &mut LineReader<'_>,
         depth: u32,
     ) -> Result<Option<u64>, AllocError>
         ensures { IfOk result (λ taken. IfSome taken (λ heavy. KeepsNext depth reader.old reader.new heavy self.old self.new)) }

@@ -1,23 +1,21 @@
 // Reads a text into columns: CSV in place, or else by the reader of the kit; JSON Lines line by line.
-ghost use Rattle.std.specs.Prelude.{◌≡◌, not, false, IfOk, IfSome};
-ghost use Rattle.std.specs.List.{filter};
+ghost use Rattle.std.specs.Prelude.{◌≡◌, false, IfOk, IfSome};
 ghost use Rattle.arrow_schema.specs.Column.{columns_of};
 ghost use Rattle.arrow_schema.specs.View.{schema_of};
 ghost use Rattle.text_import.specs.Records.{csv_rows_of};
-ghost use Rattle.facts.specs.Texts.{text_list};
-ghost use Rattle.text_import.specs.Objects.{is_blank, jsonl_rows_of, line_row, names_of, repeats};
-ghost use Rattle.text_import.specs.Rows.{rows_from};
+ghost use Rattle.text_import.specs.Objects.{jsonl_rows_of, names_of, repeats};
 ghost use Rattle.text_columns.specs.inner.Columns.{ReadsColumns};
 ghost use Rattle.text_columns.specs.inner.Batches.{HasRows};
 ghost use Rattle.text_columns.specs.inner.Kept.{key_list};
 
 use crate::batches::{Batches, no_batches};
-use crate::lines::{push_lines, split_lines};
+use crate::lines::push_lines;
 use crate::members::names_of;
 use crate::plain::push_plain_text;
 use crate::records::push_rows;
 use arrow_schema::Schema;
 use indexmap::IndexSet;
+use simdutf8::basic::from_utf8;
 use std::alloc::{AllocError, Global};
 use text_import::{TextError, csv_records};
 
@@ -105,21 +103,21 @@ pub(crate) fn read_columns(
     }
 }
 
-// Reads the lines of a text. They are read again as above.
-fn read_split_lines(
+// The same of a text that is UTF-8. It is read again as above.
+fn read_text(
     alloc: Global,
     schema: &Schema,
     names: &IndexSet<Vec<u8>>,
-    lines: &[&str],
+    text: &str,
 ) -> Result<Option<Columns>, AllocError>
     requires { repeats (key_list names.now.keys) ≡ false }
     ensures { names_of (columns_of (schema_of schema.now).columns) ≡ key_list names.now.keys → IfOk result (λ found. IfSome found (λ c.
-        HasRows (schema_of schema.now) (rows_from (line_row (schema_of schema.now)) 1 (filter (λ line. not (is_blank line)) (text_list lines.now))) c.weight c.batches)) }
+        HasRows (schema_of schema.now) (jsonl_rows_of (schema_of schema.now) text.now) c.weight c.batches)) }
 {
     let Some(mut batches) = no_batches(alloc, schema)? else {
         return Ok(None);
     };
-    if let Some(weight) = push_lines(alloc, schema, names, lines, &mut batches, false)? {
+    if let Some(weight) = push_lines(alloc, schema, names, text, &mut batches, false)? {
         return Ok(Some(Columns { batches, weight }));
     }
     if batches.has_room() {
@@ -129,7 +127,7 @@ fn read_split_lines(
     let Some(mut batches) = no_batches(alloc, schema)? else {
         return Ok(None);
     };
-    match push_lines(alloc, schema, names, lines, &mut batches, true)? {
+    match push_lines(alloc, schema, names, text, &mut batches, true)? {
         Some(weight) => Ok(Some(Columns { batches, weight })),
         None => Ok(None),
     }
@@ -148,9 +146,9 @@ pub(crate) fn read_lines(
     let Some(names) = names_of(alloc, &schema.fields)? else {
         return Ok(None);
     };
-    let Some(lines) = split_lines(alloc, text)? else {
+    let Ok(text) = from_utf8(text) else {
         return Ok(None);
     };
-    let found = read_split_lines(alloc, schema, &names, &lines)?;
+    let found = read_text(alloc, schema, &names, text)?;
     Ok(found)
 }

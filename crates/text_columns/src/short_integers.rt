@@ -19,8 +19,8 @@ pub(crate) struct ShortInteger {
     pub(crate) number: i64,
 }
 
-// Where the digits from a place on end, at the latest at a limit, and the number that they spell.
-fn read_digits(text: &[u8], from: usize, limit: usize) -> (usize, u64)
+/// Where the digits from a place on end, at the latest at a limit, and the number that they spell.
+pub(crate) fn read_digits(text: &[u8], from: usize, limit: usize) -> (usize, u64)
     requires low { from ≤ limit }
     requires high { limit ≤ length text.now }
     requires few { limit ≤ from + 18 }

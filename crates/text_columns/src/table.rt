@@ -61,8 +61,9 @@ pub fn csv_table(
 }
 
 /// Returns the table of the rows of a text of JSON Lines, and their weight. It is kept in one record batch, or in several if a column has more entries
-/// than its indices can name. `None` if a line is refused or has a member twice, if a dictionary below a list or a struct has indices of fewer than 32
-/// bits, or if the rows are too heavy for a table: the rows are then those of `text_import::jsonl_rows`, or its refusal.
+/// than its indices can name. `None` if a line is refused or has a member twice, if two columns, or two fields of a struct, have one name (even if all
+/// lines are arrays), if a dictionary below a list or a struct has indices of fewer than 32 bits, or if the rows are too heavy for a table: the rows are
+/// then those of `text_import::jsonl_rows`, or its refusal.
 ///
 /// # Errors
 /// `AllocError` if memory was refused. For a text that is refused, `None` is returned.

@@ -1,16 +1,18 @@
 // Cells of JSON tokens.
-ghost use Rattle.std.specs.Prelude.{◌≡◌, ◌==◌, ◌++◌, ◌∷◌, [], true, false, slice_index, IfOk, IfSome, Some};
+ghost use Rattle.std.specs.Prelude.{◌≡◌, ◌==◌, ◌++◌, ◌∷◌, ◌^◌, ◌≤◌, ◌<◌, [], true, false, length, slice_index, IfOk, IfSome, Some};
 ghost use Rattle.fast_float.specs.Text.{Parts};
 ghost use Rattle.json.specs.Reads.{token_of};
 ghost use Rattle.text_columns.specs.declared.builder.ColumnBuilder.{Flat};
 ghost use Rattle.text_columns.specs.inner.Kept.{has_texts};
+ghost use Rattle.text_columns.specs.inner.Plain.{AreDigits};
 ghost use Rattle.text_columns.specs.inner.Lines.{AppendsBinary, AppendsBit, AppendsFixedBinary, AppendsNumber, AppendsString, TakesCellToken, TakesCodedToken, TakesNumber, TakesToken, integer_after, integer_in};
 
 use crate::bytes::{push_bytes, push_fixed};
 use crate::coding::Coding;
 use crate::column_values::ColumnValues;
 use crate::flat::FlatBuilder;
-use crate::integers::push_number;
+use crate::integers::{push_number, push_small};
+use crate::short_integers::read_digits;
 use crate::texts::push_utf8;
 use arrow_schema::IntegerType;
 use columns::OffsetWidth;
@@ -60,8 +62,57 @@ fn integer_of(text: &str) -> Option<i128>
     }
 }
 
-// Appends the bytes of the integer that a number is, where the type holds it.
-fn push_integer_of(
+// The number that at most 18 digits from a place on are, if nothing comes after them.
+fn digits_from(text: &[u8], from: usize) -> Option<u64>
+    ensures { IfSome result (λ number. (from < length text.now) × (number < 2 ^ 63) × AreDigits text.now from (length text.now) number) }
+{
+    if text.len() <= from {
+        return None;
+    }
+    if text.len() - from > 18 {
+        return None;
+    }
+    let (end, number) = read_digits(text, from, text.len());
+    if end < text.len() {
+        return None;
+    }
+    Some(number)
+}
+
+// The integer of at most 18 digits without a sign that a number is.
+fn short_unsigned(text: &[u8]) -> Option<i64>
+    ensures { IfSome result (λ n. integer_in text.now ≡ Some n) }
+{
+    let digits = digits_from(text, 0)?;
+    let number = digits as i64;
+    Some(number)
+}
+
+// The same after a minus; none for `-0` too.
+fn short_negative(text: &[u8]) -> Option<i64>
+    requires { slice_index text.now 0 ≡ 45 }
+    ensures { IfSome result (λ n. integer_in text.now ≡ Some n) }
+{
+    let digits = digits_from(text, 1)?;
+    if digits == 0 {
+        return None;
+    }
+    let number = -(digits as i64);
+    Some(number)
+}
+
+fn short_integer(text: &[u8]) -> Option<i64>
+    ensures { IfSome result (λ n. integer_in text.now ≡ Some n) }
+{
+    if has_minus(text) {
+        short_negative(text)
+    } else {
+        short_unsigned(text)
+    }
+}
+
+// Appends the bytes of the integer that a number of any length is, where the type holds it.
+fn push_any_integer(
     values: &mut Vec<u8>,
     integer: IntegerType,
     text: &str,
@@ -71,6 +122,20 @@ fn push_integer_of(
     match integer_of(text) {
         Some(number) => push_number(values, integer, number),
         None => Ok(false),
+    }
+}
+
+// The same, where short digits are read once.
+fn push_integer_of(
+    values: &mut Vec<u8>,
+    integer: IntegerType,
+    text: &str,
+) -> Result<bool, AllocError>
+    ensures { IfOk result (λ pushed. pushed ≡ true → TakesNumber integer text.now values.old.items values.new.items) }
+{
+    match short_integer(text.as_bytes()) {
+        Some(number) => push_small(values, integer, number),
+        None => push_any_integer(values, integer, text),
     }
 }
 

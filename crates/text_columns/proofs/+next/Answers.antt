@@ -17,7 +17,7 @@ next::push_list_items-loop-count-init t c = record { some = omega arith; few = o
 
 pub next::push_list_items-loop-count-preserved : goal.next::push_list_items-loop-count-preserved
 next::push_list_items-loop-count-preserved t c =
-    let stays = (unmatched _ _ c.take_end_array.result c.if-take_end_array.false c.take_end_array.ensures).1 in
+    let stays = unmatched _ _ c.take_end_array.result c.if-take_end_array.false c.take_end_array.ensures in
     let keeps = rw (c.in-Some.is, stays) at c.in_ok-heavy.ensures in
     record {
       some = omega (arith, c.loop-count.invariant.some);
