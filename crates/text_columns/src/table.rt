@@ -31,9 +31,9 @@ fn build_table(alloc: Global, schema: &Schema, batches: Batches) -> Result<Table
     Ok(table)
 }
 
-/// Returns the table of the rows of a CSV text, and their weight. It is kept in record batches with the rows of a piece, or with dictionaries in one, or
-/// in several if a column has more entries than its indices can name. `None` for some schemas with lists or structs, or if the rows are too heavy for a
-/// table: the rows are then those of `text_import::csv_rows`, or its refusal.
+/// Returns the table of the rows of a CSV text, and their weight. It is kept in record batches with the rows of a piece; in one, if a column has parts or a
+/// dictionary; or in several, if such a column has more entries than its indices can name. `None` for some schemas with lists or structs, or if the rows
+/// are too heavy for a table: the rows are then those of `text_import::csv_rows`, or its refusal.
 ///
 /// # Errors
 ///
@@ -60,10 +60,10 @@ pub fn csv_table(
     Ok(Some(WeighedTable { table, weight }))
 }
 
-/// Returns the table of the rows of a text of JSON Lines, and their weight. It is kept in one record batch, or in several if a column has more entries
-/// than its indices can name. `None` if a line is refused or has a member twice, if two columns, or two fields of a struct, have one name (even if all
-/// lines are arrays), if a dictionary below a list or a struct has indices of fewer than 32 bits, or if the rows are too heavy for a table: the rows are
-/// then those of `text_import::jsonl_rows`, or its refusal.
+/// Returns the table of the rows of a text of JSON Lines, and their weight. It is kept in record batches as that of `csv_table` is. `None` if a line is
+/// refused or has a member twice, if two columns, or two fields of a struct, have one name (even if all lines are arrays), if a dictionary below a list or
+/// a struct has indices of fewer than 32 bits, or if the rows are too heavy for a table: the rows are then those of `text_import::jsonl_rows`, or its
+/// refusal.
 ///
 /// # Errors
 /// `AllocError` if memory was refused. For a text that is refused, `None` is returned.
