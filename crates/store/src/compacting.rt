@@ -73,7 +73,7 @@ impl<D: SectorDevice> Store<D> {
         ensures writes { D.tells ≡ true → IsOnDisk D.size D.story self.old → IsSteppingAtEachMoment D.size D.story D.tells self.old self.new }
         ensures written { IfOk result (λ done. done ≢ Compaction.Nothing → D.tells ≡ true → IsOnDisk D.size D.story self.old
             → HasSteppedOnDisk D.size D.story D.tells self.old done self.new) }
-        // Each table stays, also beside one that can't be read.
+        // Each table stays; of one that can't be read the name, the schema and the number of rows.
         ensures tables { D.tells ≡ true → IsOnDisk D.size D.story self.old → KeepsEachTable D.size D.story self.old self.new }
         ensures size { D.size (device_of self.new) ≡ D.size (device_of self.old) }
         ensures count { D.failed (device_of self.new) ≡ counted (step_reply result) (D.failed (device_of self.old)) }

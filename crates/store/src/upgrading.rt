@@ -80,7 +80,7 @@ impl<D: SectorDevice> Store<D> {
         ensures writes { D.tells ≡ true → IsOnDisk D.size D.story self.old → IsUpgradingAtEachMoment D.size D.story D.tells self.old self.new }
         ensures written { IfOk result (λ upgraded. upgraded ≡ Upgraded.Done → D.tells ≡ true → IsOnDisk D.size D.story self.old
             → HasUpgradedOnDisk D.size D.story D.tells self.old self.new) }
-        // Each table stays, also beside one that can't be read.
+        // Each table stays.
         ensures tables { D.tells ≡ true → IsOnDisk D.size D.story self.old → KeepsEachTable D.size D.story self.old self.new }
         ensures size { D.size (device_of self.new) ≡ D.size (device_of self.old) }
         ensures count { D.failed (device_of self.new) ≡ counted (upgrade_ended result) (D.failed (device_of self.old)) }
