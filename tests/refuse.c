@@ -2,8 +2,9 @@
    standard input, the one whose number is in FAILED_READ, or one write to its standard output, that in FAILED_WRITE, or one write to a
    file, sync of one or change of its length, that in FAILED_CHANGE, or the reads of files from that in FAILED_FILE_READ on, with the
    error CALL_ERROR, where 0 is a call that moves no byte; all are counted from 1. Where MOST is set, a read of standard input or a
-   write to standard output moves at most this many bytes. At its end the program's numbers of allocations, and of such reads, writes,
-   changes and reads of files, are written into the file COUNTS, where that is set. */
+   write to standard output moves at most this many bytes; where SLOW_WRITE is, such a write takes this many milliseconds longer. At
+   its end the program's numbers of allocations, and of such reads, writes, changes and reads of files, are written into the file
+   COUNTS, where that is set. */
 #define _GNU_SOURCE
 #include <errno.h>
 #include <stdio.h>
@@ -15,7 +16,7 @@
 extern void *__libc_malloc(size_t), *__libc_calloc(size_t, size_t), *__libc_realloc(void *, size_t);
 extern void *__libc_memalign(size_t, size_t);
 
-static long allocations, refused, reads, failed_read, writes, failed_write, changes, failed_change, file_reads, failed_file_read, error, most;
+static long allocations, refused, reads, failed_read, writes, failed_write, changes, failed_change, file_reads, failed_file_read, error, most, slow_write;
 
 static long number(const char *name) {
     const char *given = getenv(name);
@@ -30,6 +31,7 @@ __attribute__((constructor)) static void begin(void) {
     failed_file_read = number("FAILED_FILE_READ");
     error = number("CALL_ERROR");
     most = number("MOST");
+    slow_write = number("SLOW_WRITE");
     allocations = reads = writes = changes = file_reads = 0;
 }
 
@@ -99,6 +101,8 @@ static int change_fails(int file) {
 ssize_t write(int file, const void *from, size_t size) {
     if (file != STDOUT_FILENO)
         return change_fails(file) ? failed() : syscall(SYS_write, file, from, size);
+    if (slow_write)
+        usleep(1000 * slow_write);
     return ++writes == failed_write ? failed() : syscall(SYS_write, file, from, taken(size));
 }
 

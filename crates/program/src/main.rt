@@ -11,7 +11,7 @@ use arrowstore::{
     Audience, Failures, KeptStart, NotedInput, NotedOutput, WatchedOutput,
     report_unreadable_arguments, run_with_files,
 };
-use progress::{ProgressFiles, ProgressLine, ProgressReader, ProgressWriter};
+use progress::{ProgressFiles, ProgressLine, ProgressReader, ProgressWriter, Target};
 use std::process::ExitCode;
 use std::{env, io};
 
@@ -20,7 +20,7 @@ fn main(rt: HostRuntime) -> ExitCode {
     let audience = Audience::of(&rt.stderr());
     let line = ProgressLine::begin(&rt, rt.stderr(), audience);
     let failures = Failures::new();
-    let mut errors = ProgressWriter::new(rt.stderr(), line.as_ref());
+    let mut errors = ProgressWriter::new(rt.stderr(), line.as_ref(), Target::Other);
     let ended = match arguments_of(&rt) {
         Ok(arguments) => run_with_files(
             &ProgressFiles::new(&rt, line.as_ref(), noted_at(audience, &failures)),
@@ -31,7 +31,7 @@ fn main(rt: HostRuntime) -> ExitCode {
                 audience,
             ),
             &mut WatchedOutput::new(NotedOutput::new(
-                ProgressWriter::new(rt.stdout(), line.as_ref()),
+                ProgressWriter::new(rt.stdout(), line.as_ref(), Target::of_output(&rt)),
                 &failures,
             )),
             &mut errors,

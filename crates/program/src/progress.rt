@@ -10,7 +10,7 @@ mod writer;
 
 pub use files::ProgressFiles;
 pub use reader::ProgressReader;
-pub use writer::ProgressWriter;
+pub use writer::{ProgressWriter, Target};
 
 // Fewer bytes would be shown as 0 MB.
 const LEAST_SHOWN: u64 = 1_000_000;

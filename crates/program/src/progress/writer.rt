@@ -1,31 +1,55 @@
-// Shows how much of a long output was written; an output on the terminal itself does not share a line with that.
+// Shows how much of a long output was written to a file; an output on the terminal itself does not share a line with that.
 ghost use Rattle.std.specs.Prelude.{◌≡◌};
 
 use super::{LEAST_SHOWN, ProgressLine, Stage};
-use std::io::{self, IsTerminal, Write};
+use std::fs;
+use std::io::{self, Write};
+use std::rt::Files;
 use std::time::Clock;
 
-// The maximum length of a write of which progress is shown, what a pipe of Linux holds: the number would lag behind a longer write.
+// The maximum length of a write of which progress is shown: the number would lag behind a longer write.
 const MOST_AT_ONCE: usize = 64 * 1024;
 
-/// Writes to `output` and shows how much was written. The first write clears the line; if `output` is a terminal, each write does so.
+/// Where a stream of the process leads.
+#[derive(Clone, Copy, Debug, PartialEq, Eq)]
+pub enum Target {
+    /// A regular file.
+    File,
+    /// A terminal, a pipe, whose reader may print on the same terminal, or anything else.
+    Other,
+}
+
+impl Target {
+    /// Where standard output leads.
+    pub fn of_output<H: Files>(files: &H) -> Target {
+        match fs::metadata(files, "/dev/stdout") {
+            Ok(found) if found.is_file() => Target::File,
+            _ => Target::Other,
+        }
+    }
+}
+
+/// Writes to `output` and shows how much was written to a file. The first write clears the line; each write does so if `output` is no file.
 #[derive(Drop)]
 pub struct ProgressWriter<'a, C: Clock, T, W: Write> {
     output: W,
     line: Option<&'a ProgressLine<'a, C, T>>,
-    is_on_terminal: bool,
+    target: Target,
     bytes_written: u64,
 }
 
-impl<'a, C: Clock, T: Write + Copy, W: Write + IsTerminal> ProgressWriter<'a, C, T, W> {
-    pub fn new(output: W, line: Option<&'a ProgressLine<'a, C, T>>) -> ProgressWriter<'a, C, T, W>
+impl<'a, C: Clock, T: Write + Copy, W: Write> ProgressWriter<'a, C, T, W> {
+    pub fn new(
+        output: W,
+        line: Option<&'a ProgressLine<'a, C, T>>,
+        target: Target,
+    ) -> ProgressWriter<'a, C, T, W>
         ensures { result.output ≡ output }
     {
-        let is_on_terminal = output.is_terminal();
         ProgressWriter {
             output,
             line,
-            is_on_terminal,
+            target,
             bytes_written: 0,
         }
     }
@@ -38,12 +62,12 @@ impl<C: Clock, T: Write + Copy, W: Write> Write for ProgressWriter<'_, C, T, W> 
         let Some(line) = self.line else {
             return self.output.write(buf);
         };
-        // Whoever reads a pipe may print on the same terminal.
-        if self.is_on_terminal || self.bytes_written == 0 {
+        if self.target == Target::Other {
             line.clear();
-        }
-        if self.is_on_terminal {
             return self.output.write(buf);
+        }
+        if self.bytes_written == 0 {
+            line.clear();
         }
         let written = self.output.write(&buf[..buf.len().min(MOST_AT_ONCE)]);
         if let Ok(count) = &written {
