@@ -25,10 +25,10 @@ pub enum Stage {
     Reading,
     /// The whole input was read, and nothing is written yet.
     Working,
-    /// The file of a store is being read.
-    ReadingStore,
+    /// A file is being read: that of a store, or one that a script names.
+    ReadingFile,
     /// The file of a store is being written.
-    WritingStore,
+    WritingFile,
     /// The output is being written.
     Writing,
 }
@@ -100,8 +100,8 @@ impl<'a, C: Clock, T: Write + Copy> ProgressLine<'a, C, T> {
         match stage {
             Stage::Reading => write!(terminal, "read {megabytes} MB\r"),
             Stage::Working => write!(terminal, "working on {megabytes} MB that were read\r"),
-            Stage::ReadingStore => write!(terminal, "read {megabytes} MB of the store\r"),
-            Stage::WritingStore => write!(terminal, "written {megabytes} MB to the store\r"),
+            Stage::ReadingFile => write!(terminal, "read {megabytes} MB of the file\r"),
+            Stage::WritingFile => write!(terminal, "written {megabytes} MB to the file\r"),
             Stage::Writing => write!(terminal, "written {megabytes} MB\r"),
         }
     }

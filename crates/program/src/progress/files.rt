@@ -169,7 +169,7 @@ impl<C: Clock, T: Write + Copy, F: Read> Read for ProgressFile<'_, C, T, F> {
         if let Ok(count) = &read {
             let before = self.bytes_read;
             self.bytes_read = before.saturating_add(*count as u64);
-            self.tell(Stage::ReadingStore, before, self.bytes_read);
+            self.tell(Stage::ReadingFile, before, self.bytes_read);
         }
         read
     }
@@ -183,7 +183,7 @@ impl<C: Clock, T: Write + Copy, F: Write> Write for ProgressFile<'_, C, T, F> {
         if let Ok(count) = &written {
             let before = self.bytes_written;
             self.bytes_written = before.saturating_add(*count as u64);
-            self.tell(Stage::WritingStore, before, self.bytes_written);
+            self.tell(Stage::WritingFile, before, self.bytes_written);
         }
         written
     }
