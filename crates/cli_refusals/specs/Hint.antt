@@ -77,7 +77,7 @@ path_text (Some path) (Count items wanted) = items_text path items wanted
 -- the name of a table
 abbrev pub table_text : Option (List ℕ) → List ℕ
 table_text None = []
-table_text (Some name) = codes "The table `" ++ name ++ codes "` is refused. "
+table_text (Some name) = codes "The table `" ++ name ++ codes "` cannot be read. "
 
 -- what is refused in a line
 abbrev pub line_part_text : Option PlainLinePart → List ℕ

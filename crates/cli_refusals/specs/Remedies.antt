@@ -44,6 +44,8 @@ unfoldable pub text_remedy : text_refusals.Refusal → List ℕ
 text_remedy texts.Header = remedies.NAMES_FIRST.now
 text_remedy texts.Nested = remedies.GIVE_JSON_LINES.now
 text_remedy texts.AmbiguousNames = remedies.GIVE_ARRAYS.now
+text_remedy texts.NotANumber = remedies.WRITE_DIGITS.now
+text_remedy texts.Json = remedies.ROW_ON_A_LINE.now
 text_remedy _ = remedies.FIX_RECORD.now
 
 -- for a query

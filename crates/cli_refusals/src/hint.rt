@@ -89,7 +89,7 @@ impl fmt::Display for TableShown<'_> {
     fn fmt<W: fmt::Write>(&self, f: &mut fmt::Formatter<W>) -> fmt::Result {
         match self.name {
             None => Ok(()),
-            Some(name) => write!(f, "The table `{name}` is refused. "),
+            Some(name) => write!(f, "The table `{name}` cannot be read. "),
         }
     }
 }

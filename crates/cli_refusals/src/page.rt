@@ -8,27 +8,28 @@ use crate::remedies::{
     GIVE_A_STREAM, GIVE_ALL, GIVE_ARRAYS, GIVE_JSON_LINES, GIVE_LESS, IMPORT_AGAIN,
     LEAVE_OUT_MESSAGES, LINES_OF_A_SCRIPT, LITTLE_ENDIAN, LOOK_AGAIN, MORE_MEMORY, MORE_ROOM,
     NAME_OF_A_TABLE, NAMES_FIRST, NAMES_OF_COLUMNS, NO_COMPRESSION, NUMBER_OF_SECTORS, ONE_STREAM,
-    OTHER_NAME, SCHEMA_FIRST, SHORTER_BATCHES, SMALLER_FIELDS, TEST_FOR_NULL, TRY_AGAIN,
-    WHOLE_FILE, WRITE_AGAIN, WRITE_V5,
+    OTHER_NAME, ROW_ON_A_LINE, SCHEMA_FIRST, SHORTER_BATCHES, SMALLER_FIELDS, TEST_FOR_NULL,
+    TRY_AGAIN, WHOLE_FILE, WRITE_AGAIN, WRITE_DIGITS, WRITE_V5,
 };
 use std::alloc::{AllocError, Global};
 
 /// What each refusal means and what to do about it: strings to be joined, among them the sentences of `remedies`. The file `docs/refusals.md` has
 /// the same bytes.
-pub const REFUSALS: [&str; 85] = [
+pub const REFUSALS: [&str; 89] = [
     "# What each refusal means
 
 A refusal is one line on standard error: `refused`, a code, a name, and for some of them a detail, as in
 `refused S8 NoRoom 13`. The exit status is then 1. It is 0 if everything is done, and 2 if the command
-line is wrong.
+line is wrong. `replay` prints the refusals of the lines of its script on standard output, and ends with
+status 0.
 
-On a terminal a second line gives the advice of this page. Before it, this line says what is refused, if
-that is known and can be shown: a word or a number of the command line; the file, the input or the output,
-with the system's message; an empty input; a field of a stream; a part of a text; a line of a script; or
-the table that can't be read. For a part of a text it shows the column that is a list or a struct, the name
-in the header and the one that the table has, the number of fields of a record, a field with its text, or a
-line and what is refused in it. In a line, `p.x[3]` is the fourth item of the list `x` in the struct `p`:
-items are counted from 0. It also says if a line begins with a byte order mark or, in a script, ends with a
+On a terminal a second line gives the advice of this page. It first says what is refused, if that is known
+and can be shown: a word or a number of the command line; the file, the input or the output, with the
+system's message; an empty input; a field of a stream; a part of a text; a line of a script; or the table
+that can't be read. For a part of a text it shows the column that is a list or a struct, the name in the
+header and the one that the table has, the number of fields of a record, a field with its text, or a line
+and what is refused in it. In a line, `p.x[3]` is the fourth item of the list `x` in the struct `p`: items
+are counted from 0. It also says if a line begins with a byte order mark or, in a script, ends with a
 carriage return, and if the header has a tab, a semicolon or the mark of UTF-16.
 
 A refused command has changed no table, except as S9 and G1 say. It has written no output, except as G1
@@ -115,14 +116,15 @@ or appended. If no advice follows a fault, the cause is the program that wrote t
   ",
     CHECK_FILES,
     "
-- G2 BadSize: a store has 16 to 4,194,304 sectors of 512 bytes, and its file has exactly that many bytes.
+- G2 BadSize: a store has 16 to 4,194,304 sectors, and its file has exactly 512 bytes for each of them.
   The given number of sectors, or the length of the file, is not possible. Such a file is not a store, or
   it was cut short or made longer, or a `copy` into it was interrupted. A folder, a named pipe, or a device
   that is not a disk is refused in the same way, if it is to be read as a store.
   For the number of sectors: ",
     NUMBER_OF_SECTORS,
     "
-  For a file: ",
+  For a file:
+  ",
     WHOLE_FILE,
     "
 - G3 BadScript N: `replay` cannot play line N of the script, counted from 1. Single spaces separate the
@@ -147,6 +149,7 @@ or appended. If no advice follows a fault, the cause is the program that wrote t
   CatalogueText: the bytes at that place are not a list of tables.
   RunRange: the place of some rows is past the end of the file or in its first two sectors.
   RunOverlap: the place of some rows overlaps that of other rows or of the list of tables.
+  If there is no earlier copy, see \"A store that does not open\" in docs/using.md.
   ",
     EARLIER_COPY,
     "
@@ -154,8 +157,9 @@ or appended. If no advice follows a fault, the cause is the program that wrote t
     NUMBER_OF_SECTORS,
     "
 - C4 Device: the file could not be read or synced while it was opened; or `format` or `copy` could not
-  read, write or sync the file that it made, and has removed it. No data is lost. If the disk can't read a
-  sector of the file, `dd bs=512 iflag=direct conv=noerror,sync` makes a copy with zeros in its place.
+  read, write or sync the file that it made, and has removed it. A store is not changed. If the disk can't
+  read a sector of the file, `dd bs=512 iflag=direct conv=noerror,sync` makes a copy with zeros in its
+  place.
   ",
     TRY_AGAIN,
     "
@@ -191,6 +195,9 @@ appended. If no advice follows a refusal, the cause is that record.
 - X4 NotANumber N: a value is not an integer, which is written as digits, with or without a `-` before
   them. Dates and timestamps are integers too. In JSON `-0`, `1.0` and integers of more than 64 bits are
   also refused.
+  ",
+    WRITE_DIGITS,
+    "
 - X5 OutOfRange N: an integer is outside the range of its type.
 - X6 NotABool N: a value is neither `true` nor `false`.
 - X7 NotHex N: bytes are not written as pairs of hexadecimal digits.
@@ -200,6 +207,9 @@ appended. If no advice follows a refusal, the cause is that record.
     "
 - X10 Json N: the line is not a JSON value, or it is nested more than 127 deep, or it has a number that is
   too large for a float, or half of a surrogate pair without the other half.
+  ",
+    ROW_ON_A_LINE,
+    "
 - X11 UnknownName N: an object has a name that is not a column or field.
 - X12 MissingName N: an object lacks the name of a column or field that does not allow nulls.
 - X13 AmbiguousNames N: two columns or fields have the same name. ",
@@ -256,12 +266,12 @@ appended. If no advice follows a refusal, the cause is that record.
     "
 - S8 NoRoom N: a change writes one or more parts. One of them needs N contiguous free sectors, and there
   were not as many. The parts before it count as used, so `info` may show a longer free run. For `copy`
-  this is about the new store.
+  this is about the new store. A copy needs fewer sectors than a store with gaps or small segments.
   ",
     MORE_ROOM,
     "
-- S9 Device: the file could not be read, written or synced. The command is done as a whole or not at all.
-  For a sector that the disk can't read, see C4.
+- S9 Device: the file could not be read, written or synced. The command is done as a whole or not at all,
+  and so is each step of a `compact`. For a sector that the disk can't read, see C4.
   ",
     LOOK_AGAIN,
     "

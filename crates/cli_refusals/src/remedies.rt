@@ -45,10 +45,10 @@ pub const FEWER_ROWS: &str = "Give fewer rows.";
 pub const CHECK_FILES: &str =
     "Check the file, the input and the output. `tables` shows what a store contains.";
 
-pub const NUMBER_OF_SECTORS: &str = "Give 16 to 4,194,304 sectors.";
+pub const NUMBER_OF_SECTORS: &str = "Give 16 to 4194304 sectors.";
 
 pub const WHOLE_FILE: &str =
-    "Give the whole file of a store. If a `copy` was interrupted, delete its new file and copy again.";
+    "Give the whole file of a store. If it was made longer, cut it off. Delete it only if it is the new file of a `copy` that was interrupted; then copy again.";
 
 pub const LINES_OF_A_SCRIPT: &str =
     "Write each line as `create NAME FIELD ..`, `import NAME FILE`, `append NAME FILE`, `rename FROM TO`, `drop NAME`, `compact`, `upgrade` or `reopen`.";
@@ -72,6 +72,12 @@ pub const SMALLER_FIELDS: &str =
 
 pub const FIX_RECORD: &str = "Fix the record, and append the whole text again.";
 
+pub const WRITE_DIGITS: &str =
+    "Write an integer as digits; a date or a timestamp is the number of days or seconds, .. since 1970-01-01. Then append the whole text again.";
+
+pub const ROW_ON_A_LINE: &str =
+    "Write each row on one line: `jq -c '.[]'` makes lines of one array, and `jq -c .` of values over several lines. Then append the whole text again.";
+
 pub const NAMES_FIRST: &str =
     "Begin the text with the names of the columns, in the order that `schema` prints.";
 
@@ -82,7 +88,7 @@ pub const GIVE_ARRAYS: &str = "Give each row and struct as an array instead of a
 // ---- Q: queries
 
 pub const NAMES_OF_COLUMNS: &str =
-    "Give names of columns as `schema` prints them, without the quotation marks. In `--columns` list each only once; for `--objects` all names must differ.";
+    "Give names as `schema` prints them, without quotation marks, in `--columns` each once. A name that two columns have can't be used, nor can `--objects` then.";
 
 pub const FORM_OF_A_CONDITION: &str =
     "Write `NAME OP LITERAL`, `NAME is null` or `NAME is not null`. OP is = != < <= > or >=. LITERAL is a value of the column's type; dates are integers.";
@@ -106,15 +112,16 @@ pub const GIVE_LESS: &str =
     "For Bytes give less at once; for Weight start another table; for Segments use `compact`; for Tables drop some; for Epochs `copy` the store.";
 
 pub const MORE_ROOM: &str =
-    "Drop tables, gather the free sectors with `compact`, or `copy` the store into a larger one. If a `copy` is refused, give it more sectors.";
+    "Drop tables, use `compact`, or `copy` the store: the copy has longer free runs. If that does not help, or a `copy` is refused, give it more sectors.";
 
-pub const LOOK_AGAIN: &str = "Check the disk, and see with `tables` whether the command is done.";
+pub const LOOK_AGAIN: &str =
+    "Check the disk, and see what is done: with `tables`, and after a `compact` with `info`.";
 
 pub const IMPORT_AGAIN: &str =
     "Save the readable rows of the table with `salvage`, and drop it or import it again. Then run `check` once more: other tables may be damaged too.";
 
 pub const MORE_MEMORY: &str =
-    "Give the program more memory: a stream needs a small multiple of its size.";
+    "Give the program more memory: a stream or a table that is read needs a small multiple of its size.";
 
 #[tactic(auto, unfolding(crate::specs::Remedies::fault_remedy))]
 fn fault_remedy(fault: Fault) -> &'static str
@@ -171,14 +178,14 @@ fn text_remedy(refusal: text_import::Refusal) -> &'static str
         text_import::Refusal::Header => NAMES_FIRST,
         text_import::Refusal::Nested => GIVE_JSON_LINES,
         text_import::Refusal::AmbiguousNames => GIVE_ARRAYS,
+        text_import::Refusal::NotANumber => WRITE_DIGITS,
+        text_import::Refusal::Json => ROW_ON_A_LINE,
         text_import::Refusal::Width
         | text_import::Refusal::NotUtf8
-        | text_import::Refusal::NotANumber
         | text_import::Refusal::OutOfRange
         | text_import::Refusal::NotABool
         | text_import::Refusal::NotHex
         | text_import::Refusal::NullMismatch
-        | text_import::Refusal::Json
         | text_import::Refusal::UnknownName
         | text_import::Refusal::MissingName
         | text_import::Refusal::FixedWidth

@@ -34,13 +34,17 @@ n:null?, to accept rows. There are no floats, decimals and times.",
     CommandHelp {
         name: "import",
         about: abouts::IMPORT,
-        example: "Example: arrowstore import store measurements < readings.arrows",
+        example: "Example: arrowstore import store measurements < readings.arrows
+
+For CSV and JSON Lines use create, and then append with --as.",
     },
     CommandHelp {
         name: "append",
         about: abouts::APPEND,
         example: "Example: arrowstore append store measurements --as csv --null NA < readings.csv
-where readings.csv begins with the line id,value",
+where readings.csv begins with the line id,value
+
+The whole table is read first, also for a single row, so append many rows at once.",
     },
     CommandHelp {
         name: "query",
