@@ -23,6 +23,7 @@ mod exports;
 mod formatting;
 mod importing;
 mod input;
+mod laws;
 mod lending;
 mod listing;
 mod opening_refusal;
@@ -38,6 +39,7 @@ pub use beginning::{crashed_devices_are_left, devices_fit, left_devices_fit, new
 pub use call::{Call, Reply, StoreOrDevice};
 pub use commit::{Cause, FormatVersion, OpeningRefusal};
 pub use input::read_at_most;
+pub use laws::used_runs_are_named;
 pub use pages::StoredCatalogue;
 pub use running::{answer, run};
 pub use salvaging::LeftOut;
