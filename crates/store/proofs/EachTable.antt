@@ -85,10 +85,10 @@ module _ {D : Type 0} {g : Ghosts D} (size : D → ℕ) (story : D → Story) (o
     step_each laws (inl reads) = each_read reads
     step_each laws (inr (change, (done, decides), carries)) =
         each_kept change
-        (λ image same others. step_keeps laws (listed_in old) catalogue tells told (shown_image before) image (as_shown image same) (size old.device) (IsUsedIn old.opened.map.entries) done change decides others) carries
+        (λ image same others holds. (step_keeps laws (listed_in old) catalogue tells told (shown_image before) image (as_shown image same) (size old.device) (IsUsedIn old.opened.map.entries) done change decides others holds).0) carries
 
     pub upgrade_each : IsUpgradingAtEachMoment size story tells old new → KeepsEachTable size story old new
     upgrade_each (inl reads) = each_read reads
     upgrade_each (inr (change, decides, carries)) =
         each_kept change
-        (λ image same others. upgrade_keeps tells (shown_image before) (listed_in old) change decides told catalogue image (as_shown image same) others) carries
+        (λ image same others holds. (upgrade_keeps tells (shown_image before) (listed_in old) change decides told catalogue image (as_shown image same) others holds).0) carries

@@ -1,5 +1,5 @@
 -- A call ends by what stood on the disk when it began: its commit, its catalogue and the runs that they use.
-use Rattle.std.specs.Prelude.{◌≢◌, ◌||◌, List, nat_lt, false, refl}
+use Rattle.std.specs.Prelude.{◌≢◌, ◌↔◌, ◌||◌, List, nat_lt, false, refl}
 use Rattle.std.proofs.Common.{◌≡◌, ℕ, Bool, true, Result, Ok, Err, ap, ◌∙◌, sym, subst, lt-ltb}
 use Rattle.sector_dev.specs.Disk.{Disk, Story, now, shown_image, synced_image}
 use Rattle.sector_dev.specs.declared.device.SectorDevice.{Ghosts}
@@ -51,6 +51,9 @@ module _ {D : Type 0} {g : Ghosts D} (store : Store D g) where
       ≡ (is_among (used_runs stored_reading store.opened.commit (listed_in store)) run || is_among (runs_kept (book_of store).exports) run)
   same_used run =
       ap is_used (store.uses run) ∙ ap (λ (b : Bool). is_among (used_runs stored_reading store.opened.commit (listed_in store)) run || b) (pins_are (runs_kept (book_of store).exports) run)
+
+  pub used_are : (run : Run) → IsUsedIn store.opened.map.entries run ↔ IsInUse store.opened.commit (listed_in store) (runs_kept (book_of store).exports) run
+  used_are run = ((λ used. sym (same_used run) ∙ used), (λ named. same_used run ∙ named))
 
   -- so what holds of the runs that the store takes for used holds of these
   pub in_kept : (P : (Run → Type 0) → Type 0) → P (IsUsedIn store.opened.map.entries) → P (IsInUse store.opened.commit (listed_in store) (runs_kept (book_of store).exports))

@@ -40,7 +40,6 @@ use Rattle.store_changes.specs.ReadSegment.{FailsReading}
 use Rattle.store.proofs.Asked.{not_running, still}
 use Rattle.store.proofs.Applied.{is_device, refused_by}
 use Rattle.store_changes.specs.laws.Synced.{shown_is_synced}
-use Rattle.store_changes.specs.laws.Frame.{tables_by_each}
 use Rattle.store.proofs.ReadsStore.{stays_reading, halts_reading}
 use Rattle.store_changes.specs.laws.StepChanges.{step_keeps, step_few}
 use Rattle.store.proofs.StepReads.{step_fails}
@@ -115,9 +114,8 @@ module _ {D : Type 0} {g : Ghosts D} (size : D → ℕ) (story : D → Story) (f
       → HoldsStreams image others change.streams change.counts → tables_held image (edited (listed_in mid) change.edit others) ≡ tables_held image (listed_in mid)
   keeps image same others =
       let shown : shown_image (now (story mid.device)) ≡ synced_image (now (story mid.device)) = shown_is_synced (now (story mid.device)) (there.sound on).stands.quiet.shown in
-      λ holds. tables_by_each image image (edited (listed_in mid) change.edit others) (listed_in mid)
-      (step_keeps laws (listed_in mid) (catalogue_is (listed_in mid) mid.opened.catalogue.list.kept) tells told (shown_image (now (story mid.device))) image (λ n within. same n within ∙ ap (λ (i : Image). i n) (sym shown))
-      (size mid.device) (IsUsedIn mid.opened.map.entries) made change behind others holds)
+      λ holds. (step_keeps laws (listed_in mid) (catalogue_is (listed_in mid) mid.opened.catalogue.list.kept) tells told (shown_image (now (story mid.device))) image (λ n within. same n within ∙ ap (λ (i : Image). i n) (sym shown))
+      (size mid.device) (IsUsedIn mid.opened.map.entries) made change behind others holds).1
 
   -- what was found, by the runs in use as the machine knows them
   finds : StepFinds (size mid.device) (pinned_by m) (now (story mid.device)) made mid.opened.commit (listed_in mid) (Some change)

@@ -12,6 +12,8 @@ use Rattle.catalogue.specs.View.{catalogue_of}
 use Rattle.catalogue.specs.laws.Changed.{found_passes}
 use Rattle.catalogue.specs.laws.Digests.{digested_count}
 use Rattle.catalogue.specs.laws.Kept.{entry_is, catalogue_is}
+use Rattle.segments.specs.declared.run.Run.{Run}
+use Rattle.commit.specs.declared.sector.Commit.{Commit}
 use Rattle.commit.specs.Standing.{rules, standing, InSome}
 use Rattle.commit.specs.declared.recovery.Opened.{Opened}
 use Rattle.commit.specs.declared.sector.FormatVersion.{FormatVersion}
@@ -26,11 +28,11 @@ use Rattle.store.specs.declared.store.Store.{Store}
 use Rattle.store_runs.specs.Calls.{PlainReply, upgrade_call, done, already, refused, counted}
 use Rattle.store_runs.specs.Machine.{Setting, Machine, running}
 use Rattle.store_runs.specs.Steps.{Step}
-use Rattle.store_runs.specs.Held.{tables_held, each_held}
+use Rattle.store_runs.specs.Held.{tables_held, listed_entry, each_listed}
 use Rattle.store_runs.specs.Rooms.{UpgradeDecides}
 use Rattle.store.specs.Fits.{book_of, setting_of, listed_in, StoreFits}
-use Rattle.store_runs.specs.Changes.{PlainChange, CanChange, IsChange, edited, HoldsStreams}
-use Rattle.store_runs.specs.Carrying.{outline}
+use Rattle.store_runs.specs.Changes.{PlainChange, CanChange, IsChange, edited, placed_segments, HoldsStreams}
+use Rattle.store_runs.specs.Carrying.{outline, IsCarried}
 use Rattle.store.specs.Exported.{AreExportable}
 use Rattle.store_runs.specs.Reading.{Unreads}
 use Rattle.store.specs.Reading.{OnlyReadsStore}
@@ -39,12 +41,13 @@ use Rattle.store_runs.specs.Digesting.{IsUpgrade, StopsReading}
 use Rattle.store_changes.specs.LawsBelow.{TableLaws}
 use Rattle.store_changes.specs.ReadSegment.{FailsReading}
 use Rattle.store_changes.specs.laws.Named.{entry_has}
-use Rattle.store.specs.laws.Upgraded.{digests_number, segments_number, digests_are, digests_each}
+use Rattle.store.specs.laws.Upgraded.{digests_number, segments_number, digests_are, digests_each, digested_listed}
 use Rattle.store.proofs.Asked.{not_running, still}
 use Rattle.store.proofs.Applied.{refused_by}
 use Rattle.store_changes.specs.laws.ReadTables.{unread_not_held, damaged_not_held}
 use Rattle.store_changes.specs.laws.Synced.{shown_is_synced}
-use Rattle.store_changes.specs.laws.Frame.{tables_by_each}
+use Rattle.store_changes.specs.laws.Frame.{HoldsAlike}
+use Rattle.store_changes.specs.laws.Mapped.{placed_mapped}
 use Rattle.store.proofs.ReadsStore.{stays_reading, halts_reading}
 use Rattle.store.proofs.Roomed.{unchanged, carried_out, room_refused}
 use Rattle.store.proofs.Staying.{upgrade_stays, changed_goes, refusal_goes, goes_behind}
@@ -70,9 +73,15 @@ module _ (tells : Bool) (image : Image) (c : PlainCatalogue) (change : PlainChan
 
   -- each image that has in the segments what reads showed has the same of each table
   pub upgrade_keeps : tells ≡ true → IsCatalogue c → (other : Image) → ((n : ℕ) → InSome (runs_of c) n → other n ≡ image n) → (others : List Segment) → HoldsStreams other others change.streams change.counts
-      → each_held other (edited c change.edit others) ≡ each_held other c
+      → HoldsAlike other c (edited c change.edit others)
   upgrade_keeps told k other same others holds =
-      ap (λ (x : PlainChange). each_held other (edited c x.edit others)) u.is ∙ digests_each tells told image other c u.digests k same u.own
+      subst (λ (x : PlainChange). HoldsAlike other c (edited c x.edit others)) (sym u.is) (digests_each tells told image other c u.digests k same u.own)
+
+  -- on any device each table is listed as before
+  pub upgrade_listed : (size : ℕ) (used : Run → Type 0) (k k' : Commit) (c' : PlainCatalogue) → IsCarried size used k c change (Ok tt) k' c' → each_listed c' ≡ each_listed c
+  upgrade_listed size used k k' c' (next, few, (places, text, takes, is, commit)) =
+      ap each_listed is ∙ placed_mapped listed_entry (λ e o. refl) k.version c change places
+      ∙ ap (λ (x : PlainChange). each_listed (edited c x.edit (placed_segments k.version places change.streams change.counts))) u.is ∙ digested_listed c u.digests
 
 -- it is so of the store that was read
 pub upgrade_behind : {D : Type 0} {g : Ghosts D} (size : D → ℕ) (story : D → Story) (failed : D → ℕ) (tells : Bool) → tells ≡ true → (old mid : Store D g) (ends : PlainReply) → OnlyReadsStore size story failed tells ends old mid → (change : PlainChange)
@@ -108,8 +117,7 @@ module _ {D : Type 0} {g : Ghosts D} (size : D → ℕ) (story : D → Story) (f
       → HoldsStreams image others change.streams change.counts → tables_held image (edited (listed_in mid) change.edit others) ≡ tables_held image (listed_in mid)
   keeps image same others holds =
       let shown : shown_image (now (story mid.device)) ≡ synced_image (now (story mid.device)) = shown_is_synced (now (story mid.device)) (there.sound on).stands.quiet.shown in
-      tables_by_each image image (edited (listed_in mid) change.edit others) (listed_in mid)
-      (upgrade_keeps tells (shown_image (now (story mid.device))) (listed_in mid) change behind told catalogue image (λ n within. same n within ∙ ap (λ (i : Image). i n) (sym shown)) others holds)
+      (upgrade_keeps tells (shown_image (now (story mid.device))) (listed_in mid) change behind told catalogue image (λ n within. same n within ∙ ap (λ (i : Image). i n) (sym shown)) others holds).1
 
   pub upgraded_goes : failed new.device ≡ failed mid.device → EndsAs size mid (Ok change) (Ok tt) new → new.halted ≡ false → IsCarriedOnDisk size story mid change new → GoesOn size story failed base m upgrade_call done old new
   upgraded_goes count carried quiet does =

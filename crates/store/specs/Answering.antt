@@ -30,6 +30,7 @@ use Rattle.pages.specs.Stored.{stored_reading}
 use Rattle.store_runs.specs.Machine.{Machine}
 use Rattle.store.specs.Fits.{StoreFits, book_of, device_of, commit_of, listed_in, is_halted, IsOnDisk, FindsStore, FormatsStore, IsNewStore}
 use Rattle.store_runs.specs.Deciding.{reads_device}
+use Rattle.store_runs.specs.Held.{each_listed}
 use Rattle.store.specs.Applying.{GoesOn, IsApplied, IsKept, IsApplyingAtEachMoment, IsDoneOnDisk, KeepsEachTable}
 use Rattle.store.specs.Listing.{RefusesTables, RefusesSchema}
 use Rattle.store_runs.specs.Reading.{RefusesRead, ReadsTable, ended}
@@ -192,6 +193,7 @@ pub record Compacts {D : Type 0} {g : Ghosts D} (size : D → ℕ) (story : D �
   pub writes : tells ≡ true → IsOnDisk size story old → IsSteppingAtEachMoment size story tells old new
   pub written : IfOk result (λ done. done ≢ compactions.Nothing → tells ≡ true → IsOnDisk size story old → HasSteppedOnDisk size story tells old done new)
   pub each_table : tells ≡ true → IsOnDisk size story old → KeepsEachTable size story old new
+  pub listed : each_listed (listed_in new) ≡ each_listed (listed_in old)
   pub book : book_of new ≡ book_of old
 
 abbrev pub AnswersCompact : {D : Type 0} {g : Ghosts D} → (size : D → ℕ) → (story : D → Story) → (failed : D → ℕ) → (tells : Bool) → Store D g → PlainReply → Store D g → Type 0
@@ -210,6 +212,7 @@ pub record Upgrades {D : Type 0} {g : Ghosts D} (size : D → ℕ) (story : D �
   pub writes : tells ≡ true → IsOnDisk size story old → IsUpgradingAtEachMoment size story tells old new
   pub written : IfOk result (λ upgraded. upgraded ≡ upgradeds.Done → tells ≡ true → IsOnDisk size story old → HasUpgradedOnDisk size story tells old new)
   pub each_table : tells ≡ true → IsOnDisk size story old → KeepsEachTable size story old new
+  pub listed : each_listed (listed_in new) ≡ each_listed (listed_in old)
   pub book : book_of new ≡ book_of old
 
 abbrev pub AnswersUpgrade : {D : Type 0} {g : Ghosts D} → (size : D → ℕ) → (story : D → Story) → (tells : Bool) → Store D g → PlainReply → Store D g → Type 0

@@ -63,7 +63,7 @@ IsChangingAtEachMoment size story old Decides new =
 abbrev pub IsChangedOnDisk : {D : Type 0} {g : Ghosts D} → (size : D → ℕ) → (story : D → Story) → (old : Store D g) → (PlainChange → Type 0) → (new : Store D g) → Type 0
 IsChangedOnDisk size story old Decides new = (change : PlainChange) × Decides change × IsCarriedOnDisk size story old change new
 
--- an image holds each table that another image holds of this catalogue: of one that can't be read its name, its schema and the number of its rows
+-- an image holds of each table what another image holds of this catalogue: its name, its schema and its rows one by one, also of one that can't be read
 pub record HoldsSameTables (size : ℕ) (before : Image) (c : PlainCatalogue) (image : Image) : Type 0 where
   pub commit : Commit
   pub catalogue : PlainCatalogue

@@ -20,6 +20,7 @@ impl<D: SectorDevice> Store<D> {
     ghost use Rattle.tables.specs.Tables.{Tables};
     ghost use Rattle.store_runs.specs.Calls.{compact_call, refused, nothing, counted};
     ghost use Rattle.store_runs.specs.Machine.{Machine};
+    ghost use Rattle.store_runs.specs.Held.{each_listed};
     ghost use Rattle.store_changes.specs.Exchanging.{Shrinks};
     ghost use Rattle.store.specs.Fits.{StoreFits, device_of, listed_in, book_of, is_halted, IsOnDisk};
     ghost use Rattle.store.specs.Reading.{OnlyReadsStore};
@@ -73,8 +74,9 @@ impl<D: SectorDevice> Store<D> {
         ensures writes { D.tells ≡ true → IsOnDisk D.size D.story self.old → IsSteppingAtEachMoment D.size D.story D.tells self.old self.new }
         ensures written { IfOk result (λ done. done ≢ Compaction.Nothing → D.tells ≡ true → IsOnDisk D.size D.story self.old
             → HasSteppedOnDisk D.size D.story D.tells self.old done self.new) }
-        // Each table stays; of one that can't be read the name, the schema and the number of rows.
+        // Each table stays with all its rows, also one that can't be read. On any device the catalogue lists each as before.
         ensures tables { D.tells ≡ true → IsOnDisk D.size D.story self.old → KeepsEachTable D.size D.story self.old self.new }
+        ensures listed { each_listed (listed_in self.new) ≡ each_listed (listed_in self.old) }
         ensures size { D.size (device_of self.new) ≡ D.size (device_of self.old) }
         ensures count { D.failed (device_of self.new) ≡ counted (step_reply result) (D.failed (device_of self.old)) }
         ensures book { book_of self.new ≡ book_of self.old }

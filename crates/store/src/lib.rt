@@ -23,6 +23,7 @@ mod exports;
 mod formatting;
 mod importing;
 mod input;
+mod laws;
 mod lending;
 mod listing;
 mod opening_refusal;
@@ -38,6 +39,7 @@ pub use beginning::{crashed_devices_are_left, devices_fit, left_devices_fit, new
 pub use call::{Call, Reply, StoreOrDevice};
 pub use commit::{Cause, FormatVersion, OpeningRefusal};
 pub use input::read_at_most;
+pub use laws::used_runs_are_named;
 pub use pages::StoredCatalogue;
 pub use running::{answer, run};
 pub use salvaging::LeftOut;
@@ -48,8 +50,8 @@ pub use store_changes::{
 pub use store_runs::{
     Compaction, a_stop_keeps_what_was_acknowledged, acknowledged_commands_are_settled,
     each_stop_is_allowed, runs_go_on, runs_tell_no_damage, snapshots_give_their_table,
-    undisturbed_runs_settle_what_was_acknowledged, undisturbed_runs_tell_no_failure,
-    undisturbed_runs_tell_no_halt,
+    tables_are_held_row_by_row, undisturbed_runs_settle_what_was_acknowledged,
+    undisturbed_runs_tell_no_failure, undisturbed_runs_tell_no_halt,
 };
 pub use summary::Summary;
 pub use upgrading::Upgraded;

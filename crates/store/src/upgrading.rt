@@ -29,6 +29,7 @@ impl<D: SectorDevice> Store<D> {
     ghost use Rattle.tables.specs.Tables.{Tables};
     ghost use Rattle.store_runs.specs.Calls.{upgrade_call, refused, counted};
     ghost use Rattle.store_runs.specs.Machine.{Machine};
+    ghost use Rattle.store_runs.specs.Held.{each_listed};
     ghost use Rattle.store.specs.Fits.{StoreFits, device_of, commit_of, listed_in, book_of, is_halted, IsOnDisk};
     ghost use Rattle.store.specs.Reading.{OnlyReadsStore};
     ghost use Rattle.store.specs.Applying.{GoesOn, IsKept, KeepsEachTable};
@@ -80,8 +81,9 @@ impl<D: SectorDevice> Store<D> {
         ensures writes { D.tells ≡ true → IsOnDisk D.size D.story self.old → IsUpgradingAtEachMoment D.size D.story D.tells self.old self.new }
         ensures written { IfOk result (λ upgraded. upgraded ≡ Upgraded.Done → D.tells ≡ true → IsOnDisk D.size D.story self.old
             → HasUpgradedOnDisk D.size D.story D.tells self.old self.new) }
-        // Each table stays.
+        // Each table stays. On any device the catalogue lists each as before.
         ensures tables { D.tells ≡ true → IsOnDisk D.size D.story self.old → KeepsEachTable D.size D.story self.old self.new }
+        ensures listed { each_listed (listed_in self.new) ≡ each_listed (listed_in self.old) }
         ensures size { D.size (device_of self.new) ≡ D.size (device_of self.old) }
         ensures count { D.failed (device_of self.new) ≡ counted (upgrade_ended result) (D.failed (device_of self.old)) }
         ensures book { book_of self.new ≡ book_of self.old }

@@ -3,6 +3,7 @@ pub mod Digests
 pub mod Frame
 pub mod Named
 pub mod Listed
+pub mod Mapped
 pub mod Changed
 pub mod Edited
 pub mod EditedEach

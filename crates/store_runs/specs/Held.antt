@@ -1,5 +1,5 @@
 -- The tables that an image holds, if each segment can be read.
-use Rattle.std.specs.Prelude.{◌==◌, ℕ, Bool, true, nat_eq, List, [], ◌∷◌, ◌++◌, length, map, Option, Some, None, option_map, Result, Ok, Err, if◌then◌else◌}
+use Rattle.std.specs.Prelude.{◌==◌, ℕ, Bool, true, nat_eq, List, [], ◌∷◌, ◌++◌, length, map, replicate, Option, Some, None, option_map, Result, Ok, Err, if◌then◌else◌}
 use Rattle.std.specs.List.{starts_with}
 use Rattle.std.specs.Str.{bytes_eq}
 use Rattle.sha2.specs.Sha256.{sha256}
@@ -101,9 +101,48 @@ unfoldable pub tables_held : Image → PlainCatalogue → Option Tables
 tables_held image [] = Some no_tables
 tables_held image (entry ∷ entries) = with_held entry.name (table_held image entry) (tables_held image entries)
 
--- each table of a catalogue by itself: its name, its schema, the number of its rows, and the rows if they can be read
-abbrev pub each_held : Image → PlainCatalogue → List (List ℕ × PlainSchema × ℕ × Option (List (List Cell)))
-each_held image c = map (λ (e : PlainEntry). (e.name, e.schema, row_count e, rows_held e.schema e.segments image)) c
+-- ---- the tables one by one
+
+-- the rows of a segment; if they can't be read, as many unknown ones as the catalogue counts
+abbrev pub rows_or_unknown : ℕ → Option (List (List Cell)) → List (Option (List Cell))
+rows_or_unknown count None = replicate count None
+rows_or_unknown count (Some rows) = map (λ (row : List Cell). Some row) rows
+
+-- the rows of segments, one segment after another
+unfoldable pub rows_known : PlainSchema → List Segment → Image → List (Option (List Cell))
+rows_known schema [] image = []
+rows_known schema (segment ∷ segments) image = rows_or_unknown segment.rows (segment_rows schema segment image) ++ rows_known schema segments image
+
+-- a table by itself, also one that can't be read: it has as many rows as the catalogue counts, and those in its segments that can be read are known
+pub record HeldTable : Type 0 where
+  pub name : List ℕ
+  pub schema : PlainSchema
+  pub rows : List (Option (List Cell))
+
+abbrev pub held_entry : Image → PlainEntry → HeldTable
+held_entry image e = record { name = e.name; schema = e.schema; rows = rows_known e.schema e.segments image }
+
+-- each table of a catalogue
+abbrev pub each_held : Image → PlainCatalogue → List HeldTable
+each_held image c = map (held_entry image) c
+
+-- the rows, if each is known
+abbrev pub with_row : List Cell → Option (List (List Cell)) → Option (List (List Cell))
+with_row row others = option_map (λ rows. row ∷ rows) others
+
+abbrev pub all_known : List (Option (List Cell)) → Option (List (List Cell))
+all_known [] = Some []
+all_known (None ∷ others) = None
+all_known (Some row ∷ others) = with_row row (all_known others)
+
+-- each table as a catalogue lists it: its name, its schema and the number of its rows
+abbrev pub listed_entry : PlainEntry → List ℕ × PlainSchema × ℕ
+listed_entry e = (e.name, e.schema, row_count e)
+
+abbrev pub each_listed : PlainCatalogue → List (List ℕ × PlainSchema × ℕ)
+each_listed c = map listed_entry c
+
+-- ---- what an image holds
 
 abbrev pub held_tables : Option Tables → Held
 held_tables None = broken

@@ -7,3 +7,4 @@ pub mod Settled
 pub mod Kept
 pub mod Snapshots
 pub mod Cut
+pub mod Known

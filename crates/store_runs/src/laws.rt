@@ -1,8 +1,12 @@
 // Laws of runs. The functions do nothing: their contracts are the laws.
-ghost use Rattle.std.specs.Prelude.{◌≡◌, ◌≢◌, ◌<◌, ◌-◌, ◌^◌, ◌+◌, ◌||◌, ℕ, Bool, true, false, None, List, [], ◌∷◌, ◌++◌, take, drop};
-ghost use Rattle.std.specs.List.{list_any};
+ghost use Rattle.std.specs.Prelude.{◌≡◌, ◌≢◌, ◌<◌, ◌-◌, ◌^◌, ◌+◌, ◌||◌, ℕ, Bool, true, false, None, List, [], ◌∷◌, ◌++◌, take, drop, map, length};
+ghost use Rattle.std.specs.List.{list_all, list_any};
 ghost use Rattle.sector_dev.specs.Disk.{Story, Image, now, moment, LeftSince};
 ghost use Rattle.sector_dev.specs.Time.{LeavesOnly};
+ghost use Rattle.arrow_schema.specs.Column.{PlainSchema};
+ghost use Rattle.catalogue.specs.declared.entry.Segment.{Segment};
+ghost use Rattle.catalogue.specs.Entries.{PlainEntry, PlainCatalogue, is_segment, is_entry, row_count};
+ghost use Rattle.store_runs.specs.Held.{rows_held, tables_held, rows_known, HeldTable, each_held, all_known, each_listed};
 ghost use Rattle.store_runs.specs.Calls.{PlainCall, open_export_call, PlainReply, export_is, is_device_reply};
 ghost use Rattle.store_runs.specs.Snapshots.{given, has_ended, stays_open, GivesTable};
 ghost use Rattle.store_runs.specs.Machine.{Setting, Machine, halted, Allows};
@@ -87,4 +91,17 @@ pub fn a_stop_keeps_what_was_acknowledged()
         (m' : Machine) (new : Story) (failed' : ℕ) (run : Run s calls replies m old failed m' new failed') (i : ℕ) (image : Image)
         → LeavesOnly (Allows s m) (now old) → LeftSince new (moment (story_at s calls replies m old failed m' new failed' run i)) image
         → Keeps s m (any_change (take i calls) (take i replies)) (acknowledged (take i calls) (take i replies)) (begun calls replies) image }
+{}
+
+/// The rows of tables one by one, also of those that can't be read. `count`: a table has as many as the catalogue counts; so a catalogue lists each table as
+/// it is held (`listed`). `rows`: if all are known, they are the rows of the table, and otherwise it can't be read. `tables`: so two images that hold the same
+/// of each table hold the same tables.
+pub fn tables_are_held_row_by_row()
+    ensures count { (image : Image) (e : PlainEntry) → length (rows_known e.schema e.segments image) ≡ row_count e }
+    ensures listed { (image : Image) (c : PlainCatalogue)
+        → map (λ (t : HeldTable). (t.name, t.schema, length t.rows)) (each_held image c) ≡ each_listed c }
+    ensures rows { (schema : PlainSchema) (segments : List Segment) (image : Image) → list_all is_segment segments ≡ true
+        → rows_held schema segments image ≡ all_known (rows_known schema segments image) }
+    ensures tables { (before after : Image) (c d : PlainCatalogue) → list_all is_entry c ≡ true → list_all is_entry d ≡ true
+        → each_held before c ≡ each_held after d → tables_held before c ≡ tables_held after d }
 {}

@@ -11,7 +11,7 @@ mod laws;
 pub use compacting::Compaction;
 pub use laws::{
     a_stop_keeps_what_was_acknowledged, acknowledged_commands_are_settled, each_stop_is_allowed,
-    runs_go_on, runs_tell_no_damage, snapshots_give_their_table,
+    runs_go_on, runs_tell_no_damage, snapshots_give_their_table, tables_are_held_row_by_row,
     undisturbed_runs_settle_what_was_acknowledged, undisturbed_runs_tell_no_failure,
     undisturbed_runs_tell_no_halt,
 };

@@ -1,5 +1,5 @@
 -- Adding digests to segments leaves the rows of their tables as they are, if they are the digests of the bytes in the segments.
-use Rattle.std.specs.Prelude.{◌≡◌, ◌++◌, ◌+◌, ℕ, Bool, true, List, [], ◌∷◌, length, map, take, drop, sum_by, Some, refl}
+use Rattle.std.specs.Prelude.{◌≡◌, ◌++◌, ◌+◌, ℕ, Bool, true, List, [], ◌∷◌, length, map, take, drop, sum_by, Option, Some, refl}
 use Rattle.std.specs.List.{list_all}
 use Rattle.std.proofs.Common.{inl, inr, ⊎_elim, sym, ap, ◌∙◌, subst, arith}
 use Rattle.std.proofs.lemmas.Bool.{and_parts, and_from, eq-eqb}
@@ -11,19 +11,20 @@ use Rattle.sha2.specs.Sha256.{sha256}
 use Rattle.sha2.proofs.Facts256.{length-sha256}
 use Rattle.sector_dev.specs.Disk.{Image}
 use Rattle.arrow_schema.specs.Column.{PlainSchema}
+use Rattle.cells.specs.Cell.{Cell}
 use Rattle.catalogue.specs.declared.entry.Segment.{Segment}
 use Rattle.segments.specs.declared.run.Run.{Run}
 use Rattle.segments.specs.laws.ReadBack.{same_bytes}
-use Rattle.catalogue.specs.Entries.{PlainEntry, PlainCatalogue, is_digest, is_segment, is_entry, page_runs, runs_in, runs_of, row_count, segment_count, IsCatalogue}
+use Rattle.catalogue.specs.Entries.{PlainEntry, PlainCatalogue, is_digest, is_segment, is_entry, page_runs, runs_in, runs_of, segment_count, IsCatalogue}
 use Rattle.catalogue.specs.laws.Kept.{entry_is}
 use Rattle.commit.specs.Standing.{InSome}
 use Rattle.catalogue.specs.Edits.{with_digest, with_digests, entry_digested, digested}
-use Rattle.store_runs.specs.Held.{is_undamaged, bytes_of, rows_in_segment, segment_rows, joined_rows, rows_held, each_held}
+use Rattle.store_runs.specs.Held.{is_undamaged, bytes_of, rows_in_segment, segment_rows, joined_rows, rows_held, table_of_rows, rows_or_unknown, rows_known, held_entry, each_listed}
 use Rattle.store_runs.specs.Digesting.{segments_of, AreDigests}
 use Rattle.store_changes.specs.laws.Digests.{rows_undamaged}
 use Rattle.store_changes.specs.laws.ExchangedRuns.{run_of}
 use Rattle.store.specs.laws.Exported.{in_either}
-use Rattle.store_changes.specs.laws.Frame.{in_left, in_right, sectors_of}
+use Rattle.store_changes.specs.laws.Frame.{held_as, named_table, tables_by_table, HoldsAlike, in_left, in_right, sectors_of}
 
 -- ---- the number of digests, and of their bytes
 
@@ -70,22 +71,47 @@ rows_same image schema (g ∷ gs) [] own = absurd own
 rows_same image schema (g ∷ gs) (d ∷ ds) own =
     λ i. joined_rows (segment_same image schema g d own.0.0 own.0.1 own.0.2 own.0.3 i) (rows_same image schema gs ds own.1 i)
 
--- as many as before
+known_same : (image : Image) (schema : PlainSchema) (gs : List Segment) (ds : List (List ℕ)) → OwnDigests image gs ds → rows_known schema (with_digests gs ds) image ≡ rows_known schema gs image
+unfolding rows_known
+known_same image schema [] ds own = refl
+known_same image schema (g ∷ gs) [] own = absurd own
+known_same image schema (g ∷ gs) (d ∷ ds) own =
+    let first = segment_same image schema g d own.0.0 own.0.1 own.0.2 own.0.3 in
+    let others = known_same image schema gs ds own.1 in
+    λ i. rows_or_unknown g.rows (first i) ++ others i
+
+-- what is asked of each entry stays, if digests make no difference to it
+digested_mapped : {X : Type 0} (f : PlainEntry → X) (image : Image) → ((e : PlainEntry) (ds : List (List ℕ)) → OwnDigests image e.segments ds → f (entry_digested e ds) ≡ f e)
+    → (c : PlainCatalogue) (ds : List (List ℕ)) → OwnDigests image (segments_of c) ds → map f (digested c ds) ≡ map f c
+unfolding digested
+digested_mapped f image each [] ds own = refl
+digested_mapped f image each (e ∷ es) ds own =
+    let parts = own_parts image e.segments (segments_of es) ds own in
+    let first = each e (take (length e.segments) ds) parts.0 in
+    let others = digested_mapped f image each es (drop (length e.segments) ds) parts.1 in
+    λ i. first i ∷ others i
+
+digested_alike : (image : Image) (c : PlainCatalogue) (ds : List (List ℕ)) → OwnDigests image (segments_of c) ds → HoldsAlike image c (digested c ds)
+digested_alike image c ds own = (
+  digested_mapped (held_entry image) image (λ e some of. ap (held_as e) (known_same image e.schema e.segments some of)) c ds own,
+  tables_by_table image image (digested c ds) c
+      (digested_mapped (named_table image) image (λ e some of. ap (λ (o : Option (List (List Cell))). (e.name, table_of_rows e.schema o)) (rows_same image e.schema e.segments some of)) c ds own),
+)
+
+-- as many as before, of any digests
 same_number : (gs : List Segment) (ds : List (List ℕ)) → sum_by (λ (g : Segment). g.rows) (with_digests gs ds) ≡ sum_by (λ (g : Segment). g.rows) gs
 same_number [] ds = refl
 same_number (g ∷ gs) [] = omega (arith, same_number gs [], sum_by-cons (λ (x : Segment). x.rows) g (with_digests gs []), sum_by-cons (λ (x : Segment). x.rows) g gs)
 same_number (g ∷ gs) (d ∷ ds) =
     omega (arith, same_number gs ds, sum_by-cons (λ (x : Segment). x.rows) (with_digest g d) (with_digests gs ds), sum_by-cons (λ (x : Segment). x.rows) g gs)
 
-pub digested_each : (image : Image) (c : PlainCatalogue) (ds : List (List ℕ)) → OwnDigests image (segments_of c) ds → each_held image (digested c ds) ≡ each_held image c
+pub digested_listed : (c : PlainCatalogue) (ds : List (List ℕ)) → each_listed (digested c ds) ≡ each_listed c
 unfolding digested
-digested_each image [] ds own = refl
-digested_each image (e ∷ es) ds own =
-    let parts = own_parts image e.segments (segments_of es) ds own in
-    let own_ds = take (length e.segments) ds in
-    let number : row_count (entry_digested e own_ds) ≡ row_count e = same_number e.segments own_ds in
-    let rows = rows_same image e.schema e.segments own_ds parts.0 in
-    λ i. (e.name, e.schema, number i, rows i) ∷ digested_each image es (drop (length e.segments) ds) parts.1 i
+digested_listed [] ds = refl
+digested_listed (e ∷ es) ds =
+    let number = same_number e.segments (take (length e.segments) ds) in
+    let others = digested_listed es (drop (length e.segments) ds) in
+    λ i. (e.name, e.schema, number i) ∷ others i
 
 -- ---- from the digests of what was read
 
@@ -115,5 +141,5 @@ module _ (tells : Bool) (told : tells ≡ true) (shown image : Image) where
       let there : bytes_of g image ≡ bytes_of g shown = same_bytes image shown g.place.run.start g.place.bytes (λ j lt. same (g.place.run.start + j) (inl (omega arith, omega (arith, count, lt)))) in
       ((bytes, there ∙ are.0.1.held told, are.0.1.undamaged, are.0.2), each_own gs ds parts.1 (λ n within. same n (inr within)) are.1)
 
-  pub digests_each : (c : PlainCatalogue) (ds : List (List ℕ)) → IsCatalogue c → ((n : ℕ) → InSome (runs_of c) n → image n ≡ shown n) → AreDigests tells shown (segments_of c) ds → each_held image (digested c ds) ≡ each_held image c
-  digests_each c ds k same are = digested_each image c ds (each_own (segments_of c) ds (segments_sound c k.entries) (λ n within. same n (own_sectors c n within)) are)
+  pub digests_each : (c : PlainCatalogue) (ds : List (List ℕ)) → IsCatalogue c → ((n : ℕ) → InSome (runs_of c) n → image n ≡ shown n) → AreDigests tells shown (segments_of c) ds → HoldsAlike image c (digested c ds)
+  digests_each c ds k same are = digested_alike image c ds (each_own (segments_of c) ds (segments_sound c k.entries) (λ n within. same n (own_sectors c n within)) are)

@@ -1,6 +1,6 @@
 -- What an image holds of a catalogue that was edited: the tables that the change makes.
-use Rattle.std.specs.Prelude.{◌≡◌, ◌≢◌, ◌+◌, ℕ, suc, Bool, true, false, cond, List, [], ◌∷◌, ◌++◌, length, map, sum_by, Option, Some, None, is_some, Ok, if◌then◌else◌, refl}
-use Rattle.std.proofs.Common.{sym, ap, ◌∙◌, subst, arith, append_assoc, append-nil, drop}
+use Rattle.std.specs.Prelude.{◌≡◌, ◌≢◌, ◌+◌, ℕ, suc, Bool, true, false, cond, List, [], ◌∷◌, ◌++◌, length, Option, Some, None, is_some, Ok, if◌then◌else◌, refl}
+use Rattle.std.proofs.Common.{sym, ap, ◌∙◌, subst, arith, append_assoc, append-nil}
 use Rattle.std.proofs.lemmas.Bool.{and_parts}
 use Rattle.std.proofs.lemmas.Cmp.{nat_list_cmp_total}
 use Rattle.std.proofs.lemmas.Slice.Eq.{bytes_eq-Decides}
@@ -17,21 +17,20 @@ use Rattle.segments.specs.declared.run.Run.{Run}
 use Rattle.segments.specs.declared.extent.Extent.{Extent}
 use Rattle.commit.specs.declared.sector.FormatVersion.{FormatVersion}
 use Rattle.catalogue.specs.declared.entry.Segment.{Segment}
-use Rattle.catalogue.specs.Entries.{PlainEntry, PlainCatalogue, names_of, comes_before, ascends, bare, row_count, IsCatalogue}
+use Rattle.catalogue.specs.Entries.{PlainEntry, PlainCatalogue, names_of, comes_before, ascends, IsCatalogue}
 use Rattle.catalogue.specs.Edits.{entry_of, with_entry, without, named, renamed, with_segments, with_more}
 use Rattle.catalogue.specs.laws.Changed.{more_is}
 use Rattle.catalogue.specs.laws.Order.{order, by_order}
 use Rattle.tables.specs.Tables.{Tables, no_tables, table_at, with_table, without_table, table_count}
 use Rattle.tables.specs.Verdict.{joined}
 use Rattle.tables.specs.laws.Maps.{put_apart, put_over, put_and_taken, put_not_taken, none_taken}
-use Rattle.store_runs.specs.Held.{rows_in_bytes, rows_in_segment, segment_rows, joined_rows, rows_held, table_where, table_of_rows, table_held, with_held, tables_held, each_held}
+use Rattle.store_runs.specs.Held.{rows_in_bytes, rows_in_segment, segment_rows, joined_rows, rows_held, table_where, table_of_rows, table_held, with_held, tables_held, held_entry, each_held}
 use Rattle.store_runs.specs.Changes.{PlainEdit, put, extend, move, remove, exchange, digest, PlainChange, new_entry, page_instead, edited, placed_segments, HasEntry, stream_rows, rows_under, Makes, MakesOf, HoldsStreams}
-use Rattle.pages.specs.Paging.{is_whole, in_first, tail_of, with_pages, settled}
-use Rattle.pages.specs.laws.Paged.{by_page, kept_first, made_first}
 use Rattle.store_runs.specs.Carrying.{placed}
 use Rattle.store_changes.specs.laws.Digests.{rows_undamaged}
 use Rattle.store_changes.specs.laws.Named.{entry_has, entry_lacks, held_has}
-use Rattle.store_changes.specs.laws.Frame.{tables_by_each}
+use Rattle.store_changes.specs.laws.Frame.{named_table, tables_by_table}
+use Rattle.store_changes.specs.laws.Mapped.{placed_mapped}
 use Rattle.store_changes.specs.laws.Listed.{count_held}
 
 -- with segments of the same rows for a table
@@ -49,23 +48,6 @@ same_with image (x ∷ xs) name e segments found same = by_name (bytes_eq x.name
         ap (λ (y : PlainEntry). rows_held y.schema segments image) is ∙ same ∙ ap (λ (y : PlainEntry). rows_held y.schema y.segments image) (sym is) in
         ap (λ (o : Option (List (List Cell))). with_held x.name (table_of_rows x.schema o) (tables_held image xs)) rows
     by_name false h later = ap (with_held x.name (table_held image x)) (later h)
-
--- so each table by itself stays, if they have as many rows
-pub each_with : (image : Image) (c : PlainCatalogue) (name : List ℕ) (e : PlainEntry) (segments : List Segment) → entry_of c name ≡ Some e
-    → rows_held e.schema segments image ≡ rows_held e.schema e.segments image → sum_by (λ (g : Segment). g.rows) segments ≡ row_count e
-    → each_held image (with_segments c name segments) ≡ each_held image c
-each_with image [] name e segments found same count = refl
-each_with image (x ∷ xs) name e segments found same count = by_name (bytes_eq x.name name) found (λ h. each_with image xs name e segments h same count)
-  where
-    by_name : (b : Bool) → (if b then Some x else entry_of xs name) ≡ Some e → (entry_of xs name ≡ Some e → each_held image (with_segments xs name segments) ≡ each_held image xs)
-        → each_held image (if b then record { name = x.name; schema = x.schema; segments = segments; page = None } ∷ xs else x ∷ with_segments xs name segments) ≡ each_held image (x ∷ xs)
-    by_name true h later =
-        let is : e ≡ x = cc h in
-        let rows : rows_held x.schema segments image ≡ rows_held x.schema x.segments image =
-        subst (λ (y : PlainEntry). rows_held y.schema segments image ≡ rows_held y.schema y.segments image) is same in
-        let number : sum_by (λ (g : Segment). g.rows) segments ≡ row_count x = subst (λ (y : PlainEntry). sum_by (λ (g : Segment). g.rows) segments ≡ row_count y) is count in
-        λ i. (x.name, x.schema, number i, rows i) ∷ each_held image xs
-    by_name false h later = λ i. (x.name, x.schema, row_count x, rows_held x.schema x.segments image) ∷ later h i
 
 -- ---- the rows of new segments
 
@@ -271,36 +253,11 @@ module _ (image : Image) where
 
 -- ---- pages make no difference to what a table is
 
-bare_each : (image : Image) (c : PlainCatalogue) → each_held image (map bare c) ≡ each_held image c
-bare_each image [] = refl
-bare_each image (e ∷ es) = λ i. (e.name, e.schema, row_count e, rows_held e.schema e.segments image) ∷ bare_each image es i
-
-first_each : (image : Image) (e : PlainEntry) (runs : List Run) (es : PlainCatalogue) → each_held image (in_first e runs ∷ es) ≡ each_held image (e ∷ es)
-first_each image e [] es = refl
-first_each image e (run ∷ runs) es = refl
-
-pages_each : (image : Image) (c : PlainCatalogue) (runs : List Run) → each_held image (with_pages c runs) ≡ each_held image c
-pages_each image [] runs = refl
-pages_each image (e ∷ es) runs =
-    by_page e.page
-    (λ p here. ap (each_held image) (kept_first e es runs p here) ∙ behind (with_pages es runs) (pages_each image es runs))
-    (λ none. ap (each_held image) (made_first e es runs none) ∙ first_each image e runs (with_pages es (tail_of runs)) ∙ behind (with_pages es (tail_of runs)) (pages_each image es (tail_of runs)))
-  where
-    behind : (d : PlainCatalogue) → each_held image d ≡ each_held image es → each_held image (e ∷ d) ≡ each_held image (e ∷ es)
-    behind d same = λ i. (e.name, e.schema, row_count e, rows_held e.schema e.segments image) ∷ same i
-
-settled_each : (image : Image) (c : PlainCatalogue) (runs : List Run) → each_held image (settled c runs) ≡ each_held image c
-settled_each image c runs = by_whole (is_whole c)
-  where
-    by_whole : (t : Bool) → each_held image (if t then map bare c else with_pages c runs) ≡ each_held image c
-    by_whole true = bare_each image c
-    by_whole false = pages_each image c runs
-
 pub placed_each : (image : Image) (v : FormatVersion) (c : PlainCatalogue) (change : PlainChange) (places : List Run)
     → each_held image (placed v c change places) ≡ each_held image (edited c change.edit (placed_segments v places change.streams change.counts))
-placed_each image v c change places = settled_each image (edited c change.edit (placed_segments v places change.streams change.counts)) (drop (length change.streams) places)
+placed_each image = placed_mapped (held_entry image) (λ e o. refl)
 
 pub placed_held : (image : Image) (v : FormatVersion) (c : PlainCatalogue) (change : PlainChange) (places : List Run)
     → tables_held image (placed v c change places) ≡ tables_held image (edited c change.edit (placed_segments v places change.streams change.counts))
 placed_held image v c change places =
-    tables_by_each image image (placed v c change places) (edited c change.edit (placed_segments v places change.streams change.counts)) (placed_each image v c change places)
+    tables_by_table image image (placed v c change places) (edited c change.edit (placed_segments v places change.streams change.counts)) (placed_mapped (named_table image) (λ e o. refl) v c change places)

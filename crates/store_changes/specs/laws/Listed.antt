@@ -1,8 +1,8 @@
 -- A catalogue lists the tables that an image holds of it: their names in order, their schemas and how many rows they have.
-use Rattle.std.specs.Prelude.{◌≡◌, ◌==◌, ℕ, suc, Bool, true, false, nat_eq, List, [], ◌∷◌, ◌++◌, length, map, Option, Some, None, Result, Ok, Err, if◌then◌else◌, refl}
-use Rattle.std.specs.List.{sum_by, starts_with}
+use Rattle.std.specs.Prelude.{◌≡◌, ℕ, suc, true, List, [], ◌∷◌, ◌++◌, length, map, Option, Some, None, refl}
+use Rattle.std.specs.List.{sum_by}
 use Rattle.std.proofs.Common.{sym, ap, subst, ◌∙◌, arith}
-use Rattle.std.proofs.lemmas.Bool.{and_parts, eqb-true}
+use Rattle.std.proofs.lemmas.Bool.{and_parts}
 use Rattle.std.proofs.lemmas.List.{length-append}
 use Rattle.std.proofs.lemmas.List.Sums.{sum_by-cons}
 use Rattle.std.proofs.lemmas.Cmp.{nat_list_cmp_total}
@@ -13,37 +13,18 @@ use Rattle.std.specs.FinMap as maps
 use Rattle.sector_dev.specs.Disk.{Image}
 use Rattle.arrow_schema.specs.Column.{PlainSchema}
 use Rattle.cells.specs.Cell.{Cell, PlainTable}
-use Rattle.ipc_message.specs.declared.fault.Fault.{Fault}
-use Rattle.ipc_message.specs.Header.{supported_codes}
-use Rattle.ipc_write.specs.Written.{schema_message}
-use Rattle.ipc_stream.specs.Meaning.{meaning}
 use Rattle.catalogue.specs.declared.entry.Segment.{Segment}
 use Rattle.catalogue.specs.Entries.{PlainEntry, PlainCatalogue, names_of, comes_before, ascends, row_count, IsCatalogue}
 use Rattle.catalogue.specs.Edits.{entry_of, tables_of}
 use Rattle.catalogue.specs.laws.Order.{less_is}
 use Rattle.tables.specs.Tables.{Tables, no_tables, table_at, with_table, table_count, row_counts}
-use Rattle.store_runs.specs.Held.{bytes_of, rows_where, rows_in_bytes, segment_rows, joined_rows, rows_held, table_held, with_held, tables_held}
+use Rattle.store_runs.specs.Held.{bytes_of, segment_rows, joined_rows, rows_held, table_held, with_held, tables_held}
+use Rattle.store_runs.specs.laws.Known.{bytes_counted}
 use Rattle.store_changes.specs.Verdicts.{TellsTable, Lists}
 use Rattle.store_changes.specs.laws.Digests.{rows_come}
 use Rattle.store_changes.specs.laws.Named.{entry_has, entry_lacks, held_has}
 
 -- ---- how many rows there are
-
-rows_counted : (count : ℕ) (r : Result PlainTable Fault) (rows : List (List Cell)) → rows_where count r ≡ Some rows → length rows ≡ count
-rows_counted count (Err fault) rows is = absurd (cc is)
-rows_counted count (Ok table) rows is = by_test (length table.rows == count) refl is
-  where
-    by_test : (b : Bool) → (length table.rows == count) ≡ b → (if b then Some table.rows else None) ≡ Some rows → length rows ≡ count
-    by_test true same h = let own : table.rows ≡ rows = cc h in ap length (sym own) ∙ eqb-true (length table.rows) count same
-    by_test false same h = absurd (cc h)
-
-segment_counted : (schema : PlainSchema) (count : ℕ) (o : Option (List ℕ)) (rows : List (List Cell)) → rows_in_bytes schema count o ≡ Some rows → length rows ≡ count
-segment_counted schema count None rows is = absurd (cc is)
-segment_counted schema count (Some bytes) rows is = by_test (starts_with nat_eq bytes (schema_message schema)) is
-  where
-    by_test : (b : Bool) → (if b then rows_where count (meaning supported_codes bytes) else None) ≡ Some rows → length rows ≡ count
-    by_test true h = rows_counted count (meaning supported_codes bytes) rows h
-    by_test false h = absurd (cc h)
 
 pub segments_counted : (schema : PlainSchema) (segments : List Segment) (image : Image) (rows : List (List Cell)) → rows_held schema segments image ≡ Some rows
     → length rows ≡ sum_by (λ (s : Segment). s.rows) segments
@@ -57,7 +38,7 @@ segments_counted schema (g ∷ gs) image rows is = by_parts (segment_rows schema
     by_parts (Some xs) None f o h later = absurd (cc h)
     by_parts (Some xs) (Some ys) f o h later =
         let whole : xs ++ ys ≡ rows = cc h in
-        let one = segment_counted schema g.rows (bytes_of g image) xs (rows_come schema g (bytes_of g image) xs f).1 in
+        let one = bytes_counted schema g.rows (bytes_of g image) xs (rows_come schema g (bytes_of g image) xs f).1 in
         let more = later ys o in
         ap length (sym whole) ∙ omega (arith, length-append xs ys, sum_by-cons (λ (s : Segment). s.rows) g gs, one, more)
 

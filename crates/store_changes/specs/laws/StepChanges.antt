@@ -4,6 +4,7 @@ use Rattle.std.specs.List.{list_all, AllByRecursion}
 use Rattle.std.proofs.Common.{inl, inr, sym, ap, ◌∙◌, subst, arith, take-append-drop, length-append}
 use Rattle.std.proofs.lemmas.Bool.{and_parts, leb-true}
 use Rattle.std.proofs.lemmas.List.{length-map, map-append}
+use Rattle.std.proofs.lemmas.List.Concat.{flat_map-cons}
 use Rattle.std.proofs.lemmas.List.Sums.{sum_by-cons, sum_by-append}
 use Rattle.sector_dev.specs.Disk.{Image}
 use Rattle.segments.specs.Runs.{IsLowest}
@@ -17,6 +18,7 @@ use Rattle.values.specs.Table.{IsTable}
 use Rattle.ipc_canonical.specs.PieceStreams.{piece_stream, piece_streams, piece_counts}
 use Rattle.ipc_encode.specs.Pieces.{IsPiece}
 use Rattle.table_cut.specs.Cut.{pieces, pieces_from}
+use Rattle.table_cut.specs.CutRows.{joined}
 use Rattle.table_cut.specs.Piece.{pieces_of, within_piece}
 use Rattle.catalogue.specs.declared.entry.Segment.{Segment}
 use Rattle.catalogue.specs.declared.limits.TheConstants.{MAX_SEGMENTS, MAX_SEGMENT_ROWS}
@@ -32,7 +34,8 @@ use Rattle.store_runs.specs.declared.compacting.Compaction.{Compaction}
 use Rattle.store_runs.specs.declared.compacting.Compaction.TheVariants as compactions
 use Rattle.pages.specs.Paging.{page_sizes, text_size, settled}
 use Rattle.pages.specs.laws.Sizes.{settled_sum}
-use Rattle.store_runs.specs.Held.{rows_held, each_held}
+use Rattle.store_runs.specs.Held.{rows_held, rows_known, listed_entry, each_listed}
+use Rattle.store_runs.specs.laws.Known.{rows_each_known}
 use Rattle.store_runs.specs.Changes.{PlainChange, CanChange, digest_for, edited, exchange, placed_segments, stream_rows, HoldsStreams}
 use Rattle.commit.specs.declared.sector.Commit.{Commit}
 use Rattle.commit.specs.declared.sector.FormatVersion.{FormatVersion}
@@ -42,11 +45,11 @@ use Rattle.store_changes.specs.Exchanging.{starts_sum, Shrinks}
 use Rattle.store_runs.specs.Compacting.{pair_of, is_one_piece, IsMerge, IsMove, IsStep}
 use Rattle.store_changes.specs.LawsBelow.{LawsBelow}
 use Rattle.store_changes.specs.laws.Changed.{streams_held}
-use Rattle.store_changes.specs.laws.Exchanged.{row_sum, exchanged_each}
+use Rattle.store_changes.specs.laws.Exchanged.{row_sum, exchanged_held, exchanged_each, exchanged_listed}
+use Rattle.store_changes.specs.laws.Mapped.{placed_mapped}
 use Rattle.store_changes.specs.laws.ExchangedRuns.{merged_shrinks, exchanged_count}
 use Rattle.store_changes.specs.laws.Edited.{length_from}
-use Rattle.store_changes.specs.laws.Frame.{same_rows, sectors_of}
-use Rattle.store_changes.specs.laws.Listed.{segments_counted}
+use Rattle.store_changes.specs.laws.Frame.{HoldsAlike, same_rows, sectors_of}
 use Rattle.store_changes.specs.laws.Named.{held_has}
 use Rattle.store_changes.specs.laws.Pieces.{pieces_each, pieces_some, pieces_few}
 use Rattle.store_changes.specs.laws.Same.{moved_same}
@@ -106,18 +109,12 @@ module _ (c : PlainCatalogue) (k : IsCatalogue c) (tells : Bool) (image : Image)
 
 -- ---- it keeps each table
 
--- one new segment has as many rows as are said of its stream
-one_sum : (image : Image) (others : List Segment) (bytes : List ℕ) (count : ℕ) → HoldsStreams image others (bytes ∷ []) (count ∷ []) → row_sum others ≡ count + 0
-one_sum image [] bytes count holds = absurd (cc holds)
-one_sum image (g ∷ []) bytes count holds = let rows = holds.1 in omega (arith, rows, sum_by-cons (λ (x : Segment). x.rows) g [])
-one_sum image (g ∷ h ∷ gs) bytes count holds = absurd holds.3
-
 module _ (laws : LawsBelow) (c : PlainCatalogue) (k : IsCatalogue c) (tells : Bool) (told : tells ≡ true) (shown image : Image) (same : (n : ℕ) → InSome (runs_of c) n → image n ≡ shown n) where
   entry_sound : (e : PlainEntry) → entry_of c e.name ≡ Some e → list_all is_segment e.segments ≡ true
   entry_sound e found = (entry_is e (found_passes is_entry c e.name e k.entries found)).segments
 
   abbrev Keeps : PlainChange → List Segment → Type 0
-  Keeps change others = HoldsStreams image others change.streams change.counts → each_held image (edited c change.edit others) ≡ each_held image c
+  Keeps change others = HoldsStreams image others change.streams change.counts → HoldsAlike image c (edited c change.edit others)
 
   -- the rows of neighbours are those that were shown
   pair_kept : (i : ℕ) (e : PlainEntry) (place : ℕ) → slice_get c i ≡ Some e → rows_held e.schema (from_place e.segments place 2) image ≡ rows_held e.schema (from_place e.segments place 2) shown
@@ -142,13 +139,15 @@ module _ (laws : LawsBelow) (c : PlainCatalogue) (k : IsCatalogue c) (tells : Bo
       means : stream_rows e.schema (piece_streams t) (piece_counts t) ≡ Some t.rows
       means = subst (λ (s : PlainSchema). stream_rows s (piece_streams t) (piece_counts t) ≡ Some t.rows) m.merge.read.schema (laws.held t m.merge.read.kept)
 
-      keeps : HoldsStreams image others (piece_streams t) (piece_counts t) → each_held image (with_exchanged c e.name m.merge.place 2 others) ≡ each_held image c
+      keeps : HoldsStreams image others (piece_streams t) (piece_counts t) → HoldsAlike image c (with_exchanged c e.name m.merge.place 2 others)
       keeps holds =
           let gone = from_place e.segments m.merge.place 2 in
           let new : rows_held e.schema others image ≡ Some t.rows = streams_held image e.schema others (piece_streams t) (piece_counts t) holds ∙ means in
           let old : rows_held e.schema gone image ≡ Some t.rows = pair_kept m.number e m.merge.place m.at ∙ held in
-          exchanged_each image c e.name e (at_name c m.number e k.order m.at) m.merge.place 2 others (new ∙ sym old)
-          (sym (segments_counted e.schema others image t.rows new) ∙ segments_counted e.schema gone image t.rows old)
+          let found = at_name c m.number e k.order m.at in (
+            exchanged_each image c e.name e found m.merge.place 2 others (rows_each_known e.schema others image t.rows new ∙ sym (rows_each_known e.schema gone image t.rows old)),
+            exchanged_held image c e.name m.merge.place 2 others (record { entry = e; found = found; same = new ∙ sym old }),
+          )
 
   move_keeps : (size : ℕ) (used : Run → Type 0) (change : PlainChange) → IsMove tells shown size used c change → (others : List Segment) → Keeps change others
   move_keeps size used change m others = subst (λ (x : PlainChange). Keeps x others) (sym m.is) keeps
@@ -177,15 +176,43 @@ module _ (laws : LawsBelow) (c : PlainCatalogue) (k : IsCatalogue c) (tells : Bo
       gone : from_place e.segments m.place 1 ≡ g ∷ []
       gone = one_from e.segments m.place g m.last.at
 
-      keeps : HoldsStreams image others (m.bytes ∷ []) (g.rows ∷ []) → each_held image (with_exchanged c e.name m.place 1 others) ≡ each_held image c
+      keeps : HoldsStreams image others (m.bytes ∷ []) (g.rows ∷ []) → HoldsAlike image c (with_exchanged c e.name m.place 1 others)
       keeps holds =
-          exchanged_each image c e.name e found m.place 1 others (moved_same image e m.place others g m.bytes gone held m.copy.undamaged holds)
-          (one_sum image others m.bytes g.rows holds ∙ sym (ap row_sum gone ∙ sum_by-cons (λ (x : Segment). x.rows) g []))
+          let same = moved_same image e.schema others g m.bytes held m.copy.undamaged holds in (
+            exchanged_each image c e.name e found m.place 1 others (same.0 ∙ ap (λ (ss : List Segment). rows_known e.schema ss image) (sym gone)),
+            exchanged_held image c e.name m.place 1 others (record { entry = e; found = found; same = same.1 ∙ ap (λ (ss : List Segment). rows_held e.schema ss image) (sym gone) }),
+          )
 
   pub step_keeps : (size : ℕ) (used : Run → Type 0) (done : Compaction) (change : PlainChange) → IsStep tells shown size used c done (Some change) → (others : List Segment) → Keeps change others
   step_keeps size used compactions.Merged change step = merge_keeps change step
   step_keeps size used compactions.Moved change step = move_keeps size used change step.1
   step_keeps size used compactions.Nothing change step = absurd step
+
+-- ---- it keeps the list of the tables
+
+-- the new segments have as many rows as are said of their streams
+placed_sum : (v : FormatVersion) (runs : List Run) (streams : List (List ℕ)) (counts : List ℕ) → length streams ≤ length runs → length streams ≡ length counts
+    → row_sum (placed_segments v runs streams counts) ≡ sum_by (λ (n : ℕ). n) counts
+placed_sum v [] [] [] few same = refl
+placed_sum v runs [] (n ∷ ns) few same = absurd (omega (arith, same))
+placed_sum v [] (s ∷ ss) counts few same = absurd (omega (arith, few))
+placed_sum v (r ∷ rs) [] [] few same = refl
+placed_sum v (r ∷ rs) (s ∷ ss) [] few same = absurd (omega (arith, same))
+placed_sum v (r ∷ rs) (s ∷ ss) (n ∷ ns) few same =
+    let g : Segment = record { place = record { run = r; bytes = length s }; rows = n; digest = digest_for v s } in
+    let more = placed_sum v rs ss ns (omega (arith, few)) (omega (arith, same)) in
+    omega (arith, more, sum_by-cons (λ (x : Segment). x.rows) g (placed_segments v rs ss ns), sum_by-cons (λ (k : ℕ). k) n ns)
+
+-- the pieces of a table have its rows
+piece_sum : (ps : List (List (List Cell))) → sum_by (λ (n : ℕ). n) (map length ps) ≡ length (joined ps)
+piece_sum [] = refl
+piece_sum (p ∷ ps) =
+    let whole = ap length (flat_map-cons (λ (piece : List (List Cell)). piece) p ps) in
+    omega (arith, piece_sum ps, whole, length-append p (joined ps), sum_by-cons (λ (n : ℕ). n) (length p) (map length ps))
+
+counts_sum : (t : PlainTable) → joined (pieces_of t) ≡ t.rows → sum_by (λ (n : ℕ). n) (piece_counts t) ≡ length t.rows
+unfolding piece_counts
+counts_sum t whole = piece_sum (pieces_of t) ∙ ap length whole
 
 -- ---- it shrinks the catalogue
 
@@ -344,6 +371,34 @@ module _ (v : FormatVersion) (c : PlainCatalogue) (k : IsCatalogue c) (tells : B
   step_shrinks compactions.Moved change step = move_shrinks change step.1
   step_shrinks compactions.Nothing change step = absurd step
 
+  -- each table is listed as it was
+  merge_listed : ((t : PlainTable) → joined (pieces_of t) ≡ t.rows) → (change : PlainChange) → IsMerge tells image c change → (places : List Run) (text : Run)
+      → Takes size used (asked_sizes v c change) (Ok (places ++ text ∷ [])) → each_listed (edited c change.edit (placed_segments v places change.streams change.counts)) ≡ each_listed c
+  merge_listed whole change m places text =
+      let t = m.merge.table in
+      subst (λ (x : PlainChange). Takes size used (asked_sizes v c x) (Ok (places ++ text ∷ [])) → each_listed (edited c x.edit (placed_segments v places x.streams x.counts)) ≡ each_listed c) (sym m.merge.is)
+      (λ takes. exchanged_listed c m.entry.name m.entry (merge_found change m) m.merge.place 2 (placed_segments v places (piece_streams t) (piece_counts t))
+      (placed_sum v places (piece_streams t) (piece_counts t) (as_many (pieces_put (exchange m.entry.name m.merge.place 2) t) places text takes) (pieces_each t) ∙ counts_sum t (whole t) ∙ m.merge.read.count))
+
+  move_listed : (change : PlainChange) → IsMove tells image size used c change → (places : List Run) (text : Run) → Takes size used (asked_sizes v c change) (Ok (places ++ text ∷ []))
+      → each_listed (edited c change.edit (placed_segments v places change.streams change.counts)) ≡ each_listed c
+  move_listed change m places text =
+      let e = m.entry in
+      let g = m.segment in
+      let copied : PlainChange = record { edit = exchange e.name m.place 1; streams = m.bytes ∷ []; counts = g.rows ∷ [] } in
+      let gone : from_place e.segments m.place 1 ≡ g ∷ [] = one_from e.segments m.place g m.last.at in
+      let old : row_sum (from_place e.segments m.place 1) ≡ row_sum (g ∷ []) = ap row_sum gone in
+      subst (λ (x : PlainChange). Takes size used (asked_sizes v c x) (Ok (places ++ text ∷ [])) → each_listed (edited c x.edit (placed_segments v places x.streams x.counts)) ≡ each_listed c) (sym m.is)
+      (λ takes. exchanged_listed c e.name e (at_name c m.number e k.order m.last.found) m.place 1 (placed_segments v places (m.bytes ∷ []) (g.rows ∷ []))
+      (let new = placed_sum v places (m.bytes ∷ []) (g.rows ∷ []) (as_many copied places text takes) refl in
+      omega (arith, old, new, sum_by-cons (λ (x : Segment). x.rows) g [], sum_by-cons (λ (n : ℕ). n) g.rows [])))
+
+  pub step_listed : ((t : PlainTable) → joined (pieces_of t) ≡ t.rows) → (done : Compaction) (change : PlainChange) → IsStep tells image size used c done (Some change) → (places : List Run) (text : Run)
+      → Takes size used (asked_sizes v c change) (Ok (places ++ text ∷ [])) → each_listed (edited c change.edit (placed_segments v places change.streams change.counts)) ≡ each_listed c
+  step_listed whole compactions.Merged change step = merge_listed whole change step
+  step_listed whole compactions.Moved change step = move_listed change step.1
+  step_listed whole compactions.Nothing change step = absurd step
+
   -- so there are never too many segments
   few_of : (e : PlainEntry) (place count : ℕ) (others : List Segment) → entry_of c e.name ≡ Some e → length others ≤ length (from_place e.segments place count)
       → segment_count (with_exchanged c e.name place count others) ≤ MAX_SEGMENTS
@@ -384,3 +439,9 @@ pub carried_shrinks : (c : PlainCatalogue) → IsCatalogue c → (tells : Bool) 
 carried_shrinks c kept tells image size used done change step k k' c' (next, few, (places, text, takes, is, commit)) =
     subst (Shrinks c) (sym is)
     (settled_shrinks c (edited c change.edit (placed_segments k.version places change.streams change.counts)) (drop (length change.streams) places) (step_shrinks k.version c kept tells image size used done change step places text takes))
+
+-- and lists each table as before
+pub carried_listed : ((t : PlainTable) → joined (pieces_of t) ≡ t.rows) → (c : PlainCatalogue) → IsCatalogue c → (tells : Bool) (image : Image) (size : ℕ) (used : Run → Type 0) (done : Compaction) (change : PlainChange)
+    → IsStep tells image size used c done (Some change) → (k k' : Commit) (c' : PlainCatalogue) → IsCarried size used k c change (Ok tt) k' c' → each_listed c' ≡ each_listed c
+carried_listed whole c kept tells image size used done change step k k' c' (next, few, (places, text, takes, is, commit)) =
+    ap each_listed is ∙ placed_mapped listed_entry (λ e o. refl) k.version c change places ∙ step_listed k.version c kept tells image size used whole done change step places text takes

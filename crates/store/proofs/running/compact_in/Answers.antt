@@ -26,7 +26,7 @@ returns-in-Ok-clause-answers g c =
       answers = (
         Ok c.in-Ok.done,
         c.step_reply.ensures,
-        record { step = e.step; told = tt; shrinks = e.shrinks; idle = e.still; kept = tt; reads = tt; halted = e.halted; still = e.same; halts = e.halts; writes = e.writes; written = e.written; each_table = e.tables; book = e.book },
+        record { step = e.step; told = tt; shrinks = e.shrinks; idle = e.still; kept = tt; reads = tt; halted = e.halted; still = e.same; halts = e.halts; writes = e.writes; written = e.written; each_table = e.tables; listed = e.listed; book = e.book },
       );
       same = e.size;
       count = e.count ∙ ap (λ r. counted r (D.failed c.args.store.device)) (sym c.step_reply.ensures);
@@ -39,7 +39,7 @@ returns-in-Err-clause-answers g c =
       answers = (
         Err c.in-Err.refusal,
         refl,
-        record { step = tt; told = e.told; shrinks = tt; idle = e.still; kept = e.kept; reads = e.reads; halted = e.halted; still = e.same; halts = e.halts; writes = e.writes; written = tt; each_table = e.tables; book = e.book },
+        record { step = tt; told = e.told; shrinks = tt; idle = e.still; kept = e.kept; reads = e.reads; halted = e.halted; still = e.same; halts = e.halts; writes = e.writes; written = tt; each_table = e.tables; listed = e.listed; book = e.book },
       );
       same = e.size;
       count = e.count;

@@ -26,7 +26,7 @@ returns-in-Ok-clause-answers g c =
       answers = (
         Ok c.in-Ok.upgraded,
         c.upgrade_reply.ensures,
-        record { upgraded = e.upgraded; told = tt; already = e.already; kept = tt; reads = tt; halted = e.halted; still = e.same; halts = e.halts; writes = e.writes; written = e.written; each_table = e.tables; book = e.book },
+        record { upgraded = e.upgraded; told = tt; already = e.already; kept = tt; reads = tt; halted = e.halted; still = e.same; halts = e.halts; writes = e.writes; written = e.written; each_table = e.tables; listed = e.listed; book = e.book },
       );
       same = e.size;
       count = e.count ∙ ap (λ r. counted r (D.failed c.args.store.device)) (sym c.upgrade_reply.ensures);
@@ -39,7 +39,7 @@ returns-in-Err-clause-answers g c =
       answers = (
         Err c.in-Err.refusal,
         refl,
-        record { upgraded = tt; told = e.told; already = e.already; kept = e.kept; reads = e.reads; halted = e.halted; still = e.same; halts = e.halts; writes = e.writes; written = tt; each_table = e.tables; book = e.book },
+        record { upgraded = tt; told = e.told; already = e.already; kept = e.kept; reads = e.reads; halted = e.halted; still = e.same; halts = e.halts; writes = e.writes; written = tt; each_table = e.tables; listed = e.listed; book = e.book },
       );
       same = e.size;
       count = e.count;

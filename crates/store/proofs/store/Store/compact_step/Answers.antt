@@ -1,10 +1,11 @@
-use Rattle.std.proofs.Common.{◌≡◌, Bool, Some, None, Result, Ok, Err, inl, inr, refl, sym, ◌∙◌, subst}
+use Rattle.std.proofs.Common.{◌≡◌, Bool, Some, None, Result, Ok, Err, inl, inr, refl, ap, sym, ◌∙◌, subst}
 use Rattle.std.proofs.lemmas.Bool.{true≢false, false_from_ne_true}
 use Rattle.sector_dev.specs.Disk.{Disk, Story, now, shown_image}
 use Rattle.sector_dev.specs.Time.{OnlyReads}
 use Rattle.sector_dev.specs.laws.Time.{stays}
 use Rattle.segments.specs.Usages.{IsUsedIn}
 use Rattle.segments.specs.laws.Usages.{or_false}
+use Rattle.catalogue.specs.Entries.{PlainCatalogue}
 use Rattle.catalogue.specs.View.{catalogue_of}
 use Rattle.catalogue.specs.laws.Kept.{catalogue_is}
 use Rattle.commit.specs.declared.recovery.Opened.{Opened}
@@ -15,12 +16,13 @@ use Rattle.pages.specs.declared.stored.StoredCatalogue.{StoredCatalogue}
 use Rattle.store_runs.specs.Calls.{done}
 use Rattle.store_changes.specs.Change.{change_of}
 use Rattle.store_runs.specs.Changes.{CanChange}
+use Rattle.store_runs.specs.Held.{each_listed}
 use Rattle.store.specs.Fits.{listed_in}
 use Rattle.store.specs.Compacting.{RefusesStep}
 use Rattle.store.proofs.Asked.{is_running}
 use Rattle.store.proofs.ReadsStore.{fits_reading}
 use Rattle.store.proofs.Applied.{ends_after, on_disk_after, carries_after, carried_after}
-use Rattle.store_changes.specs.laws.StepChanges.{can_step, carried_shrinks}
+use Rattle.store_changes.specs.laws.StepChanges.{can_step, carried_shrinks, carried_listed}
 use Rattle.store.proofs.Stepped.{done_counts, never_nothing, nothing_read, made_goes, refused_goes, off_goes, none_goes, unread_goes}
 use Rattle.store.proofs.EachTable.{each_read, step_each}
 use Rattle.store.proofs.store.Store.compact_step.Goals as goal
@@ -28,6 +30,10 @@ use Rattle.store.proofs.store.Store.compact_step.Goals as goal
 -- an answer of a step
 abbrev failed_by : Refusal → Result Compaction Refusal
 failed_by r = Err r
+
+-- the catalogue of what was opened
+abbrev listed_by : Opened StoredCatalogue → PlainCatalogue
+listed_by o = catalogue_of o.catalogue.list
 
 -- ---- what is asked of the change
 
@@ -75,6 +81,24 @@ returns-in-Ok-clause-shrinks g c = λ other.
     carried_shrinks (listed_in old) (catalogue_is (listed_in old) old.opened.catalogue.list.kept) D.tells (shown_image (now (D.story old.device))) (D.size old.device) (IsUsedIn old.opened.map.entries) c.in-Ok-Some.step.done
     (change_of c.in-Ok-Some.step.change) (rw c.in-Ok-Some.field-0-is at c.in-Ok-Some.ensures.found) old.opened.commit new.opened.commit (listed_in new)
     (ends_after D.size D.story D.failed D.tells old c.find_step.new.self done c.in-Ok-Some.ensures.reads (Ok (change_of c.in-Ok-Some.step.change)) (Ok tt) new c.in-Ok.ensures.carried)
+
+pub returns-in-Ok-clause-listed : goal.returns-in-Ok-clause-listed
+returns-in-Ok-clause-listed g c =
+    let D = g.D.SectorDevice in
+    let old = c.args.self.now in
+    let new = c.carry_out.new.self in
+    carried_listed c.pieces_are_tables.ensures.whole (listed_in old) (catalogue_is (listed_in old) old.opened.catalogue.list.kept) D.tells (shown_image (now (D.story old.device))) (D.size old.device)
+    (IsUsedIn old.opened.map.entries) c.in-Ok-Some.step.done (change_of c.in-Ok-Some.step.change) (rw c.in-Ok-Some.field-0-is at c.in-Ok-Some.ensures.found) old.opened.commit new.opened.commit (listed_in new)
+    (ends_after D.size D.story D.failed D.tells old c.find_step.new.self done c.in-Ok-Some.ensures.reads (Ok (change_of c.in-Ok-Some.step.change)) (Ok tt) new c.in-Ok.ensures.carried)
+
+pub returns-in-Ok-Some-clause-listed : goal.returns-in-Ok-Some-clause-listed
+returns-in-Ok-Some-clause-listed g c = ap each_listed (c.in-Err-carry_out.ensures.kept.1 ∙ ap listed_by c.in-Ok-Some.ensures.reads.kept)
+
+pub returns-in-Ok-None-clause-listed : goal.returns-in-Ok-None-clause-listed
+returns-in-Ok-None-clause-listed g c = ap (λ (o : Opened StoredCatalogue). each_listed (listed_by o)) c.in-Ok-None.ensures.reads.kept
+
+pub returns-clause-listed : goal.returns-clause-listed
+returns-clause-listed g c = ap (λ (o : Opened StoredCatalogue). each_listed (listed_by o)) c.in-Err.ensures.reads.kept
 
 pub returns-in-Ok-clause-halted : goal.returns-in-Ok-clause-halted
 returns-in-Ok-clause-halted g c = (λ is. absurd (cc is), λ off. absurd (true≢false (sym off ∙ c.if-self.false)))

@@ -1,9 +1,11 @@
-use Rattle.std.proofs.Common.{◌≡◌, Bool, Ok, Err, inl, inr, refl, sym, ◌∙◌, subst}
+use Rattle.std.proofs.Common.{◌≡◌, Bool, Ok, Err, inl, inr, refl, ap, sym, ◌∙◌, subst}
 use Rattle.std.proofs.lemmas.Bool.{true≢false, false_from_ne_true}
 use Rattle.sector_dev.specs.Disk.{Disk, Story, now, shown_image}
 use Rattle.sector_dev.specs.Time.{OnlyReads}
 use Rattle.sector_dev.specs.laws.Time.{stays}
+use Rattle.segments.specs.Usages.{IsUsedIn}
 use Rattle.segments.specs.laws.Usages.{or_false}
+use Rattle.catalogue.specs.Entries.{PlainCatalogue}
 use Rattle.catalogue.specs.View.{catalogue_of}
 use Rattle.commit.specs.declared.recovery.Opened.{Opened}
 use Rattle.commit.specs.declared.sector.FormatVersion.TheVariants.{One, Two}
@@ -12,15 +14,20 @@ use Rattle.pages.specs.declared.stored.StoredCatalogue.{StoredCatalogue}
 use Rattle.store_runs.specs.Calls.{done}
 use Rattle.store_runs.specs.Changes.{digest, CanChange}
 use Rattle.store_runs.specs.Deciding.{names_changed}
+use Rattle.store_runs.specs.Held.{each_listed}
 use Rattle.store.specs.Fits.{listed_in}
 use Rattle.store_runs.specs.Digesting.{IsUpgrade}
 use Rattle.store.specs.Upgrading.{RefusesUpgrade}
 use Rattle.store.proofs.Asked.{is_running}
 use Rattle.store.proofs.ReadsStore.{fits_reading}
 use Rattle.store.proofs.Applied.{ends_after, kept_after, on_disk_after, carries_after, carried_after}
-use Rattle.store.proofs.UpgradeGoes.{can_upgrade, upgraded_goes, unmade_goes, off_upgrade_goes, already_goes, stopped_goes}
+use Rattle.store.proofs.UpgradeGoes.{can_upgrade, upgrade_listed, upgraded_goes, unmade_goes, off_upgrade_goes, already_goes, stopped_goes}
 use Rattle.store.proofs.EachTable.{each_read, upgrade_each}
 use Rattle.store.proofs.store.Store.upgrade.Goals as goal
+
+-- the catalogue of what was opened
+abbrev listed_by : Opened StoredCatalogue → PlainCatalogue
+listed_by o = catalogue_of o.catalogue.list
 
 -- ---- what is asked of the change
 
@@ -62,6 +69,21 @@ returns-in-Ok-carry_out-clause-upgraded g c =
 
 pub returns-in-Ok-carry_out-clause-already : goal.returns-in-Ok-carry_out-clause-already
 returns-in-Ok-carry_out-clause-already g c = λ on two. let both : One ≡ Two = sym c.in-One.is ∙ two in cc both
+
+pub returns-in-Ok-carry_out-clause-listed : goal.returns-in-Ok-carry_out-clause-listed
+returns-in-Ok-carry_out-clause-listed g c =
+    let D = g.D.SectorDevice in
+    let old = c.args.self.now in
+    let new = c.carry_out.new.self in
+    upgrade_listed D.tells (shown_image (now (D.story old.device))) (listed_in old) (names_changed (digest c.in-Ok.digests.items))
+    (record { digests = c.in-Ok.digests.items; read = c.in-Ok.ensures.read; own = c.in-Ok.ensures.found; is = refl }) (D.size old.device) (IsUsedIn old.opened.map.entries) old.opened.commit new.opened.commit (listed_in new)
+    (ends_after D.size D.story D.failed D.tells old c.find_digests.new.self done c.in-Ok.ensures.reads (Ok (names_changed (digest c.in-Ok.digests.items))) (Ok tt) new c.in-Ok-carry_out.ensures.carried)
+
+pub returns-in-Ok-clause-listed : goal.returns-in-Ok-clause-listed
+returns-in-Ok-clause-listed g c = ap each_listed (c.in-Err-carry_out.ensures.kept.1 ∙ ap listed_by c.in-Ok.ensures.reads.kept)
+
+pub returns-clause-listed : goal.returns-clause-listed
+returns-clause-listed g c = ap (λ (o : Opened StoredCatalogue). each_listed (listed_by o)) c.in-Err.ensures.reads.kept
 
 pub returns-in-Ok-carry_out-clause-halted : goal.returns-in-Ok-carry_out-clause-halted
 returns-in-Ok-carry_out-clause-halted g c = (λ is. absurd (cc is), λ off. absurd (true≢false (sym off ∙ c.if-self.false)))
