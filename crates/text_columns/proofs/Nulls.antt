@@ -39,9 +39,6 @@ nulls_more so n = append_assoc so (replicate n null) (null ∷ []) ∙ ap (λ (x
 no_nulls : (so : List Cell) → so ++ replicate 0 null ≡ so
 no_nulls so = append-nil so
 
-pub one_null : (so : List Cell) → so ++ replicate 1 null ≡ so ++ null ∷ []
-one_null so = refl
-
 -- none of them is there
 none_there : (n : ℕ) → map is_there (replicate n null) ≡ replicate n false
 none_there zero = refl
