@@ -37,7 +37,3 @@ last_word word is own import append create rename drop schema export query check
     let others = or_parts (bytes_eq (codes "salvage") word) (bytes_eq (codes "replay") word) apart.1 in
     (bytes_eq-Decides (codes "tables") word).0
     (sym (rw (import, append, create, rename, drop, compact, upgrade, apart.0, others.1, schema, export, others.0, query, check, info) (or-false (bytes_eq (codes "tables") word))) ∙ is)
-
--- the words of a test may be turned round
-pub turned : (word other : Text) → bytes_eq word other ≡ false → bytes_eq other word ≡ false
-turned word other differs = other_word other word (λ same. true≢false (sym ((bytes_eq-Decides word other).1 same) ∙ differs))
