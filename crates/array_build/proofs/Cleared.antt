@@ -1,9 +1,9 @@
 -- Values of one width, of which some are put to zeros.
 use Rattle.std.specs.Prelude.{Some, None, nat_le, replicate, if◌then◌else◌}
 use Rattle.std.specs.List.{flat_map, range_with_len}
-use Rattle.std.proofs.Common.{◌≡◌, ℕ, zero, suc, ◌+◌, ◌*◌, ◌≤◌, ◌<◌, Bool, true, false, List, [], ◌∷◌, ◌++◌, length, map, take, drop, refl, ap, ap₂, sym, ◌∙◌, arith, append_assoc, length-append, length-drop, mul-le-mul_right}
+use Rattle.std.proofs.Common.{◌≡◌, ℕ, zero, suc, ◌+◌, ◌*◌, ◌≤◌, ◌<◌, Bool, true, false, List, ◌∷◌, ◌++◌, length, map, take, drop, refl, ap, ap₂, sym, ◌∙◌, arith, append_assoc, length-append, length-drop, mul-le-mul_right}
 use Rattle.std.proofs.lemmas.Bool.{and_parts, leb-true}
-use Rattle.std.proofs.lemmas.List.{drop-drop, drop-take, drop_at, length-replicate, length-take-le, take-append-drop, take-take, take_at}
+use Rattle.std.proofs.lemmas.List.{drop-drop, drop-take, drop_at, length-replicate, length-take-le, take-append-drop, take-take, take_at, nil_from_length}
 use Rattle.arrow_schema.specs.Column.{Kind}
 use Rattle.array_build.proofs.AsWritten.{null_slot, short_validity}
 use Rattle.array_build.proofs.RunValues.{enough, null_value, one, plain_cell}
@@ -78,11 +78,7 @@ some_kept set width at i (suc k) left values alike room =
 
 -- where each is there nothing is cleared
 pub none_cleared : (width n : ℕ) (values : List ℕ) → length values ≡ n * width → cleared width (replicate n true) values ≡ values
-none_cleared width zero values len = sym (nil values (omega (arith, len)))
-  where
-    nil : (xs : List ℕ) → length xs ≡ 0 → xs ≡ []
-    nil [] h = refl
-    nil (x ∷ xs) h = absurd (omega (arith, h))
+none_cleared width zero values len = sym (nil_from_length values (omega (arith, len)))
 none_cleared width (suc n) values len =
     let left = length-drop width values in
     let size : suc n * width ≡ width + n * width = omega arith in

@@ -7,13 +7,14 @@ use Rattle.std.proofs.lemmas.List.{length-replicate}
 use Rattle.std.proofs.lemmas.List.Concat.{flat_map-append}
 use Rattle.std.proofs.lemmas.List.Sums.{sum_by-cons}
 use Rattle.std.proofs.lemmas.List.Folds.{list_all-append, list_all-map}
+use Rattle.dictionary_codes.specs.laws.MaskedRuns.{bits_append, mask_counted}
 use Rattle.byteorder.specs.Endian.{little_bytes}
 use Rattle.arrow_schema.specs.Column.{Kind}
 use Rattle.array_build.proofs.AsWritten.{valid_runs_written}
 use Rattle.dictionary_codes.specs.laws.MaskedItems.{all_alike, all_kept, masked_append, masked_twice}
-use Rattle.array_build.proofs.MaskedParts.{all_joined, below_append, bits_append, bits_length, joined_below, masked_itself}
+use Rattle.array_build.proofs.MaskedParts.{all_joined, below_append, joined_below, masked_itself}
 use Rattle.dictionary_codes.specs.laws.Bitmaps.{bitmap_long, bits_counted, bits_with, bits_without}
-use Rattle.array_build.proofs.RunArrays.{contents_has, count_cells, count_run, has_values, runs_there}
+use Rattle.array_build.proofs.RunArrays.{contents_has, count_cells, count_run, has_values, runs_there, no_value}
 use Rattle.array_build.proofs.RunContents.{contents_room, offsets_with, one_offset, ordered, slot_contents, slot_size, span_more, span_none}
 use Rattle.dictionary_codes.specs.laws.SlotCounts.{slots_counted}
 use Rattle.array_build.proofs.RunValues.{plain_cell}
@@ -179,24 +180,20 @@ run_texts_under kind width mask at v from n run is wide sound below =
       up = order.1;
       within = omega (arith, within, same);
       count = many;
-      contents = ap (flat_map contents_of) cells ∙ slots_contents kind width a wide order.1 bits from n (bits_length mask at n) within own
+      contents = ap (flat_map contents_of) cells ∙ slots_contents kind width a wide order.1 bits from n (mask_counted mask at n) within own
           ∙ ap (λ (k : ℕ). masked_spans width a from (mask_bits mask at k)) (sym same);
-      sizes = ap cell_sizes cells ∙ slots_sizes kind width a wide order.1 bits from n (bits_length mask at n) within own ∙ ap (λ (k : ℕ). masked_sizes width a from (mask_bits mask at k)) (sym same);
+      sizes = ap cell_sizes cells ∙ slots_sizes kind width a wide order.1 bits from n (mask_counted mask at n) within own ∙ ap (λ (k : ℕ). masked_sizes width a from (mask_bits mask at k)) (sym same);
     }
 
 -- nulls stay nulls
 nulls_under : (bits : List Bool) → masked bits (replicate (length bits) null) ≡ replicate (length bits) null
 nulls_under [] = refl
-nulls_under (b ∷ bits) = ap₂ (λ (c : Cell) (cs : List Cell). c ∷ cs) (either b) (nulls_under bits)
-  where
-    either : (x : Bool) → (if x then null else null) ≡ null
-    either true = refl
-    either false = refl
+nulls_under (b ∷ bits) = ap₂ (λ (c : Cell) (cs : List Cell). c ∷ cs) (no_value b) (nulls_under bits)
 
 pub run_of_nulls_under : (kind : Kind) (mask : List ℕ) (at n : ℕ) (run : SlotRun) → run ≡ Nulls n → run_under kind mask at run ≡ run_cells (plain_column kind None) run
 run_of_nulls_under kind mask at n run is =
     let count : length (run_bits run) ≡ n = ap (λ (r : SlotRun). length (run_bits r)) is ∙ length-replicate n false in
-    let long : length (mask_bits mask at n) ≡ n = bits_length mask at n in
+    let long : length (mask_bits mask at n) ≡ n = mask_counted mask at n in
     let nulls : masked (mask_bits mask at n) (replicate n null) ≡ replicate n null
     = sym (ap (λ (k : ℕ). masked (mask_bits mask at n) (replicate k null)) long) ∙ nulls_under (mask_bits mask at n) ∙ ap (λ (k : ℕ). replicate k null) long in
     ap₂ (λ (k : ℕ) (r : SlotRun). masked (mask_bits mask at k) (run_cells (plain_column kind None) r)) count is ∙ nulls
@@ -223,9 +220,9 @@ next_run kind mask at runs run others is h =
     let count : length (runs_bits runs) ≡ m + n = ap (λ (rs : List SlotRun). length (runs_bits rs)) is ∙ length-append (run_bits run) (runs_bits others) in
     let bits : mask_bits mask at (length (runs_bits runs)) ≡ first ++ rest = ap (mask_bits mask at) count ∙ bits_append mask at m n in
     let slots : runs_bits runs ≡ run_bits run ++ runs_bits others = ap runs_bits is in
-    let both = below_append first rest (run_bits run) (runs_bits others) (bits_length mask at m) (sym (ap₂ are_below bits slots) ∙ h) in
+    let both = below_append first rest (run_bits run) (runs_bits others) (mask_counted mask at m) (sym (ap₂ are_below bits slots) ∙ h) in
     let split : runs_under kind mask at runs ≡ masked first own ++ masked rest left
-    = ap₂ masked bits (ap (kind_cells kind) is) ∙ masked_append null first rest own left (bits_length mask at m ∙ count_run kind run) in
+    = ap₂ masked bits (ap (kind_cells kind) is) ∙ masked_append null first rest own left (mask_counted mask at m ∙ count_run kind run) in
     record {
       count = count;
       own = both.0;

@@ -5,11 +5,11 @@ use Rattle.std.proofs.Common.{◌≡◌, ℕ, zero, suc, ◌+◌, ◌-◌, ◌�
 use Rattle.std.proofs.lemmas.Bool.{and_parts, and_from, leb-true}
 use Rattle.std.proofs.lemmas.List.Concat.{flat_map-append}
 use Rattle.std.proofs.lemmas.List.FromFn.{length-map-range_with_len}
+use Rattle.dictionary_codes.specs.laws.MaskedRuns.{mask_counted}
 use Rattle.arrow_schema.specs.Column.{Column}
 use Rattle.batch_build.specs.laws.Arrays.{lists_are}
 use Rattle.array_build.proofs.AsWritten.{valid_runs_written}
 use Rattle.array_build.proofs.MaskedContents.{IsNext, run_of_nulls_under}
-use Rattle.array_build.proofs.MaskedParts.{bits_length}
 use Rattle.batch_build.specs.laws.Premises.{lists_fit}
 use Rattle.dictionary_codes.specs.laws.Repeated.{none_each}
 use Rattle.array_build.proofs.RunArrays.{has_values, masked_kind_slots}
@@ -222,7 +222,7 @@ run_lists_under width item mask at v from n run is sound below =
           below_each (bit mask) (is_valid a) at from n own (j - at) (omega (arith, low, high)) (ap (bit mask) here ∙ set));
       sizes =
           ap₂ (λ (k : ℕ) (r : SlotRun). list_sizes (masked (mask_bits mask at k) (run_lists width item r))) many is
-          ∙ lists_sizes width item a (mask_bits mask at n) from n (bits_length mask at n) own
+          ∙ lists_sizes width item a (mask_bits mask at n) from n (mask_counted mask at n) own
           ∙ ap (λ (k : ℕ). masked_sizes (width_of width) a from (mask_bits mask at k)) (sym same);
       items =
           ap₂ (λ (k : ℕ) (r : SlotRun). flat_map item_list (masked (mask_bits mask at k) (run_lists width item r))) many is

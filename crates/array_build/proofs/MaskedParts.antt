@@ -1,24 +1,12 @@
 -- Cells under a mask, part by part.
 use Rattle.std.specs.Prelude.{if◌then◌else◌}
-use Rattle.std.specs.List.{list_all, range_with_len}
-use Rattle.std.proofs.Common.{◌≡◌, ℕ, ◌+◌, Bool, true, false, List, [], ◌∷◌, ◌++◌, map, length, refl, ap, ap₂, ◌∙◌, arith}
+use Rattle.std.specs.List.{list_all}
+use Rattle.std.proofs.Common.{◌≡◌, ◌+◌, Bool, true, false, List, [], ◌∷◌, ◌++◌, map, length, refl, ap₂, arith}
 use Rattle.std.proofs.lemmas.Bool.{and_from, and_parts}
-use Rattle.std.proofs.lemmas.List.{map-append}
-use Rattle.std.proofs.lemmas.List.FromFn.{length-map-range_with_len}
 use Rattle.array_build.specs.inner.Masked.{are_below}
-use Rattle.dictionary_codes.specs.Masks.{joined, mask_bits, masked}
-use Rattle.bitmap.specs.Bits.{bit}
+use Rattle.dictionary_codes.specs.Masks.{joined, masked}
 use Rattle.cells.specs.Cell.{Cell, null, boolean, number, text, bytes, items, parts}
 use Rattle.cells.specs.Nulls.{is_there}
-use Rattle.facts.specs.laws.Lists.{range-append}
-
--- ---- the bits of a mask
-
-pub bits_append : (mask : List ℕ) (at m n : ℕ) → mask_bits mask at (m + n) ≡ mask_bits mask at m ++ mask_bits mask (at + m) n
-bits_append mask at m n = ap (map (bit mask)) (range-append at m n) ∙ map-append (bit mask) (range_with_len at m) (range_with_len (at + m) n)
-
-pub bits_length : (mask : List ℕ) (at n : ℕ) → length (mask_bits mask at n) ≡ n
-bits_length mask at n = length-map-range_with_len (bit mask) at n
 
 -- ---- bits one after another
 

@@ -108,14 +108,14 @@ count_cells kind (run ∷ runs) =
 
 -- ---- the arrays
 
+pub no_value : (b : Bool) → (if b then null else null) ≡ null
+no_value true = refl
+no_value false = refl
+
 null_cells : (a : Array) (from n : ℕ) → cells_from (cell_at (plain_column nulls None) a) from n ≡ replicate n null
 unfolding cell_at kind_cell
 null_cells a from zero = refl
 null_cells a from (suc n) = ap₂ (λ (x : Cell) (xs : List Cell). x ∷ xs) (no_value (is_valid a from)) (null_cells a (from + 1) n)
-  where
-    no_value : (b : Bool) → (if b then null else null) ≡ null
-    no_value true = refl
-    no_value false = refl
 
 run_nulls : (run : SlotRun) → run_cells (plain_column nulls None) run ≡ replicate (length (run_bits run)) null
 run_nulls (Slots v from n) = null_cells (view_array v) from n ∙ ap (λ (k : ℕ). replicate k null) (sym (length-map-range_with_len (is_valid (view_array v)) from n))

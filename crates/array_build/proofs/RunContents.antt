@@ -6,6 +6,7 @@ use Rattle.std.proofs.lemmas.Bool.{and_parts, leb-true, ltb-false, ne_eqb, not-t
 use Rattle.std.proofs.lemmas.List.{drop-drop, length-take-le}
 use Rattle.std.proofs.lemmas.List.Concat.{flat_map-append}
 use Rattle.std.proofs.Math.Seq.{take-add}
+use Rattle.array_build.proofs.RunValues.{plain_cell}
 use Rattle.byteorder.specs.Endian.{little_bytes}
 use Rattle.arrow_schema.specs.Column.{Kind, nulls, booleans, integers, dates, timestamps, texts, large_texts, binaries, large_binaries, fixed_binaries, lists, large_lists, fixed_lists, structs}
 use Rattle.array_build.proofs.AsWritten.{has_offsets, no_byte_below, null_slot}
@@ -28,9 +29,6 @@ use Rattle.columns.specs.declared.numbers.OffsetWidth.TheVariants.{Four, Eight}
 use Rattle.columns.specs.declared.view.ArrayView.{ArrayView}
 use Rattle.columns.specs.laws.Offsets.{offsets_ascend, spans_fit}
 use Rattle.columns.specs.Offsets.{contents_width}
-
-abbrev plain_cell : Kind → Array → ℕ → Cell
-plain_cell kind a i = cell_at (plain_column kind None) a i
 
 -- ---- offsets of a sound array
 
@@ -108,11 +106,6 @@ module _ (width : ℕ) (a : Array) (up : are_unordered width (length (contents_i
   span_none i =
       let none : number_at width (offsets_in a) (i + 0) - number_at width (offsets_in a) i ≡ 0 = (let e : i + 0 ≡ i = omega arith in rw e (omega arith)) in
       rw none refl
-
-  pub span_length : (i n : ℕ) → i + suc n ≤ slots_in a → length (span_contents width a i (suc n)) ≡ span_size width a i + length (span_contents width a (i + 1) n)
-  span_length i n within =
-      ap length (span_more i n within) ∙ length-append (contents_at width a i) (span_contents width a (i + 1) n)
-      ∙ ap (λ (k : ℕ). k + length (span_contents width a (i + 1) n)) (slot_size i (omega arith))
 
   module _ (g : ℕ → Cell) (p : ℕ → Bool) (is : (i : ℕ) → i < slots_in a → p i ≡ true → contents_of (g i) ≡ contents_at width a i) where
     pub spans : (from n : ℕ) → from + n ≤ slots_in a → list_all p (range_with_len from n) ≡ true → flat_map contents_of (cells_from g from n) ≡ span_contents width a from n

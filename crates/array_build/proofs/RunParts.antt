@@ -13,7 +13,7 @@ use Rattle.dictionary_codes.specs.laws.MaskedRuns.{cells_counted}
 use Rattle.dictionary_codes.specs.laws.Bitmaps.{bits_counted}
 use Rattle.batch_build.specs.laws.Premises.{parts_can_be_built}
 use Rattle.dictionary_codes.specs.laws.Repeated.{repeated_map, repeated_more}
-use Rattle.array_build.proofs.RunArrays.{masked_kind_slots}
+use Rattle.array_build.proofs.RunArrays.{masked_kind_slots, no_value}
 use Rattle.batch_build.specs.Batch.{PlainBatch, built_at, built_below, plain_column, with_arrays}
 use Rattle.dictionary_codes.specs.Masks.{IsMask, bitmap_bits, masked, masked_by, masked_cells, slots_mask, bitmap_of, run_bits, runs_bits}
 use Rattle.array_build.specs.inner.Masked.{masked_parts, masked_slots}
@@ -118,10 +118,6 @@ is_part j all left parts none was = λ c h.
     (sym end ∙ before.0, before.1.0)
 
 -- ---- nulls, whatever stands in their array
-
-no_value : (b : Bool) → (if b then null else null) ≡ null
-no_value true = refl
-no_value false = refl
 
 null_slots : (c : Column) (a : Array) (from n : ℕ) → kind_of_column c ≡ nulls → index_of_column c ≡ None → cells_from (cell_at c a) from n ≡ replicate n null
 unfolding cell_at kind_cell

@@ -2,11 +2,11 @@
 use Rattle.std.proofs.Common.{◌≡◌, ◌≤◌, ◌<◌, ◌+◌, ◌-◌, ◌*◌, ◌++◌, ◌∙◌, ℕ, zero, suc, List, false, ap, arith, length, length-append, length-drop, refl, subst, sym, take, drop}
 use Rattle.std.proofs.Math.Nat.{mul-le-mul_left}
 use Rattle.std.proofs.lemmas.List.{append_assoc, length-take-le, take_at}
-use Rattle.array_build.proofs.RunContents.{offset_room, span_none}
+use Rattle.array_build.proofs.RunContents.{span_none}
 use Rattle.array_build.specs.inner.Runs.{span_contents, span_of}
 use Rattle.columns.specs.Array.{Array, contents_in, offsets_in, slots_in}
 use Rattle.columns.specs.CellAt.{number_at}
-use Rattle.columns.specs.Tests.{are_few_offsets, are_unordered}
+use Rattle.columns.specs.Tests.{are_unordered}
 use Rattle.columns.specs.laws.Offsets.{offsets_ascend, spans_fit}
 
 -- one more after those that are written
@@ -33,12 +33,6 @@ pub ascend : (w end : ℕ) (a : Array) (from i : ℕ) → are_unordered w end a 
 ascend w end a from i up order within some =
     let e : from + (i - from) ≡ i = omega arith in
     subst (λ (n : ℕ). number_at w (offsets_in a) from ≤ number_at w (offsets_in a) n) e (offsets_ascend w end a from (i - from) up some (omega (arith, e)))
-
--- there is an offset at each slot's end
-pub last_room : (w : ℕ) (a : Array) (i : ℕ) → are_few_offsets w a ≡ false → 0 < i → i ≤ slots_in a → (i + 1) * w ≤ length (offsets_in a)
-last_room w a i few some within =
-    let e : i - 1 + 1 + 1 ≡ i + 1 = omega arith in
-    subst (λ (n : ℕ). n * w ≤ length (offsets_in a)) e (offset_room w a (i - 1) few (omega arith))
 
 -- the bytes of slots are those between two offsets
 pub span_bytes : (w : ℕ) (a : Array) (from n : ℕ) → are_unordered w (length (contents_in a)) a ≡ false → from + n ≤ slots_in a → length (span_contents w a from n) ≡ span_of w a from n

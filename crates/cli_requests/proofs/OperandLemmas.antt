@@ -97,9 +97,6 @@ abbrev Alike : Shape → Walk → List Text → Walk → List Text → Type 0
 Alike s w words v others =
     (walk_fault s [] w words ≡ walk_fault s [] v others) × ((fold (walked s.rules []) w words).held ≡ (fold (walked s.rules []) v others).held)
 
-alike_alone : (s : Shape) (w : Walk) (words : List Text) → Alike s w words w words
-alike_alone s w words = (refl, refl)
-
 alike_end : (s : Shape) (h : Held) (several : Bool) (p : ℕ) → Alike s (at h several p false) [] (at h several p true) []
 unfolding walk_fault
 alike_end s h several p = (refl, refl)

@@ -1,10 +1,11 @@
 -- What the words of a command line are, where they name a command of a store.
-use Rattle.std.proofs.Common.{◌≡◌, ◌∙◌, Bool, true, false, List, [], ◌∷◌, codes, refl, sym, true≢false}
+use Rattle.std.proofs.Common.{◌≡◌, ◌∙◌, Bool, true, false, ◌||◌, List, [], ◌∷◌, codes, refl, sym, true≢false}
 use Rattle.std.specs.Str.{bytes_eq}
+use Rattle.std.proofs.lemmas.Bool.{or_parts}
 use Rattle.std.proofs.lemmas.Slice.Eq.{bytes_eq-Decides}
 use Rattle.std.proofs.Math.Bool.{or-false}
 use Rattle.clap.specs.Words.{Text}
-use Rattle.cli_requests.specs.StoreWords.{is_of_store, is_store_word, changes_word, makes_word, reads_word, takes_input_word, reads_table_word, first_word}
+use Rattle.cli_requests.specs.StoreWords.{is_of_store, is_store_word, has_own_request, changes_word, makes_word, reads_word, takes_input_word, reads_table_word, first_word}
 
 pub first_of_store : (arguments : List Text) → is_of_store arguments ≡ true → is_store_word (first_word arguments) ≡ true
 unfolding is_of_store first_word
@@ -19,14 +20,20 @@ other_false other word false e differs = refl
 pub other_word : (other word : Text) → (word ≡ other → ⊥) → bytes_eq other word ≡ false
 other_word other word differs = other_false other word (bytes_eq other word) refl differs
 
--- a word that is none of the others
-pub last_word : (word : Text) → is_store_word word ≡ true → bytes_eq (codes "format") word ≡ false → bytes_eq (codes "import") word ≡ false → bytes_eq (codes "append") word ≡ false
-    → bytes_eq (codes "create") word ≡ false → bytes_eq (codes "rename") word ≡ false → bytes_eq (codes "drop") word ≡ false → bytes_eq (codes "schema") word ≡ false → bytes_eq (codes "export") word ≡ false
-    → bytes_eq (codes "query") word ≡ false → bytes_eq (codes "check") word ≡ false → bytes_eq (codes "info") word ≡ false → bytes_eq (codes "compact") word ≡ false → bytes_eq (codes "upgrade") word ≡ false → bytes_eq (codes "copy") word ≡ false → bytes_eq (codes "salvage") word ≡ false → bytes_eq (codes "replay") word ≡ false → codes "tables" ≡ word
-unfolding is_store_word changes_word makes_word reads_word takes_input_word reads_table_word
-last_word word is format import append create rename drop schema export query check info compact upgrade copy salvage replay =
-    (bytes_eq-Decides (codes "tables") word).0 (sym (rw (import, append, create, rename, drop, compact, upgrade, format, copy, replay, schema, export, salvage, query, check, info) (or-false (bytes_eq (codes "tables") word))) ∙ is)
+-- a word that has no request of its own
+pub no_own_request : (word : Text) → bytes_eq (codes "format") word ≡ false → bytes_eq (codes "copy") word ≡ false → bytes_eq (codes "salvage") word ≡ false
+    → bytes_eq (codes "replay") word ≡ false → has_own_request word ≡ false
+unfolding has_own_request makes_word
+no_own_request word format copy salvage replay = rw (format, copy, salvage, replay) refl
 
--- the words of a test may be turned round
-pub turned : (word other : Text) → bytes_eq word other ≡ false → bytes_eq other word ≡ false
-turned word other differs = other_word other word (λ same. true≢false (sym ((bytes_eq-Decides word other).1 same) ∙ differs))
+-- a word that is none of the others
+pub last_word : (word : Text) → is_store_word word ≡ true → has_own_request word ≡ false → bytes_eq (codes "import") word ≡ false → bytes_eq (codes "append") word ≡ false
+    → bytes_eq (codes "create") word ≡ false → bytes_eq (codes "rename") word ≡ false → bytes_eq (codes "drop") word ≡ false → bytes_eq (codes "schema") word ≡ false
+    → bytes_eq (codes "export") word ≡ false → bytes_eq (codes "query") word ≡ false → bytes_eq (codes "check") word ≡ false → bytes_eq (codes "info") word ≡ false
+    → bytes_eq (codes "compact") word ≡ false → bytes_eq (codes "upgrade") word ≡ false → codes "tables" ≡ word
+unfolding is_store_word has_own_request changes_word makes_word reads_word takes_input_word reads_table_word
+last_word word is own import append create rename drop schema export query check info compact upgrade =
+    let apart = or_parts (makes_word word) (bytes_eq (codes "salvage") word || bytes_eq (codes "replay") word) own in
+    let others = or_parts (bytes_eq (codes "salvage") word) (bytes_eq (codes "replay") word) apart.1 in
+    (bytes_eq-Decides (codes "tables") word).0
+    (sym (rw (import, append, create, rename, drop, compact, upgrade, apart.0, others.1, schema, export, others.0, query, check, info) (or-false (bytes_eq (codes "tables") word))) ∙ is)

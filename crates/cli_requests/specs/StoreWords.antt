@@ -28,6 +28,10 @@ reads_word word = reads_table_word word || (bytes_eq (codes "tables") word || (b
 unfoldable pub makes_word : Text → Bool
 makes_word word = bytes_eq (codes "format") word || bytes_eq (codes "copy") word
 
+-- commands that ask for something else than a command of an open store
+unfoldable pub has_own_request : Text → Bool
+has_own_request word = makes_word word || (bytes_eq (codes "salvage") word || bytes_eq (codes "replay") word)
+
 unfoldable pub is_store_word : Text → Bool
 is_store_word word = changes_word word || (makes_word word || (bytes_eq (codes "replay") word || reads_word word))
 

@@ -1,6 +1,5 @@
 // Parses a command line of a store with `clap`.
 ghost use Rattle.std.specs.Prelude.{◌≡◌, true, false, codes, map, drop, IfOk, IfErr, IsOk};
-ghost use Rattle.std.specs.Str.{bytes_eq};
 ghost use Rattle.clap.specs.Words.{first_value, found_of};
 ghost use Rattle.cli_requests.specs.declared.store_command_line.Mistake.TheVariants as mistakes;
 ghost use Rattle.cli_requests.specs.Apps.{value_of, HasQuery, HasForm, HasJson, HasTextForm, HasNames, HasFound, IsOfMemory};
@@ -8,7 +7,7 @@ ghost use Rattle.cli_requests.specs.Asked.{command_word, request_word};
 ghost use Rattle.cli_requests.specs.Numbers.{is_number, is_number_if_any};
 ghost use Rattle.cli_requests.specs.Operands.{Names};
 ghost use Rattle.cli_requests.specs.Right.{AreRightWords, IsFoundTakable, IsReadFrom};
-ghost use Rattle.cli_requests.specs.StoreWords.{is_store_word, is_of_store, first_word};
+ghost use Rattle.cli_requests.specs.StoreWords.{is_store_word, has_own_request, is_of_store, first_word};
 
 use crate::command_parameters::{cli_commands, own_command, with_query};
 use crate::found_values::{limit_of, sectors_of, version_in, word, words_of};
@@ -122,9 +121,7 @@ fn command_request<'a>(
     words: &ArgMatches<'a>,
 ) -> Result<StoreRequest<'a>, Mistake>
     requires { path.now ≡ value_of (found_of words.now) (codes "STORE") }
-    ensures word { is_store_word command.now ≡ true → bytes_eq (codes "format") command.now ≡ false → bytes_eq (codes "copy") command.now ≡ false
-        → bytes_eq (codes "salvage") command.now ≡ false → bytes_eq (codes "replay") command.now ≡ false
-        → IfOk result (λ request. request_word request ≡ command.now) }
+    ensures word { is_store_word command.now ≡ true → has_own_request command.now ≡ false → IfOk result (λ request. request_word request ≡ command.now) }
     ensures named { IfOk result (HasFound (found_of words.now)) }
     ensures taken { IsFoundTakable command.now (found_of words.now) → IfErr result IsOfMemory }
 {
@@ -309,9 +306,7 @@ fn command_of<'a>(
     command: &str,
     words: &ArgMatches<'a>,
 ) -> Result<StoreCommand<'a>, Mistake>
-    ensures word { is_store_word command.now ≡ true → bytes_eq (codes "format") command.now ≡ false → bytes_eq (codes "copy") command.now ≡ false
-        → bytes_eq (codes "salvage") command.now ≡ false → bytes_eq (codes "replay") command.now ≡ false
-        → IfOk result (λ asked. command_word asked ≡ command.now) }
+    ensures word { is_store_word command.now ≡ true → has_own_request command.now ≡ false → IfOk result (λ asked. command_word asked ≡ command.now) }
     ensures named { IfOk result (HasNames (found_of words.now)) }
     ensures taken { IsFoundTakable command.now (found_of words.now) → IfErr result IsOfMemory }
 {

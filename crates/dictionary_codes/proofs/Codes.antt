@@ -42,27 +42,8 @@ first_found p (x ∷ xs) i h = by (λ g. first_found p xs (i + 1) g) (p x) h
     by later true g = let e : i ≡ i + 0 = omega arith in ap Some e
     by later false g = let e : i + 1 + position_or_len p xs ≡ i + (1 + position_or_len p xs) = omega arith in later g ∙ ap Some e
 
-first_pushed : {X : Type 0} (p : X → Bool) (xs : List X) (y : X) (i : ℕ) → list_any p xs ≡ false → p y ≡ true → position_from p i (xs ++ y ∷ []) ≡ Some (i + position_or_len p xs)
-first_pushed p [] y i h own = let e : i ≡ i + 0 = omega arith in rw own (ap Some e)
-first_pushed p (x ∷ xs) y i h own = by (λ g. first_pushed p xs y (i + 1) g own) (p x) h
-  where
-    by : (list_any p xs ≡ false → position_from p (i + 1) (xs ++ y ∷ []) ≡ Some (i + 1 + position_or_len p xs)) → (b : Bool) → (b || list_any p xs) ≡ false
-        → (if b then Some i else position_from p (i + 1) (xs ++ y ∷ [])) ≡ Some (i + (if not b then 1 + position_or_len p xs else 0))
-    by later true g = cc
-    by later false g = let e : i + 1 + position_or_len p xs ≡ i + (1 + position_or_len p xs) = omega arith in later g ∙ ap Some e
-
 found_at : {X : Type 0} (p : X → Bool) (xs : List X) → list_any p xs ≡ true → position p xs ≡ Some (position_or_len p xs)
 found_at p xs h = let e : 0 + position_or_len p xs ≡ position_or_len p xs = omega arith in position_from-zero p xs ∙ first_found p xs 0 h ∙ ap Some e
-
--- the place of what is added unless it is there
-pub place_added : {X : Type 0} (p : X → Bool) (xs : List X) (y : X) → p y ≡ true → Some (position_or_len p xs) ≡ position p (if list_any p xs then xs else xs ++ y ∷ [])
-place_added p xs y own = by (list_any p xs) refl
-  where
-    by : (b : Bool) → list_any p xs ≡ b → Some (position_or_len p xs) ≡ position p (if b then xs else xs ++ y ∷ [])
-    by true h = sym (found_at p xs h)
-    by false h =
-        let e : 0 + position_or_len p xs ≡ position_or_len p xs = omega arith in
-        sym (position_from-zero p (xs ++ y ∷ []) ∙ first_pushed p xs y 0 h own ∙ ap Some e)
 
 kept : {X : Type 0} (p : X → Bool) (xs ys : List X) → list_any p xs ≡ true → position p (xs ++ ys) ≡ position p xs
 kept p xs ys h = position_from-zero p (xs ++ ys) ∙ first_kept p xs ys 0 h ∙ sym (position_from-zero p xs)

@@ -120,12 +120,6 @@ within_places [] n p is = cc
 within_places (x ∷ xs) zero p is = omega arith
 within_places (x ∷ xs) (suc n) p is = let lt = within_places xs n p is in omega (arith, lt)
 
-pub nothing_more : (places : List (Option ℕ)) (n : ℕ) → get_or (places ++ None ∷ []) n None ≡ get_or places n None
-nothing_more [] zero = refl
-nothing_more [] (suc n) = refl
-nothing_more (x ∷ xs) zero = refl
-nothing_more (x ∷ xs) (suc n) = nothing_more xs n
-
 pushed : (xs : List ℕ) (x y q : ℕ) → slice_get (xs ++ x ∷ []) q ≡ Some y → (slice_get xs q ≡ Some y) ⊎ ((q ≡ length xs) × (y ≡ x))
 pushed [] x y zero is = inr (refl, cc)
 pushed [] x y (suc q) is = cc
@@ -232,23 +226,6 @@ named_now seen places named c n h is free =
         cc
     by q y found false passes = refl
 
-other_number : (places : List (Option ℕ)) (n y q : ℕ) → get_or places n None ≡ None → get_or places y None ≡ Some q → y ≢ n
-other_number places n y q free there = λ e. let both : None ≡ Some q = sym free ∙ ap (λ (m : ℕ). get_or places m None) (sym e) ∙ there in cc
-
--- a number that gets the next place
-pub next_placed : (places : List (Option ℕ)) (named : List ℕ) (n len : ℕ) → len ≡ length named → n < length places → HavePlaces places named → get_or places n None ≡ None
-    → HavePlaces (set places n (Some len)) (named ++ n ∷ [])
-next_placed places named n len count within h free q y found = elim (pushed named n y q found) [
-  | inl before ↦
-      let there : get_or places y None ≡ Some q = h q y before in
-      get_or-set_other places n y (Some len) None (other_number places n y q free there) ∙ there
-  | inr last ↦
-      let own : get_or (set places n (Some len)) n None ≡ Some len = get_or-set_same places n (Some len) None within in
-      let e : y ≡ n = last.1 in
-      let p : len ≡ q = count ∙ sym last.0 in
-      ap (λ (m : ℕ). get_or (set places n (Some len)) m None) e ∙ own ∙ ap Some p
-]
-
 pub next_taken : (places : List (Option ℕ)) (named : List ℕ) (n len : ℕ) → len ≡ length named → n < length places → ArePlaces places named
     → ArePlaces (set places n (Some len)) (named ++ n ∷ [])
 next_taken places named n len count within h y q there = elim (cases_lt y n) [
@@ -279,14 +256,6 @@ named_within places named q h lt = placed_within places named q (get_or named q 
     at [] i within = absurd (omega (arith, within))
     at (x ∷ xs) zero within = refl
     at (x ∷ xs) (suc i) within = at xs i (omega (arith, within))
-
--- where none is named no number has a place
-pub no_places : (places : List (Option ℕ)) (n : ℕ) → ArePlaces places [] → get_or places n None ≡ None
-no_places places n h = by (get_or places n None) refl
-  where
-    by : (o : Option ℕ) → get_or places n None ≡ o → o ≡ None
-    by None is = refl
-    by (Some p) is = let never : None ≡ Some n = h n p is in cc
 
 -- the cells of what is named stay, where those of all numbers do
 pub cells_stay : (seen after : List Cell) (places : List (Option ℕ)) (named : List ℕ) → length places ≡ length seen → HavePlaces places named

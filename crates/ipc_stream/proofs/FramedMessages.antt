@@ -2,13 +2,13 @@
 use Rattle.std.specs.Prelude.{◌≢◌, Option, Some, None}
 use Rattle.std.proofs.Common.{◌≡◌, ℕ, zero, suc, ◌+◌, ◌<◌, Bool, List, [], ◌∷◌, ◌++◌, length, drop, Ok, Err, inl, inr, refl, sym, ap, ◌∙◌, arith}
 use Rattle.std.proofs.lemmas.List.{length-drop}
+use Rattle.ipc_stream.specs.laws.First.{bound, after_next}
 use Rattle.cells.specs.Cell.{PlainTable}
 use Rattle.ipc_message.specs.declared.fault.Fault.{Fault}
 use Rattle.ipc_message.specs.Framing.{Envelope, NextMessage, Frames, next_message, end_of_stream, message, taken, continuation_marker, no_size}
 use Rattle.ipc_stream.proofs.BadMessages.{refused, refused_before, some_known, refused_is_bad}
 use Rattle.ipc_stream.proofs.NextMessageLaw.{NextMessageLaw}
 use Rattle.ipc_stream.proofs.ReadMessages.{next_is_read, batches_keep}
-use Rattle.ipc_stream.proofs.TableMeant.{bound, after_next}
 use Rattle.ipc_stream.specs.FramedFault.{IsRefused, no_next_message, bad_message, nothing, only_end_of_stream, after_end_of_stream, FaultStands}
 use Rattle.ipc_stream.specs.FramedTable.{IsEnd, AreRead, StreamEncodes}
 use Rattle.ipc_stream.specs.Meaning.{Known, known_table, read_next, known_at_end, known_at_end_of_stream, read_from, meaning}

@@ -2,6 +2,7 @@
 use Rattle.std.proofs.Common.{◌≡◌, ℕ, Bool, List, [], ◌∷◌, Result, Ok, refl, sym, ap, ◌∙◌, arith}
 use Rattle.std.specs.Prelude.{Option, Some, None}
 use Rattle.std.proofs.lemmas.List.FromFn.{length-map-range_with_len, get_or-map-range_with_len, fill_by_all}
+use Rattle.ipc_stream.specs.laws.First.{bound}
 use Rattle.facts.specs.laws.Checks.{unless_passed}
 use Rattle.arrow_schema.specs.Column.{columns_of}
 use Rattle.cells.specs.Cell.{Cell}
@@ -19,7 +20,6 @@ use Rattle.ipc_stream.specs.Meaning.{Known, known_first, with_dictionary, with_r
 use Rattle.ipc_stream.specs.Progress.{known_batch}
 use Rattle.ipc_stream.proofs.Firsts.{reported_ok}
 use Rattle.ipc_stream.proofs.Messages.{schema_number, batch_number}
-use Rattle.ipc_stream.proofs.TableMeant.{bound}
 
 -- ---- the rows of a record batch
 

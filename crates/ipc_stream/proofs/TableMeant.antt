@@ -4,6 +4,7 @@ use Rattle.std.specs.Prelude.{Option, Some, None, if◌then◌else◌, nat_lt}
 use Rattle.std.proofs.lemmas.Bool.{and_parts}
 use Rattle.std.proofs.lemmas.List.Folds.{list_all-append}
 use Rattle.std.proofs.lemmas.List.Sums.{AllPass-from_list_all}
+use Rattle.ipc_stream.specs.laws.First.{bound, refused, after_next}
 use Rattle.facts.specs.Bytes.{AreBytes}
 use Rattle.facts.specs.laws.Checks.{unless_passed}
 use Rattle.arrow_schema.specs.Column.{PlainSchema, columns_of}
@@ -22,7 +23,7 @@ use Rattle.ipc_message.specs.Framing.{Envelope, NextMessage, end_of_stream, mess
 use Rattle.ipc_message.specs.Header.{header}
 use Rattle.ipc_message.specs.Raw.{RawSchema, RawHeader, schema_header, dictionary_header, batch_header}
 use Rattle.values.specs.Table.{IsTable}
-use Rattle.ipc_stream.specs.Meaning.{Known, known_first, known_table, with_dictionary, with_rows, order_fault, read_after, read_header, read_next, known_at_end, known_at_end_of_stream, by_next_message, read_from, meaning, ◌>>=◌, is_empty}
+use Rattle.ipc_stream.specs.Meaning.{Known, known_first, known_table, with_dictionary, with_rows, order_fault, read_after, read_header, read_next, known_at_end, known_at_end_of_stream, read_from, meaning, ◌>>=◌, is_empty}
 use Rattle.ipc_stream.specs.Progress.{known_batch}
 use Rattle.ipc_stream.proofs.Batches.{RowLaws, IsKnown, all_small, table_after}
 use Rattle.ipc_stream.proofs.Firsts.{reported_ok}
@@ -41,13 +42,6 @@ IsKnownBefore None = Unit {0}
 IsKnownBefore (Some k) = IsKnown k
 
 -- ---- results
-
-pub bound : {A B : Type 0} (r : Result A Fault) (f : A → Result B Fault) (y : B) → (r >>= f) ≡ Ok y → (x : A) × (r ≡ Ok x) × (f x ≡ Ok y)
-bound (Ok x) f y h = (x, refl, h)
-bound (Err e) f y h = absurd cc
-
-refused : {A : Type 0} (e : Fault) (y : A) → Err e ≡ Ok y → ⊥
-refused e y h = cc
 
 in_either : (b : Bool) (x y : Result Known Fault) (next : Known) → (x ≡ Ok next → IsKnown next) → (y ≡ Ok next → IsKnown next) → (if b then x else y) ≡ Ok next → IsKnown next
 in_either true x y next f g e = f e
@@ -117,10 +111,6 @@ end_of_stream_known : (before : Option Known) (rest : List ℕ) (next : Known) �
 end_of_stream_known before rest next is e =
     let found = bound (known_at_end before) (λ k. if is_empty rest then Ok k else Err AfterEnd) next e in
     in_either (is_empty rest) (Ok found.0) (Err AfterEnd) next (λ h. subst IsKnown (reported_ok None found.0 next h).1 (at_end_known before found.0 is found.1)) (λ h. absurd (refused AfterEnd next h)) found.2
-
-abbrev pub after_next : (ℕ → Bool) → (steps : ℕ) → Option Known → List ℕ → NextMessage → Result Known Fault
-after_next supported steps before bytes f =
-    by_next_message f (known_at_end_of_stream before (drop 8 bytes)) (λ m. read_next supported before m >>= λ k. read_from supported steps (Some k) (drop (taken f) bytes))
 
 step_known : StreamLaws → (supported : ℕ → Bool) (steps : ℕ) (before : Option Known) (bytes : List ℕ) (f : NextMessage) (next : Known) → next_message bytes ≡ Ok f → IsKnownBefore before
     → are_bytes bytes ≡ true → ((k : Known) → IsKnown k → read_from supported steps (Some k) (drop (taken f) bytes) ≡ Ok next → IsKnown next)

@@ -29,10 +29,6 @@ Body = PlainSchema × List Segment
 abbrev pub behind : PlainCatalogue → Found → Found
 behind front rest = then_read rest (λ others. Ok (front ++ others))
 
-pub none_behind : (rest : Found) → behind [] rest ≡ rest
-none_behind (Ok others) = refl
-none_behind (Err cause) = refl
-
 one_behind : (front : PlainCatalogue) (e : PlainEntry) (rest : Found) → behind front (then_read rest (λ others. Ok (e ∷ others))) ≡ behind (front ++ e ∷ []) rest
 one_behind front e (Ok others) = ap Ok (sym (append_assoc front (e ∷ []) others))
 one_behind front e (Err cause) = refl

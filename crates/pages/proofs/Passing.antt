@@ -1,10 +1,10 @@
 -- Tables of a catalogue that are gone over one after another.
 use Rattle.std.proofs.Common.{◌≡◌, ◌≤◌, ◌<◌, ◌+◌, ◌++◌, ℕ, zero, suc, true, List, [], ◌∷◌, length, take, map, get_or, sym, ap, subst, ◌∙◌, arith}
-use Rattle.std.specs.List.{list_all, sum_by, flat_map}
+use Rattle.std.specs.List.{list_all, sum_by}
 use Rattle.std.proofs.lemmas.Bool.{and_parts, leb-true}
 use Rattle.std.proofs.lemmas.List.{map-append, take-append-drop}
 use Rattle.std.proofs.lemmas.List.Sums.{sum_by-cons, sum_by-append}
-use Rattle.facts.specs.laws.Lists.{take-item, flat_map-push}
+use Rattle.facts.specs.laws.Lists.{take-item}
 use Rattle.std.proofs.Common.{drop}
 use Rattle.catalogue.specs.declared.entry.TableEntry.{TableEntry}
 use Rattle.catalogue.specs.declared.limits.TheConstants.{MAX_NAME_BYTES}
@@ -48,6 +48,3 @@ pub part_sum : (f : PlainEntry → ℕ) (es : List TableEntry) (i : ℕ) → sum
 part_sum f es i =
     let whole = ap (λ (xs : List TableEntry). sum_by f (map plain_entry xs)) (sym (take-append-drop i es)) ∙ ap (sum_by f) (map-append plain_entry (take i es) (drop i es)) in
     omega (arith, whole, sum_by-append f (map plain_entry (take i es)) (map plain_entry (drop i es)))
-
-pub next_all : {A : Type 0} (f : PlainEntry → List A) (es : List TableEntry) (i : ℕ) (x : TableEntry) → i < length es → x ≡ get_or es i x → flat_map f (map plain_entry (take (i + 1) es)) ≡ flat_map f (map plain_entry (take i es)) ++ f (plain_entry x)
-next_all f es i x lt is = ap (flat_map f) (next_item es i x lt is) ∙ flat_map-push f (map plain_entry (take i es)) (plain_entry x)

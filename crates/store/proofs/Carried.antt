@@ -2,12 +2,12 @@
 use Rattle.std.specs.Prelude.{None, ◌≡◌, ◌≢◌, ◌%◌, ℕ, true, List, [], ◌∷◌, ◌++◌, Ok, Err, IsOk, is_ok, refl}
 use Rattle.std.proofs.Common.{inl, inr, ⊎_elim, sym, ap, ◌∙◌, subst, arith}
 use Rattle.std.proofs.lemmas.Nat.{mod_below}
-use Rattle.sector_dev.specs.Disk.{Disk, Sector, Story, Image, now, synced_image}
+use Rattle.sector_dev.specs.Disk.{Disk, Story, Image, now, synced_image}
 use Rattle.sector_dev.specs.declared.device.SectorDevice.{Ghosts}
 use Rattle.sector_dev.specs.Time.{Grows, LeavesOnly}
 use Rattle.sector_dev.specs.laws.Time.{weaken, stays}
 use Rattle.segments.specs.declared.run.Run.{Run}
-use Rattle.segments.specs.Pieces.{PlainPiece, plain_pieces}
+use Rattle.segments.specs.Pieces.{plain_pieces}
 use Rattle.segments.specs.Runs.{OutOf}
 use Rattle.segments.specs.Usages.{Space, IsUsedIn}
 use Rattle.segments.specs.Writing.{runs_of, HoldsEach}
@@ -129,10 +129,6 @@ module _ (old new : Space) (k : Commit) (was : PlainCatalogue) (change : PlainCh
       → IsPublishing d plan.commit (plain_pieces plan.pieces.items) (StandsAs stored_reading size k was) (StandsAs stored_reading size plan.commit (catalogue_of plan.catalogue.list)) x
       → IsCarrying size (IsUsedIn old.entries) k was d change x
   carrying can x is = record { touches = inr (taking x is.touches); begun = is.begun; leaves = old_or_carried can x is }
-
--- after it
-pub synced_outside : (k' : Commit) (pieces : List PlainPiece) (d after : Disk) → ((n : ℕ) → IsOutside k' pieces n → after.at n ≡ d.at n) → (n : ℕ) → IsOutside k' pieces n → synced_image after n ≡ (d.at n).synced
-synced_outside k' pieces d after same n out = ap (λ (s : Sector). s.synced) (same n out)
 
 -- what stands on the disk is what the store has then
 pub stands_then : (size size' : ℕ) (image : Image) (k k' : Commit) (list list' : StoredCatalogue) → size' ≡ size → k' ≡ k → list' ≡ list → StandsAs stored_reading size k (catalogue_of list.list) image

@@ -1,6 +1,6 @@
 -- Runs in use share no sector, so all of them together fit on their device; and the largest free run.
 use Rattle.std.specs.Prelude.{◌||◌, nat_le, min, sum_by}
-use Rattle.std.proofs.Common.{◌≡◌, inl, inr, ⊎_elim, ◌≤◌, ◌<◌, ◌+◌, ◌-◌, ℕ, zero, suc, true, List, [], ◌∷◌, Some, None, refl, ap, arith}
+use Rattle.std.proofs.Common.{◌≡◌, inl, inr, ⊎_elim, ◌≤◌, ◌<◌, ◌+◌, ◌-◌, ℕ, zero, suc, true, List, [], ◌∷◌, None, refl, ap, arith}
 use Rattle.std.proofs.lemmas.Bool.{and_parts, and_from, cases_lt, leb-true}
 use Rattle.std.proofs.lemmas.List.Sums.{sum_by-cons}
 use Rattle.segments.specs.declared.run.Run.{Run}
@@ -8,7 +8,6 @@ use Rattle.segments.specs.Runs.{IsFree, IsLowest}
 use Rattle.commit.specs.Standing.{is_size, is_on_device, all_on_device, is_apart, are_apart, runs_fault}
 use Rattle.commit.specs.laws.Apart.{pair_apart, on_device_is}
 use Rattle.commit.specs.laws.Frame.{fault_none}
-use Rattle.store.specs.Summary.{IsLargest}
 
 -- ---- the sectors of runs that stand before one sector
 
@@ -111,22 +110,6 @@ pub record Between (size : ℕ) (used : Run → Type 0) (some most : ℕ) : Type
   pub reached : 1 ≤ some → (run : Run) × (run.count ≡ some) × IsFree size used run
   pub bounded : (run : Run) → IsFree size used run → run.count ≤ most
 
-pub between_first : (size : ℕ) (used : Run → Type 0) → Between size used 0 size
-between_first size used = record {
-  order = omega arith;
-  high = omega arith;
-  reached = λ some. absurd (omega (arith, some));
-  bounded = λ run free. omega (arith, free.within);
-}
-
-pub between_found : (size : ℕ) (used : Run → Type 0) (some most count : ℕ) (run : Run) → Between size used some most → some ≤ count → count ≤ most → IsLowest size used count (Some run) → Between size used count most
-between_found size used some most count run between more le lowest = record {
-  order = le;
-  high = between.high;
-  reached = λ _. (run, lowest.0, lowest.1);
-  bounded = between.bounded;
-}
-
 pub between_none : (size : ℕ) (used : Run → Type 0) (some most count less : ℕ) → Between size used some most → some < count → count ≤ most → count ≡ less + 1 → IsLowest size used count None → Between size used some less
 between_none size used some most count less between more le is none = record {
   order = omega (arith, more, is);
@@ -136,10 +119,4 @@ between_none size used some most count less between more le is none = record {
       (λ (lt : run.count < count). omega (arith, lt, is))
       (λ (ge : count ≤ run.count). absurd (none (record { start = run.start; count = count }) refl (shorter size used run count ge free)))
       (cases_lt run.count count);
-}
-
-pub between_last : (size : ℕ) (used : Run → Type 0) (some most : ℕ) → Between size used some most → most ≤ some → IsLargest size used some
-between_last size used some most between over = record {
-  none_larger = λ run free. omega (arith, between.bounded run free, over);
-  some = between.reached;
 }

@@ -115,9 +115,6 @@ kept_fit size text used done map count sized placed fit so =
     let parts = sum_by-append (λ (r : Run). r.count) (text ∷ used) so.runs in
     (omega (arith, all, parts, sum_by-cons (λ (r : Run). r.count) text used, so.counts), leb-true size 4194304 limits.1)
 
-pub counts_kept : (size : ℕ) (used kept : List Run) (map : Space) (count : ℕ) → KeptSoFar size used kept map count → CountsKept used kept count
-counts_kept size used kept map count so = record { runs = so.runs; each = so.each; apart = so.entered.apart; counts = so.counts }
-
 -- where none is kept
 pub counts_none : (size : ℕ) (text : Run) (used kept : List Run) → runs_fault size text used ≡ None → (length kept == 0) ≡ true → CountsKept (text ∷ used) kept 0
 counts_none size text used (run ∷ kept) fit none = let same = eqb-true (length (run ∷ kept)) 0 none in absurd (omega (arith, same))

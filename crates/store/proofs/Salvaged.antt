@@ -21,7 +21,7 @@ use Rattle.store_runs.specs.Held.{segment_rows}
 use Rattle.store_changes.specs.laws.Digests.{read_rows, damaged_lacks}
 use Rattle.store.specs.Salvaging.{AreFound, rows_found, left_out, Salvages, SalvagesAt, BreaksOff, RefusesSalvage}
 use Rattle.store_changes.specs.ReadSegment.{FailsReading}
-use Rattle.store.specs.inner.Salvaging.{is_of_segment, FailsWriting, FindsMessages, messages_found, SalvagesOne, SalvagesEach}
+use Rattle.store.specs.inner.Salvaging.{is_of_segment, FindsMessages, messages_found, SalvagesOne, SalvagesEach}
 
 -- ---- one segment
 
@@ -59,11 +59,6 @@ module _ (tells : Bool) (image : Image) (s : PlainSchema) (g : Segment) where
         others = sym (append-nil left);
       }
 
-  -- one that does not is counted
-  pub salvaged_none : (place : ℕ) (written : Option (List ℕ)) (left left' : List (ℕ × ℕ)) → FindsMessages tells image s g None → left' ≡ left ++ (place, g.rows) ∷ []
-      → SalvagesOne tells image s place g written written left left'
-  salvaged_none place written left left' finds is = record { found = None; shown = finds; messages = Appends-nil written; others = is }
-
 -- a refusal of a segment is no failure of the device
 pub of_segment_quiet : (r : Refusal) → is_of_segment r ≡ true → is_failure r ≡ false
 of_segment_quiet (refusals.SegmentUnread place) is = refl
@@ -80,32 +75,8 @@ reads_all_the_same size story failed tells r a b quiet reads = record {
 
 -- ---- why it is broken off
 
-pub breaks_reading : (r : Refusal) → FailsReading r → BreaksOff r
-breaks_reading refusals.Device fails = tt
-breaks_reading refusals.OutOfMemory fails = tt
-breaks_reading _ fails = absurd fails
-
 pub breaks_writing : (r : Refusal) → r ≡ refusals.Write → BreaksOff r
 breaks_writing r is = subst BreaksOff (sym is) tt
-
-pub breaks_output : (r : Refusal) → FailsWriting r → BreaksOff r
-breaks_output refusals.OutOfMemory fails = tt
-breaks_output refusals.Write fails = tt
-breaks_output _ fails = absurd fails
-
--- what is written makes no call of the device
-pub output_quiet : (r : Refusal) → FailsWriting r → is_failure r ≡ false
-output_quiet refusals.OutOfMemory fails = refl
-output_quiet refusals.Write fails = refl
-output_quiet _ fails = absurd fails
-
-pub reads_refused : {D : Type 0} (size : D → ℕ) (story : D → Story) (failed : D → ℕ) (tells : Bool) (r : Refusal) (a b : D) → is_failure r ≡ false → OnlyReadsDevice size story failed tells done a b
-    → OnlyReadsDevice size story failed tells (refused r) a b
-reads_refused size story failed tells r a b quiet reads = record {
-  same = reads.same;
-  moments = reads.moments;
-  count = reads.count ∙ sym (ap (λ (x : Bool). if x then min (failed a + 1) (2 ^ 64 - 1) else failed a) quiet);
-}
 
 -- ---- some segments, and one more
 

@@ -100,10 +100,6 @@ pub stays_more : (tells : Bool) (image : Image) (e : PlainEntry) (count : ℕ) �
 stays_more tells image e count stay next place lt within =
     ⊎_elim (λ (less : place < count). stay place less within) (λ (is : place ≡ count). subst (StaysTwo tells image e) (sym is) next) (below_or_at place count lt)
 
--- after the last pair there is none
-pub stays_all : (tells : Bool) (image : Image) (e : PlainEntry) (count : ℕ) → length e.segments ≤ count + 1 → FirstStay tells image e count → FirstStay tells image e (length e.segments)
-stays_all tells image e count all stay place lt within = stay place (omega (arith, all, within)) within
-
 pub all_more : (tells : Bool) (image : Image) (c : PlainCatalogue) (count : ℕ) (x : PlainEntry) → slice_get c count ≡ Some x → AllStay tells image c count → FirstStay tells image x (length x.segments) → AllStay tells image c (count + 1)
 all_more tells image c count x at stay next number e lt found =
     ⊎_elim (λ (less : number < count). stay number e less found)
@@ -137,63 +133,6 @@ later_own one other = by_test (nat_lt one.segment.place.run.start other.segment.
     by_test : (b : Bool) → nat_lt one.segment.place.run.start other.segment.place.run.start ≡ b → one.segment.place.run.start ≤ (if b then other else one).segment.place.run.start
     by_test true is = let less = ltb-true one.segment.place.run.start other.segment.place.run.start is in omega (arith, less)
     by_test false is = omega arith
-
--- one segment more of a table
-pub last_more : (number : ℕ) (segments : List Segment) (count : ℕ) (last : Option Last) (other : Last) → other.table ≡ number → other.place ≡ count → slice_get segments count ≡ Some other.segment → IsLastIn number segments count last
-    → IsLastIn number segments (count + 1) (Some (later_of last other))
-last_more number segments count last other table place at so_far = (stands.0, stands.1, most last so_far)
-  where
-    IsHere : Last → Type 0
-    IsHere l = (l.table ≡ number) × (slice_get segments l.place ≡ Some l.segment)
-
-    own : (l : Option Last) → IsLastIn number segments count l → (one : Last) → l ≡ Some one → IsHere one
-    own None is one e = absurd (cc e)
-    own (Some x) is one e = let same : x ≡ one = cc e in subst IsHere same (is.0, is.1)
-
-    stands : IsHere (later_of last other)
-    stands = later_both last other IsHere (own last so_far) (table, ap (slice_get segments) place ∙ at)
-
-    most : (l : Option Last) → IsLastIn number segments count l → (p : ℕ) (g : Segment) → p < count + 1 → slice_get segments p ≡ Some g → g.place.run.start ≤ (later_of l other).segment.place.run.start
-    most l is p g lt found = ⊎_elim (λ (less : p < count). before l is p g less found) (λ (here : p ≡ count). at_last l p g here found) (below_or_at p count lt)
-      where
-        at_last : (l : Option Last) (p : ℕ) (g : Segment) → p ≡ count → slice_get segments p ≡ Some g → g.place.run.start ≤ (later_of l other).segment.place.run.start
-        at_last l p g here found =
-            let both : Some g ≡ Some other.segment = sym found ∙ ap (slice_get segments) here ∙ at in
-            let same : g ≡ other.segment = cc both in
-            subst (λ (x : Segment). x.place.run.start ≤ (later_of l other).segment.place.run.start) (sym same) (later_than l other)
-
-        before : (l : Option Last) → IsLastIn number segments count l → (p : ℕ) (g : Segment) → p < count → slice_get segments p ≡ Some g → g.place.run.start ≤ (later_of l other).segment.place.run.start
-        before None none p g less found = absurd (omega (arith, none, less))
-        before (Some one) is p g less found = let low = is.2 p g less found in omega (arith, low, later_own one other)
-
--- the tables so far, and one more
-pub none_more : (c : PlainCatalogue) (number : ℕ) (e : PlainEntry) (last : Option Last) → slice_get c number ≡ Some e → IsLastIn number e.segments (length e.segments) None → IsLastOf c number last → IsLastOf c (number + 1) last
-none_more c number e None at none so_far = each
-  where
-    empty : (ss : List Segment) → length ss ≡ 0 → ss ≡ []
-    empty [] is = refl
-    empty (s ∷ ss) is = absurd (omega (arith, is))
-
-    each : (other : ℕ) (x : PlainEntry) → other < number + 1 → slice_get c other ≡ Some x → x.segments ≡ []
-    each other x lt found = ⊎_elim (λ (less : other < number). so_far other x less found) here (below_or_at other number lt)
-      where
-        here : other ≡ number → x.segments ≡ []
-        here is =
-            let both : Some e ≡ Some x = sym at ∙ ap (slice_get c) (sym is) ∙ found in
-            let same : e ≡ x = cc both in
-            subst (λ (y : PlainEntry). y.segments ≡ []) same (empty e.segments none)
-none_more c number e (Some last) at none so_far = (so_far.0, most)
-  where
-    most : (other : ℕ) (x : PlainEntry) (p : ℕ) (g : Segment) → other < number + 1 → slice_get c other ≡ Some x → slice_get x.segments p ≡ Some g → g.place.run.start ≤ last.segment.place.run.start
-    most other x p g lt found there = ⊎_elim (λ (less : other < number). so_far.1 other x p g less found there) here (below_or_at other number lt)
-      where
-        here : other ≡ number → g.place.run.start ≤ last.segment.place.run.start
-        here is =
-            let both : Some e ≡ Some x = sym at ∙ ap (slice_get c) (sym is) ∙ found in
-            let same : e ≡ x = cc both in
-            let inside = slice_get_within x.segments p g there in
-            let long : length x.segments ≡ 0 = subst (λ (y : PlainEntry). length y.segments ≡ 0) same none in
-            absurd (omega (arith, inside, long))
 
 pub some_more : (c : PlainCatalogue) (number : ℕ) (e : PlainEntry) (last : Option Last) (other : Last) → slice_get c number ≡ Some e → IsLastIn number e.segments (length e.segments) (Some other) → IsLastOf c number last
     → IsLastOf c (number + 1) (Some (later_of last other))

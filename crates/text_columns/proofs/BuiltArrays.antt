@@ -4,8 +4,9 @@ use Rattle.std.specs.Global.{Vec}
 use Rattle.std.specs.List.{flat_map, list_all}
 use Rattle.std.proofs.Common.{◌≡◌, ℕ, suc, ◌/◌, Bool, true, false, List, [], ◌∷◌, length, map, refl, arith, ap, sym, subst, ◌∙◌}
 use Rattle.std.proofs.lemmas.List.{length-map}
+use Rattle.arrow_schema.specs.laws.Columns.{columns_list}
 use Rattle.bitmap.specs.Bits.{packed}
-use Rattle.arrow_schema.specs.Column.{Index, Kind, Column, Columns, Pair, booleans, integers, dates, timestamps, nulls, texts, large_texts, binaries, large_binaries, fixed_binaries, lists, large_lists, fixed_lists, structs, column, columns_of}
+use Rattle.arrow_schema.specs.Column.{Index, Kind, Column, Columns, Pair, booleans, integers, dates, timestamps, nulls, texts, large_texts, binaries, large_binaries, fixed_binaries, lists, large_lists, fixed_lists, structs, column, columns_of, list_of}
 use Rattle.cells.specs.Cell.{Cell, null}
 use Rattle.cells.specs.Dictionary.{entries_of, item_list, part_list}
 use Rattle.cells.specs.Fit.{fits_kind}
@@ -21,10 +22,10 @@ use Rattle.text_columns.specs.declared.builder.Names.{Names}
 use Rattle.text_columns.specs.declared.builder.ListOffsets.{ListOffsets}
 use Rattle.text_columns.specs.declared.builder.Slots.{Slots}
 use Rattle.text_columns.specs.declared.flat.FlatBuilder.{FlatBuilder}
-use Rattle.text_columns.specs.inner.Kept.{Holds, HoldsCells, IsCoded, IsOf, Keeps, KeepsAt, KeepsBelow, KeepsSlots, Takes, column_at, column_list, key_list, key_of}
+use Rattle.text_columns.specs.inner.Kept.{Holds, HoldsCells, IsCoded, IsOf, Keeps, KeepsAt, KeepsBelow, KeepsSlots, Takes, column_at, key_list, key_of}
 use Rattle.text_columns.specs.inner.Placed.{AreBuilt, IsBuilt, array_of, column_layout, entries_array, has_bitmap, has_validity, layout_of, validity_in, validity_of_bits}
 use Rattle.text_columns.proofs.Coded.{all_there, own_flat}
-use Rattle.text_columns.proofs.StructFields.{fields_kept, held_by, list_columns, no_struct_fixed_list, no_struct_list}
+use Rattle.text_columns.proofs.StructFields.{fields_kept, held_by, no_struct_fixed_list, no_struct_list}
 
 there_all : (cells : List Cell) → list_all (λ b. b) (map is_there cells) ≡ list_all is_there cells
 there_all [] = refl
@@ -177,7 +178,7 @@ structs_built nullable dictionary (structs columns) cells slots names fields arr
     let own = held_by columns cells slots names fields h in
     let all = fields_kept columns cells (key_list names.names.keys) fields.items own in
     with_is cells slots.valid.items (struct_layout (arrays_of arrays)) _ k.valid
-    (ap struct_layout (all_built (column_list columns) (map part_list cells) fields.items arrays all.count are.count all.each are.each ∙ ap (λ (cs : Columns). built_parts cs (map part_list cells)) (list_columns columns)))
+    (ap struct_layout (all_built (list_of columns) (map part_list cells) fields.items arrays all.count are.count all.each are.each ∙ ap (λ (cs : Columns). built_parts cs (map part_list cells)) (columns_list columns)))
 structs_built nullable dictionary _ cells slots names fields arrays k h are = absurd h
 
 pub struct_column : (slots : Slots) (names : Names) (fields : Vec ColumnBuilder) (arrays : List Array) → AreBuilt fields.items arrays

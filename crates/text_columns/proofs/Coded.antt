@@ -11,6 +11,8 @@ use Rattle.std.proofs.lemmas.Iterator.Adapters.{position_from-zero}
 use Rattle.std.proofs.lemmas.List.{length-map, map-append}
 use Rattle.std.proofs.lemmas.List.Folds.{list_all-append}
 use Rattle.std.proofs.lemmas.Slice.Eq.{bytes_eq-Decides}
+use Rattle.facts.specs.laws.Lists.{nowhere_from}
+use Rattle.arrow_schema.specs.laws.Widths.{is_bit_width-bits_of}
 use Rattle.byteorder.specs.Endian.{little_bytes, little_number}
 use Rattle.byteorder.specs.Numbers.{little_number-reads_back}
 use Rattle.hex.specs.Hex.{decode_of}
@@ -19,7 +21,6 @@ use Rattle.arrow_schema.specs.Column.{DateKind, days, date_milliseconds, Index, 
 use Rattle.arrow_schema.specs.Limits.{is_nested}
 use Rattle.arrow_schema.specs.View.{bits_of}
 use Rattle.arrow_schema.specs.declared.types.BitWidth.{BitWidth}
-use Rattle.arrow_schema.specs.declared.types.BitWidth.TheVariants.{Eight, Sixteen, ThirtyTwo, SixtyFour}
 use Rattle.arrow_schema.specs.declared.types.IntegerType.{IntegerType}
 use Rattle.cells.specs.Cell.{Cell, null, boolean, number, text, bytes, items, parts}
 use Rattle.cells.specs.Dictionary.{entries_of, entry_in, entry_limit, is_entry, is_within, with_entries, with_entry, with_option}
@@ -65,14 +66,8 @@ abbrev HasWidth : Kind → Type 0
 HasWidth (integers bits signed) = is_bit_width bits ≡ true
 HasWidth _ = Unit {0}
 
-bit_width : (w : BitWidth) → is_bit_width (bits_of w) ≡ true
-bit_width Eight = refl
-bit_width Sixteen = refl
-bit_width ThirtyTwo = refl
-bit_width SixtyFour = refl
-
 own_width : (kind : Kind) (v : ColumnValues) → IsOf kind v → HasWidth kind
-own_width (integers bits signed) (Integers i own) h = rw (← h.0) (bit_width i.width)
+own_width (integers bits signed) (Integers i own) h = rw (← h.0) (is_bit_width-bits_of i.width)
 own_width (integers bits signed) Nulls h = absurd h
 own_width (integers bits signed) (Booleans own) h = absurd h
 own_width (integers bits signed) (Texts width offsets contents) h = absurd h
@@ -271,12 +266,8 @@ last_from {X = X} p (y ∷ xs) x i h k = by (p y) h (λ l. last_from p xs x (i +
 last_at : {X : Type 0} (p : X → Bool) (xs : List X) (x : X) → list_any p xs ≡ false → p x ≡ true → position p (xs ++ x ∷ []) ≡ Some (length xs)
 last_at p xs x h k = let same : 0 + length xs ≡ length xs = omega arith in position_from-zero p (xs ++ x ∷ []) ∙ last_from p xs x 0 h k ∙ ap Some same
 
-never_from : {X : Type 0} (p : X → Bool) (xs : List X) (i : ℕ) → ((x : X) → p x ≡ false) → position_from p i xs ≡ None
-never_from p [] i h = refl
-never_from p (x ∷ xs) i h = rw (h x) (never_from p xs (i + 1) h)
-
 never_at : {X : Type 0} (p : X → Bool) (xs : List X) → ((x : X) → p x ≡ false) → position p xs ≡ None
-never_at p xs h = position_from-zero p xs ∙ never_from p xs 0 h
+never_at p xs h = position_from-zero p xs ∙ nowhere_from p xs 0 h
 
 keys_from : (kind : Kind) (c : Cell) (es : List Cell) (i : ℕ) → is_nested kind ≡ false → HasWidth kind → fits_kind kind c ≡ true → list_all (fits_kind kind) es ≡ true
     → position_from (is_entry c) i es ≡ position_from (bytes_eq (key_of kind c)) i (map (key_of kind) es)
@@ -605,7 +596,3 @@ mapped_from f p (x ∷ xs) i = ap (λ (r : Option ℕ). if p (f x) then Some i e
 pub key_place : (key : List ℕ) (keys : List (Vec ℕ)) → position (λ k. bytes_eq key k.items) keys ≡ position (bytes_eq key) (key_list keys)
 key_place key keys =
     position_from-zero (λ k. bytes_eq key k.items) keys ∙ mapped_from (λ (k : Vec ℕ). k.items) (bytes_eq key) keys 0 ∙ sym (position_from-zero (bytes_eq key) (key_list keys))
-
-pub none_there : {X : Type 0} (xs : List X) → length xs ≡ 0 → xs ≡ []
-none_there [] h = refl
-none_there (x ∷ xs) h = absurd (omega arith)

@@ -1,10 +1,10 @@
 -- The dictionaries of columns have room for the entries of their rows, and for those of any row.
-use Rattle.std.specs.Prelude.{Option, Some, None, slice_get, get_or, map, option_to_list, ◌⊎◌, ◌||◌}
+use Rattle.std.specs.Prelude.{Option, Some, None, slice_get, get_or, map, option_to_list, ◌⊎◌}
 use Rattle.std.specs.List.{flat_map, list_all}
 use Rattle.std.proofs.Common.{◌≡◌, ℕ, zero, suc, ◌+◌, ◌≤◌, Bool, true, false, List, [], ◌∷◌, ◌++◌, length, refl, arith, ap, sym, ◌∙◌, inl, inr, append-nil}
-use Rattle.std.proofs.lemmas.Bool.{and_from, le-leb}
+use Rattle.std.proofs.lemmas.Bool.{and_from, le-leb, or_from}
 use Rattle.std.proofs.lemmas.List.Folds.{list_all-append}
-use Rattle.arrow_schema.specs.Column.{Index, Kind, Column, nulls, booleans, integers, dates, timestamps, texts, large_texts, binaries, large_binaries, fixed_binaries, lists, large_lists, fixed_lists, structs, column, Columns, no_column, and_column, columns_of, PlainSchema}
+use Rattle.arrow_schema.specs.Column.{Index, Kind, Column, nulls, booleans, integers, dates, timestamps, texts, large_texts, binaries, large_binaries, fixed_binaries, lists, large_lists, fixed_lists, structs, column, Columns, no_column, and_column, columns_of, PlainSchema, list_of}
 use Rattle.arrow_schema.specs.Limits.{is_nested}
 use Rattle.arrow_schema.specs.Parts.{index_of_column}
 use Rattle.arrow_schema.specs.View.{bits_of}
@@ -18,7 +18,7 @@ use Rattle.text_columns.specs.declared.builder.ColumnBuilder.{ColumnBuilder, Fla
 use Rattle.columns.specs.Built.{fixed_items}
 use Rattle.text_columns.specs.declared.coding.Coding.{Coding}
 use Rattle.text_columns.specs.declared.column_values.ColumnValues.{ColumnValues}
-use Rattle.text_columns.specs.inner.Kept.{AreUnlimited, HoldsCells, KeepAll, Keeps, KeepsBelow, column_at, column_list}
+use Rattle.text_columns.specs.inner.Kept.{AreUnlimited, HoldsCells, KeepAll, Keeps, KeepsBelow, column_at}
 use Rattle.text_columns.proofs.StructFields.{fields_in, fields_kept, there_too}
 use Rattle.text_columns.proofs.Coded.{own_flat, own_kind}
 
@@ -29,10 +29,6 @@ few_in : (nullable : Bool) (index : Index) (kind : Kind) (cells : List Cell) →
 few_in nullable index kind cells none few = rw none (rw few refl)
 
 -- ---- columns with parts: no row fills a dictionary below them
-
-both_false : (a b : Bool) → a ≡ false → b ≡ false → (a || b) ≡ false
-both_false true b e h = e
-both_false false b e h = h
 
 flat_unlimited : (kind : Kind) → is_nested kind ≡ false → is_kind_limited kind ≡ false
 unfolding is_kind_limited
@@ -62,13 +58,13 @@ mutual
 
   column_unlimited : (c : Column) (cells : List Cell) (b : ColumnBuilder) → Keeps c cells b → has_limit (index_of_column c) ≡ false → is_limited c ≡ false
   column_unlimited (column name nullable kind dictionary pairs) cells (Flat b) k h =
-      both_false (has_limit dictionary) (is_kind_limited kind) h (flat_unlimited kind (own_flat kind b.values (own_kind dictionary kind cells b.values b.coding k.2)))
+      or_from (has_limit dictionary) (is_kind_limited kind) h (flat_unlimited kind (own_flat kind b.values (own_kind dictionary kind cells b.values b.coding k.2)))
   column_unlimited (column name nullable kind dictionary pairs) cells (List' slots offsets p items) k h =
-      both_false (has_limit dictionary) (is_kind_limited kind) h (below_unlimited kind cells (List' slots offsets p items) k.parts)
+      or_from (has_limit dictionary) (is_kind_limited kind) h (below_unlimited kind cells (List' slots offsets p items) k.parts)
   column_unlimited (column name nullable kind dictionary pairs) cells (FixedList' slots size p items) k h =
-      both_false (has_limit dictionary) (is_kind_limited kind) h (below_unlimited kind cells (FixedList' slots size p items) k.parts)
+      or_from (has_limit dictionary) (is_kind_limited kind) h (below_unlimited kind cells (FixedList' slots size p items) k.parts)
   column_unlimited (column name nullable kind dictionary pairs) cells (Struct' slots names v row) k h =
-      both_false (has_limit dictionary) (is_kind_limited kind) h (below_unlimited kind cells (Struct' slots names v row) k.parts)
+      or_from (has_limit dictionary) (is_kind_limited kind) h (below_unlimited kind cells (Struct' slots names v row) k.parts)
 
   below_unlimited : (kind : Kind) (cells : List Cell) (b : ColumnBuilder) → KeepsBelow kind cells b → is_kind_limited kind ≡ false
   below_unlimited (lists item) cells (List' slots offsets p items) h = column_unlimited item (flat_map item_list cells) items h.below h.unlimited
@@ -78,15 +74,15 @@ mutual
       let f = fields_in columns cells (out-ColumnBuilder b) h in
       let k = fields_kept columns cells f.names f.fields f.holds in
       columns_unlimited columns f.holds.unlimited (λ j c dc.
-      let (own, db) = there_too (column_list columns) f.fields j c k.count dc in
+      let (own, db) = there_too (list_of columns) f.fields j c k.count dc in
       record { cells = column_at j (map part_list cells); builder = own; keeps = k.each j c own dc db })
   below_unlimited _ cells b h = absurd h
 
-  columns_unlimited : (cs : Columns) → AreUnlimited (column_list cs) → ((j : ℕ) (c : Column) → slice_get (column_list cs) j ≡ Some c → IsHeld c) → is_any_limited cs ≡ false
+  columns_unlimited : (cs : Columns) → AreUnlimited (list_of cs) → ((j : ℕ) (c : Column) → slice_get (list_of cs) j ≡ Some c → IsHeld c) → is_any_limited cs ≡ false
   columns_unlimited no_column unlimited held = refl
   columns_unlimited (and_column c cs) unlimited held =
       let h = held 0 c refl in
-      both_false (is_limited c) (is_any_limited cs) (column_unlimited c h.cells h.builder h.keeps (unlimited 0 c refl))
+      or_from (is_limited c) (is_any_limited cs) (column_unlimited c h.cells h.builder h.keeps (unlimited 0 c refl))
       (columns_unlimited cs (λ j d e. unlimited (suc j) d e) (λ j d e. held (suc j) d e))
 
 one_each : (cells : List Cell) → cells_at 0 (map (λ (c : Cell). c ∷ []) cells) ≡ cells
@@ -97,7 +93,7 @@ unlimited_few : (c : Column) (cells : List Cell) → is_limited c ≡ false → 
 unfolding holdings_from is_any_limited
 unlimited_few c cells h =
     let rows : List (List Cell) = map (λ (x : Cell). x ∷ []) cells in
-    let whole : list_all has_few_entries (holdings c (cells_at 0 rows) ++ []) ≡ true = from_unlimited 0 (and_column c no_column) rows (both_false (is_limited c) false h refl) in
+    let whole : list_all has_few_entries (holdings c (cells_at 0 rows) ++ []) ≡ true = from_unlimited 0 (and_column c no_column) rows (or_from (is_limited c) false h refl) in
     rw (append-nil (holdings c (cells_at 0 rows)), one_each cells) at whole
 
 -- a dictionary has as many entries as it could name before

@@ -1,6 +1,6 @@
 -- Rows that the record batches of a text hold.
 use Rattle.std.specs.List.{AllPass, flat_map, list_all}
-use Rattle.std.proofs.Common.{◌≡◌, ℕ, ◌+◌, Bool, true, List, [], ◌∷◌, ◌++◌, refl, arith, ap, sym, subst, ◌∙◌, append_assoc, append-nil, length-append}
+use Rattle.std.proofs.Common.{◌≡◌, ℕ, ◌+◌, Bool, true, List, [], ◌∷◌, ◌++◌, arith, ap, sym, subst, ◌∙◌, append_assoc, length-append}
 use Rattle.std.proofs.lemmas.Bool.{and_from, and_parts}
 use Rattle.std.proofs.lemmas.Grind.{flat_map-append}
 use Rattle.std.proofs.lemmas.List.Folds.{list_all-append}
@@ -46,13 +46,6 @@ parts_more s rows b part h is t =
       ap (λ (r : List (List Cell)). record { schema = s; rows = r }) joined,
       list_all-append _ b.parts.items (part ∷ []) ∙ and_from _ _ before.1 own.1,
     )
-
--- no row yet, in parts that hold all rows
-pub held_again : (s : PlainSchema) (rows : List (List Cell)) (b : Batches) → ArePartsOf s rows b.parts.items → b.rows ≡ 0 → KeepAll s.columns [] b.builders.items → HoldRows s rows b
-held_again s rows b parts none keeps = record { ended = rows; last = []; all = sym (append-nil rows); parts = parts; count = sym none; keeps = keeps }
-
-pub none_parts : (s : PlainSchema) → ArePartsOf s [] []
-none_parts s t = (refl, refl)
 
 -- one more row
 pub held_more : (s : PlainSchema) (rows : List (List Cell)) (row : List Cell) (old new : Batches) → (h : HoldRows s rows old) → AddsRow old new → KeepAll s.columns (h.last ++ row ∷ []) new.builders.items

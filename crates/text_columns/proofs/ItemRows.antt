@@ -3,7 +3,8 @@ use Rattle.std.specs.Bool.{MatchBool}
 use Rattle.std.specs.Prelude.{Option, Some, None, Ok, Err, Result, IfOk, IfSome, slice_get, get_or, option_map, option_and_then}
 use Rattle.std.proofs.Common.{◌≡◌, ℕ, suc, ◌+◌, ◌-◌, ◌≤◌, ◌<◌, ◌==◌, Bool, true, false, List, [], ◌∷◌, ◌++◌, length, take, drop, set, refl, arith, ap, sym, subst, ◌∙◌, inl, inr, length-append}
 use Rattle.std.proofs.lemmas.Bool.{cases_lt, eq-eqb, false≢true}
-use Rattle.std.proofs.lemmas.Option.{slice_get_within}
+use Rattle.std.proofs.lemmas.Option.{slice_get_within, same_Some}
+use Rattle.std.proofs.lemmas.List.{length-take-le, drop_all, take_all, get_or_append_left, length-set}
 use Rattle.json.specs.Token.{Token}
 use Rattle.json.specs.Token as tokens
 use Rattle.json.specs.Json as json
@@ -22,7 +23,7 @@ use Rattle.text_columns.specs.inner.Kept.{KeepAll, Keeps, column_at}
 use Rattle.text_columns.specs.inner.Lines.{HasItemRow, KeepsItems, KeepsNext, KeepsRow, KeepsTokens}
 use Rattle.text_columns.proofs.LineRows.{none_behind}
 use Rattle.text_columns.proofs.MemberGrammar.{converted_some, twice, value_shorter, value_there}
-use Rattle.text_columns.proofs.Rows.{at_end, at_front, at_other, at_set, column_more, dropped_all, dropped_here, length_put, length_taken, none_weigh, parts_weigh, taken_all, taken_here, there_within}
+use Rattle.text_columns.proofs.Rows.{at_end, at_other, at_set, column_more, dropped_here, none_weigh, parts_weigh, taken_here, there_within}
 
 -- ---- the items of an array
 
@@ -90,9 +91,6 @@ placed_more : (so : List Cell) (c : Column) (cs : Columns) (d : Data) (ds : Item
 unfolding cells_by_place
 placed_more so c cs d ds x e = rw e (cells_behind_more so x (cells_by_place cs ds))
 
-some_same : {X : Type 0} {x y : X} → Some x ≡ Some y → x ≡ y
-some_same e = cc
-
 item_half_more : (cs : List Column) (found : List Data) (rows : List (List Cell)) (i heavy more depth : ℕ) (left right : List Token) (bs : List ColumnBuilder) (old new : ColumnBuilder) → slice_get bs i ≡ Some old
     → (keeps : KeepsNext depth left right more old new) → ItemHalf cs found rows i heavy bs → ItemHalf cs (found ++ keeps.data_is ∷ []) rows (i + 1) (heavy + more) (set bs i new)
 item_half_more cs found rows i heavy more depth left right bs old new here keeps h =
@@ -102,7 +100,7 @@ item_half_more cs found rows i heavy more depth left right bs old new here keeps
     let k = keeps.keeps c (column_at i rows) (h.rest i c old (omega arith) col here) in
     let one : i + 1 ≡ suc i = omega arith in
     let fields : drop i cs ≡ c ∷ drop (suc i) cs = dropped_here cs i c col in
-    let short : length h.row ≡ length (take i cs) = h.len ∙ sym (length_taken cs i (omega (arith, within, h.count))) in
+    let short : length h.row ≡ length (take i cs) = h.len ∙ sym (length-take-le i cs (omega (arith, within, h.count))) in
     let heavier = parts_weigh (take i cs) h.row c k.kept short in
     record {
       row = h.row ++ k.kept ∷ [];
@@ -112,17 +110,17 @@ item_half_more cs found rows i heavy more depth left right bs old new here keeps
           subst (λ (xs : List Column). cells_behind h.row (cells_by_place (columns_of xs) (item d ds)) ≡ cells_by_place (columns_of cs) (prepend found (item d ds))) fields (h.read (item d ds)) in
           rw one (sym (placed_more h.row c (columns_of (drop (suc i) cs)) d ds k.kept k.read) ∙ before ∙ ap (cells_by_place (columns_of cs)) (prepend_more found d ds));
       weighs = rw (one, taken_here cs i c col) (omega (arith, heavier, h.weighs, k.weighs));
-      count = length_put bs i new ∙ h.count;
+      count = length-set bs i new ∙ h.count;
       done = λ j e b lt dc db. elim (cases_lt j i) [
         | inl before ↦
             let same = at_other bs i j new (λ x. omega arith) in
-            let front = at_front h.row k.kept null j (omega (arith, h.len, before)) in
+            let front = get_or_append_left h.row (k.kept ∷ []) null j (omega (arith, h.len, before)) in
             subst (λ (x : Cell). Keeps e (column_at j rows ++ x ∷ []) b) (sym front) (h.done j e b before dc (sym same ∙ db))
         | inr after ↦
             let at : j ≡ i = omega arith in
             let put = at_set bs i new within in
-            let is_new : new ≡ b = some_same (sym put ∙ subst (λ (n : ℕ). slice_get (set bs i new) n ≡ Some b) at db) in
-            let is_own : c ≡ e = some_same (sym col ∙ subst (λ (n : ℕ). slice_get cs n ≡ Some e) at dc) in
+            let is_new : new ≡ b = same_Some _ _ (sym put ∙ subst (λ (n : ℕ). slice_get (set bs i new) n ≡ Some b) at db) in
+            let is_own : c ≡ e = same_Some _ _ (sym col ∙ subst (λ (n : ℕ). slice_get cs n ≡ Some e) at dc) in
             let end : get_or (h.row ++ k.kept ∷ []) j null ≡ k.kept = at_end h.row k.kept null j (at ∙ sym h.len) in
             rw (end, at, ← is_new, ← is_own) k.keeps
       ];
@@ -134,8 +132,8 @@ item_half_more cs found rows i heavy more depth left right bs old new here keeps
 item_half_all : (cs : List Column) (found : List Data) (rows : List (List Cell)) (i heavy : ℕ) (bs : List ColumnBuilder) → length bs ≤ i → ItemHalf cs found rows i heavy bs
     → HasItemRow cs (prepend found no_items) heavy rows bs
 item_half_all cs found rows i heavy bs le h =
-    let none : drop i cs ≡ [] = dropped_all cs i (omega (arith, le, h.count)) in
-    let all : take i cs ≡ cs = taken_all cs i (omega (arith, le, h.count)) in
+    let none : drop i cs ≡ [] = drop_all i cs (omega (arith, le, h.count)) in
+    let all : take i cs ≡ cs = take_all i cs (omega (arith, le, h.count)) in
     let read : cells_behind h.row (cells_by_place (columns_of []) no_items) ≡ cells_by_place (columns_of cs) (prepend found no_items) =
     subst (λ (xs : List Column). cells_behind h.row (cells_by_place (columns_of xs) no_items) ≡ cells_by_place (columns_of cs) (prepend found no_items)) none (h.read no_items) in
     record {

@@ -3,13 +3,13 @@ use Rattle.std.specs.Global.{Vec}
 use Rattle.std.specs.Str.{is_utf8}
 use Rattle.std.specs.Cmp.Lexicographic.{slice_cmp}
 use Rattle.std.specs.Ordering.{match_ordering, nat_cmp}
-use Rattle.std.specs.Prelude.{Option, Some, None, Ok, Err, Result, IfOk, IfSome, slice_get, get_or, bytes_eq, not, nat_lt, ◌||◌, filter, is_some, ◌==◌, option_map, if◌then◌else◌}
+use Rattle.std.specs.Prelude.{Option, Some, None, Ok, Err, Result, IfOk, IfSome, slice_get, get_or, bytes_eq, not, nat_lt, filter, is_some, ◌==◌, option_map, if◌then◌else◌}
 use Rattle.std.proofs.Common.{Ordering, Less, Equal, Greater, ◌≡◌, ℕ, zero, suc, ◌+◌, ◌-◌, ◌≤◌, ◌<◌, Bool, true, false, List, [], ◌∷◌, ◌++◌, length, take, drop, set, refl, arith, ap, sym, subst, ◌∙◌, inl, inr, length-append}
 use Rattle.std.specs.List.{All, slice_split}
-use Rattle.std.proofs.lemmas.Bool.{cases_lt, eq-eqb, false≢true, le-ltb, ne_eqb, or_from}
+use Rattle.std.proofs.lemmas.Bool.{cases_lt, eq-eqb, false≢true, le-ltb, ne_eqb, or_from, or_parts}
 use Rattle.std.proofs.lemmas.List.Splits.{slice_split_at, slice_split_none}
 use Rattle.std.proofs.lemmas.List.Sums.{sum_by-append}
-use Rattle.std.proofs.lemmas.Option.{slice_get_within}
+use Rattle.std.proofs.lemmas.Option.{slice_get_within, same_Some}
 use Rattle.std.proofs.lemmas.Slice.Eq.{bytes_eq-Decides}
 use Rattle.json.specs.Token.{Token}
 use Rattle.json.specs.Token as tokens
@@ -26,7 +26,8 @@ use Rattle.arrow_schema.specs.View.{column_of}
 use Rattle.arrow_schema.specs.declared.types.Field.{Field}
 use Rattle.arrow_schema.specs.laws.Parts.{field_parts}
 use Rattle.std.specs.Prelude.{map, string_bytes}
-use Rattle.std.proofs.lemmas.List.{drop_more, get_or-take, get_or_default, length-take-le, map-append, take-append-drop, take_more}
+use Rattle.std.proofs.lemmas.List.{drop_more, get_or-take, get_or_default, length-take-le, map-append, take-append-drop, take_more, drop_all, take_all, get_or_append_left, length-set}
+use Rattle.std.proofs.Math.Bool.{or-true}
 use Rattle.text_import.specs.declared.refusal.Refusal.{Refusal}
 use Rattle.cells.specs.Cell.{Cell, Cells, null, cells_of}
 use Rattle.cells.specs.Dictionary.{dictionaries_fit}
@@ -47,10 +48,7 @@ use Rattle.text_columns.specs.inner.Kept.{KeepAll, Keeps, column_at, key_list}
 use Rattle.text_columns.specs.inner.Lines.{Completes, CompletesRow, HasKeptValue, HasNamedRow, HoldMembers, HoldsMember, KeepsFields, KeepsLine, KeepsTokens, PushesMember, PushesMembers, token_data}
 use Rattle.text_columns.proofs.MemberGrammar.{member_read, members_over, object_read, text_read, value_shorter}
 use Rattle.text_columns.proofs.FewEntries.{row_fits}
-use Rattle.text_columns.proofs.Rows.{at_end, at_front, at_other, at_set, column_more, dropped_all, dropped_here, length_put, length_taken, none_weigh, parts_weigh, taken_all, taken_here, there_within}
-
-some_same : {X : Type 0} {x y : X} → Some x ≡ Some y → x ≡ y
-some_same e = cc
+use Rattle.text_columns.proofs.Rows.{at_end, at_other, at_set, column_more, dropped_here, none_weigh, parts_weigh, taken_here, there_within}
 
 -- ---- names
 
@@ -65,42 +63,34 @@ has_here (n ∷ names) zero k e =
     let same : n ≡ k = cc in
     let equal : bytes_eq k n ≡ true = (bytes_eq-Decides k n).1 (sym same) in
     rw equal refl
-has_here (n ∷ names) (suc j) k e = rw (has_here names j k e) (or_true (bytes_eq k n))
-  where
-    or_true : (b : Bool) → (b || true) ≡ true
-    or_true true = refl
-    or_true false = refl
-
-both_false : (a b : Bool) → (a || b) ≡ false → (a ≡ false) × (b ≡ false)
-both_false true b e = absurd (false≢true (sym e))
-both_false false b e = (refl, e)
+has_here (n ∷ names) (suc j) k e = rw (has_here names j k e) (or-true (bytes_eq k n))
 
 apart : (names : List (List ℕ)) (i j : ℕ) (a b : List ℕ) → repeats names ≡ false → slice_get names i ≡ Some a → slice_get names j ≡ Some b → (i ≡ j → ⊥) → a ≡ b → ⊥
 apart [] i j a b e ea eb ne same = absurd cc
 apart (n ∷ names) zero zero a b e ea eb ne same = ne refl
 apart (n ∷ names) zero (suc j) a b e ea eb ne same =
-    let none = (both_false (has_name names n) (repeats names) e).0 in
+    let none = (or_parts (has_name names n) (repeats names) e).0 in
     let first : n ≡ a = cc in
     let there = has_here names j n (eb ∙ ap Some (sym same ∙ sym first)) in
     false≢true (sym none ∙ there)
 apart (n ∷ names) (suc i) zero a b e ea eb ne same =
-    let none = (both_false (has_name names n) (repeats names) e).0 in
+    let none = (or_parts (has_name names n) (repeats names) e).0 in
     let first : n ≡ b = cc in
     let there = has_here names i n (ea ∙ ap Some (same ∙ sym first)) in
     false≢true (sym none ∙ there)
-apart (n ∷ names) (suc i) (suc j) a b e ea eb ne same = apart names i j a b (both_false (has_name names n) (repeats names) e).1 ea eb (λ x. ne (ap suc x)) same
+apart (n ∷ names) (suc i) (suc j) a b e ea eb ne same = apart names i j a b (or_parts (has_name names n) (repeats names) e).1 ea eb (λ x. ne (ap suc x)) same
 
 -- a key that is known is so among others
 known_put_at : (names : List (List ℕ)) (o : Ordering) (k l : List ℕ) (d e : Data) (ms : Members) → has_name names k ≡ true → has_unknown names (l ∷ keys_of ms) ≡ false
     → has_unknown names (keys_of (put k d ms)) ≡ false → has_unknown names (keys_of (match_ordering o (member k d (member l e ms)) (member l d ms) (member l e (put k d ms)))) ≡ false
 known_put_at names Less k l d e ms known all later = rw known all
 known_put_at names Equal k l d e ms known all later = all
-known_put_at names Greater k l d e ms known all later = or_from _ _ (both_false (not (has_name names l)) (has_unknown names (keys_of ms)) all).0 later
+known_put_at names Greater k l d e ms known all later = or_from _ _ (or_parts (not (has_name names l)) (has_unknown names (keys_of ms)) all).0 later
 
 known_put : (names : List (List ℕ)) (k : List ℕ) (d : Data) (ms : Members) → has_name names k ≡ true → has_unknown names (keys_of ms) ≡ false → has_unknown names (keys_of (put k d ms)) ≡ false
 known_put names k d no_members known all = rw known refl
 known_put names k d (member l e ms) known all =
-    known_put_at names (slice_cmp nat_cmp k l) k l d e ms known all (known_put names k d ms known (both_false (not (has_name names l)) (has_unknown names (keys_of ms)) all).1)
+    known_put_at names (slice_cmp nat_cmp k l) k l d e ms known all (known_put names k d ms known (or_parts (not (has_name names l)) (has_unknown names (keys_of ms)) all).1)
 
 -- ---- one more member
 
@@ -112,8 +102,8 @@ member_held : (cs : List Column) (rows : List (List Cell)) (found : Members) (k 
     → repeats (names_of (columns_of cs)) ≡ false → slice_get (names_of (columns_of cs)) place ≡ Some k → (p : PushesMember depth place old new ws ws2 bs bs2) → p.keeps.data_is ≡ d
     → HoldMembers cs rows found ws bs → HoldMembers cs rows (put k d found) ws2 bs2
 member_held cs rows found k d depth place old new ws ws2 bs bs2 distinct named p same_data h = rw (p.kept, p.pushed) (record {
-  count = length_put bs place p.behind ∙ h.count;
-  counted = length_put ws place (Some p.heavy) ∙ h.counted;
+  count = length-set bs place p.behind ∙ h.count;
+  counted = length-set ws place (Some p.heavy) ∙ h.counted;
   each = λ j c b w dc db dw. elim (cases_lt j place) [
     | inl before ↦ other j c b w dc db dw (λ e. omega arith)
     | inr from ↦ elim (cases_lt place j) [
@@ -136,9 +126,9 @@ member_held cs rows found k d depth place old new ws ws2 bs bs2 distinct named p
         → j ≡ place → HoldsMember c (column_at j rows) (get_member (name_of_column c) (put k d found)) w b
     own j c b w dc db dw is =
         let here : slice_get cs place ≡ Some c = subst (λ (n : ℕ). slice_get cs n ≡ Some c) is dc in
-        let name : name_of_column c ≡ k = some_same (sym (name_at cs place c here) ∙ named) in
-        let builder : p.behind ≡ b = some_same (sym (at_set bs place p.behind (slice_get_within bs place p.before p.here)) ∙ subst (λ (n : ℕ). slice_get (set bs place p.behind) n ≡ Some b) is db) in
-        let kept : Some p.heavy ≡ w = some_same (sym (at_set ws place (Some p.heavy) (slice_get_within ws place None p.free)) ∙ subst (λ (n : ℕ). slice_get (set ws place (Some p.heavy)) n ≡ Some w) is dw) in
+        let name : name_of_column c ≡ k = same_Some _ _ (sym (name_at cs place c here) ∙ named) in
+        let builder : p.behind ≡ b = same_Some _ _ (sym (at_set bs place p.behind (slice_get_within bs place p.before p.here)) ∙ subst (λ (n : ℕ). slice_get (set bs place p.behind) n ≡ Some b) is db) in
+        let kept : Some p.heavy ≡ w = same_Some _ _ (sym (at_set ws place (Some p.heavy) (slice_get_within ws place None p.free)) ∙ subst (λ (n : ℕ). slice_get (set ws place (Some p.heavy)) n ≡ Some w) is dw) in
         let before = free_found c (column_at place rows) (get_member (name_of_column c) found) p.before (h.each place c p.before None here p.here p.free) in
         let value : HasKeptValue c d p.heavy (column_at place rows) p.behind = subst (λ (x : Data). HasKeptValue c x p.heavy (column_at place rows) p.behind) same_data (p.keeps.keeps c (column_at place rows) before) in
         rw (is, name, get_member-put k d found, ← builder, ← kept) value
@@ -234,25 +224,25 @@ named_more cs found rows i heavy more w ws bs old new here weighed completes h =
     let k = completes c (column_at i rows) (get_member (name_of_column c) found) (h.rest i c old w (omega arith) col here weighed) in
     let one : i + 1 ≡ suc i = omega arith in
     let fields : drop i cs ≡ c ∷ drop (suc i) cs = dropped_here cs i c col in
-    let short : length h.row ≡ length (take i cs) = h.len ∙ sym (length_taken cs i (omega (arith, within, h.count))) in
+    let short : length h.row ≡ length (take i cs) = h.len ∙ sym (length-take-le i cs (omega (arith, within, h.count))) in
     let heavier = parts_weigh (take i cs) h.row c k.kept short in
     record {
       row = h.row ++ k.kept ∷ [];
       len = length-append h.row (k.kept ∷ []) ∙ ap (λ (n : ℕ). n + 1) h.len;
       read = rw one (sym (name_more h.row c (columns_of (drop (suc i) cs)) found k.kept k.read) ∙ rw fields at h.read);
       weighs = rw (one, taken_here cs i c col) (omega (arith, heavier, h.weighs, k.weighs));
-      count = length_put bs i new ∙ h.count;
+      count = length-set bs i new ∙ h.count;
       counted = h.counted;
       done = λ j d b lt dc db. elim (cases_lt j i) [
         | inl before ↦
             let same = at_other bs i j new (λ e. omega arith) in
-            let front = at_front h.row k.kept null j (omega (arith, h.len, before)) in
+            let front = get_or_append_left h.row (k.kept ∷ []) null j (omega (arith, h.len, before)) in
             subst (λ (x : Cell). Keeps d (column_at j rows ++ x ∷ []) b) (sym front) (h.done j d b before dc (sym same ∙ db))
         | inr after ↦
             let is : j ≡ i = omega arith in
             let put_here = at_set bs i new within in
-            let is_new : new ≡ b = some_same (sym put_here ∙ subst (λ (n : ℕ). slice_get (set bs i new) n ≡ Some b) is db) in
-            let is_own : c ≡ d = some_same (sym col ∙ subst (λ (n : ℕ). slice_get cs n ≡ Some d) is dc) in
+            let is_new : new ≡ b = same_Some _ _ (sym put_here ∙ subst (λ (n : ℕ). slice_get (set bs i new) n ≡ Some b) is db) in
+            let is_own : c ≡ d = same_Some _ _ (sym col ∙ subst (λ (n : ℕ). slice_get cs n ≡ Some d) is dc) in
             let end : get_or (h.row ++ k.kept ∷ []) j null ≡ k.kept = at_end h.row k.kept null j (is ∙ sym h.len) in
             rw (end, is, ← is_new, ← is_own) k.keeps
       ];
@@ -264,8 +254,8 @@ named_more cs found rows i heavy more w ws bs old new here weighed completes h =
 pub named_all : (cs : List Column) (found : Members) (rows : List (List Cell)) (i heavy : ℕ) (ws : List (Option ℕ)) (bs : List ColumnBuilder) → length bs ≤ i
     → NamedHalf cs found rows i heavy ws bs → HasNamedRow cs found heavy rows bs
 named_all cs found rows i heavy ws bs le h =
-    let none : drop i cs ≡ [] = dropped_all cs i (omega (arith, le, h.count)) in
-    let all : take i cs ≡ cs = taken_all cs i (omega (arith, le, h.count)) in
+    let none : drop i cs ≡ [] = drop_all i cs (omega (arith, le, h.count)) in
+    let all : take i cs ≡ cs = take_all i cs (omega (arith, le, h.count)) in
     record {
       row = h.row;
       read = sym (rw none at h.read) ∙ names_end h.row found;
@@ -294,7 +284,7 @@ none_more ws i j w within none lt e = elim (cases_lt j i) [
   | inl before ↦ none j w before (sym (at_other ws i j None (λ x. omega arith)) ∙ e)
   | inr after ↦
       let is : j ≡ i = omega arith in
-      sym (some_same (sym (at_set ws i None within) ∙ subst (λ (n : ℕ). slice_get (set ws i None) n ≡ Some w) is e))
+      sym (same_Some _ _ (sym (at_set ws i None within) ∙ subst (λ (n : ℕ). slice_get (set ws i None) n ≡ Some w) is e))
 ]
 
 -- and then all
@@ -419,7 +409,7 @@ lines_all s lines left heavy b none few h = record {
 
 name_bytes_at : (keys : List (Vec ℕ)) (i : ℕ) (k : Vec ℕ) → slice_get keys i ≡ Some k → slice_get (key_list keys) i ≡ Some k.items
 name_bytes_at [] i k e = absurd cc
-name_bytes_at (x ∷ keys) zero k e = ap (λ (v : Vec ℕ). Some v.items) (some_same e)
+name_bytes_at (x ∷ keys) zero k e = ap (λ (v : Vec ℕ). Some v.items) (same_Some _ _ e)
 name_bytes_at (x ∷ keys) (suc i) k e = name_bytes_at keys i k e
 
 pub stands : (keys : List (Vec ℕ)) (i : ℕ) (k : Vec ℕ) (name : List ℕ) → slice_get keys i ≡ Some k → bytes_eq k.items name ≡ true → slice_get (key_list keys) i ≡ Some name
@@ -431,7 +421,7 @@ utf8_text : (t line : List ℕ) → Some t ≡ text_where_utf8 line → (is_utf8
 utf8_text t line e = by (is_utf8 line) refl e
   where
     by : (b : Bool) → is_utf8 line ≡ b → Some t ≡ (if b then Some line else None) → (is_utf8 line ≡ true) × (t ≡ line)
-    by true is h = (is, some_same h)
+    by true is h = (is, same_Some _ _ h)
     by false is h = absurd cc
 
 line_kept : (names : List (List ℕ)) (t line : List ℕ) (heavy : ℕ) (bs bs2 : List ColumnBuilder) → Some t ≡ text_where_utf8 line → KeepsTokens names (tokens_of t) heavy bs bs2 → KeepsLine names line heavy bs bs2

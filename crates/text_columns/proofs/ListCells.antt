@@ -6,6 +6,7 @@ use Rattle.std.specs.List.{flat_map}
 use Rattle.std.proofs.Common.{◌≡◌, ℕ, ◌+◌, ◌-◌, ◌≤◌, ◌<◌, ◌==◌, Bool, true, false, List, [], ◌∷◌, ◌++◌, length, refl, arith, ap, sym, subst, ◌∙◌, append_assoc, append-nil, length-append, map}
 use Rattle.std.specs.Bool.{MatchBool}
 use Rattle.std.proofs.lemmas.Bool.{eq-eqb, false≢true}
+use Rattle.arrow_schema.specs.laws.Columns.{columns_list}
 use Rattle.facts.specs.laws.Lists.{flat_map-push}
 use Rattle.json.specs.Token.{Token}
 use Rattle.json.specs.Token as tokens
@@ -14,7 +15,7 @@ use Rattle.json.proofs.Grammar.{items_end, value-begin_array, value-begin_object
 use Rattle.serde_json.specs.Data.{Data, Items, array, object, no_items}
 use Rattle.serde_json.specs.Data as json
 use Rattle.serde_json.specs.Read.{converted, of_items, of_json}
-use Rattle.arrow_schema.specs.Column.{Column, Columns, columns_of, Index, Kind, lists, large_lists, fixed_lists, structs, column}
+use Rattle.arrow_schema.specs.Column.{Column, Columns, columns_of, Index, Kind, lists, large_lists, fixed_lists, structs, column, list_of}
 use Rattle.cells.specs.Cell.{Cell, items, cells_of, parts}
 use Rattle.cells.specs.Dictionary.{item_list, part_list}
 use Rattle.cells.specs.Nulls.{is_there}
@@ -30,13 +31,13 @@ use Rattle.text_columns.specs.declared.builder.ColumnBuilder.{ColumnBuilder, Lis
 use Rattle.text_columns.specs.declared.builder.ListOffsets.{ListOffsets}
 use Rattle.text_columns.specs.declared.builder.Slots.{Slots}
 use Rattle.text_columns.specs.declared.next.ItemsTaken.{ItemsTaken}
-use Rattle.text_columns.specs.inner.Kept.{HoldsLists, KeepAll, Keeps, KeepsAt, KeepsBelow, column_list, key_list, KeepsSlots, PushesEnd, PushesThere}
+use Rattle.text_columns.specs.inner.Kept.{HoldsLists, KeepAll, Keeps, KeepsAt, KeepsBelow, key_list, KeepsSlots, PushesEnd, PushesThere}
 use Rattle.text_columns.specs.inner.Lines.{EndsFixedList, EndsList, EndsStruct, HasItems, KeepsArray, KeepsFields, KeepsItems, KeepsListItems, KeepsObject, KeepsRow, KeepsNext, KeepsNull, KeepsToken, KeepsValue}
 use Rattle.text_columns.proofs.ItemRows.{array_read, item_read, items_row, prepend, prepend_count, prepend_more, prepended_more, prepended_none}
 use Rattle.text_columns.proofs.LineRows.{none_behind, token_read}
 use Rattle.text_columns.proofs.MemberGrammar.{object_read, value_shorter, value_there}
 use Rattle.text_columns.proofs.Nulls.{offsets_pushed}
-use Rattle.text_columns.proofs.StructFields.{fields_hold, fields_kept, held_by, holds_so, list_columns, no_struct_fixed_list, no_struct_list, parts_more}
+use Rattle.text_columns.proofs.StructFields.{fields_hold, fields_kept, held_by, holds_so, no_struct_fixed_list, no_struct_list, parts_more}
 use Rattle.text_columns.proofs.Taken.{one_mapped}
 use Rattle.text_columns.proofs.TokenCells.{null_token}
 
@@ -277,16 +278,16 @@ struct_kept : (kind : Kind) (d : Data) (heavy : ℕ) (so : List Cell) (slots slo
 unfolding kind_in kind_weight
 struct_kept (structs columns) d heavy so slots slots2 names names2 old new same row below =
     let k = held_by columns so slots names old below in
-    let all : columns_of (column_list columns) ≡ columns = list_columns columns in
-    let named : names_of (columns_of (column_list columns)) ≡ key_list names.names.keys = ap names_of all ∙ sym k.names_are in
-    let h = row (column_list columns) (map part_list so) named (ap repeats k.names_are ∙ k.distinct) (fields_kept columns so (key_list names.names.keys) old.items k) in
+    let all : columns_of (list_of columns) ≡ columns = columns_list columns in
+    let named : names_of (columns_of (list_of columns)) ≡ key_list names.names.keys = ap names_of all ∙ sym k.names_are in
+    let h = row (list_of columns) (map part_list so) named (ap repeats k.names_are ∙ k.distinct) (fields_kept columns so (key_list names.names.keys) old.items k) in
     record {
       kept = h.row;
       read = ap (given parts) (subst (λ (cs : Columns). cells_in cs d ≡ Ok (cells_of h.row)) all h.read);
       weighs = subst (λ (cs : Columns). 1 + parts_weight cs (cells_of h.row) ≡ heavy) all h.weighs;
       below = holds_so columns (so ++ parts (cells_of h.row) ∷ []) slots2 names2 new
           (fields_hold columns (so ++ parts (cells_of h.row) ∷ []) (key_list names2.names.keys) new.items (ap (λ s. key_list s.keys) same ∙ k.names_are) k.distinct k.unlimited
-          (subst (λ (rows : List (List Cell)). KeepAll (column_list columns) rows new.items) (parts_more so h.row) h.keeps));
+          (subst (λ (rows : List (List Cell)). KeepAll (list_of columns) rows new.items) (parts_more so h.row) h.keeps));
     }
 struct_kept _ d heavy so slots slots2 names names2 old new same row below = absurd below
 

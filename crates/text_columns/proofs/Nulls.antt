@@ -3,10 +3,10 @@ use Rattle.std.specs.Prelude.{get_or, slice_get, Option, Ok, Err, Result, OnOk, 
 use Rattle.std.specs.Global.{Vec}
 use Rattle.std.specs.List.{flat_map}
 use Rattle.std.proofs.Common.{Bool, List, [], ap, append-nil, append_assoc, arith, false, inl, inr, length, length-append, map, refl, set, subst, suc, sym, true, zero, ℕ, ◌*◌, ◌++◌, ◌+◌, ◌<◌, ◌∙◌, ◌∷◌, ◌≡◌, ◌≤◌}
-use Rattle.std.proofs.lemmas.List.{map-append, replicate-append-replicate, replicate_more}
+use Rattle.std.proofs.lemmas.List.{map-append, replicate-append-replicate, replicate_more, length-set}
 use Rattle.std.proofs.lemmas.List.Concat.{flat_map-append}
 use Rattle.facts.specs.laws.Lists.{flat_map-push}
-use Rattle.arrow_schema.specs.Column.{Column, Index, Kind, lists, large_lists, fixed_lists, structs, column}
+use Rattle.arrow_schema.specs.Column.{Column, Index, Kind, lists, large_lists, fixed_lists, structs, column, list_of}
 use Rattle.arrow_schema.specs.Parts.{is_nullable_column}
 use Rattle.cells.specs.Cell.{Cell, null}
 use Rattle.cells.specs.Dictionary.{item_list, part_list}
@@ -20,12 +20,12 @@ use Rattle.text_columns.specs.declared.builder.Names.{Names}
 use Rattle.text_columns.specs.declared.builder.ListOffsets.{ListOffsets}
 use Rattle.text_columns.specs.declared.builder.Slots.{Slots}
 use Rattle.text_columns.specs.declared.flat.FlatBuilder.{FlatBuilder}
-use Rattle.text_columns.specs.inner.Kept.{AllAppendNulls, AppendsNulls, HoldsLists, Keeps, KeepsAt, column_at, column_list, key_list, KeepsBelow, KeepsOffsets, KeepsSlots, PushesEmpty, PushesEnd, TakesNullCell, is_nullable, null_heavy_of}
+use Rattle.text_columns.specs.inner.Kept.{AllAppendNulls, AppendsNulls, HoldsLists, Keeps, KeepsAt, column_at, key_list, KeepsBelow, KeepsOffsets, KeepsSlots, PushesEmpty, PushesEnd, TakesNullCell, is_nullable, null_heavy_of}
 use Rattle.text_columns.specs.inner.Lines.{KeepsNull}
 use Rattle.text_columns.proofs.Coded.{own_kind}
 use Rattle.std.proofs.lemmas.Bool.{cases_lt}
-use Rattle.std.proofs.lemmas.Option.{slice_get_within}
-use Rattle.text_columns.proofs.Rows.{at_other, at_set, length_put}
+use Rattle.std.proofs.lemmas.Option.{slice_get_within, same_Some}
+use Rattle.text_columns.proofs.Rows.{at_other, at_set}
 use Rattle.text_columns.proofs.StructFields.{at_list, held_by, holds_so, list_at, no_struct_fixed_list, no_struct_list, nulls_at, there_too}
 use Rattle.text_columns.proofs.Taken.{null_weighs, offset_more}
 use Rattle.text_columns.proofs.TokenCells.{null_behind}
@@ -38,9 +38,6 @@ nulls_more so n = append_assoc so (replicate n null) (null ∷ []) ∙ ap (λ (x
 
 no_nulls : (so : List Cell) → so ++ replicate 0 null ≡ so
 no_nulls so = append-nil so
-
-pub one_null : (so : List Cell) → so ++ replicate 1 null ≡ so ++ null ∷ []
-one_null so = refl
 
 -- none of them is there
 none_there : (n : ℕ) → map is_there (replicate n null) ≡ replicate n false
@@ -156,7 +153,7 @@ structs_below (structs columns) so n slots slots2 names names2 fields fields2 sa
       count = a.same ∙ k.count;
       each = λ j b2 db2.
           let (b, db) = there_too fields2.items fields.items j b2 (sym a.same) db2 in
-          let (c, dc) = there_too fields.items (column_list columns) j b (sym k.count) db in
+          let (c, dc) = there_too fields.items (list_of columns) j b (sym k.count) db in
           let own = a.each j b b2 db db2 c (column_at j (map part_list so)) (at_list columns j c (column_at j (map part_list so)) b dc (k.each j b db)) in
           list_at columns j c (column_at j (map part_list (so ++ replicate n null))) b2 dc (subst (λ (xs : List Cell). Keeps c xs b2) (nulls_at j n so) own);
     })
@@ -218,22 +215,19 @@ pub record NullsHalf (count i : ℕ) (old bs : List ColumnBuilder) : Type 0 wher
   pub done : (j : ℕ) (b b2 : ColumnBuilder) → j < i → slice_get old j ≡ Some b → slice_get bs j ≡ Some b2 → AppendsNulls count b b2
   pub rest : (j : ℕ) (b b2 : ColumnBuilder) → i ≤ j → slice_get old j ≡ Some b → slice_get bs j ≡ Some b2 → b ≡ b2
 
-some_same : {X : Type 0} {x y : X} → Some x ≡ Some y → x ≡ y
-some_same e = cc
-
 pub nulls_half_none : (count : ℕ) (bs : List ColumnBuilder) → NullsHalf count 0 bs bs
-nulls_half_none count bs = record { same = refl; done = λ j b b2 lt. absurd (omega arith); rest = λ j b b2 le db db2. some_same (sym db ∙ db2) }
+nulls_half_none count bs = record { same = refl; done = λ j b b2 lt. absurd (omega arith); rest = λ j b b2 le db db2. same_Some _ _ (sym db ∙ db2) }
 
 pub nulls_half_more : (count i : ℕ) (old bs : List ColumnBuilder) (b new : ColumnBuilder) → slice_get bs i ≡ Some b → AppendsNulls count b new → NullsHalf count i old bs → NullsHalf count (i + 1) old (set bs i new)
 nulls_half_more count i old bs b new here a h =
     let within : i < length bs = slice_get_within bs i b here in
     record {
-      same = length_put bs i new ∙ h.same;
+      same = length-set bs i new ∙ h.same;
       done = λ j x y lt dx dy. elim (cases_lt j i) [
         | inl before ↦ h.done j x y before dx (sym (at_other bs i j new (λ e. omega arith)) ∙ dy)
         | inr after ↦
             let at : j ≡ i = omega arith in
-            let is_new : new ≡ y = some_same (sym (at_set bs i new within) ∙ subst (λ (n : ℕ). slice_get (set bs i new) n ≡ Some y) at dy) in
+            let is_new : new ≡ y = same_Some _ _ (sym (at_set bs i new within) ∙ subst (λ (n : ℕ). slice_get (set bs i new) n ≡ Some y) at dy) in
             let is_old : x ≡ b = h.rest i x b (omega arith) (subst (λ (n : ℕ). slice_get old n ≡ Some x) at dx) here in
             rw (is_old, ← is_new) a
       ];
@@ -256,4 +250,4 @@ get_other (b ∷ bs) (suc i) (suc k) new d lt = get_other bs i k new d (omega ar
 -- columns that were not visited yet stay
 pub unvisited_set : (old bs : List ColumnBuilder) (i : ℕ) (new : ColumnBuilder) → (length bs ≡ length old) × ((k : ℕ) (d : ColumnBuilder) → i ≤ k → get_or bs k d ≡ get_or old k d)
     → (length (set bs i new) ≡ length old) × ((k : ℕ) (d : ColumnBuilder) → i + 1 ≤ k → get_or (set bs i new) k d ≡ get_or old k d)
-unvisited_set old bs i new h = (length_put bs i new ∙ h.0, λ k d le. get_other bs i k new d (omega (arith, le)) ∙ h.1 k d (omega (arith, le)))
+unvisited_set old bs i new h = (length-set bs i new ∙ h.0, λ k d le. get_other bs i k new d (omega (arith, le)) ∙ h.1 k d (omega (arith, le)))

@@ -3,7 +3,7 @@ use Rattle.std.specs.Borrow.{Bor}
 use Rattle.std.specs.Prelude.{Option, Some, None, Ok, Err, Result, slice_get, get_or, ◌==◌, nat_lt, ◌⊎◌, MatchResult}
 use Rattle.std.proofs.Common.{◌≡◌, ℕ, zero, suc, ◌+◌, ◌-◌, ◌≤◌, ◌<◌, true, false, List, [], ◌∷◌, ◌++◌, length, take, drop, set, refl, arith, ap, sym, subst, ◌∙◌, inl, inr, length-append}
 use Rattle.std.proofs.lemmas.Bool.{cases_lt, eq-eqb, le-ltb}
-use Rattle.std.proofs.lemmas.List.{map-append}
+use Rattle.std.proofs.lemmas.List.{map-append, length-take-le, drop_all, take_all, get_or_append_left, length-set}
 use Rattle.std.proofs.lemmas.List.Sums.{sum_by-append}
 use Rattle.std.proofs.lemmas.Option.{slice_get_within}
 use Rattle.arrow_schema.specs.Column.{Column, columns_of, PlainSchema}
@@ -61,33 +61,6 @@ module _ {X : Type 0} where
   at_end (y ∷ xs) x d zero e = absurd (omega arith)
   at_end (y ∷ xs) x d (suc i) e = at_end xs x d i (omega arith)
 
-  pub at_front : (xs : List X) (x d : X) (i : ℕ) → i < length xs → get_or (xs ++ x ∷ []) i d ≡ get_or xs i d
-  at_front [] x d i lt = absurd (omega arith)
-  at_front (y ∷ xs) x d zero lt = refl
-  at_front (y ∷ xs) x d (suc i) lt = at_front xs x d i (omega arith)
-
-  pub dropped_all : (xs : List X) (i : ℕ) → length xs ≤ i → drop i xs ≡ []
-  dropped_all [] zero le = refl
-  dropped_all [] (suc i) le = refl
-  dropped_all (y ∷ xs) zero le = absurd (omega arith)
-  dropped_all (y ∷ xs) (suc i) le = dropped_all xs i (omega arith)
-
-  pub taken_all : (xs : List X) (i : ℕ) → length xs ≤ i → take i xs ≡ xs
-  taken_all [] zero le = refl
-  taken_all [] (suc i) le = refl
-  taken_all (y ∷ xs) zero le = absurd (omega arith)
-  taken_all (y ∷ xs) (suc i) le = ap (λ (ys : List X). y ∷ ys) (taken_all xs i (omega arith))
-
-  pub length_taken : (xs : List X) (i : ℕ) → i ≤ length xs → length (take i xs) ≡ i
-  length_taken xs zero le = refl
-  length_taken [] (suc i) le = absurd (omega arith)
-  length_taken (y ∷ xs) (suc i) le = ap suc (length_taken xs i (omega arith))
-
-  pub length_put : (xs : List X) (i : ℕ) (x : X) → length (set xs i x) ≡ length xs
-  length_put [] i x = refl
-  length_put (y ∷ xs) zero x = refl
-  length_put (y ∷ xs) (suc i) x = ap suc (length_put xs i x)
-
 -- ---- one more row
 
 pub parts_weigh : (cs : List Column) (xs : List Cell) (c : Column) (x : Cell) → length xs ≡ length cs
@@ -135,18 +108,18 @@ half_more cs null_text ts rows i heavy more bs old new t here text keeps h =
     let one : i + 1 ≡ suc i = omega arith in
     let fields : drop i cs ≡ c ∷ drop (suc i) cs = dropped_here cs i c col in
     let others : drop i ts ≡ t ∷ drop (suc i) ts = dropped_here ts i t text in
-    let short : length h.row ≡ length (take i cs) = h.len ∙ sym (length_taken cs i (omega (arith, within, h.count))) in
+    let short : length h.row ≡ length (take i cs) = h.len ∙ sym (length-take-le i cs (omega (arith, within, h.count))) in
     let heavier = parts_weigh (take i cs) h.row c k.kept short in
     record {
       row = h.row ++ k.kept ∷ [];
       len = length-append h.row (k.kept ∷ []) ∙ ap (λ (n : ℕ). n + 1) h.len;
       read = rw one (sym (field_more null_text h.row c (drop (suc i) cs) t (drop (suc i) ts) k.kept k.read) ∙ rw (fields, others) at h.read);
       weighs = rw (one, taken_here cs i c col) (omega (arith, heavier, h.weighs, k.weighs));
-      count = length_put bs i new ∙ h.count;
+      count = length-set bs i new ∙ h.count;
       done = λ j d b lt dc db. elim (cases_lt j i) [
         | inl before ↦
             let same = at_other bs i j new (λ e. omega arith) in
-            let front = at_front h.row k.kept null j (omega (arith, h.len, before)) in
+            let front = get_or_append_left h.row (k.kept ∷ []) null j (omega (arith, h.len, before)) in
             subst (λ (x : Cell). Keeps d (column_at j rows ++ x ∷ []) b) (sym front) (h.done j d b before dc (sym same ∙ db))
         | inr after ↦
             let at : j ≡ i = omega arith in
@@ -166,8 +139,8 @@ half_more cs null_text ts rows i heavy more bs old new t here text keeps h =
 pub half_all : (cs : List Column) (null_text : List ℕ) (ts : List (List ℕ)) (rows : List (List Cell)) (i heavy : ℕ) (bs : List ColumnBuilder) → length bs ≤ i
     → Half cs null_text ts rows i heavy bs → HasRow cs null_text ts heavy rows bs
 half_all cs null_text ts rows i heavy bs le h =
-    let none : drop i cs ≡ [] = dropped_all cs i (omega (arith, le, h.count)) in
-    let all : take i cs ≡ cs = taken_all cs i (omega (arith, le, h.count)) in
+    let none : drop i cs ≡ [] = drop_all i cs (omega (arith, le, h.count)) in
+    let all : take i cs ≡ cs = take_all i cs (omega (arith, le, h.count)) in
     record {
       row = h.row;
       read = sym (rw none at h.read) ∙ fields_end null_text h.row (drop i ts);

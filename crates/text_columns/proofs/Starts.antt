@@ -3,7 +3,8 @@ use Rattle.std.specs.Prelude.{slice_get, sum_by, Option, Some, None, Ok, Err, Re
 use Rattle.std.proofs.Common.{Bool, List, [], ap, arith, inl, inr, length, refl, subst, suc, sym, ℕ, ◌*◌, ◌++◌, ◌+◌, ◌∙◌, ◌∷◌, ◌≡◌}
 use Rattle.std.proofs.Math.Nat.{mul_comm}
 use Rattle.std.proofs.lemmas.List.Sums.{sum_by-cons}
-use Rattle.arrow_schema.specs.Column.{Column, Kind, Pair, lists, large_lists, fixed_lists, structs, columns_of, column}
+use Rattle.arrow_schema.specs.laws.Columns.{columns_listed}
+use Rattle.arrow_schema.specs.Column.{Column, Kind, Pair, lists, large_lists, fixed_lists, structs, columns_of, column, list_of}
 use Rattle.arrow_schema.specs.View.{column_of, index_of, kind_of, pair_of}
 use Rattle.arrow_schema.specs.declared.types.Field.{Field}
 use Rattle.arrow_schema.specs.laws.Parts.{field_parts}
@@ -11,9 +12,9 @@ use Rattle.cells.specs.Cell.{null, no_cell}
 use Rattle.cells.specs.Weight.{kind_weight, parts_weight, weight}
 use Rattle.columns.specs.declared.numbers.OffsetWidth.TheVariants.{Four, Eight}
 use Rattle.text_columns.specs.declared.builder.ColumnBuilder.{ColumnBuilder}
-use Rattle.text_columns.specs.inner.Kept.{Keeps, StartsFixedLists, StartsLists, StartsStructs, AreUnlimited, IsUnlimited, KeepAll, column_list, key_list, null_heavy_of}
+use Rattle.text_columns.specs.inner.Kept.{Keeps, StartsFixedLists, StartsLists, StartsStructs, AreUnlimited, IsUnlimited, KeepAll, key_list, null_heavy_of}
 use Rattle.text_columns.proofs.Rows.{last_or_before}
-use Rattle.text_columns.proofs.StructFields.{columns_listed, fields_hold, holds_so}
+use Rattle.text_columns.proofs.StructFields.{fields_hold, holds_so}
 use Rattle.text_columns.proofs.Nulls.{null_is_heavy}
 
 -- a column of lists, from its buffers without cells
@@ -89,7 +90,7 @@ parts_null_weigh (c ∷ cs) (b ∷ bs) count each =
 structs_start : (name : List ℕ) (nullable : Bool) (cs : List Column) (pairs : List Pair) (b : ColumnBuilder) → StartsStructs nullable cs b → Keeps (column name nullable (structs (columns_of cs)) None pairs) [] b
 unfolding kind_weight
 structs_start name nullable cs pairs b s =
-    let listed : column_list (columns_of cs) ≡ cs = columns_listed cs in
+    let listed : list_of (columns_of cs) ≡ cs = columns_listed cs in
     let heavy = parts_null_weigh cs s.fields.items s.keeps.count (λ j c own dc db. s.keeps.each j c own dc db) in
     rw s.is (record {
       slots = record { same = s.same; valid = s.none; null_weighs = omega (arith, heavy, s.null_weighs); plain = refl };

@@ -3,7 +3,8 @@ use Rattle.std.specs.Global.{Vec}
 use Rattle.std.specs.Prelude.{Some, slice_get, get_or, replicate}
 use Rattle.std.proofs.Common.{◌≡◌, ℕ, false, zero, suc, List, [], ◌∷◌, ◌++◌, length, map, refl, arith, ap, sym, subst, ◌∙◌}
 use Rattle.std.proofs.lemmas.List.{map-append}
-use Rattle.arrow_schema.specs.Column.{Column, Columns, no_column, and_column, columns_of}
+use Rattle.std.proofs.lemmas.Option.{same_Some}
+use Rattle.arrow_schema.specs.Column.{Column, Columns, no_column, and_column, list_of}
 use Rattle.cells.specs.Cell.{Cell, null, parts, cells_of}
 use Rattle.cells.specs.Dictionary.{part_list}
 use Rattle.cells.specs.laws.Cells.{cells_listed}
@@ -14,28 +15,17 @@ use Rattle.text_columns.specs.declared.builder.ListOffsets.{ListOffsets}
 use Rattle.text_columns.specs.declared.builder.Names.{Names}
 use Rattle.text_columns.specs.declared.builder.Slots.{Slots}
 use Rattle.text_columns.specs.declared.builder.ColumnBuilder.TheOpen as builders
-use Rattle.text_columns.specs.inner.Kept.{AreUnlimited, HoldsFields, HoldsStructs, KeepAll, Keeps, KeepsAt, KeepsStructs, column_at, column_list, key_list}
-
-pub list_columns : (cs : Columns) → columns_of (column_list cs) ≡ cs
-list_columns no_column = refl
-list_columns (and_column c cs) = ap (and_column c) (list_columns cs)
-
-pub columns_listed : (cs : List Column) → column_list (columns_of cs) ≡ cs
-columns_listed [] = refl
-columns_listed (c ∷ cs) = ap (λ (xs : List Column). c ∷ xs) (columns_listed cs)
-
-some_same : {X : Type 0} {x y : X} → Some x ≡ Some y → x ≡ y
-some_same e = cc
+use Rattle.text_columns.specs.inner.Kept.{AreUnlimited, HoldsFields, HoldsStructs, KeepAll, Keeps, KeepsAt, KeepsStructs, column_at, key_list}
 
 -- the column at a place holds what the builder there holds
-pub at_list : (cs : Columns) (j : ℕ) (c : Column) (cells : List Cell) (b : ColumnBuilder) → slice_get (column_list cs) j ≡ Some c → KeepsAt cs j cells b → Keeps c cells b
+pub at_list : (cs : Columns) (j : ℕ) (c : Column) (cells : List Cell) (b : ColumnBuilder) → slice_get (list_of cs) j ≡ Some c → KeepsAt cs j cells b → Keeps c cells b
 at_list no_column j c cells b e k = absurd cc
-at_list (and_column d cs) zero c cells b e k = subst (λ (x : Column). Keeps x cells b) (some_same e) k
+at_list (and_column d cs) zero c cells b e k = subst (λ (x : Column). Keeps x cells b) (same_Some _ _ e) k
 at_list (and_column d cs) (suc j) c cells b e k = at_list cs j c cells b e k
 
-pub list_at : (cs : Columns) (j : ℕ) (c : Column) (cells : List Cell) (b : ColumnBuilder) → slice_get (column_list cs) j ≡ Some c → Keeps c cells b → KeepsAt cs j cells b
+pub list_at : (cs : Columns) (j : ℕ) (c : Column) (cells : List Cell) (b : ColumnBuilder) → slice_get (list_of cs) j ≡ Some c → Keeps c cells b → KeepsAt cs j cells b
 list_at no_column j c cells b e k = absurd cc
-list_at (and_column d cs) zero c cells b e k = subst (λ (x : Column). Keeps x cells b) (sym (some_same e)) k
+list_at (and_column d cs) zero c cells b e k = subst (λ (x : Column). Keeps x cells b) (sym (same_Some _ _ e)) k
 list_at (and_column d cs) (suc j) c cells b e k = list_at cs j c cells b e k
 
 -- buffers that hold structs have such fields
@@ -56,22 +46,22 @@ there_too (z ∷ xs) (y ∷ ys) (suc j) x e h = there_too xs ys j x (omega arith
 
 -- they hold the parts as rows
 pub fields_kept : (columns : Columns) (cells : List Cell) (names : List (List ℕ)) (fields : List ColumnBuilder) → HoldsStructs columns (KeepsAt columns) cells names fields
-    → KeepAll (column_list columns) (map part_list cells) fields
+    → KeepAll (list_of columns) (map part_list cells) fields
 fields_kept columns cells names fields h = record {
   count = h.count;
   each = λ j c b dc db. at_list columns j c (column_at j (map part_list cells)) b dc (h.each j b db);
 }
 
 -- and such rows are parts
-pub fields_hold : (columns : Columns) (cells : List Cell) (names : List (List ℕ)) (fields : List ColumnBuilder) → names ≡ names_of columns → repeats (names_of columns) ≡ false → AreUnlimited (column_list columns)
-    → KeepAll (column_list columns) (map part_list cells) fields → HoldsStructs columns (KeepsAt columns) cells names fields
+pub fields_hold : (columns : Columns) (cells : List Cell) (names : List (List ℕ)) (fields : List ColumnBuilder) → names ≡ names_of columns → repeats (names_of columns) ≡ false → AreUnlimited (list_of columns)
+    → KeepAll (list_of columns) (map part_list cells) fields → HoldsStructs columns (KeepsAt columns) cells names fields
 fields_hold columns cells names fields named distinct unlimited k = record {
   names_are = named;
   distinct = distinct;
   unlimited = unlimited;
   count = k.count;
   each = λ j b db.
-      let (c, dc) = there_too fields (column_list columns) j b (sym k.count) db in
+      let (c, dc) = there_too fields (list_of columns) j b (sym k.count) db in
       list_at columns j c (column_at j (map part_list cells)) b dc (k.each j c b dc db);
 }
 

@@ -98,9 +98,6 @@ fixed_null width old new e = λ kind cells t. record {
   holds = one_joined (fixed_bytes width) cells null old.items new.items t.holds e;
 }
 
-pub nulls_null : TakesNull Nulls Nulls
-nulls_null = λ kind cells t. record { kind_is = t.kind_is; holds = tt }
-
 pub null_weighs : (kind : Kind) (values : ColumnValues) → IsOf kind values → kind_weight kind null ≡ null_heavy values
 unfolding kind_weight
 null_weighs nulls Nulls h = refl

@@ -32,7 +32,7 @@ use Rattle.text_columns.specs.declared.column_values.ColumnValues.{ColumnValues}
 use Rattle.text_columns.specs.declared.column_values.ColumnValues.TheVariants.{Nulls, Booleans, Integers, Texts, Binaries, FixedBinaries}
 use Rattle.text_columns.specs.declared.builder.ColumnBuilder.{ColumnBuilder, Flat}
 use Rattle.text_columns.specs.declared.flat.FlatBuilder.{FlatBuilder}
-use Rattle.text_columns.specs.inner.Kept.{AppendsBytes, AppendsFixed, AppendsInteger, Clears, Codes, HasCell, Holds, HoldsCells, IsCoded, IsOf, Keeps, TakesCodedText, TakesNullCell, has_texts, null_heavy}
+use Rattle.text_columns.specs.inner.Kept.{AppendsInteger, Clears, Codes, HasCell, Holds, HoldsCells, IsCoded, IsOf, Keeps, TakesCodedText, TakesNullCell, has_texts, null_heavy}
 use Rattle.text_columns.specs.inner.Lines.{AppendsBinary, AppendsBit, AppendsFixedBinary, AppendsNumber, AppendsString, Completes, KeepsNull, KeepsToken, KeepsValue, TakesCellToken, TakesCodedToken, TakesNumber, TakesToken, TakesValue, integer_in, token_data}
 use Rattle.text_columns.proofs.Coded.{bytes_fit_kind, number_fits_kind, fitting_fits, own_flat, own_kind, with_one}
 use Rattle.text_columns.proofs.Taken.{contents_hold, dates_read, null_weighs, one_joined, one_mapped, times_read, width_fits}
@@ -172,18 +172,6 @@ string_step width t offsets contents newer longer (Err e) h = tt
 string_step width t offsets contents newer longer (Ok None) h = tt
 string_step width t offsets contents newer longer (Ok (Some heavy)) h =
     record { data_is = json.string h.text; read = rw h.is refl; there = λ e. cc; takes = string_taken width t heavy offsets contents newer longer h }
-
-pub binary_appended : {E : Type 0} (width : OffsetWidth) (t : Token) (s offsets contents newer longer : List ℕ) (r : Result (Option ℕ) E) → t ≡ tokens.string s
-    → IfOk r (λ taken. IfSome taken (λ heavy. AppendsBytes width s heavy offsets contents newer longer)) → IfOk r (λ taken. IfSome taken (λ heavy. AppendsBinary width t heavy offsets contents newer longer))
-binary_appended width t s offsets contents newer longer (Err e) is h = tt
-binary_appended width t s offsets contents newer longer (Ok None) is h = tt
-binary_appended width t s offsets contents newer longer (Ok (Some heavy)) is h = record { digits = s; is = is; takes = h }
-
-pub fixed_appended : {E : Type 0} (width : ℕ) (t : Token) (s old new : List ℕ) (r : Result (Option ℕ) E) → t ≡ tokens.string s → IfOk r (λ taken. IfSome taken (λ heavy. AppendsFixed width s heavy old new))
-    → IfOk r (λ taken. IfSome taken (λ heavy. AppendsFixedBinary width t heavy old new))
-fixed_appended width t s old new (Err e) is h = tt
-fixed_appended width t s old new (Ok None) is h = tt
-fixed_appended width t s old new (Ok (Some heavy)) is h = record { digits = s; is = is; takes = h }
 
 pub binary_step : {E : Type 0} (width : OffsetWidth) (t : Token) (offsets contents newer longer : Vec ℕ) (r : Result (Option ℕ) E)
     → IfOk r (λ taken. IfSome taken (λ heavy. AppendsBinary width t heavy offsets.items contents.items newer.items longer.items))

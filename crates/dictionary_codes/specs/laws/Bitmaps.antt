@@ -1,12 +1,12 @@
 -- Masks that are written as a validity bitmap.
 use Rattle.std.specs.Prelude.{nat_le, ◌||◌, ◌==◌, replicate, if◌then◌else◌}
-use Rattle.std.specs.List.{list_all, range_with_len}
-use Rattle.std.proofs.Common.{◌≡◌, ℕ, ◌*◌, ◌≤◌, Bool, true, false, List, [], ◌∷◌, map, length, refl, ap, sym, ◌∙◌, arith}
-use Rattle.std.proofs.lemmas.Bool.{eq-eqb, eqb-false, le-leb, ne_eqb, or_left, or_right}
+use Rattle.std.specs.List.{list_all}
+use Rattle.std.proofs.Common.{◌≡◌, ℕ, ◌*◌, ◌≤◌, Bool, true, false, List, [], ◌∷◌, length, refl, ap, sym, ◌∙◌, arith}
+use Rattle.std.proofs.lemmas.Bool.{eq-eqb, eqb-false, le-leb, ne_eqb, or_left, or_right, false_from_ne_true}
 use Rattle.std.proofs.lemmas.List.{length-replicate}
 use Rattle.std.proofs.lemmas.List.FromFn.{length-map-range_with_len}
 use Rattle.dictionary_codes.specs.Masks.{bitmap_bits, mask_bits, bitmap_of}
-use Rattle.bitmap.specs.Bits.{bit, bytes_of, packed, packed_in}
+use Rattle.bitmap.specs.Bits.{bit, bytes_of, packed}
 use Rattle.bitmap.specs.laws.Packed.{length-packed_in}
 
 -- ---- the bitmap of bits
@@ -26,16 +26,12 @@ bitmap_packed bits some = rw some refl
 pub bitmap_none : (bits : List Bool) → list_all (λ b. b) bits ≡ true → bitmap_of bits ≡ []
 bitmap_none bits all = rw all refl
 
-not_all : (all : Bool) → (all ≡ true → ⊥) → all ≡ false
-not_all true h = absurd (h refl)
-not_all false h = refl
-
 pub packed_some : (bits : List Bool) → list_all (λ b. b) bits ≡ false → length (packed bits) ≡ 0 → ⊥
 packed_some [] h none = cc
 packed_some (b ∷ bits) h none = absurd (omega (arith, none, length-packed_in (bytes_of (length (b ∷ bits))) (b ∷ bits)))
 
 pub some_unset : (bytes : List ℕ) (bits : List Bool) → bytes ≡ bitmap_of bits → (length bytes ≡ 0 → ⊥) → list_all (λ b. b) bits ≡ false
-some_unset bytes bits is some = not_all (list_all (λ b. b) bits) (λ all. some (ap length (is ∙ bitmap_none bits all)))
+some_unset bytes bits is some = false_from_ne_true (list_all (λ b. b) bits) (λ all. some (ap length (is ∙ bitmap_none bits all)))
 
 -- it has a bit for each
 pub bitmap_long : (bytes : List ℕ) (bits : List Bool) → bytes ≡ bitmap_of bits → (length bytes ≡ 0 → ⊥) → length bits ≤ 8 * length bytes

@@ -1,6 +1,5 @@
 -- How many slots a run has.
-use Rattle.std.specs.List.{range_with_len}
-use Rattle.std.proofs.Common.{◌≡◌, ℕ, map, length, ap, ◌∙◌}
+use Rattle.std.proofs.Common.{◌≡◌, ℕ, length, ap, ◌∙◌}
 use Rattle.std.proofs.lemmas.List.FromFn.{length-map-range_with_len}
 use Rattle.dictionary_codes.specs.Masks.{run_bits}
 use Rattle.columns.specs.declared.slot_runs.SlotRun.{SlotRun}

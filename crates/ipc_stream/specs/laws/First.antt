@@ -26,7 +26,7 @@ pub record BeginsWith (supported : ℕ → Bool) (bytes : List ℕ) (s : PlainSc
 
 -- ---- results
 
-bound : {A B : Type 0} (r : Result A Fault) (f : A → Result B Fault) (y : B) → (r >>= f) ≡ Ok y → (x : A) × (r ≡ Ok x) × (f x ≡ Ok y)
+pub bound : {A B : Type 0} (r : Result A Fault) (f : A → Result B Fault) (y : B) → (r >>= f) ≡ Ok y → (x : A) × (r ≡ Ok x) × (f x ≡ Ok y)
 bound (Ok x) f y h = (x, refl, h)
 bound (Err e) f y h = absurd cc
 
@@ -36,7 +36,7 @@ right x = Ok x
 given : {A : Type 0} (x y : A) → right x ≡ Ok y → x ≡ y
 given x y h = cc
 
-refused : {A : Type 0} (e : Fault) (y : A) → Err e ≡ Ok y → ⊥
+pub refused : {A : Type 0} (e : Fault) (y : A) → Err e ≡ Ok y → ⊥
 refused e y h = cc
 
 in_either : {A : Type 0} {P : Type 0} (b : Bool) (x y r : Result A Fault) → (x ≡ r → P) → (y ≡ r → P) → (if b then x else y) ≡ r → P

@@ -14,9 +14,6 @@ module _ (run : Run) where
   times : List Run → ℕ
   times rs = times_among rs run
 
-  segments_times : PlainEntry → ℕ
-  segments_times e = times_among (map (λ (s : Segment). s.place.run) e.segments) run
-
   -- the runs of an entry are those of its page and its segments
   split : (e : PlainEntry) → times_among (runs_in e) run ≡ times_among (page_runs e.page) run + times_among (map (λ (s : Segment). s.place.run) e.segments) run
   split e = times_both (page_runs e.page) (map (λ (s : Segment). s.place.run) e.segments) run

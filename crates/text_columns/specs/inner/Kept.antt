@@ -4,7 +4,7 @@ use Rattle.std.specs.Global.{Vec}
 use Rattle.byteorder.specs.Endian.{little_bytes}
 use Rattle.hex.specs.Hex.{decode_of}
 use Rattle.std.specs.List.{flat_map, list_all}
-use Rattle.arrow_schema.specs.Column.{Index, Kind, Column, booleans, integers, dates, timestamps, nulls, texts, large_texts, binaries, large_binaries, fixed_binaries, lists, large_lists, fixed_lists, structs, Columns, no_column, and_column, column, columns_of}
+use Rattle.arrow_schema.specs.Column.{Index, Kind, Column, booleans, integers, dates, timestamps, nulls, texts, large_texts, binaries, large_binaries, fixed_binaries, lists, large_lists, fixed_lists, structs, Columns, no_column, and_column, column, columns_of, list_of}
 use Rattle.arrow_schema.specs.Parts.{index_of_column}
 use Rattle.arrow_schema.specs.View.{bits_of}
 use Rattle.arrow_schema.specs.declared.types.IntegerType.{IntegerType}
@@ -285,11 +285,6 @@ KeepsFixedLists size item keeps cells _ = ⊥
 abbrev pub column_at : ℕ → List (List Cell) → List Cell
 column_at j rows = map (λ row. get_or row j null) rows
 
--- columns one after another
-abbrev pub column_list : Columns → List Column
-column_list no_column = []
-column_list (and_column c cs) = c ∷ column_list cs
-
 abbrev pub AreUnlimited : List Column → Type 0
 AreUnlimited cs = (j : ℕ) (c : Column) → slice_get cs j ≡ Some c → IsUnlimited c
 
@@ -297,8 +292,8 @@ AreUnlimited cs = (j : ℕ) (c : Column) → slice_get cs j ≡ Some c → IsUnl
 pub record HoldsStructs (columns : Columns) (keeps : ℕ → List Cell → ColumnBuilder → Type 0) (cells : List Cell) (names : List (List ℕ)) (fields : List ColumnBuilder) : Type 0 where
   pub names_are : names ≡ names_of columns
   pub distinct : repeats (names_of columns) ≡ false
-  pub unlimited : AreUnlimited (column_list columns)
-  pub count : length fields ≡ length (column_list columns)
+  pub unlimited : AreUnlimited (list_of columns)
+  pub count : length fields ≡ length (list_of columns)
   pub each : (j : ℕ) (b : ColumnBuilder) → slice_get fields j ≡ Some b → keeps j (column_at j (map part_list cells)) b
 
 abbrev pub HoldsFields : Columns → (ℕ → List Cell → ColumnBuilder → Type 0) → List Cell → ColumnBuilder-F ColumnBuilder → Type 0

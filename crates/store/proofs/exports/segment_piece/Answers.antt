@@ -1,10 +1,7 @@
-use Rattle.std.proofs.Common.{refl, ◌∙◌}
+use Rattle.std.proofs.Common.{◌∙◌}
 use Rattle.std.proofs.lemmas.Result.{IfOk-weaker, IfErr-weaker}
 use Rattle.arrow_schema.specs.Column.{PlainSchema}
 use Rattle.arrow_schema.specs.View.{schema_of}
-use Rattle.tables.specs.declared.refusal.Refusal.TheVariants.{OutOfMemory}
-use Rattle.store_runs.specs.Calls.{refused}
-use Rattle.store_changes.specs.laws.ReadTables.{reads_quiet}
 use Rattle.store.proofs.exports.segment_piece.Goals as goal
 
 pub returns-in-Ok-clause-piece : goal.returns-in-Ok-clause-piece

@@ -4,10 +4,8 @@ use Rattle.arrow_schema.specs.Limits.{IsWithinLimits}
 use Rattle.arrow_schema.specs.View.{schema_of}
 use Rattle.catalogue.specs.Entries.{plain_entry}
 use Rattle.catalogue.specs.laws.Kept.{entry_is}
-use Rattle.store_runs.specs.Calls.{refused}
 use Rattle.store.specs.Salvaging.{plain_left}
-use Rattle.store_changes.specs.laws.ReadTables.{reads_quiet}
-use Rattle.store.proofs.Salvaged.{salvages_all, output_quiet, breaks_output, reads_refused}
+use Rattle.store.proofs.Salvaged.{salvages_all}
 use Rattle.store.proofs.salvaging.salvage_entry.Goals as goal
 
 pub write_front-requires : goal.write_front-requires

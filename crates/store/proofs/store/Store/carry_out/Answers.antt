@@ -17,7 +17,6 @@ use Rattle.commit.specs.Standing.{is_size, is_on_device, runs_fault}
 use Rattle.commit.specs.laws.Taking.{took_takes}
 use Rattle.pages.specs.declared.stored.StoredCatalogue.{StoredCatalogue}
 use Rattle.store_runs.specs.Calls.{is_failure, is_device_reply}
-use Rattle.store_runs.specs.Machine.{halted, running}
 use Rattle.export_book.specs.Book.{runs_kept}
 use Rattle.store.specs.Exported.{AreExportable}
 use Rattle.store.specs.Fits.{book_of, listed_in}
@@ -35,9 +34,6 @@ use Rattle.store.proofs.store.Store.carry_out.Goals as goal
 
 memory_works : refusals.OutOfMemory ≢ refusals.Device
 memory_works is = cc is
-
-off_is_on : halted ≢ running
-off_is_on is = cc is
 
 pub prepare-requires-clause-sound : goal.prepare-requires-clause-sound
 prepare-requires-clause-sound g c =

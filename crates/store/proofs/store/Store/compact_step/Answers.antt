@@ -1,4 +1,4 @@
-use Rattle.std.proofs.Common.{◌≡◌, Bool, Some, None, Result, Ok, Err, inl, inr, refl, ap, sym, ◌∙◌, subst}
+use Rattle.std.proofs.Common.{◌≡◌, Bool, Some, None, Ok, Err, inl, inr, refl, ap, sym, ◌∙◌, subst}
 use Rattle.std.proofs.lemmas.Bool.{true≢false, false_from_ne_true}
 use Rattle.sector_dev.specs.Disk.{Disk, Story, now, shown_image}
 use Rattle.sector_dev.specs.Time.{OnlyReads}
@@ -9,9 +9,7 @@ use Rattle.catalogue.specs.Entries.{PlainCatalogue}
 use Rattle.catalogue.specs.View.{catalogue_of}
 use Rattle.catalogue.specs.laws.Kept.{catalogue_is}
 use Rattle.commit.specs.declared.recovery.Opened.{Opened}
-use Rattle.tables.specs.declared.refusal.Refusal.{Refusal}
 use Rattle.tables.specs.declared.refusal.Refusal.TheVariants as refusals
-use Rattle.store_runs.specs.declared.compacting.Compaction.{Compaction}
 use Rattle.pages.specs.declared.stored.StoredCatalogue.{StoredCatalogue}
 use Rattle.store_runs.specs.Calls.{done}
 use Rattle.store_changes.specs.Change.{change_of}
@@ -26,10 +24,6 @@ use Rattle.store_changes.specs.laws.StepChanges.{can_step, carried_shrinks, carr
 use Rattle.store.proofs.Stepped.{done_counts, never_nothing, nothing_read, made_goes, refused_goes, off_goes, none_goes, unread_goes}
 use Rattle.store.proofs.EachTable.{each_read, step_each}
 use Rattle.store.proofs.store.Store.compact_step.Goals as goal
-
--- an answer of a step
-abbrev failed_by : Refusal → Result Compaction Refusal
-failed_by r = Err r
 
 -- the catalogue of what was opened
 abbrev listed_by : Opened StoredCatalogue → PlainCatalogue
