@@ -1,5 +1,5 @@
 // Changes and copies of a list of entries.
-ghost use Rattle.std.specs.Prelude.{◌≡◌, ◌<◌, ◌++◌, true, map, length, option_map, string_bytes, vec_len, OnOk, OnErr, IfOk, IsOk, IsSome};
+ghost use Rattle.std.specs.Prelude.{◌≡◌, ◌<◌, ◌≤◌, ◌+◌, ◌++◌, true, map, length, option_map, string_bytes, vec_len, OnOk, OnErr, IfOk, IsOk, IsSome};
 ghost use Rattle.std.specs.Vec.{vec_capacity};
 ghost use Rattle.catalogue.specs.Entries.{plain_entry, names_of, ascends, segment_count, runs_in};
 ghost use Rattle.catalogue.specs.Edits.{entry_of, with_entry, without, renamed, with_more, with_others, with_exchanged, with_digests, entry_digested, digested};
@@ -203,16 +203,26 @@ pub(crate) fn put_entry_runs(runs: &mut Vec<Run>, entry: &TableEntry) -> Result<
     put_runs(runs, entry.segments())
 }
 
+// Appends the runs of segments, for which there is room.
+fn put_each_run(runs: &mut Vec<Run>, segments: &[Segment])
+    requires { vec_len runs.old + length segments.now ≤ vec_capacity runs.old }
+    ensures { runs.new.items ≡ runs.old.items ++ map (λ (s : Segment). s.place.run) segments.now }
+{
+    for segment in segments {
+        runs.push_reserved(segment.place.run);
+    }
+}
+
 /// Appends the runs of segments.
 ///
 /// # Errors
-/// `AllocError` if memory was refused; then some of the runs may have been appended.
+/// `AllocError` if memory was refused: nothing is appended.
 pub fn put_runs(runs: &mut Vec<Run>, segments: &[Segment]) -> Result<(), AllocError>
-    ensures { OnOk result (runs.new.items ≡ runs.old.items ++ map (λ (s : Segment). s.place.run) segments.now) }
+    ensures runs { OnOk result (runs.new.items ≡ runs.old.items ++ map (λ (s : Segment). s.place.run) segments.now) }
+    ensures err { OnErr result (runs.new.items ≡ runs.old.items) }
 {
-    for segment in segments {
-        runs.push(segment.place.run)?;
-    }
+    runs.reserve(segments.len())?;
+    put_each_run(runs, segments);
     Ok(())
 }
 

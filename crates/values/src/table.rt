@@ -27,7 +27,7 @@ pub struct Table {
 }
 
 impl Table {
-    ghost use Rattle.std.specs.Prelude.{true, ◌==◌, length, slice_get, option_map, map, IfOk, IfErr, IfSome, Ok};
+    ghost use Rattle.std.specs.Prelude.{true, ◌==◌, ◌↔◌, length, slice_get, option_map, map, IfOk, IfErr, IfSome, IsSome, Ok};
     ghost use Rattle.arrow_schema.specs.Column.{columns_of};
     ghost use Rattle.arrow_schema.specs.View.{schema_of};
     ghost use Rattle.arrow_schema.specs.Limits.{IsWithinLimits};
@@ -137,6 +137,7 @@ impl Table {
     pub fn parts(&self) -> Option<&[TablePart]>
         ensures sound { IfSome result (λ parts. are_parts_sound (columns_of (table_of self.now).schema.columns) parts.now ≡ true) }
         ensures rows { IfSome result (λ parts. table_of self.now ≡ parts_table (table_of self.now).schema parts.now) }
+        ensures kept { IsSome result ↔ (is_in_parts self.now ≡ true) }
     {
         match &self.content {
             Content::Batches(batches) => Some(&batches.parts),
