@@ -1,7 +1,7 @@
 -- What rows weigh, column by column, and how long the entries of a dictionary are.
 use Rattle.std.specs.Prelude.{ℤ, pos, negsuc, Option, Some, get_or, nat_le, nat_lt, min, not, option_map, string_bytes, sum_by, if◌then◌else◌, ◌*◌, ◌/◌, ◌==◌, ◌&&◌}
 use Rattle.std.specs.List.{list_all, range_with_len}
-use Rattle.std.proofs.Common.{◌≡◌, ℕ, zero, suc, ◌+◌, ◌-◌, ◌≤◌, ◌<◌, Bool, true, false, List, [], ◌∷◌, ◌++◌, map, length, take, drop, inl, inr, refl, sym, ap, subst, ◌∙◌, arith}
+use Rattle.std.proofs.Common.{◌≡◌, ℕ, zero, suc, ◌+◌, ◌-◌, ◌≤◌, ◌<◌, Bool, true, false, List, [], ◌∷◌, map, length, take, drop, inl, inr, refl, sym, ap, subst, ◌∙◌, arith}
 use Rattle.std.proofs.lemmas.Bool.Decides.{nat_tests}
 use Rattle.std.proofs.lemmas.Bool.{and_from, and_parts, cases_lt, le-leb, leb-true}
 use Rattle.std.proofs.lemmas.List.{append-nil, drop_all, length-drop, take_all}
@@ -21,8 +21,9 @@ use Rattle.columns.specs.Tests.{are_few, are_few_offsets, has_short_buffer, has_
 use Rattle.columns.specs.View.{fields_of, placed_arrays}
 use Rattle.columns.specs.declared.array.PlacedArray.{PlacedArray}
 use Rattle.table_cut.specs.declared.row_run.RowRun.{RowRun}
-use Rattle.table_cut.specs.inner.Bounds.{AreNoLonger, column_weight, columns_weight}
+use Rattle.table_cut.specs.inner.Bounds.{column_weight, columns_weight}
 use Rattle.table_cut.specs.inner.Columns.{arrays_from_place, array_at}
+use Rattle.table_cut.specs.inner.EntrySizes.{AreNoLonger}
 use Rattle.table_cut.proofs.ColumnLemmas.{arrays_next}
 
 -- ---- rows, column by column

@@ -1,5 +1,6 @@
 mod WeightLemmas
 pub mod Bounds
+pub mod EntrySizeLemmas
 mod CutSteps
 mod Unlimited
 mod SeenLemmas

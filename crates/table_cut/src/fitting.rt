@@ -5,9 +5,11 @@ ghost use Rattle.arrow_schema.specs.Column.{columns_of};
 ghost use Rattle.cells.specs.Weight.{capped_weight};
 ghost use Rattle.table_cut.specs.Rows.{are_runs_sound, is_run_sound};
 ghost use Rattle.table_cut.specs.inner.Bounds.{Weighs};
+ghost use Rattle.table_cut.specs.inner.EntrySizes.{AreSizesOf};
 ghost use Rattle.table_cut.specs.inner.Weights.{front_weight, piece_weight, weight_at};
 
 use crate::bound::{Weighed, front_bound};
+use crate::entry_sizes::EntrySize;
 use crate::row_run::RowRun;
 use arrays::row_span_weight;
 use arrow_schema::Schema;
@@ -121,10 +123,12 @@ pub(crate) fn fitting(
     schema: &Schema,
     piece: &[RowRun<'_>],
     run: RowRun<'_>,
+    sizes: &[Option<EntrySize>],
     room: usize,
     before: Weighed,
 ) -> Taken
     requires sound { is_run_sound (columns_of (schema_of schema.now).columns) run ≡ true }
+    requires sizes { AreSizesOf run sizes.now }
     requires piece { are_runs_sound (columns_of (schema_of schema.now).columns) piece.now ≡ true }
     requires weighed { Weighs before (piece_weight (schema_of schema.now) piece.now) }
     requires light { piece_weight (schema_of schema.now) piece.now ≤ MAX_PIECE_WEIGHT }
@@ -138,7 +142,7 @@ pub(crate) fn fitting(
 {
     if let Weighed::AtMost(weight) = before {
         let most = run.len.min(room);
-        let together = add_weights(weight, front_bound(schema, run, most));
+        let together = add_weights(weight, front_bound(schema, run, sizes, most));
         if together <= MAX_PIECE_WEIGHT {
             return Taken {
                 rows: most,

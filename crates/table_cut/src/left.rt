@@ -1,4 +1,5 @@
 // The rows that are left of a table, and the next piece of them.
+ghost use Rattle.std.proofs.Props.{props};
 ghost use Rattle.std.specs.Prelude.{◌≡◌, ◌≢◌, ◌++◌, [], ◌∷◌, true, false, length, IfOk, OnOk};
 ghost use Rattle.std.specs.List.{list_all};
 ghost use Rattle.arrow_schema.specs.Column.{Columns, columns_of};
@@ -11,9 +12,11 @@ ghost use Rattle.columns.specs.View.{placed_arrays};
 ghost use Rattle.table_cut.specs.Rows.{run_rows, runs_rows, is_run_sound, are_runs_sound};
 ghost use Rattle.table_cut.specs.Cut.{pieces};
 ghost use Rattle.table_cut.specs.Piece.{within_piece};
+ghost use Rattle.table_cut.specs.inner.EntrySizes.{AreSizesAt};
 ghost use Rattle.values.specs.Parts.{part_rows, parts_rows, is_batch_sound, are_parts_sound};
 
 use crate::bound::nothing_weighed;
+use crate::entry_sizes::{EntrySize, keep_sizes};
 use crate::filling::can_rows_fill;
 use crate::fitting::fitting;
 use crate::longest_fronts_are_pieces;
@@ -31,6 +34,9 @@ use values::TablePart;
 pub struct RowsLeft<'a> {
     pub(crate) runs: Vec<RowRun<'a>>,
     pub(crate) next: usize,
+    // of the entries of the next run's dictionaries, once a piece was begun with it
+    pub(crate) sizes: Vec<Option<EntrySize>>,
+    ghost known: { AreSizesAt next runs.items sizes.items } by { Prim.hlevel props },
 }
 
 /// The rows of a piece, as runs, and how many they are.
@@ -95,19 +101,25 @@ impl<'a> RowsLeft<'a> {
         for part in parts {
             add_part(&mut runs, part)?;
         }
-        Ok(RowsLeft { runs, next: 0 })
+        Ok(RowsLeft::of_runs(runs))
     }
 
     /// The rows of runs that are given.
     pub fn of_runs(runs: Vec<RowRun<'a>>) -> RowsLeft<'a>
         ensures { runs_left result ≡ runs.entry.items }
     {
-        RowsLeft { runs, next: 0 }
+        let alloc = *runs.allocator();
+        RowsLeft {
+            runs,
+            next: 0,
+            sizes: Vec::new(alloc),
+        }
     }
 
     /// The rows of the next piece: the longest front of the rows that are left which is within the limits of a piece. It takes time linear in the runs of
-    /// the piece, and for a piece that is too heavy with one run more, in the rows of that run. If its rows have several dictionaries and can fill one,
-    /// with 8 bit indices, or below a list with 16 bit ones, it also takes time linear in the cells of all its rows, for each of its first such runs anew.
+    /// the piece, and for a piece that is too heavy with one run more, in the rows of that run; and once for each run linear in its rows, for the entries of
+    /// its dictionaries. If its rows have several dictionaries and can fill one, with 8 bit indices, or below a list with 16 bit ones, it also takes time
+    /// linear in the cells of all its rows, for each of its first such runs anew.
     ///
     /// # Errors
     /// `AllocError` where memory was refused. It is not promised then which rows are left: a caller that tries again begins with [`RowsLeft::new`].
@@ -134,7 +146,15 @@ impl<'a> RowsLeft<'a> {
         let mut seen = Seen::Nothing;
         while self.next < self.runs.len() && rows < MAX_PIECE_ROWS {
             let run = self.runs[self.next];
-            let taken = fitting(schema, &runs, run, MAX_PIECE_ROWS - rows, weight);
+            keep_sizes(&mut self.sizes, schema, run, weight)?;
+            let taken = fitting(
+                schema,
+                &runs,
+                run,
+                &self.sizes,
+                MAX_PIECE_ROWS - rows,
+                weight,
+            );
             let most = run.front(taken.rows);
             let room = room_within(alloc, schema, can_fill, seen, &runs, most)?;
             push_run(&mut runs, run.front(room.rows))?;
@@ -145,6 +165,7 @@ impl<'a> RowsLeft<'a> {
                 self.runs[self.next] = run.skip(room.rows);
                 return Ok(RunPiece { runs, rows });
             }
+            self.sizes.clear();
             self.next += 1;
         }
         Ok(RunPiece { runs, rows })

@@ -12,9 +12,10 @@
 //!
 //! [`RowsLeft`] cuts a table that is kept in record batches into the same pieces, as runs of its rows, and [`column_runs`] gives what each column has of
 //! them. Where a piece ends is found from the weights of spans of rows ([`arrays::row_span_weight`]), unless a bound shows that all rows that it may have
-//! are light enough (`bound.rt`). Only a dictionary of 8 bit indices, or one of 16 bit indices below a list, can be full within a piece (`filling.rt`). Where
-//! there is one, and a piece has rows under several dictionaries, the end is the least row over its columns for whose entry a dictionary has no room
-//! ([`dictionary_codes::name_slots`]). Rows are borrowed only where there are lists or structs besides, or many such dictionaries in one piece.
+//! are light enough (`bound.rt`); for it the longest entry of a dictionary is found once for all pieces that a run is cut into (`entry_sizes.rt`). Only a
+//! dictionary of 8 bit indices, or one of 16 bit indices below a list, can be full within a piece (`filling.rt`). Where there is one, and a piece has rows
+//! under several dictionaries, the end is the least row over its columns for whose entry a dictionary has no room ([`dictionary_codes::name_slots`]). Rows are
+//! borrowed only where there are lists or structs besides, or many such dictionaries in one piece.
 //!
 //! ```ignore
 //! let mut left = RowsLeft::new(alloc, parts)?;
@@ -26,6 +27,7 @@
 mod bound;
 mod columns_of_runs;
 mod columns_room;
+mod entry_sizes;
 mod filling;
 mod fitting;
 mod holding;

@@ -40,6 +40,7 @@ impl<'a> RowRun<'a> {
     /// The rows after the first of these.
     pub fn skip(self, len: usize) -> RowRun<'a>
         requires { len ≤ self.len }
+        ensures arrays { arrays_of_run result ≡ arrays_of_run self.entry }
         ensures len { result.len ≡ self.entry.len - len }
         ensures rows { (columns : Columns) → run_rows columns result ≡ drop len (run_rows columns self.entry) }
         ensures sound { (columns : Columns) → is_run_sound columns self.entry ≡ true → is_run_sound columns result ≡ true }

@@ -1,10 +1,8 @@
 -- Bounds of what the rows of a run weigh, column by column.
-use Rattle.std.specs.Prelude.{◌≡◌, ◌≤◌, ◌+◌, ℕ, ℤ, Some, sum_by}
-use Rattle.arrow_schema.specs.Column.{Kind, Column, Columns, no_column, and_column}
-use Rattle.cells.specs.Weight.{kind_weight, weight}
-use Rattle.columns.specs.Array.{Arrays}
-use Rattle.columns.specs.CellAt.{cell_at, cells_from, entries_of_kind, entry_at}
-use Rattle.columns.specs.Offsets.{contents_width}
+use Rattle.std.specs.Prelude.{◌≡◌, ◌≤◌, ◌+◌, ℕ, sum_by}
+use Rattle.arrow_schema.specs.Column.{Column, Columns, no_column, and_column}
+use Rattle.cells.specs.Weight.{weight}
+use Rattle.columns.specs.CellAt.{cell_at, cells_from}
 use Rattle.table_cut.specs.declared.bound.Weighed.{Weighed}
 use Rattle.table_cut.specs.declared.bound.Weighed.TheVariants.{Exactly, AtMost}
 use Rattle.table_cut.specs.declared.row_run.RowRun.{RowRun}
@@ -23,7 +21,3 @@ column_weight j c r rows = sum_by (weight c) (cells_from (cell_at c (array_at j 
 unfoldable pub columns_weight : ℕ → Columns → RowRun → (rows : ℕ) → ℕ
 columns_weight j no_column r rows = 0
 columns_weight j (and_column c cs) r rows = column_weight j c r rows + columns_weight (j + 1) cs r rows
-
--- of a dictionary's entries, read as texts or binaries whose offsets have this width, none has more bytes than these
-abbrev pub AreNoLonger : (width : ℕ) → ℕ → Arrays → Type 0
-AreNoLonger width size dictionary = (kind : Kind) (z : ℤ) → contents_width kind ≡ Some width → kind_weight kind (entry_at (entries_of_kind kind dictionary) z) ≤ 1 + size

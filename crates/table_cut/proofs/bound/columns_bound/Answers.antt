@@ -1,4 +1,4 @@
-use Rattle.std.proofs.Common.{◌≡◌, ◌≤◌, ◌+◌, [], ◌∷◌, ℕ, List, arith, ap, drop, length, sym, true, ◌∙◌}
+use Rattle.std.proofs.Common.{◌+◌, ℕ, List, arith, ap, drop, ◌∙◌}
 use Rattle.std.proofs.lemmas.List.{drop_all}
 use Rattle.arrow_schema.specs.View.{column_of}
 use Rattle.arrow_schema.specs.declared.types.Field.{Field}

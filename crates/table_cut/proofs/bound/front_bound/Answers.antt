@@ -1,8 +1,7 @@
-use Rattle.std.proofs.Common.{◌≤◌, ◌≡◌, ◌+◌, ℕ, List, map, sym, ap, subst, ◌∙◌, true}
+use Rattle.std.proofs.Common.{◌≤◌, ◌≡◌, ◌+◌, ℕ, List, sym, ap, subst, ◌∙◌, true}
 use Rattle.arrow_schema.specs.Column.{PlainSchema, columns_of}
-use Rattle.arrow_schema.specs.View.{column_of, schema_of}
+use Rattle.arrow_schema.specs.View.{schema_of}
 use Rattle.arrow_schema.specs.declared.types.Field.{Field}
-use Rattle.cells.specs.Cell.{Cell}
 use Rattle.cells.specs.Weight.{capped_weight, table_weight}
 use Rattle.columns.specs.View.{fields_of}
 use Rattle.columns.specs.Sound.{are_sound}

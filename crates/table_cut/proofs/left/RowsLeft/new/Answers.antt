@@ -30,6 +30,6 @@ pub returns : goal.returns
 returns c =
     let is = c.loop-part.invariant in
     record {
-      rows = λ cs. is.rows cs ∙ ap (parts_rows cs) (all_items c.loop-part.part-index c.args.parts.now c.args.parts.now c.loop-part-test.false refl);
-      sound = λ cs passes. is.sound cs (ap (are_parts_sound cs) (all_items c.loop-part.part-index c.args.parts.now c.args.parts.now c.loop-part-test.false refl) ∙ passes);
+      rows = λ cs. ap (runs_rows cs) c.of_runs.ensures ∙ is.rows cs ∙ ap (parts_rows cs) (all_items c.loop-part.part-index c.args.parts.now c.args.parts.now c.loop-part-test.false refl);
+      sound = λ cs passes. ap (are_runs_sound cs) c.of_runs.ensures ∙ is.sound cs (ap (are_parts_sound cs) (all_items c.loop-part.part-index c.args.parts.now c.args.parts.now c.loop-part-test.false refl) ∙ passes);
     }

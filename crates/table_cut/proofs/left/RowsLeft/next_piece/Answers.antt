@@ -1,7 +1,8 @@
 use Rattle.std.specs.List.{list_all}
-use Rattle.std.proofs.Common.{◌≡◌, ◌⊎◌, inl, inr, ◌+◌, ◌<◌, ◌≤◌, ◌++◌, ◌∷◌, ℕ, List, [], length, take, drop, set, sym, ap, subst, ◌∙◌, arith}
+use Rattle.std.proofs.Common.{◌≡◌, ◌⊎◌, inl, inr, ◌+◌, ◌<◌, ◌≤◌, ◌++◌, ◌∷◌, ℕ, List, [], length, take, drop, set, refl, sym, ap, subst, ◌∙◌, arith}
 use Rattle.std.proofs.lemmas.Bool.{and_from, cases_lt}
 use Rattle.std.proofs.lemmas.List.{drop_all}
+use Rattle.std.proofs.lemmas.Option.{slice_get_read}
 use Rattle.arrow_schema.specs.Column.{PlainSchema, Columns, columns_of}
 use Rattle.arrow_schema.specs.View.{schema_of}
 use Rattle.cells.specs.Cell.{Cell}
@@ -16,6 +17,8 @@ use Rattle.table_cut.specs.declared.row_run.RowRun.{RowRun}
 use Rattle.table_cut.specs.inner.Bounds.{Weighs}
 use Rattle.table_cut.specs.inner.Weights.{front_weight, piece_weight}
 use Rattle.table_cut.specs.inner.Room.{HasRoom, IsSeenWithin}
+use Rattle.table_cut.specs.inner.EntrySizes.{AreSizesOf}
+use Rattle.table_cut.proofs.EntrySizeLemmas.{sizes_here, sizes_of_rest}
 use Rattle.table_cut.proofs.PieceLemmas.{IsFull, IsPastLimits, cut_here, drop_set, some_taken}
 use Rattle.table_cut.proofs.RoomLemmas.{HasRoomBelow, rows_of_parts, rows_of_first, front_room, lighter_front}
 use Rattle.table_cut.proofs.RunSteps.{has_taken, run_first, sound_first, taken_front, cut_front, cut_full}
@@ -41,6 +44,49 @@ loop-self-init c =
       seen = λ filled. none;
     }
 
+pub keep_sizes-requires-clause-known : goal.keep_sizes-requires-clause-known
+keep_sizes-requires-clause-known c =
+    let items : List RowRun = c.loop-self.self.runs.items in
+    let next : ℕ = c.loop-self.self.next in
+    let run : RowRun = c.index-run.result.now in
+    let lt : next < length items = omega (arith, c.loop-self.self.runs.ok.0, c.len.ensures, c.loop-self-test.true) in
+    c.loop-self.self.known run (slice_get_read items (length items) next run refl lt c.index-run.ensures)
+
+pub fitting-taken-requires-clause-sizes : goal.fitting-taken-requires-clause-sizes
+fitting-taken-requires-clause-sizes c = subst (AreSizesOf c.index-run.result.now) (sym c.deref-in-loop-self.ensures.value) c.keep_sizes.ensures
+
+pub invariant_of-self : goal.invariant_of-self
+invariant_of-self c =
+    let items : List RowRun = c.loop-self.self.runs.items in
+    let next : ℕ = c.loop-self.self.next in
+    let run : RowRun = c.index-run.result.now in
+    let lt : next < length items = omega (arith, c.loop-self.self.runs.ok.0, c.len.ensures, c.loop-self-test.true) in
+    record { known = sizes_here items next run c.keep_sizes.new.sizes.items lt c.index-run.ensures c.keep_sizes.ensures }
+
+pub invariant_of-self-in-Break-branch-2 : goal.invariant_of-self-in-Break-branch-2
+invariant_of-self-in-Break-branch-2 c =
+    let items : List RowRun = c.loop-self.self.runs.items in
+    let next : ℕ = c.loop-self.self.next in
+    let run : RowRun = c.index-run.result.now in
+    let lt : next < length items = omega (arith, c.loop-self.self.runs.ok.0, c.len.ensures, c.loop-self-test.true) in
+    record { known = sizes_here items next run c.keep_sizes.new.sizes.items lt c.index-run.ensures c.keep_sizes.ensures }
+
+pub invariant_of-self-in-Break-branch-3 : goal.invariant_of-self-in-Break-branch-3
+invariant_of-self-in-Break-branch-3 c =
+    let items : List RowRun = c.loop-self.self.runs.items in
+    let next : ℕ = c.loop-self.self.next in
+    let run : RowRun = c.index-run.result.now in
+    let lt : next < length items = omega (arith, c.loop-self.self.runs.ok.0, c.len.ensures, c.loop-self-test.true) in
+    record { known = sizes_here items next run c.keep_sizes.new.sizes.items lt c.index-run.ensures c.keep_sizes.ensures }
+
+pub invariant_of-self-then-room-run : goal.invariant_of-self-then-room-run
+invariant_of-self-then-room-run c =
+    let items : List RowRun = c.loop-self.self.runs.items in
+    let next : ℕ = c.loop-self.self.next in
+    let run : RowRun = c.index-run.result.now in
+    let lt : next < length items = omega (arith, c.loop-self.self.runs.ok.0, c.len.ensures, c.loop-self-test.true) in
+    record { known = sizes_of_rest items next run c.skip.result c.keep_sizes.new.sizes.items lt c.skip.ensures.arrays c.keep_sizes.ensures }
+
 pub fitting-taken-requires-clause-piece : goal.fitting-taken-requires-clause-piece
 fitting-taken-requires-clause-piece c = ap (are_runs_sound (columns_of (schema_of c.args.schema.now).columns)) c.deref.ensures.value ∙ c.loop-self.invariant.sound
 
@@ -58,7 +104,7 @@ room_within-requires-clause-can_fill c = c.can_rows_fill-can_fill.ensures
 
 pub room_within-requires-clause-few : goal.room_within-requires-clause-few
 room_within-requires-clause-few c =
-    let same = ap (λ (runs : List RowRun). length (runs_rows (columns_of (schema_of c.args.schema.now).columns) runs)) c.deref-in-loop-self.ensures.value in
+    let same = ap (λ (runs : List RowRun). length (runs_rows (columns_of (schema_of c.args.schema.now).columns) runs)) c.deref-in-loop-self-2.ensures.value in
     omega (arith, same, c.loop-self.invariant.count, c.front-most.ensures.len, c.fitting-taken.ensures.few, c.if-rows-lt-MAX_PIECE_ROWS.true)
 
 pub room_within-requires-clause-after : goal.room_within-requires-clause-after
@@ -74,21 +120,21 @@ room_within-requires-clause-after c =
     record {
       limits = c.requires.schema;
       before = record {
-        sound = ap (are_runs_sound cs) c.deref-in-loop-self.ensures.value ∙ is.sound;
-        rows = ap (λ (runs : List RowRun). list_all (is_row s) (runs_rows cs runs)) c.deref-in-loop-self.ensures.value ∙ parts.0;
+        sound = ap (are_runs_sound cs) c.deref-in-loop-self-2.ensures.value ∙ is.sound;
+        rows = ap (λ (runs : List RowRun). list_all (is_row s) (runs_rows cs runs)) c.deref-in-loop-self-2.ensures.value ∙ parts.0;
       };
       own = record {
         sound = c.front-most.ensures.sound cs (sound_first cs items next run lt c.index-run.ensures is.left).0;
         rows = ap (list_all (is_row s)) (c.front-most.ensures.rows cs)
             ∙ rows_of_first s (rows_left cs c.loop-self.self) (run_rows cs run) (runs_rows cs (drop (next + 1) items)) c.fitting-taken.result.rows (run_first cs items next run lt c.index-run.ensures) parts.1;
       };
-      fits = ap (λ (runs : List RowRun). dictionaries_fit s (runs_rows cs runs)) c.deref-in-loop-self.ensures.value ∙ is.fits;
+      fits = ap (λ (runs : List RowRun). dictionaries_fit s (runs_rows cs runs)) c.deref-in-loop-self-2.ensures.value ∙ is.fits;
     }
 
 pub room_within-requires-clause-seen : goal.room_within-requires-clause-seen
 room_within-requires-clause-seen c =
     let s : PlainSchema = schema_of c.args.schema.now in
-    subst (λ (runs : List RowRun). IsSeenWithin s (runs_rows (columns_of s.columns) runs) c.loop-self.seen) (sym c.deref-in-loop-self.ensures.value) c.loop-self.invariant.seen
+    subst (λ (runs : List RowRun). IsSeenWithin s (runs_rows (columns_of s.columns) runs) c.loop-self.seen) (sym c.deref-in-loop-self-2.ensures.value) c.loop-self.invariant.seen
 
 pub front-requires : goal.front-requires
 front-requires c = omega (arith, c.in_ok-room.ensures.room.within, c.front-most.ensures.len, c.fitting-taken.ensures.within)
@@ -112,7 +158,7 @@ loop-self-preserved c =
     let new : List (List Cell) = runs_rows cs c.push_run.new.runs.items in
     let lt : next < length items = omega (arith, c.loop-self.self.runs.ok.0, c.len.ensures, c.loop-self-test.true) in
     let room : HasRoomBelow s before run t k = front_room s before run most t k c.front-most.ensures.len (c.front-most.ensures.rows cs) c.front-most.ensures.arrays c.front-most.ensures.from
-    (subst (λ (runs : List RowRun). HasRoom s (runs_rows cs runs) most k) c.deref-in-loop-self.ensures.value c.in_ok-room.ensures.room) in
+    (subst (λ (runs : List RowRun). HasRoom s (runs_rows cs runs) most k) c.deref-in-loop-self-2.ensures.value c.in_ok-room.ensures.room) in
     let same : t ≡ k = omega (arith, room.within, c.fitting-taken.ensures.within, c.if-room-run.false) in
     let le : k ≤ run.len = omega (arith, same, c.fitting-taken.ensures.within) in
     let taken : new ≡ before ++ take k (run_rows cs run) = c.in_ok-push_run.ensures.rows cs ∙ ap (λ (xs : List (List Cell)). before ++ xs) (c.front.ensures.rows cs) in
@@ -123,8 +169,8 @@ loop-self-preserved c =
     let heavy = ap (λ (n : ℕ). table_weight s (take n (run_rows cs run))) same in
     let piece = ap (piece_weight s) c.deref.ensures.value in
     let total : piece_weight s c.deref.result.now + front_weight s run t ≡ table_weight s new = omega (arith, piece, took.weight, heavy) in
-    let seen_rows : runs_rows cs c.deref-in-loop-self.result.now ++ run_rows cs most ≡ new =
-    (λ i. runs_rows cs (c.deref-in-loop-self.ensures.value i) ++ c.front-most.ensures.rows cs i) ∙ ap (λ (n : ℕ). before ++ take n (run_rows cs run)) same ∙ sym taken in
+    let seen_rows : runs_rows cs c.deref-in-loop-self-2.result.now ++ run_rows cs most ≡ new =
+    (λ i. runs_rows cs (c.deref-in-loop-self-2.ensures.value i) ++ c.front-most.ensures.rows cs i) ∙ ap (λ (n : ℕ). before ++ take n (run_rows cs run)) same ∙ sym taken in
     record {
       front = taken_front cs items next run (rows_left cs c.args.self.now) before new k lt c.index-run.ensures is.front taken
           ∙ ap (λ (xs : List (List Cell)). new ++ (xs ++ runs_rows cs (drop (next + 1) items))) none;
@@ -184,7 +230,7 @@ returns-then-room-run-clause-piece c =
     let taken : new ≡ before ++ take k (run_rows cs run) = c.in_ok-push_run.ensures.rows cs ∙ ap (λ (xs : List (List Cell)). before ++ xs) (c.front.ensures.rows cs) in
     let front : all ≡ new ++ rest = cut_front cs items next run c.skip.result all before new k lt c.index-run.ensures is.front taken (c.skip.ensures.rows cs) in
     let room : HasRoomBelow s before run t k = front_room s before run most t k c.front-most.ensures.len (c.front-most.ensures.rows cs) c.front-most.ensures.arrays c.front-most.ensures.from
-    (subst (λ (runs : List RowRun). HasRoom s (runs_rows cs runs) most k) c.deref-in-loop-self.ensures.value c.in_ok-room.ensures.room) in
+    (subst (λ (runs : List RowRun). HasRoom s (runs_rows cs runs) most k) c.deref-in-loop-self-2.ensures.value c.in_ok-room.ensures.room) in
     let took = has_taken s before new run k (omega (arith, c.if-room-run.true)) taken in
     let lighter = lighter_front s (run_rows cs run) k t room.within in
     let piece = ap (piece_weight s) c.deref.ensures.value in

@@ -1,8 +1,8 @@
-use Rattle.std.proofs.Common.{◌≡◌, ◌+◌, ◌-◌, inl, inr, ℕ, ap, arith}
+use Rattle.std.proofs.Common.{◌≡◌, ◌+◌, inl, inr, ℕ, ap, arith}
 use Rattle.std.proofs.lemmas.Bool.{cases_lt}
 use Rattle.columns.specs.CellAt.{number_at}
 use Rattle.columns.specs.Offsets.{width_of}
-use Rattle.table_cut.proofs.bound.longest.Goals as goal
+use Rattle.table_cut.proofs.entry_sizes.longest.Goals as goal
 
 pub loop-i-preserved : goal.loop-i-preserved
 loop-i-preserved c = λ k lt. elim (cases_lt k c.loop-i.i) [

@@ -4,9 +4,9 @@ use Rattle.columns.specs.Array.{Array, arrays_of, offsets_in, slots_in}
 use Rattle.columns.specs.CellAt.{number_at}
 use Rattle.columns.specs.Offsets.{width_of}
 use Rattle.columns.specs.View.{view_array}
-use Rattle.table_cut.specs.inner.Bounds.{AreNoLonger}
+use Rattle.table_cut.specs.inner.EntrySizes.{AreNoLonger}
 use Rattle.table_cut.proofs.Bounds.{entries_light, offsets_there, spans_light}
-use Rattle.table_cut.proofs.bound.entry_size.Goals as goal
+use Rattle.table_cut.proofs.entry_sizes.entry_size.Goals as goal
 
 pub longest-requires : goal.longest-requires
 longest-requires c =

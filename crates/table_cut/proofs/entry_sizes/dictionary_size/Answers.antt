@@ -7,12 +7,12 @@ use Rattle.columns.specs.Offsets.{width_of}
 use Rattle.columns.specs.Tests.{are_few_offsets}
 use Rattle.columns.specs.View.{array_in, no_dictionary, view_array}
 use Rattle.columns.specs.declared.array.PlacedArray.{PlacedArray}
-use Rattle.table_cut.specs.inner.Bounds.{AreNoLonger}
+use Rattle.table_cut.specs.inner.EntrySizes.{AreNoLonger}
 use Rattle.table_cut.proofs.Bounds.{only_item}
-use Rattle.table_cut.proofs.bound.dictionary_size.Goals as goal
+use Rattle.table_cut.proofs.entry_sizes.dictionary_size.Goals as goal
 
-pub entry_size-requires : goal.entry_size-requires
-entry_size-requires c =
+pub entry_size-size-requires : goal.entry_size-size-requires
+entry_size-size-requires c =
     let arrays : List PlacedArray = c.dictionary.result.arrays.now in
     let array : PlacedArray = c.array-item.result in
     let a : Array = array_in c.args.view.bytes.now no_dictionary array in
@@ -30,4 +30,4 @@ returns-in-len1 c =
     let item : arrays ≡ array ∷ [] = only_item arrays array c.in-len1.len_at_least c.in-len1.len_below c.array-item.is in
     let known : arrays_of (a ∷ []) ≡ dictionary_in (view_array c.args.view) =
     ap (λ (xs : List PlacedArray). arrays_of (map (array_in c.args.view.bytes.now no_dictionary) xs)) (sym item) ∙ c.dictionary.ensures in
-    subst (AreNoLonger (width_of c.args.width) c.entry_size.result) known c.entry_size.ensures
+    subst (AreNoLonger (width_of c.args.width) c.entry_size-size.result) known c.entry_size-size.ensures

@@ -6,10 +6,10 @@ use Rattle.arrow_schema.specs.View.{kind_of}
 use Rattle.columns.specs.Array.{Array, array_list, dictionary_in}
 use Rattle.columns.specs.Offsets.{contents_width, width_of}
 use Rattle.columns.specs.Tests.{are_few_offsets}
-use Rattle.table_cut.specs.inner.Bounds.{AreNoLonger}
 use Rattle.table_cut.specs.inner.Columns.{array_at}
-use Rattle.table_cut.proofs.Bounds.{coded_light, enough_offsets}
-use Rattle.table_cut.proofs.bound.coded_size.Goals as goal
+use Rattle.table_cut.specs.inner.EntrySizes.{IsSizeOf}
+use Rattle.table_cut.proofs.Bounds.{enough_offsets}
+use Rattle.table_cut.proofs.entry_sizes.column_size.Goals as goal
 
 pub dictionary_size-requires : goal.dictionary_size-requires
 dictionary_size-requires c =
@@ -20,8 +20,5 @@ dictionary_size-requires c =
 
 pub returns-in-Some-Some : goal.returns-in-Some-Some
 returns-in-Some-Some c =
-    let width : ℕ = width_of c.in-Some-Some.width in
-    let wide : contents_width (kind_of c.args.field.now.data_type) ≡ Some width = sym c.contents_width.ensures ∙ ap (option_map width_of) c.in-Some-Some.is-1 in
-    IfSome_then c.dictionary_size.result c.dictionary_size.ensures (λ size few i.
-    coded_light c.args.field.now c.in-Some-Some.field-0-0 width (array_at c.args.place c.args.run) size i c.in-Some-Some.is-0 wide
-    (subst (λ (a : Array). AreNoLonger width size (dictionary_in a)) (c.array_or.ensures c.args.run.bytes.now c.args.run.dictionaries.now) few))
+    IfSome_then c.dictionary_size.result c.dictionary_size.ensures (λ known few.
+    subst (λ (a : Array). IsSizeOf (dictionary_in a) known) (c.array_or.ensures c.args.run.bytes.now c.args.run.dictionaries.now) few)
