@@ -1,5 +1,5 @@
 -- How a run ends, once its text is written or its arguments are reported.
-use Rattle.std.proofs.Common.{◌≡◌, ℕ, List, [], Option, refl, sym, subst, inl}
+use Rattle.std.proofs.Common.{◌≡◌, ℕ, List, [], Option, refl, sym, subst, inl, inr}
 use Rattle.std.specs.Prelude.{◌≢◌, Some, None, Result, Ok, Err, IsOk, IsTrue, IfErr, OnOk}
 use Rattle.std.specs.Io.KnownBytes.{Appends}
 use Rattle.cli_refusals.specs.declared.hint.Hint.{Hint}
@@ -8,13 +8,14 @@ use Rattle.cli_refusals.specs.declared.refusal.Refusal.TheVariants.{Io, OutOfMem
 use Rattle.cli_texts.specs.declared.status.Ended.{Ended}
 use Rattle.cli_texts.specs.declared.status.Status.{Status}
 use Rattle.cli_texts.specs.declared.status.Status.TheVariants.{Done, PartlyDone, Refused, WrongArguments}
-use Rattle.cli_texts.specs.Ending.{IsIo, IsOfOutput, GivesText, TellsRefusal, HasReported}
+use Rattle.clap.specs.Words.{Text}
+use Rattle.cli_texts.specs.Ending.{IsIo, IsOfOutput, GivesText, TellsRefusal, HasReported, HasReportedHint, HintsText}
 use Rattle.cli_texts.specs.Reported.{IfRefused}
 use Rattle.cli_texts.specs.Told.{told}
 use Rattle.cli_texts.specs.declared.telling.Audience.{Audience}
 use Rattle.cli_commands.specs.Recode.{IsTrueFault}
 use Rattle.arrowstore.specs.OnFiles.{WritesPart}
-use Rattle.arrowstore.specs.Running.{Recodes}
+use Rattle.arrowstore.specs.Running.{Recodes, MayHint}
 
 -- a text of the program's own is given
 pub own_given : (done : Result (Unit {0}) Refusal) (status : Status) (given quiet reported : Type 0) → (IsOk done → (status ≡ Done) × quiet × reported) → IfErr done (λ r. status ≡ Refused r) → OnOk done given → IfErr done IsOfOutput
@@ -22,24 +23,40 @@ pub own_given : (done : Result (Unit {0}) Refusal) (status : Status) (given quie
 own_given (Ok x) status given quiet reported ok err written refused = subst (GivesText given) (sym (ok refl).0) written
 own_given (Err e) status given quiet reported ok err written refused = subst (GivesText given) (sym err) refused
 
--- what is done is reported so, and what is refused
-pub own_reported : {W E : Type 0} (contents : E → Option (List ℕ)) (audience : Audience) (output output' : W) (errors errors' : E) (done : Result (Unit {0}) Refusal) (ended : Ended)
+-- what is done is reported so, and what is refused, with one of these hints
+pub own_reported : {W E : Type 0} (may_hint : Option Hint → Refusal → Type 0) (contents : E → Option (List ℕ)) (audience : Audience) (hint : Option Hint) (output output' : W) (errors errors' : E) (done : Result (Unit {0}) Refusal) (ended : Ended)
     → (IsOk done → (ended.status ≡ Done) × (errors' ≡ errors) × IsTrue ended.is_reported) → IfErr done (λ r. ended.status ≡ Refused r) → IfErr done (λ r. r ≢ Io → output' ≡ output)
-    → TellsRefusal (told audience None) ended (contents errors) (contents errors') → HasReported contents audience None [] IsIo output output' errors errors' ended
-own_reported contents audience output output' errors errors' (Ok x) ended ok err quiet line = let is = ok refl in record {
-  silent = λ _. (refl, is.1, is.2);
-  listed = λ partly. absurd (cc (is.0, partly));
-  nothing_written = λ wrong. absurd (cc (is.0, wrong));
-  quiet = subst (λ s. IfRefused s (λ r. r ≢ Io → output' ≡ output)) (sym is.0) tt;
-  line = line;
-}
-own_reported contents audience output output' errors errors' (Err e) ended ok err quiet line = record {
-  silent = λ done. absurd (cc (err, done));
-  listed = λ partly. absurd (cc (err, partly));
-  nothing_written = λ wrong. absurd (cc (err, wrong));
-  quiet = subst (λ s. IfRefused s (λ r. r ≢ Io → output' ≡ output)) (sym err) quiet;
-  line = line;
-}
+    → IfErr done (may_hint hint) → TellsRefusal (told audience hint) ended (contents errors) (contents errors') → HasReportedHint may_hint contents audience output output' errors errors' ended
+own_reported may_hint contents audience hint output output' errors errors' (Ok x) ended ok err quiet hints line = let is = ok refl in (
+  hint,
+  subst (λ s. IfRefused s (may_hint hint)) (sym is.0) tt,
+  record {
+    silent = λ _. (refl, is.1, is.2);
+    listed = λ partly. absurd (cc (is.0, partly));
+    nothing_written = λ wrong. absurd (cc (is.0, wrong));
+    quiet = subst (λ s. IfRefused s (λ r. r ≢ Io → output' ≡ output)) (sym is.0) tt;
+    line = line;
+  },
+)
+own_reported may_hint contents audience hint output output' errors errors' (Err e) ended ok err quiet hints line = (
+  hint,
+  subst (λ s. IfRefused s (may_hint hint)) (sym err) hints,
+  record {
+    silent = λ done. absurd (cc (err, done));
+    listed = λ partly. absurd (cc (err, partly));
+    nothing_written = λ wrong. absurd (cc (err, wrong));
+    quiet = subst (λ s. IfRefused s (λ r. r ≢ Io → output' ≡ output)) (sym err) quiet;
+    line = line;
+  },
+)
+
+-- what holds of one reason holds of another
+pub if_error : (done : Result (Unit {0}) Refusal) (P Q : Refusal → Type 0) → ((r : Refusal) → P r → Q r) → IfErr done P → IfErr done Q
+if_error (Ok x) P Q implied holds = tt
+if_error (Err e) P Q implied holds = implied e holds
+
+pub text_hints : (arguments : List Text) (hint : Option Hint) (done : Result (Unit {0}) Refusal) → IfErr done (HintsText hint) → IfErr done (MayHint arguments hint)
+text_hints arguments hint done = if_error done (HintsText hint) (MayHint arguments hint) (λ r hints. inr hints)
 
 -- where memory is refused nothing is recoded
 pub memory_recodes : {W : Type 0} (contents : W → Option (List ℕ)) (input : Option (List ℕ)) (output output' : W) (status : Status) → status ≡ Refused OutOfMemory → output' ≡ output → Recodes contents input output output' status
@@ -64,14 +81,18 @@ memory_recodes contents (Some bytes) output output' status is same = record {
 
 -- what is wrong is no refusal
 pub wrong_told : {W E : Type 0} (contents : E → Option (List ℕ)) (audience : Audience) (output : W) (errors errors' : E) (ended : Ended) → ended.status ≡ WrongArguments
-    → HasReported contents audience None [] IsIo output output errors errors' ended
-wrong_told contents audience output errors errors' ended wrong = record {
-  silent = λ done. absurd (cc (wrong, done));
-  listed = λ partly. absurd (cc (wrong, partly));
-  nothing_written = λ _. refl;
-  quiet = subst (λ s. IfRefused s (λ r. r ≢ Io → output ≡ output)) (sym wrong) tt;
-  line = subst (λ s. IfRefused s (λ r. IsTrue ended.is_reported → Appends (contents errors) (contents errors') (told audience None r))) (sym wrong) tt;
-}
+    → HasReportedHint HintsText contents audience output output errors errors' ended
+wrong_told contents audience output errors errors' ended wrong = (
+  None,
+  subst (λ s. IfRefused s (HintsText None)) (sym wrong) tt,
+  record {
+    silent = λ done. absurd (cc (wrong, done));
+    listed = λ partly. absurd (cc (wrong, partly));
+    nothing_written = λ _. refl;
+    quiet = subst (λ s. IfRefused s (λ r. r ≢ Io → output ≡ output)) (sym wrong) tt;
+    line = subst (λ s. IfRefused s (λ r. IsTrue ended.is_reported → Appends (contents errors) (contents errors') (told audience None r))) (sym wrong) tt;
+  },
+)
 
 -- what holds of a refusal for one reason holds for another
 if_refused : (status : Status) (P Q : Refusal → Type 0) → ((r : Refusal) → P r → Q r) → IfRefused status P → IfRefused status Q
@@ -79,6 +100,12 @@ if_refused Done P Q implied holds = tt
 if_refused PartlyDone P Q implied holds = tt
 if_refused (Refused refusal) P Q implied holds = implied refusal holds
 if_refused WrongArguments P Q implied holds = tt
+
+-- arguments that are reported, or their help, have the hint of a text
+pub text_may_hint : {W E : Type 0} (arguments : List Text) (contents : E → Option (List ℕ)) (audience : Audience) (output output' : W) (errors errors' : E) (ended : Ended)
+    → HasReportedHint HintsText contents audience output output' errors errors' ended → HasReportedHint (MayHint arguments) contents audience output output' errors errors' ended
+text_may_hint arguments contents audience output output' errors errors' ended has =
+    (has.0, if_refused ended.status (HintsText has.0) (MayHint arguments has.0) (λ r hints. inr hints) has.1, has.2)
 
 -- a run that writes a part of its output for no other reason
 pub reported_of_word : {W E : Type 0} (contents : E → Option (List ℕ)) (audience : Audience) (hint : Option Hint) (left : List (ℕ × ℕ)) (word : List ℕ) (output output' : W) (errors errors' : E) (ended : Ended)

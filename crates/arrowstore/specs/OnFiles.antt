@@ -29,7 +29,7 @@ use Rattle.cli_refusals.specs.declared.hint.Hint.TheVariants as hints
 use Rattle.cli_refusals.specs.declared.hint.Hinted.{Hinted}
 use Rattle.cli_refusals.specs.declared.hint.Hinted.TheVariants.{Part, Table}
 use Rattle.cli_texts.specs.Reported.{IsWrong}
-use Rattle.cli_texts.specs.Ending.{GivesSome, HasReported, IsIo}
+use Rattle.cli_texts.specs.Ending.{GivesSome, HasReported, HasReportedHint, HintsText, IsIo}
 use Rattle.cli_texts.specs.declared.telling.Audience.{Audience}
 use Rattle.cli_texts.specs.declared.status.Ended.{Ended}
 use Rattle.cli_texts.specs.declared.status.Status.{Status}
@@ -288,5 +288,5 @@ abbrev pub RunsOnStore : {D : Type 0} → (g : Ghosts D) → (is_opened : D → 
     → (arguments : List (List ℕ)) → (before after : Ends R W E) → Ended → Type 0
 RunsOnStore g is_opened remaining contents replays reported audience arguments before after ended =
     (AsksForNone contents arguments before.output after.output ended.status × (after.input ≡ before.input)
-    × HasReported reported audience None [] IsIo before.output after.output before.errors after.errors ended)
+    × HasReportedHint HintsText reported audience before.output after.output before.errors after.errors ended)
     ⊎ ServesAsked g is_opened remaining contents replays reported audience arguments before after ended

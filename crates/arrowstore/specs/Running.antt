@@ -1,13 +1,24 @@
--- What a run of `recode` leaves on its output.
-use Rattle.std.specs.Prelude.{◌≡◌, ◌≢◌, ◌<◌, ℕ, List, length, Option, IfSome, IsErr}
+-- What a run of `recode` leaves on its output, and what a run without a store may hint at.
+use Rattle.std.specs.Prelude.{◌≡◌, ◌≢◌, ◌⊎◌, ◌<◌, ℕ, List, length, Option, Some, None, IfSome, IsErr}
+use Rattle.clap.specs.Words.{Text}
 use Rattle.ipc_message.specs.Header.{supported_codes}
+use Rattle.ipc_message.specs.declared.fault.Fault.{Fault}
+use Rattle.ipc_message.specs.declared.fault.Fault.TheVariants as faults
 use Rattle.ipc_stream.specs.Meaning.{meaning}
+use Rattle.cli_refusals.specs.declared.hint.Hint.{Hint}
+use Rattle.cli_refusals.specs.declared.hint.Hint.TheVariants as hints
+use Rattle.cli_refusals.specs.declared.refusal.Refusal.{Refusal}
+use Rattle.cli_refusals.specs.declared.refusal.Refusal.TheVariants as refusals
 use Rattle.cli_refusals.specs.declared.refusal.Refusal.TheVariants.{TooManyBytes}
 use Rattle.cli_texts.specs.declared.status.Status.{Status}
 use Rattle.cli_texts.specs.declared.status.Status.TheVariants.{Done, PartlyDone, Refused, WrongArguments}
+use Rattle.cli_texts.specs.Ending.{HintsText, IsIo}
 use Rattle.cli_texts.specs.Reported.{IfRefused, IsRefused}
 use Rattle.cli_commands.specs.declared.input.TheConstants.{LARGEST_INPUT}
 use Rattle.cli_commands.specs.Recode.{AppendsCanonical, IsTrueFault}
+use Rattle.arrowstore.specs.Arguments.{AreRecode}
+use Rattle.arrowstore.specs.declared.streams_again.FoundOfStreams.{FoundOfStreams}
+use Rattle.arrowstore.specs.declared.streams_again.FoundOfStreams.TheVariants as found
 
 -- a run of `recode` whose input had these bytes left
 pub record Recodes {W : Type 0} (contents : W → Option (List ℕ)) (input : Option (List ℕ)) (output output' : W) (status : Status) : Type 0 where
@@ -24,3 +35,28 @@ pub record Recodes {W : Type 0} (contents : W → Option (List ℕ)) (input : Op
   pub whole : status ≢ PartlyDone
   -- its arguments are accepted
   pub right_arguments : status ≢ WrongArguments
+
+-- the stream has some fault
+abbrev pub IsOfFault : Refusal → Type 0
+IsOfFault refusal = (fault : Fault) × (refusal ≡ refusals.Fault fault)
+
+-- what may be hinted of a refused `recode`: why a read or a write failed, that the input, which has no schema, is empty, or the name of a field after a
+-- fault of the stream
+abbrev pub HintsRecode : Option Hint → Refusal → Type 0
+HintsRecode None refusal = Unit {0}
+HintsRecode (Some (hints.Input reason)) refusal = IsIo refusal
+HintsRecode (Some (hints.Output reason)) refusal = IsIo refusal
+HintsRecode (Some hints.EmptyInput) refusal = refusal ≡ refusals.Fault faults.NoSchema
+HintsRecode (Some (hints.Field name)) refusal = IsOfFault refusal
+HintsRecode (Some hint) refusal = ⊥
+
+-- what may be hinted of a run without a store: that of `recode`, or of a text
+abbrev pub MayHint : (arguments : List Text) → Option Hint → Refusal → Type 0
+MayHint arguments hint refusal = (AreRecode arguments × HintsRecode hint refusal) ⊎ HintsText hint refusal
+
+-- the refusal after which this is found
+abbrev pub IsFoundFor : FoundOfStreams → Refusal → Type 0
+IsFoundFor (found.Unread reason) refusal = IsIo refusal
+IsFoundFor (found.Unwritten reason) refusal = IsIo refusal
+IsFoundFor found.Empty refusal = refusal ≡ refusals.Fault faults.NoSchema
+IsFoundFor (found.Field name) refusal = IsOfFault refusal

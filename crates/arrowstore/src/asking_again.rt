@@ -5,16 +5,15 @@ use crate::copying_files::open_to_read;
 use crate::failed_file::KeptFile;
 use crate::failing::{is_of_failure, report_of_failure};
 use crate::in_place_of_store::{file_in_place_of_store, file_of_bad_size, refused_sectors};
-use crate::input_again::{FoundField, field_of_no_table, field_with_fault};
+use crate::input_again::{FoundField, field_of_no_table};
 use crate::script_again::line_of_script;
+use crate::streams_again::{FoundOfStreams, found_in_stream};
 use crate::unread_tables::unread_table;
 use cli_refusals::Refusal;
 use cli_requests::{StoreCommand, StoreRequest};
 use cli_texts::Audience;
 use commit::{Cause, OpeningRefusal};
-use ipc_message::Fault;
 use sector_dev::LockFile;
-use std::alloc::Global;
 use std::fs::OpenFile;
 use std::io::{Read, Seek, Write};
 use std::rt::Files;
@@ -28,19 +27,15 @@ pub(crate) enum AskedAgain {
     Sectors(u64),
     /// The file on which a call failed, and why.
     File(KeptFile),
-    /// Why the input could not be read.
-    Input(String),
-    /// That the input is empty.
-    EmptyInput,
-    /// Why the output could not be written.
-    Output(String),
+    /// What is wrong with the input or the output.
+    Streams(FoundOfStreams),
     /// An empty table with the schema of the table that the refused query was for.
     Queried(Table),
     /// The name of a table that can't be read.
     Unread(String),
     /// The refused line of a script.
     Line(Vec<u8>),
-    /// What is wrong with the fields of the input.
+    /// How the fields of the input differ from those of the table.
     Field(FoundField),
 }
 
@@ -87,14 +82,6 @@ fn found_of_size<H: Files + AllocGlobal>(rt: &H, request: &StoreRequest<'_>) -> 
     }
 }
 
-fn found_in_stream(alloc: Global, served: Served<'_>, fault: Fault) -> Option<AskedAgain> {
-    if fault == Fault::NoSchema && served.is_input_empty {
-        return Some(AskedAgain::EmptyInput);
-    }
-    let field = field_with_fault(alloc, served.start, fault)?;
-    Some(AskedAgain::Field(field))
-}
-
 fn found_of<F: Read + Write + Seek + OpenFile + LockFile + Drop, H: Files<File = F> + AllocGlobal>(
     rt: &H,
     request: &StoreRequest<'_>,
@@ -131,7 +118,8 @@ fn found_of<F: Read + Write + Seek + OpenFile + LockFile + Drop, H: Files<File =
             Some(AskedAgain::Unread(name))
         }
         Refusal::Store(tables::Refusal::Import(fault)) => {
-            found_in_stream(rt.alloc(), served, *fault)
+            let found = found_in_stream(rt.alloc(), served.start, served.is_input_empty, *fault)?;
+            Some(AskedAgain::Streams(found))
         }
         Refusal::Store(tables::Refusal::SchemaMismatch) => {
             let field = field_of_no_table(rt, request, served.start)?;

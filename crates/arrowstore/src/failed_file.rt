@@ -4,7 +4,6 @@ ghost use Rattle.arrowstore.specs.OnFiles.{hinted_of};
 
 use cli_refusals::{FailedFile, FileReason, Hint, has_unshown};
 use std::alloc::Global;
-use std::io;
 
 /// Why the call failed.
 #[derive(Drop)]
@@ -59,18 +58,4 @@ impl KeptFile {
             reason,
         })
     }
-}
-
-// Strips the error number: `Permission denied (os error 13)` becomes `Permission denied`.
-fn without_number(text: &str) -> &str {
-    match text.split_once(" (") {
-        Some((words, _)) => words,
-        None => text,
-    }
-}
-
-/// Returns the system's text for an error, without its number.
-pub(crate) fn system_text(alloc: Global, error: &io::Error) -> Option<String> {
-    let text = format!(in alloc; "{error}").ok()?;
-    String::from_str(alloc, without_number(text.as_str())).ok()
 }

@@ -1,10 +1,12 @@
 // Explains the system call that failed while a request was served.
 use crate::asking_again::AskedAgain;
-use crate::failed_file::{KeptFile, Reason, system_text};
+use crate::failed_file::{KeptFile, Reason};
 use crate::in_place_of_store::reason_in_place_of_store;
+use crate::streams_again::FoundOfStreams;
 use crate::{Failure, FileCall};
 use cli_refusals::{MOST_SHOWN, Refusal};
 use cli_requests::StoreRequest;
+use cli_texts::system_text;
 use commit::OpeningRefusal;
 use std::alloc::Global;
 use std::fs;
@@ -95,8 +97,14 @@ pub(crate) fn report_of_failure<H: Files + AllocGlobal>(
     failure: &Failure,
 ) -> Option<AskedAgain> {
     match failure {
-        Failure::Input(error) => Some(AskedAgain::Input(reason_of_input(rt, error)?)),
-        Failure::Output(error) => Some(AskedAgain::Output(system_text(rt.alloc(), error)?)),
+        Failure::Input(error) => {
+            let reason = reason_of_input(rt, error)?;
+            Some(AskedAgain::Streams(FoundOfStreams::Unread(reason)))
+        }
+        Failure::Output(error) => {
+            let reason = system_text(rt.alloc(), error)?;
+            Some(AskedAgain::Streams(FoundOfStreams::Unwritten(reason)))
+        }
         Failure::File { path, call, error } => {
             if !may_be_shown(request, path) {
                 return None;

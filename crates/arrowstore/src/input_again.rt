@@ -16,11 +16,9 @@ use std::fs::OpenFile;
 use std::io::{Read, Seek, Write};
 use std::rt::Files;
 
-/// What is wrong with the fields of the stream.
+/// How the fields of the stream differ from those of the table.
 #[derive(Drop)]
 pub(crate) enum FoundField {
-    /// The name of a refused field.
-    Refused(Vec<u8>),
     /// The name and the text of a field, and the text of the different field that the table has in its place.
     Other {
         name: String,
@@ -40,7 +38,6 @@ impl FoundField {
         ensures { hinted_of (Some result) ≡ None }
     {
         match self {
-            FoundField::Refused(name) => Hint::Field(name.as_slice()),
             FoundField::Other {
                 name,
                 found,
@@ -85,14 +82,13 @@ fn has_fault(alloc: Global, field: RawField<'_>, fault: Fault) -> Option<bool> {
     }
 }
 
-/// Returns the first field that has this fault by itself.
-pub(crate) fn field_with_fault(alloc: Global, start: &[u8], fault: Fault) -> Option<FoundField> {
+/// Returns the name of the first field that has this fault by itself.
+pub(crate) fn field_with_fault(alloc: Global, start: &[u8], fault: Fault) -> Option<Vec<u8>> {
     let schema = raw_schema_at(alloc, start)?;
     for field in schema.fields {
         let name = field.name;
         if has_fault(alloc, field, fault)? {
-            let name = Vec::from_slice(alloc, name).ok()?;
-            return Some(FoundField::Refused(name));
+            return Vec::from_slice(alloc, name).ok();
         }
     }
     None

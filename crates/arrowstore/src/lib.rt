@@ -29,6 +29,7 @@ mod script_again;
 mod serving;
 mod serving_device;
 mod serving_open;
+mod streams_again;
 mod unread_tables;
 mod with_files;
 

@@ -1,24 +1,26 @@
 // The program over any input and output, without files.
-ghost use Rattle.std.specs.Prelude.{◌≡◌, ◌⊎◌, [], true, map, None};
+ghost use Rattle.std.specs.Prelude.{◌≡◌, ◌⊎◌, true, map};
 ghost use Rattle.std.specs.Io.KnownBytes.{Appends};
 ghost use Rattle.arrowstore.specs.Arguments.{AreRecode, AreRight};
-ghost use Rattle.arrowstore.specs.Running.{Recodes};
-ghost use Rattle.cli_texts.specs.Ending.{GivesSome, GivesText, HasReported, IsIo};
+ghost use Rattle.arrowstore.specs.Running.{MayHint, Recodes};
+ghost use Rattle.cli_texts.specs.Ending.{GivesSome, GivesText, HasReportedHint};
 ghost use Rattle.cli_texts.specs.OwnTexts.{is_own, own_text};
 ghost use Rattle.cli_texts.specs.Reported.{IsWrong};
 ghost use Rattle.cli_texts.specs.Told.{audience_after_output};
 ghost use Rattle.cli_texts.specs.declared.status.Status.TheVariants.{Done};
 
+use crate::Input;
 use crate::command_line::{Action, action_of};
+use crate::streams_again::end_recode;
 use cli_commands::recode;
-use cli_texts::{Audience, Ended, Output, end_output, is_own, report_arguments, write_own_text};
+use cli_texts::{Audience, Ended, Output, end_text, is_own, report_arguments, write_own_text};
 use std::alloc::Global;
 use std::convert::AsStr;
 use std::io::{Read, Write};
 
 /// Executes the arguments, the first of which is the program's name, and reports on `errors` if that fails.
 #[tactic(auto, using(crate::proofs::WordLemmas::recode_is_not_own))]
-pub fn run<S: AsStr, R: Read, W: Write + Output, E: Write>(
+pub fn run<S: AsStr, R: Read + Input, W: Write + Output, E: Write>(
     alloc: Global,
     arguments: &[S],
     input: &mut R,
@@ -40,18 +42,18 @@ pub fn run<S: AsStr, R: Read, W: Write + Output, E: Write>(
         ⊎ GivesSome (W.contents output.old) (W.contents output.new) }
     ensures only_recode_reads { AreRecode (map S.text arguments.now) ⊎ (input.new ≡ input.old) }
     // `errors` gets the report of a refusal for this audience, and nothing on success; nor, at a terminal, the failure of an output whose reader is
-    // gone.
-    ensures reports { HasReported E.contents (audience_after_output audience (W.unread output.new)) None [] IsIo output.old output.new errors.old
-        errors.new result }
+    // gone. At a terminal a refusal of `recode` may have a hint at its input or output, and a text that is not written one at the output.
+    ensures reports { HasReportedHint (MayHint (map S.text arguments.now)) E.contents (audience_after_output audience (W.unread output.new))
+        output.old output.new errors.old errors.new result }
 {
     if is_own(arguments) {
         let written = write_own_text(alloc, arguments, output);
-        return end_output(written, None, audience, output, errors);
+        return end_text(alloc, written, audience, output, errors);
     }
     match action_of(alloc, arguments) {
         Ok(Action::Recode) => {
             let done = recode(alloc, input, output);
-            end_output(done, None, audience, output, errors)
+            end_recode(alloc, done, audience, input, output, errors)
         }
         Err(error) => report_arguments(alloc, &error, output, errors, audience),
     }

@@ -5,14 +5,14 @@ ghost use Rattle.clap.specs.Words.{kind_of};
 ghost use Rattle.clap.specs.declared.error.kind.ErrorKind.TheVariants as kinds;
 ghost use Rattle.arrowstore.specs.Arguments.{AreRecode, AreRight};
 ghost use Rattle.arrowstore.specs.OnFiles.{GivesHelpOrWrong, HasTold, IsOpenedFile, Replays, RunsOnStore, ServesTold, ends_of, hinted_of, status_of};
-ghost use Rattle.arrowstore.specs.Running.{Recodes};
-ghost use Rattle.cli_texts.specs.Ending.{GivesSome, GivesText, HasReported, IsIo, TellsRefusal};
+ghost use Rattle.arrowstore.specs.Running.{MayHint, Recodes};
+ghost use Rattle.cli_texts.specs.Ending.{GivesSome, GivesText, HasReportedHint, HintsText, TellsRefusal};
 ghost use Rattle.cli_texts.specs.LeftOut.{left_out_text};
 ghost use Rattle.cli_texts.specs.OwnTexts.{is_own, own_text};
 ghost use Rattle.cli_texts.specs.Told.{audience_after_output, told};
 ghost use Rattle.cli_requests.specs.Asked.{request_word};
 ghost use Rattle.cli_requests.specs.StoreWords.{first_word, is_of_store, takes_input, takes_input_word};
-ghost use Rattle.cli_texts.specs.Reported.{IsWrong};
+ghost use Rattle.cli_texts.specs.Reported.{IfRefused, IsWrong};
 ghost use Rattle.cli_texts.specs.declared.status.Status.TheVariants.{Done, PartlyDone, Refused};
 ghost use Rattle.cli_refusals.specs.declared.refusal.Refusal.TheVariants as refusals;
 ghost use Rattle.cli_refusals.specs.declared.hint.Hint.{Hint};
@@ -77,9 +77,7 @@ fn found_hint<'a>(
     match asked {
         AskedAgain::Sectors(number) => Some(Hint::Sectors(*number)),
         AskedAgain::File(file) => Some(file.hint()),
-        AskedAgain::Input(reason) => Some(Hint::Input(reason.as_str())),
-        AskedAgain::EmptyInput => Some(Hint::EmptyInput),
-        AskedAgain::Output(reason) => Some(Hint::Output(reason.as_str())),
+        AskedAgain::Streams(found) => Some(found.hint()),
         AskedAgain::Unread(name) => Some(Hint::UnreadTable(name.as_str())),
         AskedAgain::Line(text) => Some(Hint::ScriptLine(text.as_slice())),
         AskedAgain::Field(field) => Some(field.hint()),
@@ -169,7 +167,7 @@ fn report_mistake<W: Write + Output, E: Write>(
 ) -> Ended
     ensures none { GivesHelpOrWrong W.contents asks_for_help output.old output.new result.status }
     ensures memory { kind_of error.now ≡ kinds.OutOfMemory → result.status ≡ Refused refusals.OutOfMemory }
-    ensures reports { HasReported E.contents (audience_after_output audience (W.unread output.new)) None [] IsIo output.old output.new errors.old
+    ensures reports { HasReportedHint HintsText E.contents (audience_after_output audience (W.unread output.new)) output.old output.new errors.old
         errors.new result }
 {
     if asks_for_help {
@@ -261,9 +259,10 @@ pub fn run_with_files<
     ensures helps { result.status ≡ Done → AreRecode (map S.text arguments.now) ⊎ (is_own (map S.text arguments.now) ≡ true)
         ⊎ (is_of_store (map S.text arguments.now) ≡ true) ⊎ GivesSome (W.contents output.old) (W.contents output.new) }
     // `errors` gets the report of a refusal for this audience, the segments that are left out, and nothing on success; nor the failure of an output
-    // whose reader is gone. Only commands of a store have further hints or leave something out.
+    // whose reader is gone. Only commands of a store leave something out or have hints other than those that `run` may give.
     ensures reports { (hint : Option Hint) × (left : List (ℕ × ℕ))
-        × ((is_of_store (map S.text arguments.now) ≡ true) ⊎ ((hint ≡ None) × (left ≡ [])))
+        × ((is_of_store (map S.text arguments.now) ≡ true)
+        ⊎ ((left ≡ []) × IfRefused result.status (MayHint (map S.text arguments.now) hint)))
         × HasTold E.contents (audience_after_output audience (W.unread output.new)) (first_word (map S.text arguments.now)) left output.old output.new
         errors.old errors.new result hint }
 {

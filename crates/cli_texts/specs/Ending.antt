@@ -1,7 +1,8 @@
 -- What a run of the program leaves on its output and on standard error.
-use Rattle.std.specs.Prelude.{◌≡◌, ◌≢◌, ◌<◌, ℕ, List, [], length, Option, IsTrue}
+use Rattle.std.specs.Prelude.{◌≡◌, ◌≢◌, ◌<◌, ℕ, List, [], length, Option, Some, None, IsTrue}
 use Rattle.std.specs.Io.KnownBytes.{Appends}
 use Rattle.cli_refusals.specs.declared.hint.Hint.{Hint}
+use Rattle.cli_refusals.specs.declared.hint.Hint.TheVariants as hints
 use Rattle.cli_refusals.specs.declared.refusal.Refusal.{Refusal}
 use Rattle.cli_refusals.specs.declared.refusal.Refusal.TheVariants.{Io, OutOfMemory}
 use Rattle.cli_texts.specs.declared.status.Ended.{Ended}
@@ -49,3 +50,15 @@ pub record HasReported {W E : Type 0} (contents : E → Option (List ℕ)) (audi
   -- a refused run has written nothing, except after these refusals
   pub quiet : IfRefused ended.status (λ refusal. ¬ writes_part refusal → output' ≡ output)
   pub line : TellsRefusal (told audience hint) ended (contents errors) (contents errors')
+
+-- what may be hinted of one of the program's own texts or of help: why the output failed
+abbrev pub HintsText : Option Hint → Refusal → Type 0
+HintsText None refusal = Unit {0}
+HintsText (Some (hints.Output reason)) refusal = IsIo refusal
+HintsText (Some hint) refusal = ⊥
+
+-- a run that leaves nothing out, and writes a part of its output only if a read or a write failed; a refusal is reported with one of these hints or none
+abbrev pub HasReportedHint : {W E : Type 0} → (may_hint : Option Hint → Refusal → Type 0) → (contents : E → Option (List ℕ)) → Audience → (output output' : W)
+    → (errors errors' : E) → Ended → Type 0
+HasReportedHint may_hint contents audience output output' errors errors' ended =
+    (hint : Option Hint) × IfRefused ended.status (may_hint hint) × HasReported contents audience hint [] IsIo output output' errors errors' ended

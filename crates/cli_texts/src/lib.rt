@@ -1,7 +1,8 @@
 //! What the program prints and how it ends: its status, what it reports of a refusal and to whom, and its own texts.
 //!
 //! [`end`] and [`report_arguments`] report on any writer how a run ended, and say which bytes are written: for a program the line of a refusal, and
-//! on a terminal also what to do. [`end_output`] does the same for a run with an output, whose reader may be gone ([`Output`], [`WatchedOutput`]).
+//! on a terminal also what to do. [`end_output`] does the same for a run with an output, whose reader may be gone ([`Output`], [`WatchedOutput`]), and
+//! [`end_text`] for one that only writes a text: a terminal is told why the output failed.
 //! [`tell_left_out`] and [`tell_lacking`] report what a salvage leaves out.
 //! [`write_own_text`] writes the version, the meaning of each refusal, or the help that lists all commands.
 //!
@@ -15,6 +16,7 @@ pub mod abouts;
 mod help;
 mod left_out;
 mod own_texts;
+mod reasons;
 mod reports;
 mod status;
 mod telling;
@@ -24,8 +26,9 @@ mod watched;
 pub use help::{HELP, help_page};
 pub use left_out::{tell_lacking, tell_left_out};
 pub use own_texts::{VERSION, is_own, is_version_word, write_own_text};
+pub use reasons::{failure_of, system_text};
 pub use reports::{
-    end, end_output, report_arguments, report_signed_number, report_wrong_arguments,
+    end, end_output, end_text, report_arguments, report_signed_number, report_wrong_arguments,
 };
 pub use status::{Ended, Status};
 pub use telling::{Audience, Output, audience_after_output};

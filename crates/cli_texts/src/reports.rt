@@ -1,12 +1,13 @@
 // Reports refusals, wrong arguments and requests for help.
-ghost use Rattle.std.specs.Prelude.{◌≡◌, ◌≢◌, ◌⊎◌, [], None, IsOk, IsTrue, IfErr, OnOk};
+ghost use Rattle.std.specs.Prelude.{◌≡◌, ◌≢◌, ◌⊎◌, Option, None, IsOk, IsTrue, IfErr, OnOk};
 ghost use Rattle.clap.specs.Words.{kind_of};
+ghost use Rattle.cli_refusals.specs.declared.hint.Hint.{Hint};
 ghost use Rattle.cli_texts.specs.Reported.{IsRequest, IsWrong};
-ghost use Rattle.cli_texts.specs.Ending.{GivesSome, IsIo, IsOfOutput, TellsRefusal, HasReported};
+ghost use Rattle.cli_texts.specs.Ending.{GivesSome, HintsText, IsOfOutput, TellsRefusal, HasReportedHint};
 ghost use Rattle.cli_texts.specs.Told.{audience_after_output, told};
 
 use crate::telling::{audience_after_output, tell};
-use crate::{Audience, Ended, Output, Status};
+use crate::{Audience, Ended, Output, Status, system_text};
 use clap::error::ErrorKind;
 use cli_refusals::{Hint, Refusal, write_whole};
 use std::alloc::Global;
@@ -37,13 +38,14 @@ pub fn report_arguments<W: Write + Output, E: Write>(
     // Help that was asked for is written, and nothing else.
     ensures helps { result.status ≡ Status.Done → GivesSome (W.contents output.old) (W.contents output.new) }
     ensures memory { kind_of error.now ≡ ErrorKind.OutOfMemory → (result.status ≡ Status.Refused Refusal.OutOfMemory) × (output.new ≡ output.old) }
-    ensures reports { HasReported E.contents (audience_after_output audience (W.unread output.new)) None [] IsIo output.old output.new errors.old
+    // A terminal may be told why the output failed.
+    ensures reports { HasReportedHint HintsText E.contents (audience_after_output audience (W.unread output.new)) output.old output.new errors.old
         errors.new result }
 {
     match error.kind() {
         ErrorKind::DisplayHelp | ErrorKind::DisplayVersion => {
             let written = write_help(alloc, error, output);
-            end_output(written, None, audience, output, errors)
+            end_text(alloc, written, audience, output, errors)
         }
         _ => report_wrong_arguments(error, output, errors, audience),
     }
@@ -95,6 +97,45 @@ pub fn end_output<W: Output, E: Write>(
         (E.contents errors.new) }
 {
     end(done, hint, audience_after_output(audience, output), errors)
+}
+
+// Returns the system's reason for a failed write, if a person reads it and memory is not refused.
+fn reason_of_output<W: Output>(alloc: Global, audience: Audience, output: &W) -> Option<String> {
+    match audience_after_output(audience, output) {
+        Audience::Terminal => system_text(alloc, &output.failure()?),
+        Audience::Program | Audience::Departed => None,
+    }
+}
+
+fn hint_of_output(reason: &Option<String>) -> Option<Hint<'_>>
+    ensures { HintsText result Refusal.Io }
+{
+    match reason {
+        Some(reason) => Some(Hint::Output(reason.as_str())),
+        None => None,
+    }
+}
+
+/// `end_output` for a run that writes a text: a terminal is told why the output failed.
+pub fn end_text<W: Output, E: Write>(
+    alloc: Global,
+    written: Result<(), Refusal>,
+    audience: Audience,
+    output: &W,
+    errors: &mut E,
+) -> Ended
+    ensures done { IsOk written → (result.status ≡ Status.Done) × (errors.new ≡ errors.old) × IsTrue result.is_reported }
+    ensures refused { IfErr written (λ refusal. result.status ≡ Status.Refused refusal) }
+    ensures line { (hint : Option Hint) × IfErr written (HintsText hint)
+        × TellsRefusal (told (audience_after_output audience (W.unread output.now)) hint) result (E.contents errors.old) (E.contents errors.new) }
+{
+    match written {
+        Err(Refusal::Io) => {
+            let reason = reason_of_output(alloc, audience, output);
+            end_output(written, hint_of_output(&reason), audience, output, errors)
+        }
+        _ => end_output(written, None, audience, output, errors),
+    }
 }
 
 /// Reports how a run ended: a refusal, with a hint at what is refused if there is one.

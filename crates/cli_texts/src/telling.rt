@@ -30,7 +30,7 @@ impl Audience {
     }
 }
 
-/// An output that knows whether its reader is gone.
+/// An output that knows whether its reader is gone, and why it failed.
 pub trait Output {
     /// Its reader is gone.
     ghost unread: { Self → Bool };
@@ -38,6 +38,9 @@ pub trait Output {
     /// Returns whether its reader is gone: a write was answered so, as by a pipe that its reader has closed.
     fn is_unread(&self) -> bool
         ensures { result ≡ unread self.now };
+
+    /// Returns the system's error if the last write or flush failed.
+    fn failure(&self) -> Option<io::Error>;
 }
 
 /// Returns who reads the report of a run that has written to an output: a person who has closed it, as by `head`, knows that it failed.

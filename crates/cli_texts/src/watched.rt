@@ -1,17 +1,18 @@
-// An output that notices when its reader is gone.
+// An output that notices when its reader is gone, and why it failed.
 ghost use Rattle.std.specs.Prelude.{◌≡◌, ◌⊎◌, Bool, true, false, IsErrAnd};
 ghost use Rattle.std.specs.IoError.{error_kind};
 ghost use Rattle.std.specs.Io.{WritesAtMost};
 ghost use Rattle.std.specs.Io.KnownBytes.{Keeps, WriteAppends};
 
-use crate::Output;
+use crate::{Output, failure_of};
 use std::io::{self, ErrorKind, Write};
 
-/// Writes to `output`, and notices when its reader is gone.
+/// Writes to `output`, and notices when its reader is gone, and how the last call ended.
 #[derive(Drop)]
 pub struct WatchedOutput<W: Write> {
     output: W,
     is_unread: bool,
+    failure: Option<io::Error>,
 }
 
 impl<W: Write> WatchedOutput<W> {
@@ -22,6 +23,7 @@ impl<W: Write> WatchedOutput<W> {
         WatchedOutput {
             output,
             is_unread: false,
+            failure: None,
         }
     }
 }
@@ -43,6 +45,10 @@ impl<W: Write> Output for WatchedOutput<W> {
     fn is_unread(&self) -> bool {
         self.is_unread
     }
+
+    fn failure(&self) -> Option<io::Error> {
+        self.failure
+    }
 }
 
 impl<W: Write> Write for WatchedOutput<W> {
@@ -57,6 +63,7 @@ impl<W: Write> Write for WatchedOutput<W> {
         ensures found { IsErrAnd result (λ e. error_kind e ≡ ErrorKind.BrokenPipe) → self.new.is_unread ≡ true }
     {
         let written = self.output.write(buf);
+        self.failure = failure_of(&written);
         if finds_no_reader(&written) {
             self.is_unread = true;
         }
@@ -69,6 +76,7 @@ impl<W: Write> Write for WatchedOutput<W> {
             → (self.old.is_unread ≡ true) ⊎ IsErrAnd result (λ e. error_kind e ≡ ErrorKind.BrokenPipe) }
     {
         let flushed = self.output.flush();
+        self.failure = failure_of(&flushed);
         if finds_no_reader(&flushed) {
             self.is_unread = true;
         }

@@ -1,6 +1,6 @@
 use Rattle.std.proofs.Common.{◌∙◌, inl, inr, sym, true≢false}
 use Rattle.arrowstore.proofs.CommandLemmas.{not_done}
-use Rattle.arrowstore.proofs.EndLemmas.{own_given, own_reported, memory_recodes}
+use Rattle.arrowstore.proofs.EndLemmas.{own_given, own_reported, text_hints, text_may_hint, memory_recodes}
 use Rattle.arrowstore.proofs.WordLemmas.{recode_is_not_own}
 use Rattle.arrowstore.proofs.running.run.Goals as goal
 
@@ -22,11 +22,16 @@ returns-then-is_own-clause-recodes g c = λ are. absurd (true≢false (sym (sym 
 
 pub returns-then-is_own-clause-own : goal.returns-then-is_own-clause-own
 returns-then-is_own-clause-own g c = λ _.
-    own_given c.write_own_text-written.result c.end_output.result.status _ _ _ c.end_output.ensures.done c.end_output.ensures.refused c.write_own_text-written.ensures.written c.write_own_text-written.ensures.refused
+    own_given c.write_own_text-written.result c.end_text.result.status _ _ _ c.end_text.ensures.done c.end_text.ensures.refused c.write_own_text-written.ensures.written c.write_own_text-written.ensures.refused
 
 pub returns-then-is_own-clause-reports : goal.returns-then-is_own-clause-reports
 returns-then-is_own-clause-reports g c =
-    own_reported g.E.Write.contents _ _ _ _ _ c.write_own_text-written.result c.end_output.result c.end_output.ensures.done c.end_output.ensures.refused c.write_own_text-written.ensures.silent c.end_output.ensures.line
+    let line = c.end_text.ensures.line in
+    own_reported _ g.E.Write.contents _ line.0 _ _ _ _ c.write_own_text-written.result c.end_text.result c.end_text.ensures.done c.end_text.ensures.refused c.write_own_text-written.ensures.silent
+    (text_hints _ line.0 c.write_own_text-written.result line.1) line.2
+
+pub returns-in-Err-clause-reports : goal.returns-in-Err-clause-reports
+returns-in-Err-clause-reports g c = text_may_hint _ g.E.Write.contents _ _ _ _ _ _ c.report_arguments.ensures.reports
 
 pub returns-in-Err-clause-recodes : goal.returns-in-Err-clause-recodes
 returns-in-Err-clause-recodes g c = λ are.

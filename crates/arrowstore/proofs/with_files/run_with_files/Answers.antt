@@ -28,7 +28,7 @@ pub returns-then-is_of_store-clause-reports : goal.returns-then-is_of_store-clau
 returns-then-is_of_store-clause-reports g c =
     let is = sym c.is_of_store.ensures ∙ c.if-is_of_store.true in
     elim c.run_on_store.ensures.serves [
-      | inl none ↦ (None, [], inl is, reported_of_word _ _ None [] _ _ _ _ _ _ none.2)
+      | inl none ↦ (none.2.0, [], inl is, reported_of_word _ _ none.2.0 [] _ _ _ _ _ _ none.2.2)
       | inr asked ↦ (asked.served.hint, asked.served.left, inl is, told_of_word _ _ _ _ _ _ _ _ _ _ _ asked.asks.0 asked.served.told)
     ]
 
@@ -51,7 +51,7 @@ pub returns-clause-serves : goal.returns-clause-serves
 returns-clause-serves g c = λ is. absurd (true≢false (sym is ∙ (sym c.is_of_store.ensures ∙ c.if-is_of_store.false)))
 
 pub returns-clause-reports : goal.returns-clause-reports
-returns-clause-reports g c = (None, [], inr (refl, refl), reported_of_word _ _ None [] _ _ _ _ _ _ c.run.ensures.reports)
+returns-clause-reports g c = let has = c.run.ensures.reports in (has.0, [], inr (refl, has.1), reported_of_word _ _ has.0 [] _ _ _ _ _ _ has.2)
 
 pub returns-then-is_of_store-clause-helps : goal.returns-then-is_of_store-clause-helps
 returns-then-is_of_store-clause-helps g c = λ _. inr (inr (inl (sym c.is_of_store.ensures ∙ c.if-is_of_store.true)))

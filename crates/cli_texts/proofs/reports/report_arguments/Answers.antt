@@ -16,9 +16,10 @@ returns-in_default-clause-reports g c =
     wrong_reported g.E.Write.contents _ c.args.output.now _ _ c.report_wrong_arguments.result c.report_wrong_arguments.ensures.wrong c.report_wrong_arguments.ensures.line
 
 pub returns-in-DisplayHelp-clause-helps : goal.returns-in-DisplayHelp-clause-helps
-returns-in-DisplayHelp-clause-helps g c = help_given c.write_help-written.result c.end_output.result.status _ c.write_help-written.ensures.written c.end_output.ensures.refused
+returns-in-DisplayHelp-clause-helps g c = help_given c.write_help-written.result c.end_text.result.status _ c.write_help-written.ensures.written c.end_text.ensures.refused
 
 pub returns-in-DisplayHelp-clause-reports : goal.returns-in-DisplayHelp-clause-reports
 returns-in-DisplayHelp-clause-reports g c =
-    help_reported g.E.Write.contents _ _ _ _ _ c.write_help-written.result c.end_output.result c.end_output.ensures.done c.end_output.ensures.refused c.write_help-written.ensures.silent
-    c.end_output.ensures.line
+    let line = c.end_text.ensures.line in
+    help_reported g.E.Write.contents _ line.0 _ _ _ _ c.write_help-written.result c.end_text.result c.end_text.ensures.done c.end_text.ensures.refused c.write_help-written.ensures.silent
+    line.1 line.2
