@@ -4,15 +4,17 @@ use Rattle.std.proofs.Common.{◌≡◌, ◌∙◌, ◌<◌, ◌≤◌, ◌+◌,
 use Rattle.std.proofs.lemmas.Bool.{and_parts, leb-true}
 use Rattle.std.proofs.lemmas.Nat.{mul-le}
 use Rattle.std.specs.Io.KnownBytes.{Appends}
-use Rattle.sector_dev.specs.Disk.{Disk, Image, Story, now}
+use Rattle.sector_dev.specs.Disk.{Disk, Image, Story, now, synced_image, MayLeave}
 use Rattle.sector_dev.specs.Time.{Grows, LeavesOnly}
-use Rattle.sector_dev.specs.laws.Time.{stays, goes_on, weaken}
+use Rattle.sector_dev.specs.laws.Time.{stays, goes_on, weaken, now_has}
+use Rattle.sector_dev.specs.laws.Crash.{only_image}
 use Rattle.sector_dev.specs.declared.device.SectorDevice.{Ghosts}
 use Rattle.sector_dev.specs.declared.file.TheConstants.{MOST_SECTORS}
 use Rattle.catalogue.specs.declared.limits.TheConstants.{MAX_SEGMENTS}
 use Rattle.catalogue.specs.Entries.{PlainCatalogue, runs_of, segment_count}
 use Rattle.catalogue.specs.laws.Kept.{catalogue_is}
-use Rattle.commit.specs.Standing.{all_on_device}
+use Rattle.commit.specs.Standing.{all_on_device, rules, standing}
+use Rattle.commit.specs.declared.sector.Commit.{Commit}
 use Rattle.commit.specs.laws.Frame.{fault_none}
 use Rattle.tables.specs.Tables.{Tables}
 use Rattle.tables.specs.Verdict.{after}
@@ -22,12 +24,13 @@ use Rattle.tables.specs.declared.refusal.Refusal.TheVariants as refusals
 use Rattle.store_runs.specs.declared.compacting.Compaction.{Compaction}
 use Rattle.store_runs.specs.declared.compacting.Compaction.TheVariants.{Merged, Moved, Nothing}
 use Rattle.store.specs.declared.store.Store.{Store}
-use Rattle.store.specs.Applying.{GoesOn, KeepsEachTable}
+use Rattle.store.specs.Applying.{GoesOn, HoldsSameTables, KeepsEachTable}
 use Rattle.store_runs.specs.Calls.{PlainCall, compact_call, PlainReply, nothing, refused, counted}
 use Rattle.store.specs.Compacting.{reply_of, step_reply, HasStepped, IsSteppingAtEachMoment, HasSteppedOnDisk}
 use Rattle.store_changes.specs.Exchanging.{Shrinks, ShrinkInTurn, AreOnDevice}
-use Rattle.store.specs.Fits.{StoreFits, setting_of, book_of, device_of, is_halted, listed_in, IsOnDisk}
-use Rattle.store_runs.specs.Held.{held_by}
+use Rattle.store.specs.Fits.{StoreFits, setting_of, book_of, commit_of, device_of, is_halted, listed_in, IsOnDisk}
+use Rattle.pages.specs.Stored.{stored_reading}
+use Rattle.store_runs.specs.Held.{held_by, HeldTable, each_held, each_listed}
 use Rattle.store_runs.specs.Machine.{Setting, Machine, running, halted, holds, meanwhile, Allows, AllowsEach, with_doubt}
 use Rattle.store.specs.Reading.{OnlyReadsStore}
 use Rattle.store_runs.specs.Runs.{Goes, Run}
@@ -110,6 +113,14 @@ map_more : {X Y : Type 0} (f : X → Y) (xs : List X) (x : X) → map f (xs ++ x
 map_more f [] x = refl
 map_more f (y ∷ ys) x = ap (λ zs. f y ∷ zs) (map_more f ys x)
 
+-- what is synced is what a stop may leave
+own_image : (d : Disk) → MayLeave d (synced_image d)
+unfolding MayLeave
+own_image d n = inl refl
+
+listed_alike : (k j : Commit) (c d : PlainCatalogue) → rules k c ≡ rules j d → c ≡ d
+listed_alike k j c d is = cc is
+
 module _ {D : Type 0} {g : Ghosts D} where
   -- ---- stores are within their limits
 
@@ -166,6 +177,66 @@ module _ {D : Type 0} {g : Ghosts D} where
     pub fits : StoreFits g.size g.story base m new
     pub stays : StaysWith (after base m.settled) old new
 
+  -- ---- on a store that lies on its disk
+
+  -- what it holds now, of these tables
+  abbrev Holds : (of : Store D g) → Disk → Type 0
+  Holds of d = LeavesOnly (HoldsSameTables (g.size (device_of of)) (synced_image (now (g.story (device_of of)))) (listed_in of)) d
+
+  holds_now : (s : Store D g) → IsOnDisk g.size g.story s → Holds s (now (g.story (device_of s)))
+  holds_now s on image may =
+      let one : image ≡ synced_image (now (g.story (device_of s))) = only_image (now (g.story (device_of s))) image on.quiet.pending may in
+      record {
+        commit = commit_of s;
+        catalogue = listed_in s;
+        stands = ap (standing stored_reading (g.size (device_of s))) one ∙ on.found;
+        same = ap (λ (i : Image). each_held i (listed_in s)) one;
+      }
+
+  -- each table of a store as it is there
+  abbrev each_of : Store D g → List HeldTable
+  each_of s = each_held (synced_image (now (g.story (device_of s)))) (listed_in s)
+
+  -- after a call that keeps each table
+  held_after : (old new : Store D g) → IsOnDisk g.size g.story old → IsOnDisk g.size g.story new → g.size (device_of new) ≡ g.size (device_of old) → KeepsEachTable g.size g.story old new
+      → each_of new ≡ each_of old
+  held_after old new on stood size keeps =
+      let image : Image = synced_image (now (g.story (device_of new))) in
+      let here : HoldsSameTables (g.size (device_of old)) (synced_image (now (g.story (device_of old)))) (listed_in old) image =
+      now_has {P = Holds old} (holds_now old on) keeps image (own_image (now (g.story (device_of new)))) in
+      let stands : standing stored_reading (g.size (device_of old)) image ≡ rules (commit_of new) (listed_in new) = ap (λ (n : ℕ). standing stored_reading n image) (sym size) ∙ stood.found in
+      ap (each_held image) (sym (listed_alike here.commit (commit_of new) here.catalogue (listed_in new) (sym here.stands ∙ stands))) ∙ here.same
+
+  -- a call after others that kept each table
+  keeps_on : (old mid new : Store D g) → g.size (device_of mid) ≡ g.size (device_of old) → each_of mid ≡ each_of old → KeepsEachTable g.size g.story old mid → KeepsEachTable g.size g.story mid new
+      → KeepsEachTable g.size g.story old new
+  keeps_on old mid new size held first keeps =
+      goes_on first (weaken (λ (d : Disk) (leaves : Holds mid d) (image : Image) may.
+      let here = leaves image may in
+      record {
+        commit = here.commit;
+        catalogue = here.catalogue;
+        stands = ap (λ (n : ℕ). standing stored_reading n image) (sym size) ∙ here.stands;
+        same = here.same ∙ held;
+      }) keeps)
+
+  -- what the steps so far did to such a store
+  pub record KeptSo (old new : Store D g) : Type 0 where
+    pub stands : IsOnDisk g.size g.story new
+    pub held : each_of new ≡ each_of old
+    pub each : KeepsEachTable g.size g.story old new
+
+  none_kept : (s : Store D g) → IsOnDisk g.size g.story s → KeptSo s s
+  none_kept s on = record { stands = on; held = refl; each = stays (Holds s) (g.story (device_of s)) }
+
+  kept_more : (old mid new : Store D g) → g.size (device_of mid) ≡ g.size (device_of old) → g.size (device_of new) ≡ g.size (device_of mid) → KeptSo old mid → IsOnDisk g.size g.story new
+      → KeepsEachTable g.size g.story mid new → KeptSo old new
+  kept_more old mid new size sized so on keeps = record {
+    stands = on;
+    held = held_after mid new so.stands on sized keeps ∙ so.held;
+    each = keeps_on old mid new size so.held so.each keeps;
+  }
+
   -- what the steps so far did
   pub record SoFar (count : ℕ) (old new : Store D g) : Type 0 where
     pub taken : List Compaction
@@ -177,6 +248,8 @@ module _ {D : Type 0} {g : Ghosts D} where
     pub halted_so : is_halted new ≡ is_halted old
     pub still : is_halted old ≡ true → new ≡ old
     pub goes : g.tells ≡ true → (base : Tables) (m : Machine) → StoreFits g.size g.story base m old → GoneOn base m taken old new
+    pub keeps : g.tells ≡ true → IsOnDisk g.size g.story old → KeptSo old new
+    pub listed : each_listed (listed_in new) ≡ each_listed (listed_in old)
 
   pub none_so_far : (s : Store D g) → SoFar 0 s s
   none_so_far s = record {
@@ -188,6 +261,8 @@ module _ {D : Type 0} {g : Ghosts D} where
     book = refl;
     halted_so = refl;
     still = λ _. refl;
+    keeps = λ told on. none_kept s on;
+    listed = refl;
     goes = λ told base m fits. record {
       run = no_run (setting_of (g.size (device_of s)) base) m (g.story (device_of s)) (g.failed (device_of s));
       fits = fits;
@@ -240,20 +315,23 @@ module _ {D : Type 0} {g : Ghosts D} where
       → g.size (device_of new) ≡ g.size (device_of mid) → g.failed (device_of new) ≡ counted (step_reply (Ok done)) (g.failed (device_of mid)) → book_of new ≡ book_of mid
       → (g.tells ≡ true → IsOnDisk g.size g.story mid → IsSteppingAtEachMoment g.size g.story g.tells mid new)
       → (done ≢ Nothing → g.tells ≡ true → IsOnDisk g.size g.story mid → HasSteppedOnDisk g.size g.story g.tells mid done new)
-      → (g.tells ≡ true → IsOnDisk g.size g.story mid → KeepsEachTable g.size g.story mid new) → SoFar (count + 1) old new
-  so_far_more count old mid new done so did goes stepped shrinks halted_if halts size failures book writes written each =
+      → (g.tells ≡ true → IsOnDisk g.size g.story mid → KeepsEachTable g.size g.story mid new)
+      → each_listed (listed_in new) ≡ each_listed (listed_in mid) → SoFar (count + 1) old new
+  so_far_more count old mid new done so did goes stepped shrinks halted_if halts size failures book writes written each listed =
       let on : is_halted mid ≡ false = is_on (is_halted mid) (λ h. err_differs done refusals.Halted (halted_if.1 h)) in
       let on_then : is_halted new ≡ false = is_on (is_halted new) (λ h. err_differs done refusals.Device ((halts on).0 h)) in
       record {
         taken = so.taken ++ done ∷ [];
         counted_so = steps_count so.taken done ∙ ap (λ (n : ℕ). n + 1) so.counted_so;
-        steps = steps_more old so.taken mid done new so.steps (record { did = did; stepped = stepped; shrinks = shrinks did; size = size; writes = writes; written = written did; each_table = each });
+        steps = steps_more old so.taken mid done new so.steps (record { did = did; stepped = stepped; shrinks = shrinks did; size = size; writes = writes; written = written did; each_table = each; listed = listed });
         size = size ∙ so.size;
         failures = failures ∙ no_failure done (g.failed (device_of mid)) ∙ so.failures;
         book = book ∙ so.book;
         halted_so = on_then ∙ sym on ∙ so.halted_so;
         still = λ h. absurd (true≢false (sym h ∙ sym so.halted_so ∙ on));
         goes = λ told base m fits. let gone = so.goes told base m fits in gone_more base m so.taken done old mid new so.size on gone (goes told base m gone.fits);
+        keeps = λ told stands. let kept = so.keeps told stands in kept_more old mid new so.size size kept (written did told kept.stands).2.stands (each told kept.stands);
+        listed = listed ∙ so.listed;
       }
 
   -- ---- the last step
@@ -273,10 +351,11 @@ module _ {D : Type 0} {g : Ghosts D} where
       → HasStepped g.size g.story g.tells mid done new → OnlyReadsStore g.size g.story g.failed g.tells nothing mid new
       → ((Ok done ≡ Err refusals.Halted) ↔ (is_halted mid ≡ true)) → (is_halted mid ≡ false → (is_halted new ≡ true) ↔ (Ok done ≡ Err refusals.Device))
       → g.size (device_of new) ≡ g.size (device_of mid) → g.failed (device_of new) ≡ counted (step_reply (Ok done)) (g.failed (device_of mid)) → book_of new ≡ book_of mid
+      → (g.tells ≡ true → IsOnDisk g.size g.story mid → KeepsEachTable g.size g.story mid new) → each_listed (listed_in new) ≡ each_listed (listed_in mid)
       → (taken : List Compaction) × (length taken ≡ count) × Compacted taken (Ok tt) old new
-  ends_with_nothing count old mid new Merged is so goes stepped reads halted_if halts size failures book = absurd (cc is)
-  ends_with_nothing count old mid new Moved is so goes stepped reads halted_if halts size failures book = absurd (cc is)
-  ends_with_nothing count old mid new Nothing is so goes stepped reads halted_if halts size failures book =
+  ends_with_nothing count old mid new Merged is so goes stepped reads halted_if halts size failures book each listed = absurd (cc is)
+  ends_with_nothing count old mid new Moved is so goes stepped reads halted_if halts size failures book each listed = absurd (cc is)
+  ends_with_nothing count old mid new Nothing is so goes stepped reads halted_if halts size failures book each listed =
       let on : is_halted mid ≡ false = is_on (is_halted mid) (λ h. err_differs Nothing refusals.Halted (halted_if.1 h)) in
       let never : is_halted old ≡ true → ⊥ = λ h. true≢false (sym h ∙ sym so.halted_so ∙ on) in (
         so.taken,
@@ -298,6 +377,8 @@ module _ {D : Type 0} {g : Ghosts D} where
               let gone = so.goes told base m fits in
               let last = goes told base m gone.fits in
               stays_more base m last.next nothing old mid new so.size gone.fits on gone.stays last.goes;
+          each_table = λ told stands. let kept = so.keeps told stands in keeps_on old mid new so.size kept.held kept.each (each told kept.stands);
+          listed = listed ∙ so.listed;
         },
       )
 
@@ -305,9 +386,9 @@ module _ {D : Type 0} {g : Ghosts D} where
       → (g.tells ≡ true → (base : Tables) (m : Machine) → StoreFits g.size g.story base m mid → GoesOn g.size g.story g.failed base m compact_call (refused r) mid new)
       → StopsBy mid r new → ((as_step r ≡ Err refusals.Halted) ↔ (is_halted mid ≡ true)) → (is_halted mid ≡ true → new ≡ mid)
       → (is_halted mid ≡ false → (is_halted new ≡ true) ↔ (as_step r ≡ Err refusals.Device))
-      → g.size (device_of new) ≡ g.size (device_of mid) → g.failed (device_of new) ≡ counted (step_reply (as_step r)) (g.failed (device_of mid)) → book_of new ≡ book_of mid
+      → g.size (device_of new) ≡ g.size (device_of mid) → g.failed (device_of new) ≡ counted (step_reply (as_step r)) (g.failed (device_of mid)) → book_of new ≡ book_of mid → each_listed (listed_in new) ≡ each_listed (listed_in mid)
       → (taken : List Compaction) × Compacted taken (Err r) old new
-  ends_refused count old mid new r so goes stops halted_if same halts size failures book = (
+  ends_refused count old mid new r so goes stops halted_if same halts size failures book listed = (
     so.taken,
     record {
       mid = mid;
@@ -326,6 +407,8 @@ module _ {D : Type 0} {g : Ghosts D} where
           let gone = so.goes told base m fits in
           let last = goes told base m gone.fits in
           stays_more base m last.next (refused r) old mid new so.size gone.fits (so.halted_so ∙ on) gone.stays last.goes;
+      each_table = λ told stands. let kept = so.keeps told stands in keeps_on old mid new so.size kept.held kept.each (stops.each_table told kept.stands);
+      listed = listed ∙ so.listed;
     },
   )
 

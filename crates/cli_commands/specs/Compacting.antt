@@ -17,7 +17,7 @@ use Rattle.store_runs.specs.Calls.{PlainCall, compact_call, PlainReply, nothing,
 use Rattle.store.specs.Compacting.{reply_of, HasStepped, RefusesStep, IsSteppingAtEachMoment, HasSteppedOnDisk}
 use Rattle.store_changes.specs.Exchanging.{Shrinks}
 use Rattle.store.specs.Fits.{StoreFits, setting_of, book_of, device_of, is_halted, listed_in, IsOnDisk}
-use Rattle.store_runs.specs.Held.{held_by}
+use Rattle.store_runs.specs.Held.{held_by, each_listed}
 use Rattle.store_runs.specs.Machine.{Machine, holds}
 use Rattle.store.specs.Reading.{OnlyReadsStore}
 use Rattle.store_runs.specs.Runs.{Run}
@@ -38,6 +38,8 @@ pub record Steps {D : Type 0} {g : Ghosts D} (old : Store D g) (taken : Compacti
   pub writes : g.tells ≡ true → IsOnDisk g.size g.story old → IsSteppingAtEachMoment g.size g.story g.tells old new
   pub written : g.tells ≡ true → IsOnDisk g.size g.story old → HasSteppedOnDisk g.size g.story g.tells old taken new
   pub each_table : g.tells ≡ true → IsOnDisk g.size g.story old → KeepsEachTable g.size g.story old new
+  -- on any device the catalogue lists each table as before
+  pub listed : each_listed (listed_in new) ≡ each_listed (listed_in old)
 
 -- such steps, one after another
 abbrev pub StepsTo : {D : Type 0} {g : Ghosts D} → (old : Store D g) → List Compaction → (new : Store D g) → Type 0
@@ -100,6 +102,10 @@ pub record Compacted {D : Type 0} {g : Ghosts D} (taken : List Compaction) (answ
   -- and a stop at any moment leaves the tables of before
   pub stays : g.tells ≡ true → (base : Tables) (m : Machine) → StoreFits g.size g.story base m old → is_halted old ≡ false
       → StaysWith (after base m.settled) old new
+  -- on a store that lies on its disk, whatever its segments hold, a stop at any moment leaves each table with all its rows
+  pub each_table : g.tells ≡ true → IsOnDisk g.size g.story old → KeepsEachTable g.size g.story old new
+  -- on any device the catalogue lists each table as before
+  pub listed : each_listed (listed_in new) ≡ each_listed (listed_in old)
 
 -- a compaction that the program answered: once nothing is left to do, the number of steps that did something is written; a refusal is the store's
 pub record Compacts {D : Type 0} {g : Ghosts D} {W : Type 0} (contents : W → Option (List ℕ)) (old new : Store D g) (output output' : W)

@@ -10,8 +10,9 @@ use Rattle.store.specs.declared.store.Store as stores
 use Rattle.store.specs.declared.upgrading.Upgraded.{Upgraded}
 use Rattle.store.specs.declared.upgrading.Upgraded.TheVariants.{Already, Done}
 use Rattle.store_runs.specs.Calls.{counted}
+use Rattle.store_runs.specs.Held.{each_listed}
 use Rattle.store.specs.Applying.{IsKept, KeepsEachTable}
-use Rattle.store.specs.Fits.{commit_of, device_of, is_halted, book_of, IsOnDisk}
+use Rattle.store.specs.Fits.{commit_of, device_of, listed_in, is_halted, book_of, IsOnDisk}
 use Rattle.store.specs.Upgrading.{upgrade_ended, HasUpgraded, RefusesUpgrade, IsUpgradingAtEachMoment, HasUpgradedOnDisk}
 use Rattle.cli_refusals.specs.declared.refusal.Refusal.{Refusal}
 use Rattle.cli_commands.specs.Changing.{Follows}
@@ -44,6 +45,8 @@ pub record AnswersUpgrade {D : Type 0} {g : Ghosts D} (size : D → ℕ) (story 
   pub writes : tells ≡ true → IsOnDisk size story old → IsUpgradingAtEachMoment size story tells old new
   pub written : IfOk answer (λ upgraded. upgraded ≡ Done → tells ≡ true → IsOnDisk size story old → HasUpgradedOnDisk size story tells old new)
   pub each_table : tells ≡ true → IsOnDisk size story old → KeepsEachTable size story old new
+  -- on any device the catalogue lists each table as before
+  pub listed : each_listed (listed_in new) ≡ each_listed (listed_in old)
   -- the device keeps its size, its failure is counted, and the open exports stay as they are
   pub size_kept : size (device_of new) ≡ size (device_of old)
   pub count : failed (device_of new) ≡ counted (upgrade_ended answer) (failed (device_of old))

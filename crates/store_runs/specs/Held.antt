@@ -1,4 +1,4 @@
--- The tables that an image holds, if each segment can be read.
+-- The tables that an image holds, if each segment can be read; and each table by itself, also if some segment can't be.
 use Rattle.std.specs.Prelude.{◌==◌, ℕ, Bool, true, nat_eq, List, [], ◌∷◌, ◌++◌, length, map, replicate, Option, Some, None, option_map, Result, Ok, Err, if◌then◌else◌}
 use Rattle.std.specs.List.{starts_with}
 use Rattle.std.specs.Str.{bytes_eq}
@@ -113,7 +113,7 @@ unfoldable pub rows_known : PlainSchema → List Segment → Image → List (Opt
 rows_known schema [] image = []
 rows_known schema (segment ∷ segments) image = rows_or_unknown segment.rows (segment_rows schema segment image) ++ rows_known schema segments image
 
--- a table by itself, also one that can't be read: it has as many rows as the catalogue counts, and those in its segments that can be read are known
+-- a table by itself; the rows of its segments that can be read are known
 pub record HeldTable : Type 0 where
   pub name : List ℕ
   pub schema : PlainSchema
@@ -126,10 +126,10 @@ held_entry image e = record { name = e.name; schema = e.schema; rows = rows_know
 abbrev pub each_held : Image → PlainCatalogue → List HeldTable
 each_held image c = map (held_entry image) c
 
--- the rows, if each is known
 abbrev pub with_row : List Cell → Option (List (List Cell)) → Option (List (List Cell))
 with_row row others = option_map (λ rows. row ∷ rows) others
 
+-- the rows, if each is known
 abbrev pub all_known : List (Option (List Cell)) → Option (List (List Cell))
 all_known [] = Some []
 all_known (None ∷ others) = None

@@ -1,4 +1,4 @@
-// Laws of runs. The functions do nothing: their contracts are the laws.
+// Laws of runs, and of the tables that an image holds. The functions do nothing: their contracts are the laws.
 ghost use Rattle.std.specs.Prelude.{◌≡◌, ◌≢◌, ◌<◌, ◌-◌, ◌^◌, ◌+◌, ◌||◌, ℕ, Bool, true, false, None, List, [], ◌∷◌, ◌++◌, take, drop, map, length};
 ghost use Rattle.std.specs.List.{list_all, list_any};
 ghost use Rattle.sector_dev.specs.Disk.{Story, Image, now, moment, LeftSince};

@@ -2,7 +2,8 @@
 //!
 //! `specs/Steps.antt` says how a reply follows from the tables, `specs/Machine.antt` what a stop at any moment may leave, `specs/Deciding.antt`,
 //! `specs/Compacting.antt`, `specs/Digesting.antt` and `specs/Carrying.antt` how a command, a step of a compaction and an upgrade change a catalogue,
-//! `specs/Rooms.antt` what a reply says of the room for it, and `specs/Runs.antt` what a run of calls is. The functions are laws of whole runs.
+//! `specs/Rooms.antt` what a reply says of the room for it, and `specs/Runs.antt` what a run of calls is. The functions are laws of whole runs, and one of the
+//! tables that an image holds.
 #![tactic(auto)]
 
 mod compacting;

@@ -8,7 +8,7 @@ use Rattle.cells.specs.Cell.{Cell}
 use Rattle.catalogue.specs.declared.entry.Segment.{Segment}
 use Rattle.catalogue.specs.Entries.{PlainEntry, PlainCatalogue}
 use Rattle.catalogue.specs.Edits.{entry_of, with_segments, from_place, with_others, with_exchanged}
-use Rattle.catalogue.specs.laws.Changed.{parted, exchanged_is}
+use Rattle.catalogue.specs.laws.Changed.{parted}
 use Rattle.store_runs.specs.Held.{segment_rows, joined_rows, rows_held, tables_held, rows_or_unknown, rows_known, held_entry, each_held, listed_entry, each_listed}
 use Rattle.store_changes.specs.Exchanging.{HoldsSame}
 use Rattle.store_changes.specs.laws.Changed.{rows_behind, same_with}

@@ -1,4 +1,4 @@
--- What is asked of each entry of a catalogue, as its table: it stays where an entry gets other segments or another page of which it makes no difference.
+-- What is said of each entry of a catalogue stays if it depends neither on pages nor on how the segments of one entry are exchanged.
 use Rattle.std.specs.Prelude.{◌≡◌, ℕ, Bool, true, false, List, [], ◌∷◌, length, map, drop, Option, Some, None, if◌then◌else◌, refl}
 use Rattle.std.proofs.Common.{ap, ◌∙◌, subst}
 use Rattle.std.specs.Str.{bytes_eq}

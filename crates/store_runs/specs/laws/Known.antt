@@ -1,5 +1,5 @@
 -- The rows of tables one by one: how many there are, those of a table that can be read, and the tables.
-use Rattle.std.specs.Prelude.{◌≡◌, ◌≤◌, ◌+◌, ◌++◌, ◌==◌, ◌&&◌, ℕ, zero, suc, Bool, true, false, nat_eq, nat_le, List, [], ◌∷◌, length, map, sum_by, replicate, Option, Some, None, option_map, Result, Ok, Err, if◌then◌else◌, refl}
+use Rattle.std.specs.Prelude.{◌≡◌, ◌≤◌, ◌+◌, ◌++◌, ◌==◌, ◌&&◌, ℕ, zero, suc, Bool, true, false, nat_eq, nat_le, List, [], ◌∷◌, length, map, sum_by, Option, Some, None, Result, Ok, Err, if◌then◌else◌, refl}
 use Rattle.std.specs.List.{list_all, starts_with}
 use Rattle.std.proofs.Common.{sym, ap, ◌∙◌, arith, length-append}
 use Rattle.std.proofs.lemmas.Bool.{and_parts, eqb-true, leb-true}
@@ -17,7 +17,7 @@ use Rattle.catalogue.specs.declared.limits.TheConstants.{MAX_SEGMENT_ROWS}
 use Rattle.catalogue.specs.Entries.{PlainEntry, PlainCatalogue, is_between, is_filled, is_digest, is_segment, is_entry, is_page, is_name, row_count}
 use Rattle.catalogue.specs.Schemas.{is_within_limits}
 use Rattle.tables.specs.Tables.{Tables, no_tables}
-use Rattle.store_runs.specs.Held.{is_undamaged, bytes_of, rows_where, rows_in_bytes, rows_in_segment, segment_rows, joined_rows, rows_held, table_of_rows, table_held, with_held, tables_held, rows_or_unknown, rows_known, with_row, all_known, HeldTable, held_entry, each_held, listed_entry, each_listed}
+use Rattle.store_runs.specs.Held.{is_undamaged, bytes_of, rows_where, rows_in_bytes, segment_rows, joined_rows, rows_held, table_of_rows, with_held, tables_held, rows_or_unknown, rows_known, with_row, all_known, HeldTable, each_held, each_listed}
 
 -- ---- how many rows there are
 

@@ -9,19 +9,19 @@ pub loop-count-preserved : goal.loop-count-preserved
 loop-count-preserved g c =
     let e = c.in-Ok.ensures in
     so_far_more c.loop-count.count c.args.store.now c.loop-count.store c.compact_step.new.self c.in-Ok.done c.loop-count.invariant c.in_default.not-Nothing e.goes e.step e.shrinks e.halted e.halts e.size e.count e.book
-    e.writes e.written e.tables
+    e.writes e.written e.tables e.listed
 
 pub returns-in-Nothing-clause-done : goal.returns-in-Nothing-clause-done
 returns-in-Nothing-clause-done g c =
     let e = c.in-Ok.ensures in
     ends_with_nothing c.loop-count.count c.args.store.now c.loop-count.store c.compact_step.new.self c.in-Ok.done c.in-Nothing.is c.loop-count.invariant e.goes e.step (e.still (rw c.in-Nothing.is refl))
-    e.halted e.halts e.size e.count e.book
+    e.halted e.halts e.size e.count e.book e.tables e.listed
 
 pub returns-in-Err-clause-refused : goal.returns-in-Err-clause-refused
 returns-in-Err-clause-refused g c =
     let e = c.in-Err.ensures in
     ends_refused c.loop-count.count c.args.store.now c.loop-count.store c.compact_step.new.self c.in-Err.refusal c.loop-count.invariant e.refused (record { told = e.told; kept = e.kept; reads = e.reads; writes = e.writes; each_table = e.tables })
-    e.halted e.same e.halts e.size e.count e.book
+    e.halted e.same e.halts e.size e.count e.book e.listed
 
 pub unreachable-requires : goal.unreachable-requires
 unreachable-requires g c =
