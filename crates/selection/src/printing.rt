@@ -1,5 +1,5 @@
 // Prints the selection of a table from its arrays, without making a table of it.
-ghost use Rattle.std.specs.Prelude.{◌≡◌, ◌≢◌, ◌++◌, ◌≤◌, ◌<◌, ◌*◌, ◌^◌, Ok, true, length, map, take, sum_by, IfErr, OnOk};
+ghost use Rattle.std.specs.Prelude.{◌≡◌, ◌≢◌, ◌++◌, ◌≤◌, ◌<◌, ◌*◌, ◌^◌, Ok, true, length, map, take, sum_by, IfErr, OnErr, OnOk};
 ghost use Rattle.std.specs.List.{flat_map, list_all};
 ghost use Rattle.arrow_schema.specs.View.{column_of, schema_of};
 ghost use Rattle.cells.specs.Cell.{PlainTable};
@@ -85,6 +85,18 @@ fn push_chosen(
     Ok(())
 }
 
+// Appends lines: where there is no text before them, they are the text.
+fn append(text: &mut Vec<u8>, lines: Vec<u8>) -> Result<(), AllocError>
+    ensures ok { OnOk result (text.new.items ≡ text.old.items ++ lines.items) }
+    ensures err { OnErr result (text.new.items ≡ text.old.items) }
+{
+    if text.is_empty() {
+        *text = lines;
+        return Ok(());
+    }
+    text.extend_from_slice(&lines)
+}
+
 // An object has a member for each column, so the names of the columns must differ.
 fn can_be_printed(form: RowForm, fields: &[Field]) -> bool
     ensures { (t : PlainTable) → t.schema.columns ≡ map column_of fields.now → result ≡ is_printable form t }
@@ -96,11 +108,11 @@ fn can_be_printed(form: RowForm, fields: &[Field]) -> bool
 }
 
 /// Appends a line in this form for each row that a query selects from a table: the lines of the table that [`select`](crate::select) makes of it.
-/// A table that is kept as rows is written as a stream first.
+/// A table that is kept as rows is written as a stream first. The lines are made apart, and copied if there is a text before them.
 ///
 /// # Errors
 /// `UnknownColumn`, `BadCondition` or `NotComparable`, by the first test that fails; `UnknownColumn` too if rows are objects and two of the chosen
-/// columns have the same name: then the text is as before. `OutOfMemory` if memory is refused: then lines may be appended, the last of them cut off.
+/// columns have the same name; `OutOfMemory` if memory is refused. The text is then as before.
 pub fn push_selected_lines(
     alloc: Global,
     text: &mut Vec<u8>,
@@ -112,11 +124,15 @@ pub fn push_selected_lines(
         × (text.new.items ≡ text.old.items ++ rows_text form selected)) }
     ensures refused { IfErr result (λ e. Reports e (printed_selection form (table_of table.now) (query_in query.now))) }
     ensures silent { IfErr result (λ e. e ≢ OutOfMemory → text.new ≡ text.old) }
+    ensures kept { OnErr result (text.new.items ≡ text.old.items) }
 {
     let choice = choose(alloc, table, query)?;
     let picked = pick_schema(alloc, table.schema(), &choice.columns)?;
     if !can_be_printed(form, &picked.fields) {
         return Err(QueryError::UnknownColumn);
     }
-    push_chosen(alloc, text, form, table, &picked, &choice)
+    let mut lines = Vec::new(alloc);
+    push_chosen(alloc, &mut lines, form, table, &picked, &choice)?;
+    append(text, lines)?;
+    Ok(())
 }

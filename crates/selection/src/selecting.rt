@@ -8,7 +8,7 @@ ghost use Rattle.query.specs.Selection.{selection};
 ghost use Rattle.query.specs.View.{query_in, Reports};
 ghost use Rattle.table_cut.specs.Rows.{runs_rows, runs_table, are_runs_sound};
 ghost use Rattle.values.specs.Table.{IsTable};
-ghost use Rattle.values.specs.TableView.{table_of};
+ghost use Rattle.values.specs.TableView.{is_in_parts, table_of};
 
 use crate::kept::{KeptRuns, keep_batches};
 use crate::picked::pick_batches;
@@ -26,6 +26,7 @@ fn table_of_runs(alloc: Global, schema: &Schema, kept: KeptRuns<'_>) -> Result<T
     requires sound { are_runs_sound (columns_of (schema_of schema.now).columns) kept.runs.items ≡ true }
     requires count { kept.rows ≡ length (runs_rows (columns_of (schema_of schema.now).columns) kept.runs.items) }
     ensures ok { IfOk result (λ t. table_of t ≡ runs_table (schema_of schema.now) kept.entry.runs.items) }
+    ensures in_parts { IfOk result (λ t. is_in_parts t ≡ true) }
     ensures refused { IfErr result (λ e. e ≡ OutOfMemory) }
 {
     let KeptRuns { runs, rows } = kept;
@@ -38,6 +39,7 @@ fn select_chosen(alloc: Global, table: &Table, choice: &Choice) -> Result<Table,
     requires mask { length (table_of table.now).rows ≤ 8 * length choice.now.mask.items }
     requires table { IsTable (chosen_table choice.now (table_of table.now)) }
     ensures ok { IfOk result (λ t. table_of t ≡ chosen_table choice.now (table_of table.now)) }
+    ensures in_parts { IfOk result (λ t. is_in_parts t ≡ true) }
     ensures refused { IfErr result (λ e. e ≡ OutOfMemory) }
 {
     // For the proof: the number of rows is below 2^64.
@@ -66,6 +68,7 @@ fn select_chosen(alloc: Global, table: &Table, choice: &Choice) -> Result<Table,
 /// `UnknownColumn`, `BadCondition` or `NotComparable`, by the first test that fails; `OutOfMemory` if memory is refused.
 pub fn select(alloc: Global, table: &Table, query: &Query) -> Result<Table, QueryError>
     ensures ok { IfOk result (λ t. selection (table_of table.now) (query_in query.now) ≡ Ok (table_of t)) }
+    ensures in_parts { IfOk result (λ t. is_in_parts t ≡ true) }
     ensures refused { IfErr result (λ e. Reports e (selection (table_of table.now) (query_in query.now))) }
 {
     selection_is_a_table();

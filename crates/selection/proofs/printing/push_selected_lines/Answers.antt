@@ -1,9 +1,9 @@
-use Rattle.std.proofs.Common.{◌≡◌, ◌∙◌, true, false, map, sym, ap}
-use Rattle.std.proofs.lemmas.Result.{err_from_is_err_and, on_ok_weaker}
+use Rattle.std.proofs.Common.{◌≡◌, ◌∙◌, ◌++◌, ℕ, List, [], true, false, map, sym, ap, rules}
+use Rattle.std.proofs.lemmas.Result.{err_from_is_err_and}
 use Rattle.arrow_schema.specs.Column.{PlainSchema}
 use Rattle.arrow_schema.specs.View.{column_of, schema_of}
 use Rattle.query.specs.Choice.{chosen_table}
-use Rattle.query.specs.Printed.{is_printable}
+use Rattle.query.specs.Printed.{is_printable, rows_text}
 use Rattle.query.specs.Selection.{pick}
 use Rattle.values.specs.TableView.{table_of}
 use Rattle.selection.proofs.Printable.{printed_whole, printed_twice, printed_refused}
@@ -21,7 +21,9 @@ returns-clause-lines c =
     let picked : schema_of c.in_ok-picked.picked ≡ chosen.schema = c.in_ok-picked.ensures ∙ (λ k. record { columns = pick (c.deref.ensures.value k) (same k).columns; pairs = (same k).pairs }) in
     let columns : chosen.schema.columns ≡ map column_of c.deref-2.result.now = sym (ap (λ (s : PlainSchema). s.columns) picked) ∙ ap (map column_of) (sym c.deref-2.ensures.value) in
     let can : is_printable c.args.form chosen ≡ true = sym (c.can_be_printed.ensures chosen columns) ∙ c.if-not-can_be_printed.false in
-    on_ok_weaker c.push_chosen.result (λ lines. (chosen, printed_whole _ _ _ _ c.in_ok-choice.ensures.ok can, lines)) c.push_chosen.ensures.ok
+    let none : c.new-lines.result.items ≡ [] = search rules in
+    let all = c.in_ok-push_chosen.ensures.ok ∙ ap (λ (before : List ℕ). before ++ rows_text c.args.form chosen) none in
+    (chosen, printed_whole _ _ _ _ c.in_ok-choice.ensures.ok can, c.in_ok-append.ensures.ok ∙ ap (λ (lines : List ℕ). c.args.text.now.items ++ lines) all)
 
 pub returns-then-not-can_be_printed-clause-refused : goal.returns-then-not-can_be_printed-clause-refused
 returns-then-not-can_be_printed-clause-refused c =
