@@ -4,6 +4,7 @@ use Rattle.std.specs.List.{list_all}
 use Rattle.std.proofs.Common.{◌≡◌, ℕ, zero, suc, Bool, true, false, List, [], ◌∷◌, ◌++◌, map, drop, get_or, Option, Some, None, Ok, refl, subst, ◌∙◌}
 use Rattle.std.proofs.lemmas.Bool.{and_parts, and_from}
 use Rattle.std.proofs.lemmas.List.Folds.{list_all-append}
+use Rattle.arrays.proofs.Ends.{all_left}
 use Rattle.facts.specs.Checks.{first_some}
 use Rattle.facts.specs.laws.Checks.{unless_passed}
 use Rattle.arrow_schema.specs.Column.{Kind, Column, Columns, nulls, booleans, integers, dates, timestamps, texts, large_texts, binaries, large_binaries, fixed_binaries, lists, large_lists, fixed_lists, structs, column, no_column, and_column}
@@ -24,11 +25,6 @@ use Rattle.arrays.specs.laws.Bytes.{are_bytes-drop, are_bytes-take}
 buffers_bytes : (body : List ℕ) (bs : List RawBuffer) → are_bytes body ≡ true → list_all are_bytes (map (buffer_bytes body) bs) ≡ true
 buffers_bytes body [] h = refl
 buffers_bytes body (b ∷ bs) h = and_from _ _ (are_bytes-take b.length (drop b.offset body) (are_bytes-drop b.offset body h)) (buffers_bytes body bs h)
-
-dropped_all : {X : Type 0} (p : X → Bool) (n : ℕ) (xs : List X) → list_all p xs ≡ true → list_all p (drop n xs) ≡ true
-dropped_all p zero xs h = h
-dropped_all p (suc n) [] h = refl
-dropped_all p (suc n) (x ∷ xs) h = dropped_all p n xs (and_parts (p x) (list_all p xs) h).1
 
 there_passes : {X : Type 0} (p : X → Bool) (n : ℕ) (xs : List X) (d : X) → p d ≡ true → list_all p xs ≡ true → p (get_or xs n d) ≡ true
 there_passes p n [] d own h = own
@@ -59,16 +55,16 @@ mutual
   kind_bytes binaries ns bs ds small known = refl
   kind_bytes large_binaries ns bs ds small known = refl
   kind_bytes (fixed_binaries width) ns bs ds small known = there_passes are_bytes 1 bs [] refl small
-  kind_bytes (lists item) ns bs ds small known = array_bytes item (drop 1 ns) (drop 2 bs) ds (dropped_all are_bytes 2 bs small) known
-  kind_bytes (large_lists item) ns bs ds small known = array_bytes item (drop 1 ns) (drop 2 bs) ds (dropped_all are_bytes 2 bs small) known
-  kind_bytes (fixed_lists size item) ns bs ds small known = array_bytes item (drop 1 ns) (drop 1 bs) ds (dropped_all are_bytes 1 bs small) known
-  kind_bytes (structs columns) ns bs ds small known = arrays_bytes columns (drop 1 ns) (drop 1 bs) ds (dropped_all are_bytes 1 bs small) known
+  kind_bytes (lists item) ns bs ds small known = array_bytes item (drop 1 ns) (drop 2 bs) ds (all_left are_bytes 2 bs small) known
+  kind_bytes (large_lists item) ns bs ds small known = array_bytes item (drop 1 ns) (drop 2 bs) ds (all_left are_bytes 2 bs small) known
+  kind_bytes (fixed_lists size item) ns bs ds small known = array_bytes item (drop 1 ns) (drop 1 bs) ds (all_left are_bytes 1 bs small) known
+  kind_bytes (structs columns) ns bs ds small known = arrays_bytes columns (drop 1 ns) (drop 1 bs) ds (all_left are_bytes 1 bs small) known
 
   arrays_bytes : (cs : Columns) (ns : List Node) (bs : List (List ℕ)) (ds : List (List Array)) → list_all are_bytes bs ≡ true → list_all (list_all has_bytes) ds ≡ true → have_bytes (arrays_from cs ns bs ds) ≡ true
   arrays_bytes no_column ns bs ds small known = refl
   arrays_bytes (and_column c cs) ns bs ds small known =
       and_from _ _ (array_bytes c ns bs ds small known)
-      (arrays_bytes cs (drop (node_count c) ns) (drop (buffer_count c) bs) (drop (dictionary_count c) ds) (dropped_all are_bytes (buffer_count c) bs small) (dropped_all (list_all has_bytes) (dictionary_count c) ds known))
+      (arrays_bytes cs (drop (node_count c) ns) (drop (buffer_count c) bs) (drop (dictionary_count c) ds) (all_left are_bytes (buffer_count c) bs small) (all_left (list_all has_bytes) (dictionary_count c) ds known))
 
 pub batch_bytes : (cs : Columns) (b : RawBatch) (body : List ℕ) (known : List (List Array)) → are_bytes body ≡ true → list_all (list_all has_bytes) known ≡ true
     → have_bytes (batch_arrays cs b body known) ≡ true

@@ -6,7 +6,7 @@ use Rattle.arrow_schema.specs.Column.{Column}
 use Rattle.arrays.specs.Dictionaries.{DictionaryColumn, column_of_id}
 use Rattle.arrays.specs.DictionaryColumns.{columns_with, first_alone}
 
-abbrev alone_of : Option DictionaryColumn → Option (List Column)
+abbrev pub alone_of : Option DictionaryColumn → Option (List Column)
 alone_of found = option_map (λ c. c.values ∷ []) found
 
 here : (test : Bool) (c : DictionaryColumn) (rest : Option DictionaryColumn) → test ≡ true → alone_of (cond test (Some c) rest) ≡ Some (c.values ∷ [])

@@ -1,7 +1,7 @@
 -- What is answered of a dictionary batch.
-use Rattle.std.specs.Prelude.{option_map}
 use Rattle.std.specs.List.{list_any}
 use Rattle.std.proofs.Common.{◌≡◌, ℕ, Bool, true, false, List, [], ◌∷◌, Option, Some, None, Result, Ok, Err, refl, sym, ap, ◌∙◌, subst}
+use Rattle.arrays.proofs.DictionaryFound.{alone_of}
 use Rattle.facts.specs.Checks.{when, first_some, unless}
 use Rattle.facts.specs.laws.Checks.{unless_passed, first_some-after, first_some-before}
 use Rattle.arrow_schema.specs.Column.{Column, columns_of}
@@ -65,9 +65,6 @@ good cs c b body bytes items xs is same h found =
     entries_good c b body (placed_arrays bytes [] items) (subst (λ (x : List Column). arrays_read (columns_of x) b body [] ≡ Ok (placed_arrays bytes [] items)) is h)
     (subst (λ (x : List Column). list_any is_no_text (visible_in (columns_of x) (placed_arrays bytes [] items) b.length) ≡ false) is
     (subst (λ (x : List PlacedArray). list_any is_no_text (visible_in (columns_of cs) (placed_arrays bytes [] x) b.length) ≡ false) same (sym found)))
-
-abbrev alone_of : Option DictionaryColumn → Option (List Column)
-alone_of found = option_map (λ c. c.values ∷ []) found
 
 pub no_id_found : (found : Option DictionaryColumn) (before : List DictionaryBatch) (d : RawDictionaryBatch) (body : List ℕ) → (let none : Option (List Column) = None in none) ≡ alone_of found → read_with found before d body ≡ Err DictionaryId
 no_id_found None before d body h = refl

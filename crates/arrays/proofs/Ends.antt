@@ -18,7 +18,7 @@ children_end r arrays size h = list_all-map (λ b. b) (is_placed_within size r.d
 
 -- ---- of what is left
 
-all_left : {X : Type 0} (p : X → Bool) (n : ℕ) (xs : List X) → list_all p xs ≡ true → list_all p (drop n xs) ≡ true
+pub all_left : {X : Type 0} (p : X → Bool) (n : ℕ) (xs : List X) → list_all p xs ≡ true → list_all p (drop n xs) ≡ true
 all_left p zero xs h = h
 all_left p (suc n) [] h = refl
 all_left p (suc n) (x ∷ xs) h = all_left p n xs (and_parts (p x) (list_all p xs) h).1

@@ -89,7 +89,7 @@ none_in_span test field a from n h =
 
 -- ---- field by field
 
-next_field : (fs : List Field) (i : ℕ) (f : Field) → i < length fs → f ≡ get_or fs i f → fields_of (drop i fs) ≡ and_column (column_of f) (fields_of (drop (i + 1) fs))
+pub next_field : (fs : List Field) (i : ℕ) (f : Field) → i < length fs → f ≡ get_or fs i f → fields_of (drop i fs) ≡ and_column (column_of f) (fields_of (drop (i + 1) fs))
 next_field fs i f within is = ap fields_of (drop-item fs i f within is)
 
 pub field_found : (test : SlotTest) (fs : List Field) (i : ℕ) (f : Field) → i < length fs → f ≡ get_or fs i f → may_find test (column_of f) ≡ true → any_may_find test (fields_of (drop i fs)) ≡ true

@@ -40,6 +40,12 @@ any-first_and_others f g h (x ∷ xs) =
     ∙ or_four (f (g x)) (list_any (λ i. f (g i)) xs) (list_any f (h x)) (list_any f (flat_map h xs))
     ∙ ap (λ (b : Bool). (f (g x) || list_any (λ i. f (g i)) xs) || b) (sym (list_any-append f (h x) (flat_map h xs)))
 
+pub or_both : (a b c d : Bool) → ((a || b) || (c || d)) ≡ ((a || c) || (b || d))
+or_both true b c d = refl
+or_both false true true d = refl
+or_both false true false d = refl
+or_both false false c d = refl
+
 -- a test of two lists at each number
 pub any-both : {A : Type 0} (f : A → Bool) (g h : ℕ → List A) (xs : List ℕ)
     → list_any f (flat_map (λ i. g i ++ h i) xs) ≡ (list_any f (flat_map g xs) || list_any f (flat_map h xs))
@@ -49,12 +55,6 @@ any-both f g h (x ∷ xs) =
     ∙ (λ j. list_any-append f (g x) (h x) j || any-both f g h xs j)
     ∙ or_both (list_any f (g x)) (list_any f (h x)) (list_any f (flat_map g xs)) (list_any f (flat_map h xs))
     ∙ (λ j. sym (list_any-append f (g x) (flat_map g xs)) j || sym (list_any-append f (h x) (flat_map h xs)) j)
-  where
-    or_both : (a b c d : Bool) → ((a || b) || (c || d)) ≡ ((a || c) || (b || d))
-    or_both true b c d = refl
-    or_both false true true d = refl
-    or_both false true false d = refl
-    or_both false false c d = refl
 
 -- what is the same at each number
 pub flat_map-alike : {A : Type 0} (g h : ℕ → List A) (at n : ℕ) → ((i : ℕ) → at ≤ i → i < at + n → g i ≡ h i) → flat_map g (range_with_len at n) ≡ flat_map h (range_with_len at n)

@@ -4,7 +4,7 @@ use Rattle.std.specs.List.{flat_map}
 use Rattle.std.proofs.Common.{◌≡◌, ℕ, zero, suc, ◌+◌, ◌*◌, ◌<◌, ◌≤◌, ◌++◌, true, false, List, [], ◌∷◌, length, drop, get_or, refl, sym, ap, arith, ◌∙◌}
 use Rattle.std.proofs.lemmas.Bool.{or_parts}
 use Rattle.std.proofs.lemmas.List.{drop_all}
-use Rattle.facts.specs.laws.Lists.{drop-item}
+use Rattle.arrays.proofs.MayFind.{next_field}
 use Rattle.arrow_schema.specs.declared.types.Field.{Field}
 use Rattle.arrow_schema.specs.Column.{Kind, Column, Columns, nulls, booleans, integers, dates, timestamps, texts, large_texts, binaries, large_binaries, fixed_binaries, lists, large_lists, fixed_lists, structs, column, no_column, and_column}
 use Rattle.arrow_schema.specs.View.{column_of, kind_of}
@@ -115,9 +115,6 @@ alike_masked field mask a start n h =
     (λ i le lt. or_null (weight c) (cell_at c a i) (is_valid mask i) (same_cell c (field_is_alike field h) a i))
 
 -- ---- field by field
-
-next_field : (fs : List Field) (i : ℕ) (f : Field) → i < length fs → f ≡ get_or fs i f → fields_of (drop i fs) ≡ and_column (column_of f) (fields_of (drop (i + 1) fs))
-next_field fs i f within is = ap fields_of (drop-item fs i f within is)
 
 pub field_varies : (fs : List Field) (i : ℕ) (f : Field) → i < length fs → f ≡ get_or fs i f → may_vary_in (column_of f) ≡ true → any_may_vary (fields_of (drop i fs)) ≡ true
 unfolding any_may_vary

@@ -6,6 +6,7 @@ use Rattle.std.proofs.Math.Bool.{or-false, or_assoc}
 use Rattle.std.proofs.lemmas.Bool.{and_parts, and_from, leb-true, le-leb, ltb-true, lt-ltb}
 use Rattle.std.proofs.lemmas.List.{drop_all, drop_more, map-append, take_all, take_more}
 use Rattle.std.proofs.lemmas.List.Folds.{list_any-append}
+use Rattle.arrays.proofs.KindWeights.{fixed_within}
 use Rattle.facts.specs.laws.Lists.{drop-item, all_pushed}
 use Rattle.arrow_schema.specs.Column.{Kind, Column, Columns, lists, large_lists, fixed_lists, structs, no_column, and_column}
 use Rattle.arrow_schema.specs.declared.types.Field.{Field, out-Field}
@@ -26,17 +27,11 @@ use Rattle.arrays.specs.inner.MayFind.{may_find_own, may_find_below}
 use Rattle.arrays.specs.inner.SpanLists.{any_slot_of, any_visible_of, any_below_of, any_below_runs, any_part_of, is_within, are_within, is_inside, are_inside, is_run, are_runs, are_long_for, item_span, fixed_item_span}
 use Rattle.arrays.specs.inner.VisibleSpans.{any_slot, any_visible, any_below, any_valid_below, any_part, finds, has_below}
 use Rattle.arrays.proofs.MayFind.{own_none, none_in_span}
-use Rattle.arrays.proofs.Ranges.{any-part}
+use Rattle.arrays.proofs.Ranges.{any-part, or_both}
 use Rattle.arrays.proofs.SpanWeights.{sound_next}
-use Rattle.arrays.proofs.VisibleSpans.{own_and_below, nothing_below, null_run, valid_run, run_joined, no_run_left, items_below, fixed_items_below, fixed_within, fields_below, all_visible, others}
+use Rattle.arrays.proofs.VisibleSpans.{own_and_below, nothing_below, null_run, valid_run, run_joined, no_run_left, items_below, fixed_items_below, fields_below, all_visible, others}
 
 -- ---- lists
-
-or_both : (a b c d : Bool) → ((a || b) || (c || d)) ≡ ((a || c) || (b || d))
-or_both true b c d = refl
-or_both false true true d = refl
-or_both false true false d = refl
-or_both false false c d = refl
 
 -- a test that finds what one of two others does
 any_or : {X : Type 0} (p q r : X → Bool) → ((x : X) → p x ≡ (q x || r x)) → (xs : List X) → list_any p xs ≡ (list_any q xs || list_any r xs)

@@ -50,7 +50,7 @@ if_text : (b : Bool) (t : List ℕ) → is_bad_text (if b then text t else null)
 if_text true t = refl
 if_text false t = refl
 
-if_other : (b : Bool) (c : Cell) → is_bad_text c ≡ false → is_bad_text (if b then c else null) ≡ false
+pub if_other : (b : Bool) (c : Cell) → is_bad_text c ≡ false → is_bad_text (if b then c else null) ≡ false
 if_other true c h = h
 if_other false c h = refl
 

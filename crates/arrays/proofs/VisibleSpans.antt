@@ -1,9 +1,7 @@
 -- What is visible by spans of slots.
-use Rattle.std.specs.Prelude.{◌||◌, nat_le, if◌then◌else◌}
+use Rattle.std.specs.Prelude.{◌||◌, if◌then◌else◌}
 use Rattle.std.specs.List.{list_any, flat_map, range_with_len}
 use Rattle.std.proofs.Common.{◌≡◌, ℕ, ◌+◌, ◌-◌, ◌*◌, ◌≤◌, ◌<◌, Bool, true, false, List, [], ◌∷◌, drop, Some, None, refl, arith, sym, ap, ◌∙◌}
-use Rattle.std.proofs.Math.Nat.{mul-le-mul_left}
-use Rattle.std.proofs.lemmas.Bool.{leb-true}
 use Rattle.std.proofs.lemmas.List.Folds.{list_any-append}
 use Rattle.arrow_schema.specs.Parts.{kind_of_column}
 use Rattle.arrow_schema.specs.laws.Parts.{kind_of_field}
@@ -160,12 +158,6 @@ pub fixed_items_below : (f : Slot → Bool) (size : ℕ) (item : Column) (a b : 
     → result ≡ any_visible f item b (from * size) (n * size) → result ≡ any_valid_below f (fixed_lists size item) a from n
 fixed_items_below f size item a b from n result is found =
     found ∙ ap (λ (x : Array). any_visible f item x (from * size) (n * size)) is ∙ sym (fixed_lists_below f size item a from n)
-
-pub fixed_within : (size from n slots most : ℕ) → nat_le (slots * size) most ≡ true → from + n ≤ slots → from * size + n * size ≤ most
-fixed_within size from n slots most long le =
-    let all : slots * size ≤ most = leb-true _ _ long in
-    let own : size * (from + n) ≤ size * slots = mul-le-mul_left size le in
-    omega (arith, all, own)
 
 parts_alike : (f : Slot → Bool) (cs : Columns) (arrays : Arrays) (from n : ℕ) → list_any f (flat_map (visible_parts cs arrays) (range_with_len from n)) ≡ any_part f cs arrays from n
 unfolding visible_parts

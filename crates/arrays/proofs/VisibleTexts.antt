@@ -4,6 +4,7 @@ use Rattle.std.specs.List.{list_any, flat_map, range_with_len}
 use Rattle.std.proofs.Common.{◌≡◌, ℕ, zero, suc, ◌*◌, Bool, true, false, List, [], ◌∷◌, ◌++◌, get_or, Some, None, refl, sym, ap, ◌∙◌}
 use Rattle.std.proofs.lemmas.Bool.{or_parts}
 use Rattle.std.proofs.lemmas.List.Folds.{list_any-append}
+use Rattle.arrays.proofs.VisibleSlots.{if_other}
 use Rattle.arrow_schema.specs.Column.{Kind, Column, Columns, nulls, booleans, integers, dates, timestamps, texts, large_texts, binaries, large_binaries, fixed_binaries, lists, large_lists, fixed_lists, structs, column, no_column, and_column}
 use Rattle.cells.specs.Cell.{Cell, null}
 use Rattle.columns.specs.Array.{Array, Arrays, items_in, children_in, dictionary_in, first_array, other_arrays}
@@ -23,10 +24,6 @@ got_clean (x ∷ xs) (suc n) h = got_clean xs n (or_parts (is_bad_text x) (list_
 entry_clean : (entries : List Cell) (z : ℤ) → list_any is_bad_text entries ≡ false → is_bad_text (entry_at entries z) ≡ false
 entry_clean entries (pos n) h = got_clean entries n h
 entry_clean entries (negsuc n) h = refl
-
-unless_clean : (b : Bool) (c : Cell) → is_bad_text c ≡ false → is_bad_text (if b then c else null) ≡ false
-unless_clean true c h = h
-unless_clean false c h = refl
 
 -- ---- lists of slots
 
@@ -55,7 +52,7 @@ mutual
       let c : Column = column name nullable kind (Some index) pairs in
       let entries : List Cell = entries_of_kind kind (dictionary_in a) in
       let clean : list_any is_bad_text entries ≡ false = (or_parts (has_bad_entries c a) false h).0 in
-      let own : is_no_text (slot c a i) ≡ false = unless_clean (is_valid a i) (entry_at entries (index_at index a i)) (entry_clean entries (index_at index a i) clean) in
+      let own : is_no_text (slot c a i) ≡ false = if_other (is_valid a i) (entry_at entries (index_at index a i)) (entry_clean entries (index_at index a i) clean) in
       rw own refl
   alike_at (column name nullable kind None pairs) a i h =
       let c : Column = column name nullable kind None pairs in

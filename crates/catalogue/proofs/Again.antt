@@ -7,6 +7,7 @@ use Rattle.std.proofs.lemmas.Bool.Decides.{nat_tests}
 use Rattle.std.proofs.lemmas.List.{take_at, drop_at, length-append, append-nil}
 use Rattle.std.proofs.lemmas.List.Sums.{sum_by-cons}
 use Rattle.std.proofs.lemmas.Str.{IsUtf8-from_ascii}
+use Rattle.std.proofs.lemmas.Option.{same_Some}
 use Rattle.byteorder.specs.Endian.{little_bytes}
 use Rattle.byteorder.specs.Numbers.{little_number-reads_back, length-bytes_low_first}
 use Rattle.ipc_write.specs.Written.{schema_message}
@@ -171,11 +172,7 @@ abbrev Body : Type 0
 Body = PlainSchema × List Segment
 
 same_body : (a b : Body × List ℕ) → Some a ≡ Some b → a.0 ≡ b.0
-same_body a b h = ap (λ (o : Option (Body × List ℕ)). front o) h
-  where
-    front : Option (Body × List ℕ) → Body
-    front None = a.0
-    front (Some p) = p.0
+same_body a b h = ap (λ (p : Body × List ℕ). p.0) (same_Some a b h)
 
 pub pages_apart : AllAgain → (form : SegmentForm) (e f : PlainEntry) (x y : List ℕ) → IsTable e → IsTable f → has_digests form e.segments ≡ true → has_digests form f.segments ≡ true → table_text e ++ x ≡ table_text f ++ y
     → (e.schema ≡ f.schema) × (e.segments ≡ f.segments)
@@ -226,11 +223,7 @@ catalogue_again schemas form c k has =
     rw (alone, bare_stands c (passes_catalogue c k)) refl
 
 same_front : (a b : PlainCatalogue × List ℕ) → Some a ≡ Some b → a.0 ≡ b.0
-same_front a b h = ap (λ (o : Option (PlainCatalogue × List ℕ)). front o) h
-  where
-    front : Option (PlainCatalogue × List ℕ) → PlainCatalogue
-    front None = []
-    front (Some p) = p.0
+same_front a b h = ap (λ (p : PlainCatalogue × List ℕ). p.0) (same_Some a b h)
 
 pub texts_apart : AllAgain → (form : SegmentForm) (c d : PlainCatalogue) (x y : List ℕ) → IsCatalogue c → IsCatalogue d → has_form form c ≡ true → has_form form d ≡ true → list_text c ++ x ≡ list_text d ++ y → map bare c ≡ map bare d
 texts_apart schemas form c d x y k l one_has other_has same =
@@ -264,11 +257,7 @@ root_again rs is =
     rw (all, is.order, le-leb (length rs) MAX_TABLES is.tables) refl
 
 same_root : (a b : List PlainRoot × List ℕ) → Some a ≡ Some b → a.0 ≡ b.0
-same_root a b h = ap (λ (o : Option (List PlainRoot × List ℕ)). front o) h
-  where
-    front : Option (List PlainRoot × List ℕ) → List PlainRoot
-    front None = []
-    front (Some p) = p.0
+same_root a b h = ap (λ (p : List PlainRoot × List ℕ). p.0) (same_Some a b h)
 
 pub roots_apart : (rs ss : List PlainRoot) (x y : List ℕ) → IsRoot rs → IsRoot ss → root_text rs ++ x ≡ root_text ss ++ y → rs ≡ ss
 roots_apart rs ss x y k l same = same_root (rs, x) (ss, y) (sym (root_front_again rs x k) ∙ ap (counted_at root_entry_at) same ∙ root_front_again ss y l)

@@ -6,7 +6,7 @@ use Rattle.std.specs.List.{flat_map, list_all}
 use Rattle.std.specs.Str.{bytes_eq}
 use Rattle.std.proofs.lemmas.Bool.{and_parts, and_from, leb-true, eqb-true}
 use Rattle.std.proofs.lemmas.List.{take-append-drop, length-take, append-nil, nil_from_length}
-use Rattle.std.proofs.lemmas.Option.{cond_some}
+use Rattle.std.proofs.lemmas.Option.{cond_some, same_Some}
 use Rattle.std.proofs.lemmas.Slice.Eq.{bytes_eq-Decides}
 use Rattle.byteorder.specs.Endian.{little_bytes, little_number}
 use Rattle.byteorder.specs.Numbers.{little_from-cons, little_from-take}
@@ -98,20 +98,14 @@ many_takes : {A : Type 0} (one_at : List ℕ → Option (A × List ℕ)) (text :
     → Takes bytes (flat_map text r.0) r.1 × (length r.0 ≡ count)
 unfolding many_at
 many_takes {A = A} one_at text one zero bytes r small e =
-    subst (λ (p : List A × List ℕ). Takes bytes (flat_map text p.0) p.1 × (length p.0 ≡ 0)) (some_is ([], bytes) r e) (record { parts = refl; small = small }, refl)
-  where
-    some_is : (x y : List A × List ℕ) → Some x ≡ Some y → x ≡ y
-    some_is x y h = cc
+    subst (λ (p : List A × List ℕ). Takes bytes (flat_map text p.0) p.1 × (length p.0 ≡ 0)) (same_Some {A = List A × List ℕ} ([], bytes) r e) (record { parts = refl; small = small }, refl)
 many_takes {A = A} one_at text one (suc count) bytes r small e =
     let a = bound (one_at bytes) (λ first. many_at one_at count first.1 >>= λ others. Some (first.0 ∷ others.0, others.1)) r e in
     let b = bound (many_at one_at count a.0.1) (λ others. Some (a.0.0 ∷ others.0, others.1)) r a.2 in
     let p = one bytes a.0 small a.1 in
     let q = many_takes one_at text one count a.0.1 b.0 p.small b.1 in
-    subst (λ (x : List A × List ℕ). Takes bytes (flat_map text x.0) x.1 × (length x.0 ≡ suc count)) (some_is (a.0.0 ∷ b.0.0, b.0.1) r b.2)
+    subst (λ (x : List A × List ℕ). Takes bytes (flat_map text x.0) x.1 × (length x.0 ≡ suc count)) (same_Some {A = List A × List ℕ} (a.0.0 ∷ b.0.0, b.0.1) r b.2)
     (then_takes bytes (text a.0.0) a.0.1 (flat_map text b.0.0) b.0.1 p q.0, ap suc q.1)
-  where
-    some_is : (x y : List A × List ℕ) → Some x ≡ Some y → x ≡ y
-    some_is x y h = cc
 
 counted_takes : {A : Type 0} (one_at : List ℕ → Option (A × List ℕ)) (text : A → List ℕ) → TakesOne one_at text → TakesOne (counted_at one_at) (counted text)
 counted_takes one_at text one bytes r small e =
@@ -126,17 +120,11 @@ PassesOne {A = A} one_at p = (bytes : List ℕ) (r : A × List ℕ) → one_at b
 
 many_pass : {A : Type 0} (one_at : List ℕ → Option (A × List ℕ)) (p : A → Bool) → PassesOne one_at p → (count : ℕ) (bytes : List ℕ) (r : List A × List ℕ) → many_at one_at count bytes ≡ Some r → list_all p r.0 ≡ true
 unfolding many_at
-many_pass {A = A} one_at p one zero bytes r e = ap (λ (x : List A × List ℕ). list_all p x.0) (sym (some_is ([], bytes) r e))
-  where
-    some_is : (x y : List A × List ℕ) → Some x ≡ Some y → x ≡ y
-    some_is x y h = cc
+many_pass {A = A} one_at p one zero bytes r e = ap (λ (x : List A × List ℕ). list_all p x.0) (sym (same_Some {A = List A × List ℕ} ([], bytes) r e))
 many_pass {A = A} one_at p one (suc count) bytes r e =
     let a = bound (one_at bytes) (λ first. many_at one_at count first.1 >>= λ others. Some (first.0 ∷ others.0, others.1)) r e in
     let b = bound (many_at one_at count a.0.1) (λ others. Some (a.0.0 ∷ others.0, others.1)) r a.2 in
-    ap (λ (x : List A × List ℕ). list_all p x.0) (sym (some_is (a.0.0 ∷ b.0.0, b.0.1) r b.2)) ∙ and_from (p a.0.0) (list_all p b.0.0) (one bytes a.0 a.1) (many_pass one_at p one count a.0.1 b.0 b.1)
-  where
-    some_is : (x y : List A × List ℕ) → Some x ≡ Some y → x ≡ y
-    some_is x y h = cc
+    ap (λ (x : List A × List ℕ). list_all p x.0) (sym (same_Some {A = List A × List ℕ} (a.0.0 ∷ b.0.0, b.0.1) r b.2)) ∙ and_from (p a.0.0) (list_all p b.0.0) (one bytes a.0 a.1) (many_pass one_at p one count a.0.1 b.0 b.1)
 
 extent_takes : TakesOne extent_in extent_text
 unfolding extent_in
@@ -151,27 +139,18 @@ extent_takes bytes r small e =
     let s = number_takes 8 b.0.1 c.0 q.small c.1 in
     let qs = then_takes a.0.1 (little_bytes 8 b.0.0) b.0.1 (little_bytes 8 c.0.0) c.0.1 q s in
     let all = then_takes bytes (little_bytes 8 a.0.0) a.0.1 (little_bytes 8 b.0.0 ++ little_bytes 8 c.0.0) c.0.1 p qs in
-    subst (λ (x : Extent × List ℕ). Takes bytes (extent_text x.0) x.1) (some_is (record { run = record { start = a.0.0; count = b.0.0 }; bytes = c.0.0 }, c.0.1) r c.2) all
-  where
-    some_is : (x y : Extent × List ℕ) → Some x ≡ Some y → x ≡ y
-    some_is x y h = cc
+    subst (λ (x : Extent × List ℕ). Takes bytes (extent_text x.0) x.1) (same_Some {A = Extent × List ℕ} (record { run = record { start = a.0.0; count = b.0.0 }; bytes = c.0.0 }, c.0.1) r c.2) all
 
 digest_takes : (form : SegmentForm) → TakesOne (digest_in form) digest_text
 unfolding digest_in
 digest_takes Bare bytes r small e =
-    subst (λ (x : Option (List ℕ) × List ℕ). Takes bytes (digest_text x.0) x.1) (some_is (None, bytes) r e) (record { parts = refl; small = small })
-  where
-    some_is : (x y : Option (List ℕ) × List ℕ) → Some x ≡ Some y → x ≡ y
-    some_is x y h = cc
+    subst (λ (x : Option (List ℕ) × List ℕ). Takes bytes (digest_text x.0) x.1) (same_Some {A = Option (List ℕ) × List ℕ} (None, bytes) r e) (record { parts = refl; small = small })
 digest_takes Digested bytes r small e =
     let a = bound (bytes_in 32 bytes) (λ digest. Some (Some digest.0, digest.1)) r e in
     let t = cond_some (leb 32 (length bytes)) (take 32 bytes, drop 32 bytes) a.0 a.1 in
     let front : Takes bytes (take 32 bytes) (drop 32 bytes) = record { parts = sym (take-append-drop 32 bytes); small = drop-bytes 32 bytes small } in
-    subst (λ (x : Option (List ℕ) × List ℕ). Takes bytes (digest_text x.0) x.1) (some_is (Some a.0.0, a.0.1) r a.2)
+    subst (λ (x : Option (List ℕ) × List ℕ). Takes bytes (digest_text x.0) x.1) (same_Some {A = Option (List ℕ) × List ℕ} (Some a.0.0, a.0.1) r a.2)
     (subst (λ (x : List ℕ × List ℕ). Takes bytes x.0 x.1) t.1 front)
-  where
-    some_is : (x y : Option (List ℕ) × List ℕ) → Some x ≡ Some y → x ≡ y
-    some_is x y h = cc
 
 segment_takes : (form : SegmentForm) → TakesOne (segment_at form) segment_text
 unfolding segment_at
@@ -184,23 +163,14 @@ segment_takes form bytes r small e =
     let s = digest_takes form b.0.1 c.0 q.small c.1 in
     let qs = then_takes a.0.1 (little_bytes 8 b.0.0) b.0.1 (digest_text c.0.0) c.0.1 q s in
     let all = then_takes bytes (extent_text a.0.0) a.0.1 (little_bytes 8 b.0.0 ++ digest_text c.0.0) c.0.1 p qs in
-    subst (λ (x : Segment × List ℕ). Takes bytes (segment_text x.0) x.1) (some_is (record { place = a.0.0; rows = b.0.0; digest = c.0.0 }, c.0.1) r c.2) all
-  where
-    some_is : (x y : Segment × List ℕ) → Some x ≡ Some y → x ≡ y
-    some_is x y h = cc
+    subst (λ (x : Segment × List ℕ). Takes bytes (segment_text x.0) x.1) (same_Some {A = Segment × List ℕ} (record { place = a.0.0; rows = b.0.0; digest = c.0.0 }, c.0.1) r c.2) all
 
 digest_formed : (form : SegmentForm) → PassesOne (digest_in form) (has_digest form)
 unfolding digest_in
-digest_formed Bare bytes r e = ap (λ (x : Option (List ℕ) × List ℕ). has_digest Bare x.0) (sym (some_is (None, bytes) r e))
-  where
-    some_is : (x y : Option (List ℕ) × List ℕ) → Some x ≡ Some y → x ≡ y
-    some_is x y h = cc
+digest_formed Bare bytes r e = ap (λ (x : Option (List ℕ) × List ℕ). has_digest Bare x.0) (sym (same_Some {A = Option (List ℕ) × List ℕ} (None, bytes) r e))
 digest_formed Digested bytes r e =
     let a = bound (bytes_in 32 bytes) (λ digest. Some (Some digest.0, digest.1)) r e in
-    ap (λ (x : Option (List ℕ) × List ℕ). has_digest Digested x.0) (sym (some_is (Some a.0.0, a.0.1) r a.2))
-  where
-    some_is : (x y : Option (List ℕ) × List ℕ) → Some x ≡ Some y → x ≡ y
-    some_is x y h = cc
+    ap (λ (x : Option (List ℕ) × List ℕ). has_digest Digested x.0) (sym (same_Some {A = Option (List ℕ) × List ℕ} (Some a.0.0, a.0.1) r a.2))
 
 segment_formed : (form : SegmentForm) → PassesOne (segment_at form) (λ (s : Segment). has_digest form s.digest)
 unfolding segment_at
@@ -208,10 +178,7 @@ segment_formed form bytes r e =
     let a = bound (extent_in bytes) (λ place. front_number 8 place.1 >>= λ rows. digest_in form rows.1 >>= λ digest. Some (record { place = place.0; rows = rows.0; digest = digest.0 }, digest.1)) r e in
     let b = bound (front_number 8 a.0.1) (λ rows. digest_in form rows.1 >>= λ digest. Some (record { place = a.0.0; rows = rows.0; digest = digest.0 }, digest.1)) r a.2 in
     let c = bound (digest_in form b.0.1) (λ digest. Some (record { place = a.0.0; rows = b.0.0; digest = digest.0 }, digest.1)) r b.2 in
-    ap (λ (x : Segment × List ℕ). has_digest form x.0.digest) (sym (some_is (record { place = a.0.0; rows = b.0.0; digest = c.0.0 }, c.0.1) r c.2)) ∙ digest_formed form b.0.1 c.0 c.1
-  where
-    some_is : (x y : Segment × List ℕ) → Some x ≡ Some y → x ≡ y
-    some_is x y h = cc
+    ap (λ (x : Segment × List ℕ). has_digest form x.0.digest) (sym (same_Some {A = Segment × List ℕ} (record { place = a.0.0; rows = b.0.0; digest = c.0.0 }, c.0.1) r c.2)) ∙ digest_formed form b.0.1 c.0 c.1
 
 -- ---- names
 
@@ -227,12 +194,6 @@ name_is_at bytes r e =
     record { sized = a.1 ∙ ap Some t.1; name = ap (λ (x : List ℕ × List ℕ). is_name x.0) (sym t.1) ∙ t.0 }
 
 -- ---- entries
-
-entry_is : (x y : PlainEntry × List ℕ) → Some x ≡ Some y → x ≡ y
-entry_is x y h = cc
-
-root_entry_is : (x y : PlainRoot × List ℕ) → Some x ≡ Some y → x ≡ y
-root_entry_is x y h = cc
 
 pub schema_takes : (bytes : List ℕ) (s : PlainSchema) → schema_in bytes ≡ Some s → bytes ≡ schema_message s
 unfolding schema_in
@@ -255,11 +216,8 @@ body_takes form bytes r small e =
     let p = sized_takes bytes a.0 small a.1 in
     let q = counted_takes (segment_at form) segment_text (segment_takes form) a.0.1 c.0 p.0.small c.1 in
     let message : Takes bytes (sized (schema_message b.0)) a.0.1 = subst (λ m. Takes bytes (sized m) a.0.1) (schema_takes a.0.0 b.0 b.1) p.0 in
-    subst (λ (x : (PlainSchema × List Segment) × List ℕ). Takes bytes (sized (schema_message x.0.0) ++ counted segment_text x.0.1) x.1) (some_is ((b.0, c.0.0), c.0.1) r c.2)
+    subst (λ (x : (PlainSchema × List Segment) × List ℕ). Takes bytes (sized (schema_message x.0.0) ++ counted segment_text x.0.1) x.1) (same_Some {A = (PlainSchema × List Segment) × List ℕ} ((b.0, c.0.0), c.0.1) r c.2)
     (then_takes bytes (sized (schema_message b.0)) a.0.1 (counted segment_text c.0.0) c.0.1 message q)
-  where
-    some_is : (x y : (PlainSchema × List Segment) × List ℕ) → Some x ≡ Some y → x ≡ y
-    some_is x y h = cc
 
 body_formed : (form : SegmentForm) → PassesOne (body_at form) (λ (body : PlainSchema × List Segment). has_digests form body.1)
 unfolding body_at
@@ -268,18 +226,15 @@ body_formed form bytes r e =
     let b = bound (schema_in a.0.0) (λ schema. counted_at (segment_at form) a.0.1 >>= λ segments. Some ((schema, segments.0), segments.1)) r a.2 in
     let c = bound (counted_at (segment_at form) a.0.1) (λ segments. Some ((b.0, segments.0), segments.1)) r b.2 in
     let n = bound (front_number 4 a.0.1) (λ count. many_at (segment_at form) count.0 count.1) c.0 c.1 in
-    ap (λ (x : (PlainSchema × List Segment) × List ℕ). has_digests form x.0.1) (sym (some_is ((b.0, c.0.0), c.0.1) r c.2))
+    ap (λ (x : (PlainSchema × List Segment) × List ℕ). has_digests form x.0.1) (sym (same_Some {A = (PlainSchema × List Segment) × List ℕ} ((b.0, c.0.0), c.0.1) r c.2))
     ∙ many_pass (segment_at form) (λ (s : Segment). has_digest form s.digest) (segment_formed form) n.0.0 n.0.1 c.0 n.2
-  where
-    some_is : (x y : (PlainSchema × List Segment) × List ℕ) → Some x ≡ Some y → x ≡ y
-    some_is x y h = cc
 
 entry_formed : (form : SegmentForm) → PassesOne (entry_at form) (λ (x : PlainEntry). has_digests form x.segments)
 unfolding entry_at
 entry_formed form bytes r e =
     let a = bound (name_at bytes) (λ name. body_at form name.1 >>= λ body. Some (entry_from name.0 None body.0, body.1)) r e in
     let b = bound (body_at form a.0.1) (λ body. Some (entry_from a.0.0 None body.0, body.1)) r a.2 in
-    ap (λ (x : PlainEntry × List ℕ). has_digests form x.0.segments) (sym (entry_is (entry_from a.0.0 None b.0.0, b.0.1) r b.2)) ∙ body_formed form a.0.1 b.0 b.1
+    ap (λ (x : PlainEntry × List ℕ). has_digests form x.0.segments) (sym (same_Some {A = PlainEntry × List ℕ} (entry_from a.0.0 None b.0.0, b.0.1) r b.2)) ∙ body_formed form a.0.1 b.0 b.1
 
 -- a name makes no difference to the text of a table
 same_table : (e : PlainEntry) → table_text (table_of (e.schema, e.segments)) ≡ table_text e
@@ -295,7 +250,7 @@ entry_takes form bytes r small e =
     let q = body_takes form a.0.1 b.0 p.small b.1 in
     let made : PlainEntry × List ℕ = (entry_from a.0.0 None b.0.0, b.0.1) in
     let table : Takes a.0.1 (table_text made.0) b.0.1 = subst (λ t. Takes a.0.1 t b.0.1) (same_table made.0) q in
-    subst (λ (x : PlainEntry × List ℕ). Takes bytes (entry_text x.0) x.1) (entry_is made r b.2) (then_takes bytes (sized a.0.0) a.0.1 (table_text made.0) b.0.1 p table)
+    subst (λ (x : PlainEntry × List ℕ). Takes bytes (entry_text x.0) x.1) (same_Some {A = PlainEntry × List ℕ} made r b.2) (then_takes bytes (sized a.0.0) a.0.1 (table_text made.0) b.0.1 p table)
 
 -- ---- the catalogue
 
@@ -327,23 +282,17 @@ unfolding entry_at
 entry_pageless form bytes r e =
     let a = bound (name_at bytes) (λ name. body_at form name.1 >>= λ body. Some (entry_from name.0 None body.0, body.1)) r e in
     let b = bound (body_at form a.0.1) (λ body. Some (entry_from a.0.0 None body.0, body.1)) r a.2 in
-    subst (λ (x : PlainEntry × List ℕ). bare x.0 ≡ x.0) (entry_is (entry_from a.0.0 None b.0.0, b.0.1) r b.2) refl
+    subst (λ (x : PlainEntry × List ℕ). bare x.0 ≡ x.0) (same_Some {A = PlainEntry × List ℕ} (entry_from a.0.0 None b.0.0, b.0.1) r b.2) refl
 
 entries_pageless : (form : SegmentForm) (count : ℕ) (bytes : List ℕ) (r : PlainCatalogue × List ℕ) → many_at (entry_at form) count bytes ≡ Some r → map bare r.0 ≡ r.0
 unfolding many_at
-entries_pageless form zero bytes r e = subst (λ (x : PlainCatalogue × List ℕ). map bare x.0 ≡ x.0) (some_is ([], bytes) r e) refl
-  where
-    some_is : (x y : PlainCatalogue × List ℕ) → Some x ≡ Some y → x ≡ y
-    some_is x y h = cc
+entries_pageless form zero bytes r e = subst (λ (x : PlainCatalogue × List ℕ). map bare x.0 ≡ x.0) (same_Some {A = PlainCatalogue × List ℕ} ([], bytes) r e) refl
 entries_pageless form (suc count) bytes r e =
     let a = bound (entry_at form bytes) (λ first. many_at (entry_at form) count first.1 >>= λ others. Some (first.0 ∷ others.0, others.1)) r e in
     let b = bound (many_at (entry_at form) count a.0.1) (λ others. Some (a.0.0 ∷ others.0, others.1)) r a.2 in
     let first = entry_pageless form bytes a.0 a.1 in
     let others = entries_pageless form count a.0.1 b.0 b.1 in
-    subst (λ (x : PlainCatalogue × List ℕ). map bare x.0 ≡ x.0) (some_is (a.0.0 ∷ b.0.0, b.0.1) r b.2) (λ i. first i ∷ others i)
-  where
-    some_is : (x y : PlainCatalogue × List ℕ) → Some x ≡ Some y → x ≡ y
-    some_is x y h = cc
+    subst (λ (x : PlainCatalogue × List ℕ). map bare x.0 ≡ x.0) (same_Some {A = PlainCatalogue × List ℕ} (a.0.0 ∷ b.0.0, b.0.1) r b.2) (λ i. first i ∷ others i)
 
 pub catalogue_pageless : (form : SegmentForm) (bytes : List ℕ) (c : PlainCatalogue) → catalogue_at form bytes ≡ Some c → map bare c ≡ c
 unfolding catalogue_at
@@ -391,14 +340,14 @@ root_entry_takes bytes r small e =
     let b = bound (extent_in a.0.1) (λ page. Some (record { name = a.0.0; page = page.0 }, page.1)) r a.2 in
     let p = (sized_takes bytes a.0 small (name_is_at bytes a.0 a.1).sized).0 in
     let q = extent_takes a.0.1 b.0 p.small b.1 in
-    subst (λ (x : PlainRoot × List ℕ). Takes bytes (root_entry_text x.0) x.1) (root_entry_is (record { name = a.0.0; page = b.0.0 }, b.0.1) r b.2) (then_takes bytes (sized a.0.0) a.0.1 (extent_text b.0.0) b.0.1 p q)
+    subst (λ (x : PlainRoot × List ℕ). Takes bytes (root_entry_text x.0) x.1) (same_Some {A = PlainRoot × List ℕ} (record { name = a.0.0; page = b.0.0 }, b.0.1) r b.2) (then_takes bytes (sized a.0.0) a.0.1 (extent_text b.0.0) b.0.1 p q)
 
 root_entry_named : PassesOne root_entry_at (λ (r : PlainRoot). is_name r.name)
 unfolding root_entry_at
 root_entry_named bytes r e =
     let a = bound (name_at bytes) (λ name. extent_in name.1 >>= λ page. Some (record { name = name.0; page = page.0 }, page.1)) r e in
     let b = bound (extent_in a.0.1) (λ page. Some (record { name = a.0.0; page = page.0 }, page.1)) r a.2 in
-    ap (λ (x : PlainRoot × List ℕ). is_name x.0.name) (sym (root_entry_is (record { name = a.0.0; page = b.0.0 }, b.0.1) r b.2)) ∙ (name_is_at bytes a.0 a.1).name
+    ap (λ (x : PlainRoot × List ℕ). is_name x.0.name) (sym (same_Some {A = PlainRoot × List ℕ} (record { name = a.0.0; page = b.0.0 }, b.0.1) r b.2)) ∙ (name_is_at bytes a.0 a.1).name
 
 -- what is read of a text
 pub record IsRootSpelled (bytes : List ℕ) (rs : List PlainRoot) : Type 0 where

@@ -3,6 +3,7 @@ use Rattle.std.proofs.Common.{◌≡◌, inl, inr, ◌≤◌, ◌<◌, ◌+◌, 
 use Rattle.std.specs.Str.{bytes_eq}
 use Rattle.std.specs.Ordering.{match_ordering}
 use Rattle.std.proofs.lemmas.Bool.{cond-true, cond-false, cases_Bool, and_parts}
+use Rattle.std.proofs.lemmas.Option.{same_Some}
 use Rattle.catalogue.specs.declared.entry.Segment.{Segment}
 use Rattle.catalogue.specs.Entries.{PlainEntry, PlainCatalogue, names_of, comes_before, ascends}
 use Rattle.catalogue.specs.Edits.{entry_of, with_entry, without, with_segments}
@@ -104,16 +105,13 @@ pub record IsPlace (c : PlainCatalogue) (name : List ℕ) (at place : ℕ) : Typ
   pub removed : remove c index ≡ without c name
   pub stood : (d : PlainEntry) → entry_of c name ≡ Some (get_or c index d)
 
-some_is : (a b : ℕ) → Some a ≡ Some b → a ≡ b
-some_is a b h = cc
-
 pub placed : (c : PlainCatalogue) (name : List ℕ) (at place : ℕ) → place_of name at c ≡ Some place → IsPlace c name at place
 placed [] name at place h = absurd cc
 placed (x ∷ xs) name at place h =
     elim (cases_Bool (bytes_eq x.name name)) [
       | inl t ↦ record {
         index = 0;
-        is = let p = some_is at place (sym (cond-true (bytes_eq x.name name) (Some at) (place_of name (suc at) xs) t) ∙ h) in omega arith;
+        is = let p = same_Some at place (sym (cond-true (bytes_eq x.name name) (Some at) (place_of name (suc at) xs) t) ∙ h) in omega arith;
         within = omega arith;
         removed = sym (cond-true (bytes_eq x.name name) xs (x ∷ without xs name) t);
         stood = λ d. cond-true (bytes_eq x.name name) (Some x) (entry_of xs name) t;
@@ -153,7 +151,7 @@ low_place : (c : PlainCatalogue) (name : List ℕ) (at place : ℕ) → place_of
 low_place [] name at place h = absurd cc
 low_place (x ∷ xs) name at place h =
     elim (cases_Bool (bytes_eq x.name name)) [
-      | inl t ↦ let here = some_is at place (sym (cond-true (bytes_eq x.name name) (Some at) (place_of name (suc at) xs) t) ∙ h) in omega (arith, here)
+      | inl t ↦ let here = same_Some at place (sym (cond-true (bytes_eq x.name name) (Some at) (place_of name (suc at) xs) t) ∙ h) in omega (arith, here)
       | inr f ↦ let later = low_place xs name (suc at) place (sym (cond-false (bytes_eq x.name name) (Some at) (place_of name (suc at) xs) f) ∙ h) in omega (arith, later)
     ]
 
@@ -167,7 +165,7 @@ set_segments (x ∷ xs) name at place zero d segments h is =
     ]
 set_segments (x ∷ xs) name at place (suc k) d segments h is =
     elim (cases_Bool (bytes_eq x.name name)) [
-      | inl t ↦ absurd (let here = some_is at place (sym (cond-true (bytes_eq x.name name) (Some at) (place_of name (suc at) xs) t) ∙ h) in omega (arith, here, is))
+      | inl t ↦ absurd (let here = same_Some at place (sym (cond-true (bytes_eq x.name name) (Some at) (place_of name (suc at) xs) t) ∙ h) in omega (arith, here, is))
       | inr f ↦
           ap (λ ys. x ∷ ys) (set_segments xs name (suc at) place k d segments (sym (cond-false (bytes_eq x.name name) (Some at) (place_of name (suc at) xs) f) ∙ h) (omega (arith, is)))
           ∙ sym (cond-false (bytes_eq x.name name) (record { name = x.name; schema = x.schema; segments = segments; page = None } ∷ xs) (x ∷ with_segments xs name segments) f)

@@ -7,7 +7,6 @@ use Rattle.json.specs.Print.{escape}
 use Rattle.arrow_schema.specs.Column.{Kind, Column, column, texts, large_texts}
 use Rattle.arrow_schema.specs.View.{bits_of, column_of, kind_of, pair_of}
 use Rattle.arrow_schema.specs.declared.types.Field.{Field}
-use Rattle.arrow_schema.specs.declared.types.IntegerType.{IntegerType}
 use Rattle.arrow_schema.specs.laws.Parts.{field_parts}
 use Rattle.bitmap.specs.Bits.{bytes_of}
 use Rattle.cells.specs.Cell.{Cell, null, number, text}
@@ -23,7 +22,7 @@ use Rattle.query.specs.declared.column_slots.IntegerBuffers.{IntegerBuffers}
 use Rattle.query.specs.declared.column_slots.TextBuffers.{TextBuffers}
 use Rattle.query.specs.inner.ColumnSlots.{IsTextKind, IsTextColumn, AreBuffers, IsPlainText}
 use Rattle.query.specs.inner.Contents.{has_contents, span_in}
-use Rattle.query.specs.inner.Slots.{IsIntegerColumn, has_integers, is_valid_in, width_of as integer_width}
+use Rattle.query.specs.inner.Slots.{is_valid_in, width_of as integer_width}
 use Rattle.query.proofs.AnswerWords.{offsets_there}
 
 -- ---- the types
@@ -88,11 +87,6 @@ validity_there a slot h within some =
     let filled : (length (validity_in a) == 0) ≡ false = ne_eqb _ _ (λ e. omega (arith, e, some)) in
     let long : nat_lt (length (validity_in a)) (bytes_of (slots_in a)) ≡ false = rw filled at h in
     omega (arith, ltb-false _ _ long, within)
-
--- a slot of integers
-pub integer_there : (c : Column) (t : IntegerType) (a : Array) (slot : ℕ) → IsIntegerColumn c t → is_sound c a ≡ true → slot < slots_in a → has_integers t (slot + 1) a ≡ true
-integer_there c t a slot is sound within =
-    and_from _ _ (le-leb _ _ (omega (arith, within))) (and_from _ _ (ap not (is.validity a sound)) (ap not (is.values a sound)))
 
 pub integer_bit : (c : Column) (a : Array) (b : IntegerBuffers) (slot : ℕ) → AreBuffers c a (Integers b) → is_sound c a ≡ true → slot < slots_in a → 0 < length b.validity.now → slot < 8 * length b.validity.now
 integer_bit c a b slot are sound within =

@@ -1,8 +1,7 @@
 -- Rows of arrays of JSON that come behind others, item by item into the column at its place.
-use Rattle.std.specs.Bool.{MatchBool}
 use Rattle.std.specs.Prelude.{Option, Some, None, Ok, Err, Result, IfOk, IfSome, slice_get, get_or, option_map, option_and_then}
-use Rattle.std.proofs.Common.{◌≡◌, ℕ, suc, ◌+◌, ◌-◌, ◌≤◌, ◌<◌, ◌==◌, Bool, true, false, List, [], ◌∷◌, ◌++◌, length, take, drop, set, refl, arith, ap, sym, subst, ◌∙◌, inl, inr, length-append}
-use Rattle.std.proofs.lemmas.Bool.{cases_lt, eq-eqb, false≢true}
+use Rattle.std.proofs.Common.{◌≡◌, ℕ, suc, ◌+◌, ◌-◌, ◌≤◌, ◌<◌, ◌==◌, true, List, [], ◌∷◌, ◌++◌, length, take, drop, set, refl, arith, ap, sym, subst, ◌∙◌, inl, inr, length-append}
+use Rattle.std.proofs.lemmas.Bool.{cases_lt, eq-eqb}
 use Rattle.std.proofs.lemmas.Option.{slice_get_within, same_Some}
 use Rattle.std.proofs.lemmas.List.{length-take-le, drop_all, take_all, get_or_append_left, length-set}
 use Rattle.json.specs.Token.{Token}
@@ -232,7 +231,3 @@ pub array_step : {E : Type 0} (names : List (List ℕ)) (all inside : List Token
 array_step names all inside bs bs2 (Err e) is h = tt
 array_step names all inside bs bs2 (Ok None) is h = tt
 array_step names all inside bs bs2 (Ok (Some heavy)) is h = rw is (h names)
-
-pub matched : (P Q : Type 0) (b : Bool) → b ≡ true → MatchBool b P Q → P
-matched P Q true e h = h
-matched P Q false e h = absurd (false≢true e)

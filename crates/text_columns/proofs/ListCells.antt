@@ -3,9 +3,8 @@ use Rattle.text_columns.specs.declared.builder.Names.{Names}
 use Rattle.std.specs.Prelude.{Option, Some, None, Ok, Err, Result, IfOk, IfSome}
 use Rattle.std.specs.Global.{Vec}
 use Rattle.std.specs.List.{flat_map}
-use Rattle.std.proofs.Common.{◌≡◌, ℕ, ◌+◌, ◌-◌, ◌≤◌, ◌<◌, ◌==◌, Bool, true, false, List, [], ◌∷◌, ◌++◌, length, refl, arith, ap, sym, subst, ◌∙◌, append_assoc, append-nil, length-append, map}
-use Rattle.std.specs.Bool.{MatchBool}
-use Rattle.std.proofs.lemmas.Bool.{eq-eqb, false≢true}
+use Rattle.std.proofs.Common.{◌≡◌, ℕ, ◌+◌, ◌-◌, ◌≤◌, ◌<◌, ◌==◌, Bool, true, List, [], ◌∷◌, ◌++◌, length, refl, arith, ap, sym, subst, ◌∙◌, append_assoc, append-nil, length-append, map}
+use Rattle.std.proofs.lemmas.Bool.{eq-eqb}
 use Rattle.arrow_schema.specs.laws.Columns.{columns_list}
 use Rattle.facts.specs.laws.Lists.{flat_map-push}
 use Rattle.json.specs.Token.{Token}
@@ -342,11 +341,6 @@ struct_fields_step depth inside rest taken slots slots2 names names2 old new bs 
 struct_fields_step depth inside rest taken slots slots2 names names2 old new bs (Ok None) same written h ends = tt
 struct_fields_step depth inside rest taken slots slots2 names names2 old new bs (Ok (Some heavy)) same written h ends =
     struct_fields depth inside rest taken heavy slots slots2 names names2 old new same (rw written h) ends
-
--- the reader stays where no bracket was taken
-pub unmatched : (P Q : Type 0) (b : Bool) → b ≡ false → MatchBool b P Q → Q
-unmatched P Q true e h = absurd (false≢true (sym e))
-unmatched P Q false e h = h
 
 -- ---- the value that a reader stands at
 

@@ -1,5 +1,5 @@
 -- Nulls that come behind the cells of a column, and what stands below them.
-use Rattle.std.specs.Prelude.{get_or, slice_get, Option, Ok, Err, Result, OnOk, replicate, Some}
+use Rattle.std.specs.Prelude.{get_or, slice_get, Option, Result, OnOk, replicate, Some}
 use Rattle.std.specs.Global.{Vec}
 use Rattle.std.specs.List.{flat_map}
 use Rattle.std.proofs.Common.{Bool, List, [], ap, append-nil, append_assoc, arith, false, inl, inr, length, length-append, map, refl, set, subst, suc, sym, true, zero, ℕ, ◌*◌, ◌++◌, ◌+◌, ◌<◌, ◌∙◌, ◌∷◌, ◌≡◌, ◌≤◌}
@@ -25,6 +25,7 @@ use Rattle.text_columns.specs.inner.Lines.{KeepsNull}
 use Rattle.text_columns.proofs.Coded.{own_kind}
 use Rattle.std.proofs.lemmas.Bool.{cases_lt}
 use Rattle.std.proofs.lemmas.Option.{slice_get_within, same_Some}
+use Rattle.std.proofs.lemmas.Result.{on_ok_weaker}
 use Rattle.text_columns.proofs.Rows.{at_other, at_set}
 use Rattle.text_columns.proofs.StructFields.{at_list, held_by, holds_so, list_at, no_struct_fixed_list, no_struct_list, nulls_at, there_too}
 use Rattle.text_columns.proofs.Taken.{null_weighs, offset_more}
@@ -187,25 +188,21 @@ null_pushed old new is a c so k = (is_nullable_of c so old k ∙ is, null_is_hea
 
 -- ---- what a call tells, where it appended them
 
-on_ok : {A E : Type 0} {P Q : Type 0} (r : Result A E) → OnOk r P → (P → Q) → OnOk r Q
-on_ok (Ok a) h f = f h
-on_ok (Err e) h f = tt
-
 pub list_nulls_step : {A E : Type 0} (r : Result A E) (n : ℕ) (slots slots2 : Slots) (offsets offsets2 : ListOffsets) (p p2 : _) (items : ColumnBuilder) → slots2.nullable ≡ slots.nullable
     → slots2.null_weight ≡ slots.null_weight → slots2.valid.items ≡ slots.valid.items ++ replicate n false → OnOk r (PushesEmpty n offsets offsets2)
     → OnOk r (AppendsNulls n (List' slots offsets p items) (List' slots2 offsets2 p2 items))
-list_nulls_step r n slots slots2 offsets offsets2 p p2 items same weighs valid h = on_ok r h (λ e. list_nulls n slots slots2 offsets offsets2 p p2 items same weighs valid e)
+list_nulls_step r n slots slots2 offsets offsets2 p p2 items same weighs valid h = on_ok_weaker r (λ e. list_nulls n slots slots2 offsets offsets2 p p2 items same weighs valid e) h
 
 pub fixed_list_nulls_step : {A E : Type 0} (r : Result A E) (n below : ℕ) (slots slots2 : Slots) (size : ℕ) (p p2 : _) (items items2 : ColumnBuilder) → slots2.nullable ≡ slots.nullable
     → slots2.null_weight ≡ slots.null_weight → slots2.valid.items ≡ slots.valid.items ++ replicate n false → below ≡ n * size → OnOk r (AppendsNulls below items items2)
     → OnOk r (AppendsNulls n (FixedList' slots size p items) (FixedList' slots2 size p2 items2))
-fixed_list_nulls_step r n below slots slots2 size p p2 items items2 same weighs valid many h = on_ok r h (λ a. fixed_list_nulls n below slots slots2 size p p2 items items2 same weighs valid many a)
+fixed_list_nulls_step r n below slots slots2 size p p2 items items2 same weighs valid many h = on_ok_weaker r (λ a. fixed_list_nulls n below slots slots2 size p p2 items items2 same weighs valid many a) h
 
 pub struct_nulls_step : {A E : Type 0} (r : Result A E) (n : ℕ) (slots slots2 : Slots) (names names2 : Names) (fields fields2 : Vec ColumnBuilder) (new : List ColumnBuilder) → slots2.nullable ≡ slots.nullable
     → slots2.null_weight ≡ slots.null_weight → slots2.valid.items ≡ slots.valid.items ++ replicate n false → names2.names ≡ names.names → fields2.items ≡ new → OnOk r (AllAppendNulls n fields.items new)
     → OnOk r (AppendsNulls n (Struct slots names fields) (Struct slots2 names2 fields2))
 struct_nulls_step r n slots slots2 names names2 fields fields2 new same weighs valid named written h =
-    on_ok r h (λ a. struct_nulls n slots slots2 names names2 fields fields2 same weighs valid named (subst (λ (bs : List ColumnBuilder). AllAppendNulls n fields.items bs) (sym written) a))
+    on_ok_weaker r (λ a. struct_nulls n slots slots2 names names2 fields fields2 same weighs valid named (subst (λ (bs : List ColumnBuilder). AllAppendNulls n fields.items bs) (sym written) a)) h
 
 -- ---- nulls of each column, one after another
 

@@ -115,15 +115,12 @@ unquoted_digits (x ∷ xs) (suc k) some h =
     let bounds = digit_bounds x p.0 in
     grind (arith, bounds)
 
-taken_size : (xs : List ℕ) (k : ℕ) → k ≤ length xs → length (take k xs) ≡ k
-taken_size xs k le = length-take-le k xs le
-
 -- a field of digits
 pub unsigned_field : (text : List ℕ) (from end number : ℕ) → AreDigits text from end number → from < end → (end < length text → ends_field (slice_index text end) ≡ true)
     → (z : ℤ) → z ≡ pos number
     → IsShortInteger text from (record { end = end; number = z })
 unsigned_field text from end number h some stops z is =
-    let size = taken_size (drop from text) (end - from) (omega (arith, h.high, length-drop from text)) in
+    let size = length-take-le (end - from) (drop from text) (omega (arith, h.high, length-drop from text)) in
     record {
       field = record { low = h.low; high = h.high; plain = digits_inside (take (end - from) (drop from text)) h.digits; stops = stops };
       unquoted = unquoted_digits (drop from text) (end - from) (omega arith) h.digits;
@@ -150,7 +147,7 @@ negative_field text from end number minus h some stops z is =
     let rest : drop from text ≡ 45 ∷ drop (from + 1) text = after_minus text from minus (minus_inside text from minus) in
     let one : end - from ≡ suc (end - (from + 1)) = omega arith in
     let ds : List ℕ = take (end - (from + 1)) (drop (from + 1) text) in
-    let size = taken_size (drop (from + 1) text) (end - (from + 1)) (omega (arith, h.high, length-drop (from + 1) text)) in
+    let size = length-take-le (end - (from + 1)) (drop (from + 1) text) (omega (arith, h.high, length-drop (from + 1) text)) in
     let whole : take (end - from) (drop from text) ≡ 45 ∷ ds = rw (one, rest) refl in
     record {
       field = record {

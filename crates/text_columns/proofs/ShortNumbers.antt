@@ -3,9 +3,10 @@ use Rattle.std.specs.Prelude.{pos, neg_ℤ, ◌==◌, nat_le, option_and_then, s
 use Rattle.std.specs.Char.{digit_value, is_ascii_digit}
 use Rattle.std.specs.List.{list_all}
 use Rattle.std.specs.Str.Parse.{AllDigits, digits_value}
-use Rattle.std.proofs.Common.{◌≡◌, ℕ, ◌-◌, ◌^◌, ◌≤◌, ◌<◌, true, false, List, [], ◌∷◌, ◌++◌, length, take, drop, refl, arith, ap, sym, subst, ◌∙◌, append-nil, take_all, length-drop}
+use Rattle.std.proofs.Common.{◌≡◌, ℕ, ◌-◌, ◌^◌, ◌≤◌, ◌<◌, true, false, List, [], ◌∷◌, ◌++◌, length, refl, arith, ap, sym, subst, ◌∙◌, append-nil}
 use Rattle.std.proofs.lemmas.Bool.{and_parts, le-leb, leb-true, lt-ltb, ne_eqb}
 use Rattle.std.proofs.lemmas.Str.{digit_value_digit}
+use Rattle.std.proofs.lemmas.List.{take_rest}
 use Rattle.fast_float.specs.Text.{IsWellFormed, Parts, digits_of, scan}
 use Rattle.fast_float.proofs.Writing.{scan-text_of}
 use Rattle.serde_json.specs.Data.{negative, unsigned}
@@ -57,19 +58,15 @@ negative_read ds n some h is positive few =
     let room : n ≤ 2 ^ 63 = omega arith in
     rw (whole_scanned ds h) (rw (value, lt-ltb 0 (length ds) some, lt-ltb 0 n positive, le-leb n (2 ^ 63) room) refl)
 
--- the digits from a place on are all that is left
-left : (text : List ℕ) (from : ℕ) → take (length text - from) (drop from text) ≡ drop from text
-left text from = take_all (length text - from) (drop from text) (omega (arith, length-drop from text))
-
 pub unsigned_integer : (text : List ℕ) (n : ℕ) → AreDigits text 0 (length text) n → 0 < length text → n < 2 ^ 63 → integer_in text ≡ Some (pos n)
 unsigned_integer text n h some few =
-    let all : list_all is_ascii_digit text ≡ true = subst (λ (ds : List ℕ). list_all is_ascii_digit ds ≡ true) (left text 0) h.digits in
-    let value : n ≡ digits_value 10 text = h.spelled ∙ ap (digits_value 10) (left text 0) in
+    let all : list_all is_ascii_digit text ≡ true = subst (λ (ds : List ℕ). list_all is_ascii_digit ds ≡ true) (take_rest text 0) h.digits in
+    let value : n ≡ digits_value 10 text = h.spelled ∙ ap (digits_value 10) (take_rest text 0) in
     ap (option_and_then as_integer) (unsigned_read text n some all value few)
 
 pub negative_integer : (text : List ℕ) (n : ℕ) → slice_index text 0 ≡ 45 → AreDigits text 1 (length text) n → 1 < length text → 0 < n → n < 2 ^ 63 → integer_in text ≡ Some (neg_ℤ (pos n))
 negative_integer [] n minus h some positive few = absurd (omega arith)
 negative_integer (x ∷ xs) n minus h some positive few =
-    let all : list_all is_ascii_digit xs ≡ true = subst (λ (ds : List ℕ). list_all is_ascii_digit ds ≡ true) (left (x ∷ xs) 1) h.digits in
-    let value : n ≡ digits_value 10 xs = h.spelled ∙ ap (digits_value 10) (left (x ∷ xs) 1) in
+    let all : list_all is_ascii_digit xs ≡ true = subst (λ (ds : List ℕ). list_all is_ascii_digit ds ≡ true) (take_rest (x ∷ xs) 1) h.digits in
+    let value : n ≡ digits_value 10 xs = h.spelled ∙ ap (digits_value 10) (take_rest (x ∷ xs) 1) in
     ap integer_in (ap (λ (y : ℕ). y ∷ xs) minus) ∙ ap (option_and_then as_integer) (negative_read xs n (omega arith) all value positive few)

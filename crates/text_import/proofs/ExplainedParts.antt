@@ -12,7 +12,7 @@ use Rattle.arrow_schema.specs.Parts.{name_of_column, is_nullable_column, kind_of
 use Rattle.cells.specs.Cell.{Cell, Cells, items, parts, and_cell}
 use Rattle.text_import.specs.declared.refusal.Refusal.{Refusal}
 use Rattle.text_import.specs.declared.refusal.Refusal.TheVariants.{Width, AmbiguousNames, UnknownName, WrongKind}
-use Rattle.text_import.specs.declared.value_part.Reason.TheVariants.{Value, Missing, Unknown, Repeated, Count}
+use Rattle.text_import.specs.declared.value_part.Reason.TheVariants.{Missing, Unknown, Repeated, Count}
 use Rattle.text_import.specs.Refusals.{and_then, given}
 use Rattle.text_import.specs.Objects.{item_count, column_count, list_in, each_item, fixed_list_in, absent, member_in, has_name, names_of, keys_of, repeats, has_unknown, cell_in, kind_in, cells_by_place, cells_by_name, cells_in}
 use Rattle.text_import.specs.ValuePart.{PlainValuePart, item_step, dot, below, itself, flat_part, items_part, list_part, sized_part, fixed_list_part, member_part, first_repeated, first_unknown, at_name, names_part, struct_part, cell_part, kind_part, part_by_place, part_by_name}

@@ -1,9 +1,9 @@
 -- The refused part of a value, found item by item.
-use Rattle.std.proofs.Common.{◌≡◌, ℕ, ◌+◌, Bool, true, false, List, [], ◌∷◌, ◌++◌, length, refl}
+use Rattle.std.proofs.Common.{◌≡◌, ℕ, ◌+◌, List, ◌∷◌, ◌++◌, length, refl}
 use Rattle.std.specs.Prelude.{is_some, Option, Some, None, option_map, if◌then◌else◌, Ok, Err}
 use Rattle.std.specs.Option.{option_or}
 use Rattle.std.proofs.lemmas.Bool.{ne_eqb, eq-eqb}
-use Rattle.serde_json.specs.Data.{Data, Items, Members}
+use Rattle.serde_json.specs.Data.{Items, Members}
 use Rattle.serde_json.specs.View.{view, items_view}
 use Rattle.serde_json.specs.declared.value.Value.{Value}
 use Rattle.arrow_schema.specs.Column.{Column, Columns, no_column, and_column}
@@ -11,7 +11,7 @@ use Rattle.arrow_schema.specs.Parts.{name_of_column}
 use Rattle.text_import.specs.declared.refusal.Refusal.TheVariants.{AmbiguousNames, UnknownName}
 use Rattle.text_import.specs.declared.value_part.Reason.TheVariants as reasons
 use Rattle.text_import.specs.Objects.{keys_of, repeats, has_unknown}
-use Rattle.text_import.specs.ValuePart.{PlainValuePart, item_step, below, itself, items_part, sized_part, first_repeated, first_unknown, at_name, names_part, cell_part, part_by_place, part_by_name}
+use Rattle.text_import.specs.ValuePart.{PlainValuePart, below, itself, sized_part, first_repeated, first_unknown, at_name, names_part, cell_part, part_by_place, part_by_name}
 use Rattle.text_import.specs.inner.Names.{member_part_of, tested}
 use Rattle.text_import.proofs.ObjectLemmas.{item_count_is, column_count_is}
 use Rattle.text_import.proofs.NameLemmas.{any_repeated}
@@ -26,15 +26,7 @@ sized_yes size f vs h = rw (item_count_is vs, eq-eqb (length vs) size h) refl
 
 pub ruleset sized_rules = (sized_no, sized_yes, column_count_is)
 
--- an item with a refused part, and one without
-pub item_named : (f : Data → Option PlainValuePart) (place : ℕ) (v : Value) (vs : List Value) (p : PlainValuePart) → f (view v) ≡ Some p
-    → items_part place f (items_view (v ∷ vs)) ≡ Some (below (item_step place) p)
-item_named f place v vs p e = rw e refl
-
-pub item_passed : (f : Data → Option PlainValuePart) (place : ℕ) (v : Value) (vs : List Value) → f (view v) ≡ None → items_part place f (items_view (v ∷ vs)) ≡ items_part (place + 1) f (items_view vs)
-item_passed f place v vs e = rw e refl
-
--- the same of fields, and the end
+-- a field with a refused part, one without, and the end
 pub place_named : (before : List ℕ) (c : Column) (cs : Columns) (v : Value) (vs : List Value) (p : PlainValuePart) → cell_part c (view v) ≡ Some p
     → part_by_place before (and_column c cs) (items_view (v ∷ vs)) ≡ Some (below (before ++ name_of_column c) p)
 unfolding part_by_place

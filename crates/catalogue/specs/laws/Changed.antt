@@ -34,13 +34,6 @@ removed_stands c name kept =
       segments = omega (arith, segments, without_least segments_in c name);
     })
 
--- removing a name that is not there changes nothing
-pub without_none : (c : PlainCatalogue) (name : List ℕ) → entry_of c name ≡ None → without c name ≡ c
-without_none [] name h = refl
-without_none (x ∷ xs) name h =
-    let parts = none_found x xs name h in
-    cond-false (bytes_eq x.name name) xs (x ∷ without xs name) parts.0 ∙ ap (λ ys. x ∷ ys) (without_none xs name parts.1)
-
 -- a name that is not there is not there after a removal either
 pub none_without : (c : PlainCatalogue) (other name : List ℕ) → entry_of c name ≡ None → entry_of (without c other) name ≡ None
 none_without [] other name h = refl

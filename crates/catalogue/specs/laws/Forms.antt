@@ -1,5 +1,6 @@
 -- A table without segments has the same text in each form.
 use Rattle.std.proofs.Common.{◌≡◌, ℕ, zero, suc, List, [], ◌∷◌, length, Option, Some, None, refl, sym, ap, ◌∙◌, arith}
+use Rattle.std.proofs.lemmas.Option.{same_Some}
 use Rattle.arrow_schema.specs.Column.{PlainSchema}
 use Rattle.catalogue.specs.declared.entry.Segment.{Segment}
 use Rattle.catalogue.specs.declared.entry.SegmentForm.{SegmentForm}
@@ -15,16 +16,13 @@ pub bound_is : {A B : Type 0} (o : Option A) (x : A) (f : A → Option B) (y : O
 bound_is o x f y h k = ap (λ p. p >>= f) h ∙ k
 
 -- if one form reads no parts, the other reads none either
-same_parts : {A : Type 0} (p q : List A × List ℕ) → Some p ≡ Some q → p ≡ q
-same_parts p q same = cc
-
 many_none : {A : Type 0} (one other : List ℕ → Option (A × List ℕ)) (count : ℕ) (bytes : List ℕ) (none : List A × List ℕ) → none.0 ≡ [] → many_at one count bytes ≡ Some none → many_at other count bytes ≡ Some none
 unfolding many_at
 many_none one other zero bytes none empty is = is
 many_none {A = A} one other (suc count) bytes none empty is =
     let a = bound (one bytes) (λ first. many_at one count first.1 >>= λ others. Some (first.0 ∷ others.0, others.1)) none is in
     let b = bound (many_at one count a.0.1) (λ others. Some (a.0.0 ∷ others.0, others.1)) none a.2 in
-    let same = same_parts (a.0.0 ∷ b.0.0, b.0.1) none b.2 in
+    let same = same_Some (a.0.0 ∷ b.0.0, b.0.1) none b.2 in
     let some : length none.0 ≡ suc (length b.0.0) = ap (λ (p : List A × List ℕ). length p.0) (sym same) in
     let zero : length none.0 ≡ 0 = ap (λ (xs : List A). length xs) empty in
     absurd (omega (arith, some, zero))

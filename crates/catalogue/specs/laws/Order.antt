@@ -7,6 +7,7 @@ use Rattle.std.specs.Ordering.{nat_cmp, match_ordering, ordering_reverse, is_lt,
 use Rattle.std.proofs.lemmas.Bool.{cond_both, cond-true, cond-false, cases_Bool, and_parts, and_from}
 use Rattle.std.proofs.lemmas.Cmp.{nat_list_cmp_total}
 use Rattle.std.proofs.lemmas.Map.Text.{is_eq-slice_cmp}
+use Rattle.std.proofs.lemmas.Option.{same_Some}
 use Rattle.catalogue.specs.Entries.{PlainEntry, PlainCatalogue, names_of, comes_before, ascends}
 use Rattle.catalogue.specs.Edits.{entry_of, with_entry, without}
 
@@ -49,15 +50,12 @@ by_seat x xs e P less equal greater =
     (λ is. subst (λ o. P (match_ordering o (x ∷ with_entry xs e) (e ∷ xs) (e ∷ (x ∷ xs)))) (sym is) (equal is))
     (λ is. subst (λ o. P (match_ordering o (x ∷ with_entry xs e) (e ∷ xs) (e ∷ (x ∷ xs)))) (sym is) (greater is))
 
-some_entry : (x e : PlainEntry) → Some x ≡ Some e → x ≡ e
-some_entry x e h = cc
-
 -- the entry with this name is the first one, or is found among the others
 pub by_found : {G : Type 0} (x : PlainEntry) (xs : PlainCatalogue) (name : List ℕ) (e : PlainEntry) → entry_of (x ∷ xs) name ≡ Some e
     → (bytes_eq x.name name ≡ true → x ≡ e → G) → (bytes_eq x.name name ≡ false → entry_of xs name ≡ Some e → G) → G
 by_found x xs name e h first later =
     elim (cases_Bool (bytes_eq x.name name)) [
-      | inl t ↦ first t (some_entry x e (sym (cond-true (bytes_eq x.name name) (Some x) (entry_of xs name) t) ∙ h))
+      | inl t ↦ first t (same_Some x e (sym (cond-true (bytes_eq x.name name) (Some x) (entry_of xs name) t) ∙ h))
       | inr f ↦ later f (sym (cond-false (bytes_eq x.name name) (Some x) (entry_of xs name) f) ∙ h)
     ]
 

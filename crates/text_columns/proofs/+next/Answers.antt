@@ -4,11 +4,12 @@ use Rattle.text_columns.specs.declared.builder.ColumnBuilder.{ColumnBuilder}
 use Rattle.std.proofs.lemmas.Option.{slice_get-get_or}
 use Rattle.std.specs.Prelude.{Some, slice_get, IfOk, IfSome}
 use Rattle.std.proofs.Common.{◌-◌, arith, refl, sym, ap, ◌<◌, length, ◌≡◌, ◌∙◌, List, subst}
+use Rattle.std.proofs.lemmas.Bool.{MatchBool-at_true, MatchBool-at_false}
 use Rattle.json.specs.Reads.{token_of}
 use Rattle.text_columns.specs.declared.builder.ColumnBuilder.{Flat}
 use Rattle.text_columns.specs.inner.Kept.{key_list}
-use Rattle.text_columns.proofs.ItemRows.{items_all, items_none, items_pushed, matched}
-use Rattle.text_columns.proofs.ListCells.{array_next_step, fixed_list_step, list_all_read, list_none, list_pushed, list_step, null_next_step, object_next_step, struct_fields_step, struct_items_step, token_next_step, unmatched}
+use Rattle.text_columns.proofs.ItemRows.{items_all, items_none, items_pushed}
+use Rattle.text_columns.proofs.ListCells.{array_next_step, fixed_list_step, list_all_read, list_none, list_pushed, list_step, null_next_step, object_next_step, struct_fields_step, struct_items_step, token_next_step}
 use Rattle.text_columns.proofs.LineRows.{fields_step, free_at, members_all, members_more, members_none}
 use Rattle.text_columns.proofs.+next.Goals as goal
 
@@ -17,7 +18,7 @@ next::push_list_items-loop-count-init t c = record { some = omega arith; few = o
 
 pub next::push_list_items-loop-count-preserved : goal.next::push_list_items-loop-count-preserved
 next::push_list_items-loop-count-preserved t c =
-    let stays = unmatched _ _ c.take_end_array.result c.if-take_end_array.false c.take_end_array.ensures in
+    let stays = MatchBool-at_false _ _ c.if-take_end_array.false c.take_end_array.ensures in
     let keeps = rw (c.in-Some.is, stays) at c.in_ok-heavy.ensures in
     record {
       some = omega (arith, c.loop-count.invariant.some);
@@ -29,7 +30,7 @@ next::push_list_items-loop-count-preserved t c =
 pub next::push_list_items-returns-then-take_end_array : goal.next::push_list_items-returns-then-take_end_array
 next::push_list_items-returns-then-take_end_array t c =
     list_all_read c.args.depth c.args.reader.now c.loop-count.reader c.take_end_array.new.self (record { count = c.loop-count.count; weight = c.loop-count.weight }) c.args.items.now c.loop-count.items
-    (matched _ _ c.take_end_array.result c.if-take_end_array.true c.take_end_array.ensures) c.loop-count.invariant.read
+    (MatchBool-at_true _ _ c.if-take_end_array.true c.take_end_array.ensures) c.loop-count.invariant.read
 
 pub builder::ColumnBuilder::push_next-returns-in-Some : goal.builder::ColumnBuilder::push_next-returns-in-Some
 unfolding Rattle.text_columns.specs.declared.builder.ColumnBuilder.TheViews.out-ColumnBuilder denote.Hole.Carrier.out
@@ -151,5 +152,5 @@ next::push_items-loop-i-preserved t c =
 
 pub next::push_items-returns-clause-kept : goal.next::push_items-returns-clause-kept
 next::push_items-returns-clause-kept t c =
-    items_all c.args.depth c.args.reader.now c.loop-i.reader c.take_end_array.new.self c.loop-i.i c.loop-i.weight c.args.builders.now c.loop-i.builders (matched _ _ c.take_end_array.result c.if-not-take_end_array.false c.take_end_array.ensures)
+    items_all c.args.depth c.args.reader.now c.loop-i.reader c.take_end_array.new.self c.loop-i.i c.loop-i.weight c.args.builders.now c.loop-i.builders (MatchBool-at_true _ _ c.if-not-take_end_array.false c.take_end_array.ensures)
     (omega (arith, c.loop-i-test.false, c.loop-i.auto.builders)) (omega (arith, c.loop-i-test.false, c.loop-i.invariant.within, c.loop-i.auto.builders)) c.loop-i.invariant.read

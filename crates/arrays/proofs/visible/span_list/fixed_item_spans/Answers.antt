@@ -3,7 +3,7 @@ use Rattle.columns.specs.Array.{slots_in, items_in}
 use Rattle.columns.specs.View.{view_array}
 use Rattle.arrays.specs.inner.SpanLists.{fixed_item_span}
 use Rattle.arrays.proofs.SpanLists.{span_at, next_run, mapped_more, all_mapped}
-use Rattle.arrays.proofs.VisibleSpans.{fixed_within}
+use Rattle.arrays.proofs.KindWeights.{fixed_within}
 use Rattle.arrays.proofs.visible.span_list.fixed_item_spans.Goals as goal
 
 pub loop-run-init : goal.loop-run-init
