@@ -38,10 +38,6 @@ pairs_in (column name nullable kind dictionary pairs) = length pairs
 abbrev pub bytes_in : Column → ℕ
 bytes_in (column name nullable kind dictionary pairs) = length name + length (timezone_of kind) + bytes_of_pairs pairs
 
--- the bytes of its name
-abbrev pub name_len : Column → ℕ
-name_len (column name nullable kind dictionary pairs) = length name
-
 -- the number of key/value pairs: the schema's own and those of all columns
 abbrev pub count_of_pairs : PlainSchema → ℕ
 count_of_pairs s = length s.pairs + sum_by pairs_in (every_column s)

@@ -1,19 +1,8 @@
 // Laws of the definitions, for the crates above. The functions do nothing: their contracts are the laws.
-ghost use Rattle.std.specs.Prelude.{◌≡◌, ◌≤◌, ◌↔◌, true, length, sum_by};
-ghost use Rattle.std.specs.List.{AllPass};
+ghost use Rattle.std.specs.Prelude.{◌≡◌, ◌↔◌, true};
 ghost use Rattle.arrow_schema.specs.Column.{PlainSchema};
-ghost use Rattle.arrow_schema.specs.Limits.{IsWithinLimits, name_len, has_utf8_texts};
 ghost use Rattle.arrow_schema.specs.Shape.{HaveOneShape};
 ghost use Rattle.arrow_schema.specs.OneShape.{have_one_shape};
-
-use crate::limits::{MAX_FIELDS, MAX_TEXT_BYTES};
-
-/// The bounds that the limits set for the columns of a schema, without their children.
-pub fn limits_bound_columns()
-    ensures fields { (s : PlainSchema) → IsWithinLimits s → length s.columns ≤ MAX_FIELDS }
-    ensures names { (s : PlainSchema) → IsWithinLimits s → sum_by name_len s.columns ≤ MAX_TEXT_BYTES }
-    ensures texts { (s : PlainSchema) → IsWithinLimits s → AllPass has_utf8_texts s.columns }
-{}
 
 /// Having one shape is an equivalence of schemas.
 pub fn one_shape_is_an_equivalence()

@@ -18,6 +18,6 @@ mod limits;
 mod types;
 
 pub use compare::same_shape;
-pub use laws::{limits_bound_columns, one_shape_is_an_equivalence, one_shape_is_decided};
+pub use laws::{one_shape_is_an_equivalence, one_shape_is_decided};
 pub use limits::{MAX_DEPTH, MAX_FIELDS, MAX_PAIRS, MAX_TEXT_BYTES, NUMBER_END, SchemaError};
 pub use types::{BitWidth, DataType, DateUnit, DictSpec, Field, IntegerType, Schema, TimeUnit};

@@ -29,6 +29,7 @@ use Rattle.byteorder.specs.Numbers.{little_number-reads_back, length-bytes_low_f
 use Rattle.cells.specs.Integers.{integer_of}
 use Rattle.cells.specs.laws.Cells.{cells_list, cells_listed}
 use Rattle.std.proofs.lemmas.List.Concat.{flat_map-cons}
+use Rattle.columns.proofs.BuiltSound.{slots_of_built}
 use Rattle.columns.proofs.ReadBack.{PackedReadsBack, all_at, by_validity}
 use Rattle.columns.proofs.Found.{fit_there, boolean_found, integer_found, text_found, bytes_found, fixed_found, AreFound, list_found, fixed_list_found}
 use Rattle.columns.specs.laws.Rows.{slots_built}
@@ -222,11 +223,7 @@ mutual
 
 pub cells_are_back : PackedReadsBack → EntriesAreFound → (c : Column) (cells : List Cell) → can_build c cells ≡ true → cells_in c (built c cells) ≡ cells
 unfolding built
-cells_are_back back entries c cells can = ap (cells_from (cell_at c (built c cells)) 0) (column_slots c cells) ∙ run_all (cell_at c (built c cells)) cells (column_found back entries c cells can)
-  where
-    column_slots : (c : Column) (cells : List Cell) → slots_in (built c cells) ≡ length cells
-    column_slots (column name nullable kind None pairs) cells = slots_built kind cells
-    column_slots (column name nullable kind (Some index) pairs) cells = refl
+cells_are_back back entries c cells can = ap (cells_from (cell_at c (built c cells)) 0) (slots_of_built c cells) ∙ run_all (cell_at c (built c cells)) cells (column_found back entries c cells can)
 
 map_is : {X : Type 0} (f : ℕ → X) (xs : List X) (start n : ℕ) (d : X) → ((i : ℕ) → i < length xs → f i ≡ get_or xs i d) → start + n ≡ length xs → map f (range_with_len start n) ≡ drop start xs
 map_is f xs start zero d h le = sym (drop_of_length-le xs (omega arith))

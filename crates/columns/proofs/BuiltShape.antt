@@ -5,7 +5,7 @@ use Rattle.std.proofs.Common.{◌≡◌, ℕ, ◌+◌, ◌*◌, ◌/◌, ◌≤�
 use Rattle.std.proofs.lemmas.Bool.{and_parts, or_from, eq-eqb, le-ltb}
 use Rattle.std.proofs.lemmas.List.{length-map}
 use Rattle.std.proofs.lemmas.List.Concat.{flat_map-cons}
-use Rattle.std.proofs.lemmas.List.Sums.{sum_by-cons, sum_by-append}
+use Rattle.std.proofs.lemmas.List.Sums.{sum_by-cons, sum_by-append, sum_by-le-sum_by}
 use Rattle.byteorder.specs.Endian.{little_bytes}
 use Rattle.byteorder.specs.Numbers.{length-bytes_low_first}
 use Rattle.bitmap.specs.Bits.{packed}
@@ -27,7 +27,7 @@ use Rattle.columns.proofs.BuiltSound.{slots_of_built}
 use Rattle.columns.proofs.EachBuilt.{HoldsOfBuilt, all_true, none_of_all, parts_each}
 use Rattle.columns.proofs.Found.{every_size, every_width, length-integer}
 use Rattle.columns.specs.laws.Integers.{width_cases}
-use Rattle.columns.proofs.Pieces.{count_weigh, sum_less}
+use Rattle.columns.proofs.Pieces.{count_weigh}
 use Rattle.columns.proofs.ReadArrays.{as_many_buffers, buffers_with, same_all}
 use Rattle.columns.proofs.Spans.{HaveWidth, all_width, count_sums}
 use Rattle.columns.proofs.Weights.{size_below, some_weight, contents_weigh}
@@ -174,7 +174,7 @@ slots_few most cs rows can small = each_of_rows (λ t. slots_in t.array ≤ most
 
 -- a row weighs more than its cells
 pub cells_below : (s : PlainSchema) (rows : List (List Cell)) → cells_weight (columns_of s.columns) rows ≤ table_weight s rows
-cells_below s rows = sum_less (λ row. parts_weight (columns_of s.columns) (cells_of row)) (row_weight s) (λ row. omega arith) rows
+cells_below s rows = sum_by-le-sum_by (λ row. parts_weight (columns_of s.columns) (cells_of row)) (row_weight s) rows (λ row. omega arith)
 
 -- values of 8 bytes at most
 of_eight : {X : Type 0} (f : X → List ℕ) → ((x : X) → length (f x) ≤ 8) → (xs : List X) → length (flat_map f xs) ≤ 8 * length xs

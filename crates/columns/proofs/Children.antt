@@ -1,11 +1,11 @@
 -- The children of structs, as places and as arrays.
 use Rattle.std.specs.Prelude.{◌||◌, nat_lt}
 use Rattle.std.specs.List.{list_any}
-use Rattle.std.proofs.Common.{◌≡◌, ℕ, Bool, List, [], ◌∷◌, map, refl, ap, ◌∙◌}
+use Rattle.std.proofs.Common.{◌≡◌, ℕ, List, [], ◌∷◌, map, refl, ap, ◌∙◌}
 use Rattle.columns.specs.declared.array.PlacedArray.{PlacedArray}
 use Rattle.columns.specs.declared.array.Dictionary.{Dictionary}
 use Rattle.columns.specs.declared.array.DictionaryPart.{DictionaryPart}
-use Rattle.columns.specs.Array.{Array, arrays_of, array_list, slots_in}
+use Rattle.columns.specs.Array.{Array, array_list, slots_in}
 use Rattle.columns.specs.View.{array_in, arrays_in, placed_arrays}
 use Rattle.columns.specs.laws.Places.{slots_is, listed}
 

@@ -1,12 +1,12 @@
 -- The entries of a dictionary, array by array.
 use Rattle.std.specs.Prelude.{nat_le, not, ℤ, pos, negsuc, Some, None}
-use Rattle.std.proofs.Common.{◌≡◌, ℕ, zero, suc, ◌+◌, ◌-◌, ◌≤◌, ◌<◌, Bool, true, List, [], ◌∷◌, ◌++◌, length, get_or, map, drop, false, length-append, refl, ap, arith, sym, ◌∙◌}
+use Rattle.std.proofs.Common.{◌≡◌, ℕ, ◌+◌, ◌-◌, ◌≤◌, ◌<◌, Bool, true, List, ◌∷◌, ◌++◌, length, get_or, map, drop, false, length-append, refl, ap, arith, sym, ◌∙◌}
 use Rattle.std.specs.List.{list_all}
-use Rattle.std.proofs.Math.Seq.{drop-cons}
 use Rattle.std.proofs.lemmas.Bool.{and_parts}
 use Rattle.std.proofs.lemmas.Bool.Decides.{nat_tests}
-use Rattle.std.proofs.lemmas.List.{get_or_append_left, get_or-append_right}
+use Rattle.std.proofs.lemmas.List.{get_or_append_left, get_or-append_right, drop_all}
 use Rattle.std.proofs.lemmas.List.FromFn.{length-map-range_with_len, get_or-map-range_with_len}
+use Rattle.facts.specs.laws.Lists.{drop-item}
 use Rattle.arrow_schema.specs.Column.{Kind}
 use Rattle.cells.specs.Cell.{Cell, null}
 use Rattle.columns.specs.declared.array.PlacedArray.{PlacedArray}
@@ -30,18 +30,13 @@ entry_later f n i others le = get_or-append_right (cells_from f 0 n) others n i 
 abbrev pub entries : List ℕ → Kind → List PlacedArray → List Cell
 entries bytes kind arrays = entries_of_kind kind (arrays_of (map (array_in bytes no_dictionary) arrays))
 
-from_place : (xs : List PlacedArray) (i : ℕ) (x : PlacedArray) → i < length xs → x ≡ get_or xs i x → drop i xs ≡ x ∷ drop (i + 1) xs
-from_place xs i x lt is =
-    let e : i + 1 ≡ suc i = omega arith in
-    rw e (drop-cons xs i x lt ∙ ap (λ (y : PlacedArray). y ∷ drop (suc i) xs) (sym is))
-
 pub found_here : (bytes : List ℕ) (kind : Kind) (xs : List PlacedArray) (i r : ℕ) (x : PlacedArray) → i < length xs → x ≡ get_or xs i x → r < x.slots
     → unless_null (kind_cell kind) (array_in bytes no_dictionary x) r ≡ get_or (entries bytes kind (drop i xs)) r null
 found_here bytes kind xs i r x lt is below =
     let a : Array = array_in bytes no_dictionary x in
     let e = slots_is bytes no_dictionary x in
     let within : r < slots_in a = rw e below in
-    rw (from_place xs i x lt is) (sym (entry_here (unless_null (kind_cell kind) a) (slots_in a) r (entries bytes kind (drop (i + 1) xs)) within))
+    rw (drop-item xs i x lt is) (sym (entry_here (unless_null (kind_cell kind) a) (slots_in a) r (entries bytes kind (drop (i + 1) xs)) within))
 
 pub found_later : (bytes : List ℕ) (kind : Kind) (xs : List PlacedArray) (i r : ℕ) (x : PlacedArray) → i < length xs → x ≡ get_or xs i x → x.slots ≤ r
     → get_or (entries bytes kind (drop (i + 1) xs)) (r - x.slots) null ≡ get_or (entries bytes kind (drop i xs)) r null
@@ -50,16 +45,10 @@ found_later bytes kind xs i r x lt is above =
     let e = slots_is bytes no_dictionary x in
     let past : slots_in a ≤ r = rw e above in
     ap (λ (n : ℕ). get_or (entries bytes kind (drop (i + 1) xs)) (r - n) null) (sym e)
-    ∙ rw (from_place xs i x lt is) (sym (entry_later (unless_null (kind_cell kind) a) (slots_in a) r (entries bytes kind (drop (i + 1) xs)) past))
-
-ended : (xs : List PlacedArray) (i : ℕ) → length xs ≤ i → drop i xs ≡ []
-ended [] zero le = refl
-ended [] (suc i) le = refl
-ended (x ∷ xs) zero le = absurd (omega arith)
-ended (x ∷ xs) (suc i) le = ended xs i (omega arith)
+    ∙ rw (drop-item xs i x lt is) (sym (entry_later (unless_null (kind_cell kind) a) (slots_in a) r (entries bytes kind (drop (i + 1) xs)) past))
 
 pub found_nowhere : (bytes : List ℕ) (kind : Kind) (xs : List PlacedArray) (i r : ℕ) → length xs ≤ i → null ≡ get_or (entries bytes kind (drop i xs)) r null
-found_nowhere bytes kind xs i r le = rw (ended xs i le) refl
+found_nowhere bytes kind xs i r le = rw (drop_all i xs le) refl
 
 -- ---- how many there are
 
@@ -77,7 +66,7 @@ next_many : (bytes : List ℕ) (kind : Kind) (xs : List PlacedArray) (i : ℕ) (
 next_many bytes kind xs i x lt is =
     let a : Array = array_in bytes no_dictionary x in
     let e = slots_is bytes no_dictionary x in
-    rw (from_place xs i x lt is)
+    rw (drop-item xs i x lt is)
     (many (unless_null (kind_cell kind) a) (slots_in a) (entries bytes kind (drop (i + 1) xs)) ∙ ap (λ (n : ℕ). n + length (entries bytes kind (drop (i + 1) xs))) e)
 
 -- whether a number is below that
@@ -98,7 +87,7 @@ none_below : (r : ℕ) → not (nat_le 0 r) ≡ false
 none_below r = grind (arith, nat_tests)
 
 pub present_nowhere : (bytes : List ℕ) (kind : Kind) (xs : List PlacedArray) (i r : ℕ) → length xs ≤ i → not (nat_le (length (entries bytes kind (drop i xs))) r) ≡ false
-present_nowhere bytes kind xs i r le = rw (ended xs i le) (none_below r)
+present_nowhere bytes kind xs i r le = rw (drop_all i xs le) (none_below r)
 
 -- by the number that an index is
 pub named : (k : ℕ) (z : ℤ) → Some k ≡ named_number z → z ≡ pos k
@@ -117,6 +106,6 @@ unnamed_is_null (negsuc n) entries is = refl
 pub sound_here : (p : Array → Bool) (g : PlacedArray → Array) (xs : List PlacedArray) (i : ℕ) (x : PlacedArray) → i < length xs → x ≡ get_or xs i x
     → list_all p (map g (drop i xs)) ≡ true → (p (g x) ≡ true) × (list_all p (map g (drop (i + 1) xs)) ≡ true)
 sound_here p g xs i x lt is h =
-    let all : list_all p (map g (x ∷ drop (i + 1) xs)) ≡ true = rw (from_place xs i x lt is) at h in
+    let all : list_all p (map g (x ∷ drop (i + 1) xs)) ≡ true = rw (drop-item xs i x lt is) at h in
     let parts = and_parts (p (g x)) (list_all p (map g (drop (i + 1) xs))) all in
     (parts.0, parts.1)

@@ -1,12 +1,8 @@
 -- What is known of an array and of its cells, by the kind of its type.
-use Rattle.std.specs.Prelude.{not}
-use Rattle.std.proofs.Common.{◌≡◌, ℕ, true, false, ap, sym, subst}
-use Rattle.std.proofs.lemmas.Bool.{and_parts, not-true}
+use Rattle.std.proofs.Common.{◌≡◌, ℕ, true, ap, sym, subst}
 use Rattle.arrow_schema.specs.Column.{Kind}
 use Rattle.columns.specs.Array.{Array}
 use Rattle.columns.specs.CellAt.{kind_cell}
-use Rattle.columns.specs.Sound.{has_sound_children, is_kind_sound}
-use Rattle.columns.specs.Tests.{has_short_validity, has_short_buffer, has_bad_offsets}
 use Rattle.columns.specs.Texts.{has_utf8_texts}
 
 pub text_parts : (k kind : Kind) (a : Array) (i : ℕ) → k ≡ kind → has_utf8_texts (kind_cell k a i) ≡ true → has_utf8_texts (kind_cell kind a i) ≡ true

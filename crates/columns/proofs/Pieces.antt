@@ -3,7 +3,7 @@ use Rattle.std.specs.Prelude.{◌&&◌, ◌-◌, nat_le, if◌then◌else◌}
 use Rattle.std.specs.List.{flat_map, list_all, list_any}
 use Rattle.std.proofs.Common.{◌≡◌, ℕ, zero, suc, ◌+◌, ◌^◌, ◌≤◌, Bool, true, false, List, [], ◌∷◌, ◌++◌, map, length, replicate, sum_by, Some, None, refl, arith, ap, sym, subst, ◌⊎◌, inl, inr}
 use Rattle.std.proofs.lemmas.Bool.{and_parts, and_from, le-leb, leb-true, not-true}
-use Rattle.std.proofs.lemmas.List.Sums.{sum_by-cons, sum_by-append}
+use Rattle.std.proofs.lemmas.List.Sums.{sum_by-cons, sum_by-append, sum_by-le-sum_by}
 use Rattle.std.proofs.Math.Pow.{pow_mono}
 use Rattle.std.proofs.lemmas.List.Sums.{list_all-from_AllPass}
 use Rattle.std.specs.List.{AllPass}
@@ -314,15 +314,6 @@ mutual
 
 -- ---- the rows of a piece
 
-pub sum_less : {X : Type 0} (w v : X → ℕ) → ((x : X) → w x ≤ v x) → (xs : List X) → sum_by w xs ≤ sum_by v xs
-sum_less w v h [] = omega arith
-sum_less w v h (x ∷ xs) =
-    let rest = sum_less w v h xs in
-    let here = h x in
-    let one : sum_by w (x ∷ xs) ≡ w x + sum_by w xs = sum_by-cons w x xs in
-    let two : sum_by v (x ∷ xs) ≡ v x + sum_by v xs = sum_by-cons v x xs in
-    omega (arith, rest, here, one, two)
-
 row_has_parts : (s : PlainSchema) (row : List Cell) → is_row s row ≡ true → has_each_part (columns_of s.columns) row ≡ true
 unfolding is_row
 row_has_parts s row h =
@@ -345,6 +336,6 @@ rows_can s rows limits all weighs few =
     let passes : list_all (is_row s) rows ≡ true = list_all-from_AllPass (is_row s) rows all in
     let flat : list_all has_flat_dictionary (every_column s) ≡ true = list_all-from_AllPass has_flat_dictionary (every_column s) limits.dictionaries in
     let wide : list_all has_bit_widths (every_column s) ≡ true = list_all-from_AllPass has_bit_widths (every_column s) limits.widths in
-    let parts_weigh = sum_less (λ row. parts_weight (columns_of s.columns) (cells_of row)) (row_weight s) (λ row. omega arith) rows in
+    let parts_weigh = sum_by-le-sum_by (λ row. parts_weight (columns_of s.columns) (cells_of row)) (row_weight s) rows (λ row. omega arith) in
     and_from _ _ (every_row (is_row s) (has_each_part (columns_of s.columns)) (row_has_parts s) rows passes)
     (parts_can (columns_of s.columns) rows (flat, wide) (every_row (is_row s) (parts_fit_or_null (columns_of s.columns)) (row_parts_fit s) rows passes) (omega (arith, weighs, parts_weigh)) few)

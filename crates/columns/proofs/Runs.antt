@@ -1,6 +1,6 @@
 -- The cells of a run of slots, and of the parts of a struct.
-use Rattle.std.specs.Prelude.{slice_get, nat_le, ◌&&◌}
-use Rattle.std.proofs.Common.{◌≡◌, ℕ, zero, suc, ◌+◌, ◌≤◌, ◌<◌, Bool, true, List, [], ◌∷◌, length, get_or, map, Some, refl, ap, arith, ◌∙◌}
+use Rattle.std.specs.Prelude.{slice_get, nat_le}
+use Rattle.std.proofs.Common.{◌≡◌, ℕ, zero, suc, ◌+◌, ◌≤◌, ◌<◌, true, List, [], ◌∷◌, length, get_or, map, Some, refl, ap, arith, ◌∙◌}
 use Rattle.std.proofs.lemmas.Bool.{and_parts, leb-true}
 use Rattle.std.proofs.lemmas.List.FromFn.{length-map-range_with_len}
 use Rattle.arrow_schema.specs.declared.types.Field.{Field}

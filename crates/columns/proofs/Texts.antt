@@ -1,10 +1,9 @@
 -- Texts of cells.
-use Rattle.std.specs.Prelude.{IsUtf8, ◌&&◌}
+use Rattle.std.specs.Prelude.{IsUtf8}
 use Rattle.std.specs.Str.{is_utf8}
-use Rattle.std.proofs.Common.{◌≡◌, ℕ, zero, suc, ◌+◌, ◌<◌, Bool, true, List, refl, arith}
+use Rattle.std.proofs.Common.{◌≡◌, ℕ, zero, suc, ◌+◌, ◌<◌, true, List, arith}
 use Rattle.std.proofs.lemmas.Bool.{and_parts}
 use Rattle.std.proofs.lemmas.Str.{IsUtf8-from_is_utf8}
-use Rattle.std.specs.List.{range_with_len}
 use Rattle.cells.specs.Cell.{Cell, cells_of}
 use Rattle.columns.specs.CellAt.{cells_from}
 use Rattle.columns.specs.Texts.{has_utf8_texts, have_utf8_texts}

@@ -1,6 +1,6 @@
 -- The array that cells are written as. Which one it is, is this project's canonical form; its layouts are the standard's (Arrow columnar format,
 -- "Physical Memory Layout"): no validity bitmap without a null, offsets from 0, zeros and empty spans at nulls, nothing hidden but nulls.
-use Rattle.std.specs.Prelude.{ℕ, ◌+◌, ◌/◌, Bool, true, false, not, List, [], ◌∷◌, map, length, replicate, Option, Some, None, position, if◌then◌else◌}
+use Rattle.std.specs.Prelude.{ℕ, ◌+◌, ◌/◌, Bool, false, List, [], ◌∷◌, map, length, replicate, Option, Some, None, position, if◌then◌else◌}
 use Rattle.std.specs.List.{flat_map, list_all}
 use Rattle.byteorder.specs.Endian.{little_bytes}
 use Rattle.arrow_schema.specs.Column.{Index, Kind, Column, Columns, nulls, booleans, integers, dates, timestamps, texts, large_texts, binaries, large_binaries, fixed_binaries, lists, large_lists, fixed_lists, structs, column, no_column, and_column}

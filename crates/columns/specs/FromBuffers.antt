@@ -4,7 +4,7 @@ use Rattle.std.specs.Prelude.{ℕ, List, [], ◌∷◌, length, drop, get_or, So
 use Rattle.std.specs.List.{flat_map}
 use Rattle.arrow_schema.specs.Column.{Index, Kind, Column, Columns, nulls, booleans, integers, dates, timestamps, texts, large_texts, binaries, large_binaries, fixed_binaries, lists, large_lists, fixed_lists, structs, column, no_column, and_column}
 use Rattle.columns.specs.Array.{Array, Arrays, Layout, array, arrays_of, no_array, and_array, empty_array, null_layout, bit_layout, fixed_layout, binary_layout, list_layout, fixed_list_layout, struct_layout, dictionary_layout}
-use Rattle.columns.specs.Tests.{Typed, arrays_at}
+use Rattle.columns.specs.Tests.{arrays_at}
 use Rattle.columns.specs.Buffers.{Node, column_buffers}
 
 -- how many nodes, buffers and dictionaries a column takes with its children, whatever their contents

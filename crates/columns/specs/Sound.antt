@@ -1,6 +1,6 @@
 -- Arrays whose slots can be looked up: at every level no buffer is short, offsets ascend and stay within the contents or items, and children are long
 -- enough.
-use Rattle.std.specs.Prelude.{ℕ, ◌*◌, ◌/◌, Bool, true, not, ◌&&◌, nat_le, List, Some, None}
+use Rattle.std.specs.Prelude.{ℕ, ◌*◌, ◌/◌, Bool, true, not, ◌&&◌, nat_le, Some, None}
 use Rattle.std.specs.List.{list_all}
 use Rattle.arrow_schema.specs.Column.{Kind, Column, Columns, nulls, booleans, integers, dates, timestamps, texts, large_texts, binaries, large_binaries, fixed_binaries, lists, large_lists, fixed_lists, structs, column, no_column, and_column}
 use Rattle.columns.specs.Array.{Array, Arrays, slots_in, items_in, children_in, indices_in, dictionary_in, array_list, first_array, other_arrays}

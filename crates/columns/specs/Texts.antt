@@ -1,5 +1,5 @@
 -- Cells in which every text is UTF-8, at every level.
-use Rattle.std.specs.Prelude.{ℕ, Bool, true, ◌&&◌, List}
+use Rattle.std.specs.Prelude.{Bool, true, ◌&&◌}
 use Rattle.std.specs.Str.{is_utf8}
 use Rattle.cells.specs.Cell.{Cell, Cells, null, boolean, number, text, bytes, items, parts, no_cell, and_cell}
 

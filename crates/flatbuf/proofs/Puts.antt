@@ -109,12 +109,6 @@ vector_put old a b c below count ns e is f at_below g =
     let grouped : (((old ++ z) ++ n) ++ ls) ++ laid_all (first + 4 * count_of ns) ns ≡ old ++ (z ++ (n ++ (ls ++ laid_all (first + 4 * count_of ns) ns))) = simp append_assoc in
     rw (end, g, len_b, under, f, is, e) grouped
 
-pub below_put : (old new : List ℕ) (t : Tree) (rest : Slots) → new ≡ old ++ laid (length old) t → new ++ laid_slots (length new) rest ≡ old ++ laid_slots (length old) (refers t rest)
-unfolding laid_slots
-below_put old new t rest e =
-    let len = length_more old new (laid (length old) t) e in
-    rw (len, e) (append_assoc old (laid (length old) t) _)
-
 -- what is left of a table and of a vector of references ends where it all does
 pub below_kept : (old new : List ℕ) (rest all : Slots) → new ++ laid_slots (length new) rest ≡ old ++ laid (length old) (table all) → below_ends_at (length new) rest ≡ end_at (length old) (table all)
 below_kept old new rest all e =

@@ -33,11 +33,6 @@ inserted before behind e place at =
     sym (ap (λ n. insert (before ++ reverse behind) n e) (sym at) ∙ insert-append_left before (reverse behind) (length before) e (omega arith)
     ∙ ap (λ (es : List UsageEntry). es ++ reverse behind) (insert_end before e))
 
--- none stands after the gap
-pub none_behind : (behind : List UsageEntry) → length behind ≡ 0 → behind ≡ []
-none_behind [] is = refl
-none_behind (e ∷ es) is = absurd (omega arith)
-
 pub settled : (before behind : List UsageEntry) → behind ≡ [] → before ++ reverse behind ≡ before
 settled before behind none = ap (λ (es : List UsageEntry). before ++ reverse es) none ∙ append-nil before
 

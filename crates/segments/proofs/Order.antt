@@ -1,6 +1,5 @@
 -- The writes of runs, in their order.
-use Rattle.std.proofs.Common.{◌≡◌, ◌<◌, ◌+◌, ℕ, List, [], ◌∷◌, ◌++◌, length, take, drop, get_or, Result, Ok, Err, sym, ap, ◌∙◌, subst, append-nil}
-use Rattle.std.specs.Result.{OnOk, OnErr}
+use Rattle.std.proofs.Common.{◌≡◌, ◌<◌, ◌+◌, ℕ, List, [], ◌∷◌, ◌++◌, length, take, drop, get_or, sym, ap, ◌∙◌, subst, append-nil}
 use Rattle.std.proofs.lemmas.Grind.{flat_map-append}
 use Rattle.std.proofs.lemmas.List.{take_more, take-append-drop}
 use Rattle.sector_dev.specs.Disk.{Story}
@@ -8,14 +7,6 @@ use Rattle.sector_dev.specs.Rows.{SectorWrite, GrowsBy, FailsAmong}
 use Rattle.sector_dev.specs.laws.Rows.{grows_on, fails_later, fails_before}
 use Rattle.segments.specs.Pieces.{PlainPiece}
 use Rattle.segments.specs.Writing.{run_writes, piece_writes}
-
-pub on_ok_map : {T E P Q : Type 0} (r : Result T E) → (P → Q) → OnOk r P → OnOk r Q
-on_ok_map (Ok x) f p = f p
-on_ok_map (Err e) f p = tt
-
-pub on_err_map : {T E P Q : Type 0} (r : Result T E) → (P → Q) → OnErr r P → OnErr r Q
-on_err_map (Ok x) f p = tt
-on_err_map (Err e) f p = f p
 
 -- the piece that a loop has come to
 next_piece : (ps : List PlainPiece) (i : ℕ) (p : PlainPiece) (bytes : List ℕ) → i < length ps → p ≡ get_or ps i p → bytes ≡ p.bytes → piece_writes (take (i + 1) ps) ≡ piece_writes (take i ps) ++ run_writes p.run.start bytes

@@ -1,6 +1,6 @@
 -- The number of arrays that columns have does not depend on the arrays.
-use Rattle.std.proofs.Common.{◌≡◌, ◌+◌, suc, ◌++◌, length, length-append, refl, sym, ap, ◌∙◌, Some, None}
-use Rattle.arrow_schema.specs.Column.{Kind, Column, Columns, nulls, booleans, integers, dates, timestamps, texts, large_texts, binaries, large_binaries, fixed_binaries, lists, large_lists, fixed_lists, structs, column, no_column, and_column}
+use Rattle.std.proofs.Common.{◌≡◌, ◌+◌, suc, length, length-append, refl, sym, ap, ◌∙◌, Some, None}
+use Rattle.arrow_schema.specs.Column.{Kind, Column, Columns, lists, large_lists, fixed_lists, structs, column, no_column, and_column}
 use Rattle.columns.specs.Array.{Array, Arrays, items_in, children_in, first_array, other_arrays}
 use Rattle.columns.specs.Tests.{arrays_at, arrays_below, every_array}
 

@@ -1,5 +1,5 @@
 -- The texts of cells that fit are UTF-8, at every level.
-use Rattle.std.specs.Prelude.{◌&&◌, ◌==◌}
+use Rattle.std.specs.Prelude.{◌==◌}
 use Rattle.std.specs.Str.{is_utf8}
 use Rattle.std.proofs.Common.{◌≡◌, ℕ, Bool, true, List, refl}
 use Rattle.std.proofs.lemmas.Bool.{and_from, and_parts}

@@ -1,5 +1,5 @@
 -- Placed arrays in longer bytes.
-use Rattle.std.specs.Prelude.{◌&&◌, nat_le}
+use Rattle.std.specs.Prelude.{nat_le}
 use Rattle.std.specs.List.{list_all}
 use Rattle.std.proofs.Common.{◌≡◌, ℕ, zero, suc, ◌+◌, ◌-◌, ◌≤◌, Bool, true, List, [], ◌∷◌, ◌++◌, map, length, take, drop, refl, sym, ap, subst, arith, ◌∙◌}
 use Rattle.std.proofs.Math.Seq.{take-nil}
@@ -8,7 +8,7 @@ use Rattle.columns.specs.declared.array.PlacedArray.{PlacedArray}
 use Rattle.columns.specs.declared.array.PlacedLayout.{PlacedLayout}
 use Rattle.columns.specs.declared.array.PlacedLayout.TheOpen.{PlacedArray-F, PlacedLayout-F}
 use Rattle.columns.specs.declared.array.PlacedLayout.TheOpen as placed
-use Rattle.columns.specs.declared.array.PlacedLayout.TheFolds.{fold-PlacedArray, fold-PlacedLayout, ind-PlacedArray, map-PlacedLayout, map-PlacedArray, fold-roll-PlacedLayout, fold-roll-PlacedArray}
+use Rattle.columns.specs.declared.array.PlacedLayout.TheFolds.{fold-PlacedLayout, ind-PlacedArray, map-PlacedLayout, map-PlacedArray, fold-roll-PlacedLayout, fold-roll-PlacedArray}
 use Rattle.columns.specs.declared.array.Dictionary.{Dictionary}
 use Rattle.columns.specs.declared.array.DictionaryPart.{DictionaryPart}
 use Rattle.columns.specs.declared.span.Span.{Span}

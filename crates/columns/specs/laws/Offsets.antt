@@ -1,5 +1,5 @@
 -- Offsets in order: where the spans of slots begin and end.
-use Rattle.std.specs.Prelude.{not, ◌&&◌, ◌||◌, ◌==◌, nat_lt}
+use Rattle.std.specs.Prelude.{◌||◌, ◌==◌, nat_lt}
 use Rattle.std.specs.List.{list_any, range_with_len}
 use Rattle.std.proofs.Common.{◌≡◌, ℕ, zero, suc, ◌+◌, ◌-◌, ◌≤◌, ◌<◌, Bool, false, arith}
 use Rattle.std.proofs.lemmas.Bool.{or_parts, ltb-false, ne_eqb}

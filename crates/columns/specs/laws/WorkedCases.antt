@@ -1,12 +1,12 @@
 -- Worked examples of the definitions: arrays as another writer may lay them out, and their cells.
-use Rattle.std.specs.Prelude.{◌≡◌, ℕ, ◌++◌, Bool, true, false, pos, negsuc, List, [], ◌∷◌, codes, replicate, map, Option, Some, None}
+use Rattle.std.specs.Prelude.{◌≡◌, ℕ, ◌++◌, Bool, true, false, pos, negsuc, List, [], ◌∷◌, codes, replicate, map, Some, None}
 use Rattle.std.specs.List.{list_any}
 use Rattle.arrow_schema.specs.Column.{Kind, Column, seconds, days, booleans, integers, dates, timestamps, texts, large_texts, fixed_binaries, lists, fixed_lists, structs, column, columns_of}
 use Rattle.cells.specs.Cell.{Cell, null, boolean, number, text, bytes, items, parts, cells_of}
 use Rattle.columns.specs.Array.{Array, Arrays, array, arrays_of, no_array, null_layout, bit_layout, fixed_layout, binary_layout, list_layout, fixed_list_layout, struct_layout, dictionary_layout}
-use Rattle.columns.specs.CellAt.{cell_at, cells_in}
+use Rattle.columns.specs.CellAt.{cells_in}
 use Rattle.columns.specs.Visible.{visible_in, is_forbidden, names_no_entry}
-use Rattle.columns.specs.Tests.{counts_wrong, is_short, is_unordered}
+use Rattle.columns.specs.Tests.{counts_wrong}
 use Rattle.columns.specs.Sound.{is_sound}
 use Rattle.columns.specs.Buffers.{nodes_of, buffers_of, dictionaries_of}
 use Rattle.columns.specs.Built.{built, built_parts}

@@ -1,6 +1,6 @@
 use Rattle.std.specs.Prelude.{nat_lt}
 use Rattle.std.specs.List.{list_any}
-use Rattle.std.proofs.Common.{◌≡◌, sym, ◌∙◌}
+use Rattle.std.proofs.Common.{sym, ◌∙◌}
 use Rattle.columns.specs.Array.{array_list, slots_in}
 use Rattle.columns.proofs.Children.{any_shorter}
 use Rattle.columns.proofs.array_checks.has_shorter.Goals as goal

@@ -1,5 +1,5 @@
-use Rattle.std.proofs.Common.{◌≡◌, ◌≤◌, ◌<◌, ℕ, Bool, true, List, length, map, Some, ap, sym, ◌∙◌, arith}
-use Rattle.std.specs.Prelude.{slice_get, nat_lt, ◌&&◌}
+use Rattle.std.proofs.Common.{◌≡◌, ◌<◌, ℕ, true, length, map, Some, ap, sym, ◌∙◌, arith}
+use Rattle.std.specs.Prelude.{nat_lt}
 use Rattle.std.proofs.lemmas.Bool.{and_parts, ltb-true}
 use Rattle.std.proofs.lemmas.Option.{slice_get_past}
 use Rattle.arrow_schema.specs.declared.types.Field.{Field}
@@ -7,7 +7,7 @@ use Rattle.arrow_schema.specs.Column.{columns_of}
 use Rattle.arrow_schema.specs.View.{column_of}
 use Rattle.columns.specs.declared.array.PlacedArray.{PlacedArray}
 use Rattle.columns.specs.declared.borrowed.PartsAt.{PartsAt}
-use Rattle.columns.specs.Array.{Array, Arrays, arrays_of}
+use Rattle.columns.specs.Array.{Arrays, arrays_of}
 use Rattle.columns.specs.CellAt.{part_cells}
 use Rattle.columns.specs.Sound.{are_sound}
 use Rattle.columns.specs.Texts.{have_utf8_texts}

@@ -1,9 +1,9 @@
-use Rattle.std.proofs.Common.{◌≡◌, ◌≤◌, ◌<◌, ◌+◌, ℕ, Bool, true, length, Some, ap, sym, ◌∙◌, arith}
-use Rattle.std.specs.Prelude.{slice_get, nat_le, ◌&&◌}
+use Rattle.std.proofs.Common.{◌≡◌, ◌≤◌, ◌+◌, true, Some, ap, sym, ◌∙◌, arith}
+use Rattle.std.specs.Prelude.{nat_le}
 use Rattle.std.proofs.lemmas.Bool.{and_parts, leb-true}
 use Rattle.std.proofs.lemmas.Option.{slice_get_past}
 use Rattle.arrow_schema.specs.View.{column_of}
-use Rattle.cells.specs.Cell.{Cell, cells_of}
+use Rattle.cells.specs.Cell.{cells_of}
 use Rattle.columns.specs.declared.borrowed.ArraySlice.{ArraySlice}
 use Rattle.columns.specs.Array.{slots_in}
 use Rattle.columns.specs.CellAt.{cell_at, cells_from}

@@ -1,4 +1,4 @@
-use Rattle.std.proofs.Common.{◌≡◌, ◌<◌, ◌≤◌, ◌+◌, ◌-◌, ℕ, length, take, arith, ap, ◌∙◌, sym, rules}
+use Rattle.std.proofs.Common.{◌<◌, ◌-◌, take, ◌∙◌, sym}
 use Rattle.columns.specs.Array.{slots_in}
 use Rattle.columns.specs.Sound.{is_kind_sound}
 use Rattle.columns.specs.View.{array_in, no_dictionary}

@@ -1,4 +1,4 @@
-use Rattle.std.proofs.Common.{◌≡◌, ◌<◌, arith}
+use Rattle.std.proofs.Common.{arith}
 use Rattle.columns.specs.Array.{slots_in, items_in}
 use Rattle.columns.specs.Offsets.{width_of}
 use Rattle.columns.specs.View.{view_array}

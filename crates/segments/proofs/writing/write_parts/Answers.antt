@@ -1,10 +1,10 @@
 use Rattle.std.proofs.Common.{◌≡◌, [], ◌+◌, ◌++◌, ◌∙◌, length, take, drop, refl, sym, ap, subst, arith, take_all}
+use Rattle.std.proofs.lemmas.Result.{on_ok_weaker, on_err_weaker}
 use Rattle.sector_dev.specs.Rows.{GrowsBy, FailsAmong}
 use Rattle.segments.specs.Pieces.{bytes_of_parts}
 use Rattle.segments.specs.Writing.{run_writes}
 use Rattle.segments.specs.inner.Tails.{tail_bytes, whole_bytes, rest_bytes}
 use Rattle.sector_dev.specs.laws.Rows.{on_err}
-use Rattle.segments.proofs.Order.{on_ok_map, on_err_map}
 use Rattle.segments.proofs.Pieces.{next_part, all_parts}
 use Rattle.segments.proofs.Stretches.{few_left, part_room, tail_room, next_start, next_rest, none_written, still_rest, part_done, part_failed, tail_done, tail_failed}
 use Rattle.segments.proofs.writing.write_parts.Goals as goal
@@ -77,7 +77,7 @@ returns-clause-order g c =
     let D = g.D.SectorDevice in
     let x = bytes_of_parts (take c.loop-part.part-index c.args.parts.now) in
     let all : x ≡ bytes_of_parts c.args.parts.now = ap bytes_of_parts (take_all c.loop-part.part-index c.args.parts.now c.loop-part-test.false) in
-    on_ok_map c.write_tail.result
+    on_ok_weaker c.write_tail.result
     (λ done told. subst (λ l. GrowsBy (run_writes c.args.start l) (D.story c.args.device.now) (D.story c.write_tail.new.device)) all
     (tail_done c.args.start c.loop-part.tail.start x (tail_bytes c.loop-part.tail) (D.story c.args.device.now) (D.story c.loop-part.device) (D.story c.write_tail.new.device) c.loop-part.invariant.start c.loop-part.invariant.rest
     (c.loop-part.invariant.order told) (done told)))
@@ -88,7 +88,7 @@ returns-clause-cut_short g c =
     let D = g.D.SectorDevice in
     let x = bytes_of_parts (take c.loop-part.part-index c.args.parts.now) in
     let all : x ≡ bytes_of_parts c.args.parts.now = ap bytes_of_parts (take_all c.loop-part.part-index c.args.parts.now c.loop-part-test.false) in
-    on_err_map c.write_tail.result
+    on_err_weaker c.write_tail.result
     (λ fails told. subst (λ l. FailsAmong (run_writes c.args.start l) (D.story c.args.device.now) (D.story c.write_tail.new.device)) all
     (tail_failed c.args.start c.loop-part.tail.start x (tail_bytes c.loop-part.tail) (D.story c.args.device.now) (D.story c.loop-part.device) (D.story c.write_tail.new.device) c.loop-part.invariant.start c.loop-part.invariant.rest
     (c.loop-part.invariant.order told) (fails told)))

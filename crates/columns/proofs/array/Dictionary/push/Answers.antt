@@ -1,6 +1,4 @@
-use Rattle.std.proofs.Common.{◌≡◌, ◌+◌, ◌*◌, ◌^◌, ◌≤◌, ℕ, List, length, ap, sym, ◌∙◌, [], ◌∷◌, arith}
-use Rattle.columns.specs.declared.array.PlacedArray.{PlacedArray}
-use Rattle.columns.specs.Ends.{ends_from, entry_count}
+use Rattle.std.proofs.Common.{◌∙◌}
 use Rattle.columns.proofs.Ends.{pushed_count, pushed_ends, pushed_few}
 use Rattle.columns.proofs.array.Dictionary.push.Goals as goal
 

@@ -1,4 +1,4 @@
-use Rattle.std.proofs.Common.{◌≡◌, ◌∙◌}
+use Rattle.std.proofs.Common.{◌∙◌}
 use Rattle.columns.proofs.view.ArrayView.items_or.Goals as goal
 
 pub returns-in-None : goal.returns-in-None
