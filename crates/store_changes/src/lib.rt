@@ -31,5 +31,5 @@ pub use laws::{
 };
 pub use new_rows::NewRows;
 pub use preparing::{Prepared, prepare, settle};
-pub use reading::{read_entry, read_segment};
+pub use reading::{read_entry, read_next_segment, read_segment};
 pub use table_builder::without_rows;
