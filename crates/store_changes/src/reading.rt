@@ -1,5 +1,5 @@
 // Reads a table from the segments of its entry.
-ghost use Rattle.std.specs.Prelude.{◌≡◌, ◌≤◌, ◌+◌, ◌++◌, ℕ, true, List, [], Option, Some, None, length, option_map, sum_by, IfOk, IfErr, IfSome};
+ghost use Rattle.std.specs.Prelude.{◌≡◌, ◌≤◌, ◌+◌, ℕ, true, List, [], Option, Some, None, length, option_map, IfOk, IfErr, IfSome};
 ghost use Rattle.std.specs.List.{list_all};
 ghost use Rattle.sector_dev.specs.Disk.{now, shown_image};
 ghost use Rattle.arrow_schema.specs.Column.{PlainSchema};
@@ -12,8 +12,9 @@ ghost use Rattle.ipc_write.specs.Written.{schema_message};
 ghost use Rattle.segments.specs.declared.extent.Extent.{Extent};
 ghost use Rattle.catalogue.specs.Entries.{is_segment, is_entry, plain_entry};
 ghost use Rattle.commit.specs.Standing.{is_size, is_on_device, all_on_device};
-ghost use Rattle.store_runs.specs.Held.{is_undamaged, rows_in_bytes, segment_rows, joined_rows, rows_held};
-ghost use Rattle.store_runs.specs.Reading.{IsCopy, LacksBytes, HasRead, LacksRows, HaveRead, IsRead, Unreads, OnlyReadsDevice, ended};
+ghost use Rattle.store_runs.specs.Held.{is_undamaged, rows_in_bytes};
+ghost use Rattle.store_runs.specs.Reading.{IsCopy, LacksBytes, HasRead, LacksRows, IsRead, Unreads, OnlyReadsDevice, ended};
+ghost use Rattle.store_changes.specs.inner.ReadRows.{ReadsRows, ReadsNext};
 ghost use Rattle.store_changes.specs.inner.TableBuilder.{table_so_far};
 ghost use Rattle.store_changes.specs.ReadSegment.{UnreadsSegment, runs_in};
 
@@ -197,11 +198,8 @@ fn append_segment<D: SectorDevice>(
     requires message { front.now ≡ schema_message (table_so_far gathered).schema }
     ensures reads { OnlyReadsDevice D.size D.story D.failed D.tells (ended result) device.old device.new }
     ensures schema { IfOk result (λ g. (table_so_far g).schema ≡ (table_so_far gathered).schema) }
-    ensures rows { IfOk result (λ g. D.tells ≡ true → Some (table_so_far g).rows ≡ joined_rows (Some (table_so_far gathered).rows)
-        (segment_rows (table_so_far gathered).schema segment (shown_image (now (D.story device.old))))) }
-    ensures read { IfOk result (λ g. (own : List (List Cell)) × HasRead D.tells (shown_image (now (D.story device.old)))
-        (table_so_far gathered).schema segment own × ((table_so_far g).rows ≡ (table_so_far gathered).rows ++ own)) }
-    ensures count { IfOk result (λ g. length (table_so_far g).rows ≡ length (table_so_far gathered).rows + segment.rows) }
+    ensures read { IfOk result (λ g. ReadsNext D.tells (shown_image (now (D.story device.old)))
+        (table_so_far gathered).schema (table_so_far gathered).rows segment (table_so_far g).rows) }
     ensures unread { IfErr result (UnreadsSegment D.tells (shown_image (now (D.story device.old)))
         (table_so_far gathered).schema (table_so_far gathered).rows segment place) }
 {
@@ -230,10 +228,7 @@ fn read_segments<D: SectorDevice>(
     requires none { (table_so_far empty).rows ≡ [] }
     ensures reads { OnlyReadsDevice D.size D.story D.failed D.tells (ended result) device.old device.new }
     ensures schema { IfOk result (λ g. (table_so_far g).schema ≡ (table_so_far empty).schema) }
-    ensures count { IfOk result (λ g. length (table_so_far g).rows ≡ sum_by (λ s. s.rows) segments.now) }
-    ensures rows { IfOk result (λ g. D.tells ≡ true
-        → rows_held (table_so_far empty).schema segments.now (shown_image (now (D.story device.old))) ≡ Some (table_so_far g).rows) }
-    ensures read { IfOk result (λ g. HaveRead D.tells (shown_image (now (D.story device.old))) (table_so_far empty).schema segments.now
+    ensures read { IfOk result (λ g. ReadsRows D.tells (shown_image (now (D.story device.old))) (table_so_far empty).schema segments.now
         (table_so_far g).rows) }
     ensures unread { IfErr result (λ e. (name : List ℕ) (page : Option Extent) → Unreads D.tells (shown_image (now (D.story device.old)))
         (record { name = name; schema = (table_so_far empty).schema; segments = segments.now; page = page }) e) }
@@ -271,7 +266,7 @@ fn finish_table(alloc: Global, gathered: TableBuilder) -> Result<Table, Refusal>
 }
 
 // Reads the rows of an entry's segments.
-pub(crate) fn gather_entry<D: SectorDevice>(
+fn gather_entry<D: SectorDevice>(
     alloc: Global,
     device: &mut D,
     entry: &TableEntry,
