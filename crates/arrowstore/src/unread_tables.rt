@@ -19,7 +19,7 @@ fn first_unread<D: SectorDevice>(
     let tables = store.tables(alloc).ok()?;
     for table in &tables {
         let name = table.0.as_str();
-        match store.read(alloc, name) {
+        match store.weigh(alloc, name) {
             Ok(_) => {}
             Err(found) if found == refusal => return String::from_str(alloc, name).ok(),
             Err(_) => return None,

@@ -75,7 +75,7 @@ fn read_each<D: SectorDevice>(
 {
     for table in tables {
         let name = table.0.as_str();
-        match store.read(alloc, name) {
+        match store.weigh(alloc, name) {
             Ok(_) => {}
             Err(refusal) => {
                 *hint = hint_at(alloc, name);

@@ -1,6 +1,8 @@
-// Reads a table of an open store.
+// Reads a table of an open store, whole or segment by segment.
 ghost use Rattle.std.specs.Prelude.{◌≡◌, true, Some, None, IfOk, IfErr};
 ghost use Rattle.sector_dev.specs.Disk.{now, shown_image};
+ghost use Rattle.cells.specs.Cell.{PlainTable};
+ghost use Rattle.cells.specs.Weight.{table_weight};
 ghost use Rattle.values.specs.TableView.{table_of};
 ghost use Rattle.store_runs.specs.Reading.{ended};
 ghost use Rattle.values.specs.Table.{IsTable};
@@ -9,7 +11,7 @@ ghost use Rattle.store_runs.specs.Calls.{is_device_reply};
 use crate::Store;
 use sector_dev::SectorDevice;
 use std::alloc::Global;
-use store_changes::{read_entry, table_laws};
+use store_changes::{read_entry, table_laws, weigh_entry};
 use tables::Refusal;
 use values::Table;
 
@@ -80,6 +82,33 @@ impl<D: SectorDevice> Store<D> {
         match self.read_named(alloc, name) {
             Ok(table) => Ok(table),
             Err(refusal) => Err(refusal),
+        }
+    }
+
+    /// Reads the table with this name segment by segment, keeps none, and returns its weight: what its values and rows count towards the limit of a table
+    /// (`MAX_TABLE_WEIGHT` of `cells`). Only reads.
+    ///
+    /// # Errors
+    /// As [`Store::read`].
+    pub fn weigh(&mut self, alloc: Global, name: &str) -> Result<u64, Refusal>
+        // It is the weight of the table that reads show. Each refusal has one reason, the same as for a read of the table.
+        ensures found { IfOk result (λ weight. (t : PlainTable) × ReadsTable (is_halted self.old) D.tells
+            (shown_image (now (D.story (device_of self.old)))) (entry_of (listed_in self.old) name.now) t × (weight ≡ table_weight t.schema t.rows)) }
+        ensures told { IfErr result (RefusesRead (is_halted self.old) D.tells (shown_image (now (D.story (device_of self.old))))
+            (entry_of (listed_in self.old) name.now)) }
+        ensures reads { OnlyReadsStore D.size D.story D.failed D.tells (ended result) self.old self.new }
+    {
+        if self.halted {
+            return Err(Refusal::Halted);
+        }
+        let opened = &self.opened;
+        match opened.catalogue.list.get(name) {
+            Some(entry) => {
+                let weight = weigh_entry(alloc, &mut self.device, entry);
+                self.halted = halts(&weight);
+                weight
+            }
+            None => Err(Refusal::NoTable),
         }
     }
 }

@@ -9,3 +9,4 @@ mod Undamaged
 mod Streamed
 mod StepFound
 mod Digesting
+mod ReadRows

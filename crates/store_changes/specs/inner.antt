@@ -1,2 +1,3 @@
 pub mod Digesting
 pub mod TableBuilder
+pub mod ReadRows

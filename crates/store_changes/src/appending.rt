@@ -20,7 +20,7 @@ ghost use Rattle.store_changes.specs.Tests.{Tests, decision_of};
 
 use crate::change::{Change, Edit, NewSegments, SegmentRows};
 use crate::new_rows::{NewRows, pass_new};
-use crate::reading::gather_entry;
+use crate::weighing::weigh_entry;
 use catalogue::TableEntry;
 use cells::MAX_TABLE_WEIGHT;
 use ipc_encode::pieces_are_tables;
@@ -95,7 +95,7 @@ pub fn append_to_entry<D: SectorDevice>(
         Ok(passed) => passed,
         Err(refusal) => return Err(refusal),
     };
-    let standing = match gather_entry(alloc, device, entry) {
+    let standing = match weigh_entry(alloc, device, entry) {
         Ok(standing) => standing,
         Err(refusal) => {
             // Dropped by a call, since its inlined drop is long.
@@ -105,7 +105,7 @@ pub fn append_to_entry<D: SectorDevice>(
     };
     match passed {
         Some(WeighedTable { table, weight }) => {
-            decide_extension(alloc, entry, name, table, standing.weight + weight)
+            decide_extension(alloc, entry, name, table, standing + weight)
         }
         None => Err(Refusal::TooMany(Limit::Weight)),
     }

@@ -11,7 +11,8 @@ ghost use Rattle.store_runs.specs.Digesting.{segments_of, AreDigests, StopsReadi
 ghost use Rattle.store_changes.specs.ReadSegment.{runs_in};
 ghost use Rattle.store_changes.specs.inner.Digesting.{LacksCopy};
 
-use crate::reading::{gather_entry, read_bytes};
+use crate::reading::read_bytes;
+use crate::weighing::weigh_entry;
 use catalogue::{Segment, TableEntry};
 use sector_dev::SectorDevice;
 use sha2::{Digest, Sha256};
@@ -64,14 +65,11 @@ fn entry_digests<D: SectorDevice>(
     ensures found { IfOk result (λ digests. AreDigests D.tells (shown_image (now (D.story device.old))) (plain_entry entry.now).segments digests.items) }
     ensures unread { IfErr result (Unreads D.tells (shown_image (now (D.story device.old))) (plain_entry entry.now)) }
 {
-    match gather_entry(alloc, device, entry) {
-        Ok(gathered) => {
-            drop(gathered);
-            match segment_digests(alloc, device, entry.segments()) {
-                Ok(digests) => Ok(digests),
-                Err(refusal) => Err(refusal),
-            }
-        }
+    match weigh_entry(alloc, device, entry) {
+        Ok(_) => match segment_digests(alloc, device, entry.segments()) {
+            Ok(digests) => Ok(digests),
+            Err(refusal) => Err(refusal),
+        },
         Err(refusal) => Err(refusal),
     }
 }

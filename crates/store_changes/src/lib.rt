@@ -17,6 +17,7 @@ mod pairs;
 mod preparing;
 mod reading;
 mod table_builder;
+mod weighing;
 
 pub use appending::append_to_entry;
 pub use change::{Change, Edit, NewSegments, SegmentRows};
@@ -31,5 +32,6 @@ pub use laws::{
 };
 pub use new_rows::NewRows;
 pub use preparing::{Prepared, prepare, settle};
-pub use reading::{read_entry, read_segment};
+pub use reading::{read_entry, read_next_segment, read_segment};
 pub use table_builder::without_rows;
+pub use weighing::weigh_entry;

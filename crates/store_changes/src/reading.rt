@@ -1,5 +1,5 @@
 // Reads a table from the segments of its entry.
-ghost use Rattle.std.specs.Prelude.{◌≡◌, ◌≢◌, ◌≤◌, ◌+◌, ◌++◌, ℕ, true, false, List, [], Option, Some, None, length, option_map, sum_by, IfOk, IfErr, IfSome};
+ghost use Rattle.std.specs.Prelude.{◌≡◌, ◌≤◌, ◌+◌, ℕ, true, List, [], Option, Some, None, length, option_map, IfOk, IfErr, IfSome};
 ghost use Rattle.std.specs.List.{list_all};
 ghost use Rattle.sector_dev.specs.Disk.{now, shown_image};
 ghost use Rattle.arrow_schema.specs.Column.{PlainSchema};
@@ -12,9 +12,9 @@ ghost use Rattle.ipc_write.specs.Written.{schema_message};
 ghost use Rattle.segments.specs.declared.extent.Extent.{Extent};
 ghost use Rattle.catalogue.specs.Entries.{is_segment, is_entry, plain_entry};
 ghost use Rattle.commit.specs.Standing.{is_size, is_on_device, all_on_device};
-ghost use Rattle.store_runs.specs.Held.{is_undamaged, rows_in_bytes, segment_rows, joined_rows, rows_held};
-ghost use Rattle.store_runs.specs.Reading.{IsCopy, LacksBytes, HasRead, LacksRows, HaveRead, IsRead, Unreads, OnlyReadsDevice, ended};
-ghost use Rattle.store_runs.specs.Calls.{is_failure};
+ghost use Rattle.store_runs.specs.Held.{is_undamaged, rows_in_bytes};
+ghost use Rattle.store_runs.specs.Reading.{IsCopy, LacksBytes, HasRead, LacksRows, IsRead, Unreads, OnlyReadsDevice, ended};
+ghost use Rattle.store_changes.specs.inner.ReadRows.{ReadsRows, ReadsNext};
 ghost use Rattle.store_changes.specs.inner.TableBuilder.{table_so_far};
 ghost use Rattle.store_changes.specs.ReadSegment.{UnreadsSegment, runs_in};
 
@@ -31,7 +31,7 @@ use segments::{ReadError, read_run};
 use sha2::{Digest, Sha256};
 use std::alloc::{AllocError, Global};
 use tables::Refusal;
-use values::{Table, TableError, WeighedTable};
+use values::{Table, WeighedTable};
 
 // Returns whether bytes of a segment have the digest of its entry, if it has one.
 fn is_undamaged(segment: Segment, bytes: &[u8]) -> bool
@@ -143,16 +143,42 @@ pub fn read_segment<D: SectorDevice>(
     }
 }
 
-// Returns the refusal if the rows of the segment at this place can't be appended: they are too heavy, or memory was refused.
-fn joining_refusal(error: TableError, place: usize) -> Refusal
-    ensures memory { error ≡ TableError.OutOfMemory → result ≡ Refusal.OutOfMemory }
-    ensures segment { error ≢ TableError.OutOfMemory → result ≡ Refusal.SegmentUnread place }
-    ensures no_device { is_failure result ≡ false }
+/// Reads the table of the segment at this place of a table, whose rows before it weigh `before`. All rows up to its end have to be light enough for a table.
+///
+/// # Errors
+/// `SegmentUnread`, also if they are too heavy, and `SegmentDamaged` with its place; `Device`; `OutOfMemory`.
+pub fn read_next_segment<D: SectorDevice>(
+    alloc: Global,
+    device: &mut D,
+    front: &[u8],
+    segment: Segment,
+    place: usize,
+    before: u64,
+) -> Result<WeighedTable, Refusal>
+    requires size { is_size (D.size device.old) ≡ true }
+    requires placed { is_on_device (D.size device.old) segment.place.run ≡ true }
+    requires sound { is_segment segment ≡ true }
+    requires light { before ≤ MAX_TABLE_WEIGHT }
+    ensures reads { OnlyReadsDevice D.size D.story D.failed D.tells (ended result) device.old device.new }
+    ensures rows { IfOk result (λ w. (s : PlainSchema) → front.now ≡ schema_message s
+        → HasRead D.tells (shown_image (now (D.story device.old))) s segment (table_of w.table).rows) }
+    ensures schema { IfOk result (λ w. (s : PlainSchema) → IsWithinLimits s → front.now ≡ schema_message s → (table_of w.table).schema ≡ s) }
+    ensures weight { IfOk result (λ w. w.weight ≡ table_weight (table_of w.table).schema (table_of w.table).rows) }
+    ensures count { IfOk result (λ w. length (table_of w.table).rows ≡ segment.rows) }
+    ensures in_parts { IfOk result (λ w. is_in_parts w.table ≡ true) }
+    ensures light { IfOk result (λ w. before + w.weight ≤ MAX_TABLE_WEIGHT) }
+    ensures unread { IfErr result (λ e. (s : PlainSchema) (rows : List (List Cell)) → IsWithinLimits s → front.now ≡ schema_message s
+        → before ≡ table_weight s rows → UnreadsSegment D.tells (shown_image (now (D.story device.old))) s rows segment place e) }
 {
-    match error {
-        TableError::OutOfMemory => Refusal::OutOfMemory,
-        TableError::Weight => Refusal::SegmentUnread(place),
-        TableError::Unfit(_) => Refusal::SegmentUnread(place),
+    match read_segment(alloc, device, front, segment, place) {
+        Ok(weighed) => {
+            if weighed.weight > MAX_TABLE_WEIGHT - before {
+                Err(Refusal::SegmentUnread(place))
+            } else {
+                Ok(weighed)
+            }
+        }
+        Err(refusal) => Err(refusal),
     }
 }
 
@@ -172,19 +198,15 @@ fn append_segment<D: SectorDevice>(
     requires message { front.now ≡ schema_message (table_so_far gathered).schema }
     ensures reads { OnlyReadsDevice D.size D.story D.failed D.tells (ended result) device.old device.new }
     ensures schema { IfOk result (λ g. (table_so_far g).schema ≡ (table_so_far gathered).schema) }
-    ensures light { IfOk result (λ g. table_weight (table_so_far g).schema (table_so_far g).rows ≤ MAX_TABLE_WEIGHT) }
-    ensures rows { IfOk result (λ g. D.tells ≡ true → Some (table_so_far g).rows ≡ joined_rows (Some (table_so_far gathered).rows)
-        (segment_rows (table_so_far gathered).schema segment (shown_image (now (D.story device.old))))) }
-    ensures read { IfOk result (λ g. (own : List (List Cell)) × HasRead D.tells (shown_image (now (D.story device.old)))
-        (table_so_far gathered).schema segment own × ((table_so_far g).rows ≡ (table_so_far gathered).rows ++ own)) }
-    ensures count { IfOk result (λ g. length (table_so_far g).rows ≡ length (table_so_far gathered).rows + segment.rows) }
+    ensures read { IfOk result (λ g. ReadsNext D.tells (shown_image (now (D.story device.old)))
+        (table_so_far gathered).schema (table_so_far gathered).rows segment (table_so_far g).rows) }
     ensures unread { IfErr result (UnreadsSegment D.tells (shown_image (now (D.story device.old)))
         (table_so_far gathered).schema (table_so_far gathered).rows segment place) }
 {
-    match read_segment(alloc, device, front, segment, place) {
+    match read_next_segment(alloc, device, front, segment, place, gathered.weight) {
         Ok(weighed) => match gathered.append(weighed) {
             Ok(more) => Ok(more),
-            Err(error) => Err(joining_refusal(error, place)),
+            Err(_) => Err(Refusal::OutOfMemory),
         },
         Err(refusal) => Err(refusal),
     }
@@ -206,10 +228,7 @@ fn read_segments<D: SectorDevice>(
     requires none { (table_so_far empty).rows ≡ [] }
     ensures reads { OnlyReadsDevice D.size D.story D.failed D.tells (ended result) device.old device.new }
     ensures schema { IfOk result (λ g. (table_so_far g).schema ≡ (table_so_far empty).schema) }
-    ensures count { IfOk result (λ g. length (table_so_far g).rows ≡ sum_by (λ s. s.rows) segments.now) }
-    ensures rows { IfOk result (λ g. D.tells ≡ true
-        → rows_held (table_so_far empty).schema segments.now (shown_image (now (D.story device.old))) ≡ Some (table_so_far g).rows) }
-    ensures read { IfOk result (λ g. HaveRead D.tells (shown_image (now (D.story device.old))) (table_so_far empty).schema segments.now
+    ensures read { IfOk result (λ g. ReadsRows D.tells (shown_image (now (D.story device.old))) (table_so_far empty).schema segments.now
         (table_so_far g).rows) }
     ensures unread { IfErr result (λ e. (name : List ℕ) (page : Option Extent) → Unreads D.tells (shown_image (now (D.story device.old)))
         (record { name = name; schema = (table_so_far empty).schema; segments = segments.now; page = page }) e) }
@@ -247,7 +266,7 @@ fn finish_table(alloc: Global, gathered: TableBuilder) -> Result<Table, Refusal>
 }
 
 // Reads the rows of an entry's segments.
-pub(crate) fn gather_entry<D: SectorDevice>(
+fn gather_entry<D: SectorDevice>(
     alloc: Global,
     device: &mut D,
     entry: &TableEntry,

@@ -4,15 +4,15 @@ ghost use Rattle.arrow_schema.specs.Column.{columns_of};
 ghost use Rattle.arrow_schema.specs.Limits.{IsWithinLimits};
 ghost use Rattle.arrow_schema.specs.View.{schema_of};
 ghost use Rattle.cells.specs.Weight.{table_weight};
+ghost use Rattle.cells.specs.declared.limits.TheConstants.{MAX_TABLE_WEIGHT};
 ghost use Rattle.values.specs.Parts.{parts_table, are_parts_sound};
 ghost use Rattle.values.specs.Table.{IsTable};
 ghost use Rattle.values.specs.TableView.{table_of, is_in_parts};
 ghost use Rattle.tables.specs.Verdict.{empty_table};
 
 use arrow_schema::Schema;
-use cells::MAX_TABLE_WEIGHT;
 use std::alloc::{AllocError, Global};
-use values::{Table, TableError, TablePart, WeighedTable, tables_are_joined_and_cut};
+use values::{Table, TablePart, WeighedTable, tables_are_joined_and_cut};
 
 /// A table while its segments are read: the record batches so far, which keep the bytes that were read.
 #[derive(Drop)]
@@ -26,7 +26,7 @@ pub(crate) struct TableBuilder {
 }
 
 impl TableBuilder {
-    ghost use Rattle.std.specs.Prelude.{◌≢◌, ◌<◌, ◌≤◌, ◌++◌, ℕ, [], IfErr};
+    ghost use Rattle.std.specs.Prelude.{◌≤◌, ◌+◌, ◌++◌, []};
     ghost use Rattle.store_changes.specs.inner.TableBuilder.{table_so_far};
 
     /// Returns a builder without rows.
@@ -44,17 +44,13 @@ impl TableBuilder {
     /// Appends the rows of a table of the same schema. No cell is copied.
     ///
     /// # Errors
-    /// `Weight` if all rows together are too heavy; `OutOfMemory`.
-    pub(crate) fn append(self, more: WeighedTable) -> Result<TableBuilder, TableError>
+    /// `AllocError` if memory was refused.
+    pub(crate) fn append(self, more: WeighedTable) -> Result<TableBuilder, AllocError>
         requires schema { (table_of more.table).schema ≡ (table_so_far self).schema }
-        requires weight { more.weight ≡ table_weight (table_of more.table).schema (table_of more.table).rows }
+        requires light { self.weight + more.weight ≤ MAX_TABLE_WEIGHT }
         requires in_parts { is_in_parts more.table ≡ true }
         ensures joined { IfOk result (λ g. table_so_far g
             ≡ record { schema = (table_so_far self).schema; rows = (table_so_far self).rows ++ (table_of more.table).rows }) }
-        ensures light { IfOk result (λ g. table_weight (table_so_far g).schema (table_so_far g).rows ≤ MAX_TABLE_WEIGHT) }
-        ensures heavy { IfErr result (λ e. e ≡ TableError.Weight
-            → MAX_TABLE_WEIGHT < table_weight (table_so_far self).schema ((table_so_far self).rows ++ (table_of more.table).rows)) }
-        ensures fit { IfErr result (λ e. (i : ℕ) → e ≢ TableError.Unfit i) }
     {
         tables_are_joined_and_cut();
         let WeighedTable { table, weight } = more;
@@ -64,9 +60,6 @@ impl TableBuilder {
             mut parts,
             weight: so_far,
         } = self;
-        if weight > MAX_TABLE_WEIGHT - so_far {
-            return Err(TableError::Weight);
-        }
         let mut new = table.into_parts();
         parts.append(&mut new)?;
         Ok(TableBuilder {

@@ -1,8 +1,10 @@
 -- What is read of a table: its segments one after another, and the table that they make.
 use Rattle.std.specs.Prelude.{◌&&◌, slice_get, get_or, sum_by, min, if◌then◌else◌, Result, Ok, Err, IfErr}
 use Rattle.std.proofs.Common.{◌≡◌, ◌≤◌, ◌<◌, ◌+◌, ◌-◌, ◌^◌, ◌++◌, ◌∷◌, [], ℕ, suc, Bool, true, false, List, Option, Some, None, length, map, take, drop, refl, sym, ap, ◌∙◌, subst, arith, append-nil, append_assoc}
-use Rattle.std.proofs.lemmas.Bool.{and_parts}
-use Rattle.std.proofs.lemmas.List.{length-map, get_or-map, take-append-drop, take_more}
+use Rattle.std.specs.List.{list_all}
+use Rattle.std.proofs.lemmas.Bool.{and_parts, true≢false}
+use Rattle.std.proofs.lemmas.List.{length-map, get_or-map, get_or_default, take-append-drop, take_more}
+use Rattle.std.proofs.lemmas.List.Folds.{list_all_at}
 use Rattle.std.proofs.lemmas.List.Concat.{flat_map-cons}
 use Rattle.std.proofs.lemmas.List.Sums.{sum_by-append}
 use Rattle.std.proofs.lemmas.Option.{slice_get_within, get_or_from_slice_get, slice_get-get_or}
@@ -18,7 +20,7 @@ use Rattle.cells.specs.Weight.{table_weight}
 use Rattle.cells.specs.declared.limits.TheConstants.{MAX_TABLE_WEIGHT}
 use Rattle.values.specs.Table.{Refusal, IsTable, table_from}
 use Rattle.catalogue.specs.declared.entry.Segment.{Segment}
-use Rattle.catalogue.specs.Entries.{PlainEntry, PlainCatalogue, page_runs, runs_in_segments, runs_in, runs_of}
+use Rattle.catalogue.specs.Entries.{PlainEntry, PlainCatalogue, is_segment, page_runs, runs_in_segments, runs_in, runs_of}
 use Rattle.catalogue.specs.Edits.{entry_of}
 use Rattle.catalogue.specs.laws.Order.{by_found}
 use Rattle.commit.specs.Standing.{is_on_device, all_on_device}
@@ -151,6 +153,27 @@ run_at size segments place segment on inside is =
     subst (λ (r : Run). is_on_device size r ≡ true) (get_or-map (λ (s : Segment). s.place.run) segments place segment segment.place.run inside ∙ ap (λ (s : Segment). s.place.run) (sym is))
     (all_at size (map (λ (s : Segment). s.place.run) segments) place segment.place.run on (omega (arith, count, inside)))
 
+-- what an iteration would have for a segment past the last one
+abbrev pub no_segment : Segment
+no_segment = record { place = record { run = record { start = 0; count = 0 }; bytes = 0 }; rows = 0; digest = None }
+
+-- the segment that it has at a place
+module _ (segments : List Segment) (place : ℕ) (inside : place < length segments) where
+  pub at_place : (segment : Segment) → segment ≡ get_or segments place no_segment → segment ≡ get_or segments place segment
+  at_place segment is = is ∙ get_or_default segments place no_segment segment inside
+
+  pub placed_at : (size later : ℕ) → later ≡ size → all_on_device size (map (λ (s : Segment). s.place.run) segments) ≡ true → is_on_device later (get_or segments place no_segment).place.run ≡ true
+  placed_at size later same on =
+      let segment = get_or segments place no_segment in
+      subst (λ (n : ℕ). is_on_device n segment.place.run ≡ true) (sym same) (run_at size segments place segment on inside (at_place segment refl))
+
+  pub sound_at : list_all is_segment segments ≡ true → is_segment (get_or segments place no_segment) ≡ true
+  sound_at sound = by_test (is_segment (get_or segments place no_segment)) (list_all_at is_segment segments place no_segment inside)
+    where
+      by_test : (here : Bool) → (here ≡ false → list_all is_segment segments ≡ false) → here ≡ true
+      by_test true other = refl
+      by_test false other = absurd (true≢false (sym sound ∙ other refl))
+
 -- ---- segments one after another
 
 -- the rows of one segment more, whatever names its schema and its image have
@@ -254,6 +277,3 @@ reads_ended size story failed tells (Err e) a b quiet reads = record {
 -- what reads show stays
 pub image_then : (old new : Story) → OnlyReads old new → shown_image (now new) ≡ shown_image (now old)
 image_then old new reads = ap shown_image (now_read old new reads)
-
-pub light_none : (s : PlainSchema) (rows : List (List Cell)) → rows ≡ [] → table_weight s rows ≤ MAX_TABLE_WEIGHT
-light_none s rows none = subst (λ (x : List (List Cell)). table_weight s x ≤ MAX_TABLE_WEIGHT) (sym none) (omega arith)

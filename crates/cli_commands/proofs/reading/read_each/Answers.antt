@@ -1,7 +1,6 @@
 use Rattle.std.specs.Prelude.{string_bytes}
 use Rattle.std.proofs.Common.{refl}
 use Rattle.sector_dev.specs.Disk.{now, shown_image}
-use Rattle.values.specs.TableView.{table_of}
 use Rattle.store_runs.specs.Calls.{done}
 use Rattle.store.specs.Fits.{device_of, is_halted, listed_in}
 use Rattle.cli_commands.specs.Reading.{IsReadable}
@@ -43,8 +42,8 @@ loop-table-preserved g c =
       read = λ told.
           let same : IsAsRead D.story old new = as_read D.story D.size D.failed D.tells old new told kept.reads in
           all_next (IsReadable (is_halted old) (shown_image (now (D.story (device_of old)))) (listed_in old)) (λ x. (string_bytes x.0, x.1)) c.args.tables.now c.loop-table.table-index t c.loop-table-test.true
-          c.table-item.is (kept.read told) (readable_here D.story D.tells old new c.as_str-name.result.now (string_bytes t.0, t.1) (table_of c.in-Ok.field-0) told same c.as_str-name.ensures.value c.in-Ok.ensures.found);
-      reads = read_again D.story D.size D.failed D.tells done old new c.read.new.self kept.reads c.in-Ok.ensures.reads;
+          c.table-item.is (kept.read told) (readable_here D.story D.tells old new c.as_str-name.result.now (string_bytes t.0, t.1) c.in-Ok.ensures.found.0 told same c.as_str-name.ensures.value c.in-Ok.ensures.found.1);
+      reads = read_again D.story D.size D.failed D.tells done old new c.weigh.new.self kept.reads c.in-Ok.ensures.reads;
       hint = kept.hint;
     }
 
@@ -52,4 +51,4 @@ pub loop-table-init : goal.loop-table-init
 loop-table-init g c = let D = g.D.SectorDevice in record { read = λ told. tt; reads = read_nothing D.story D.size D.failed D.tells c.args.store.now; hint = refl }
 
 pub returns-in-Err-clause-reads : goal.returns-in-Err-clause-reads
-returns-in-Err-clause-reads g c = let D = g.D.SectorDevice in read_again D.story D.size D.failed D.tells _ c.args.store.now c.loop-table.store c.read.new.self c.loop-table.invariant.reads c.in-Err.ensures.reads
+returns-in-Err-clause-reads g c = let D = g.D.SectorDevice in read_again D.story D.size D.failed D.tells _ c.args.store.now c.loop-table.store c.weigh.new.self c.loop-table.invariant.reads c.in-Err.ensures.reads

@@ -4,7 +4,6 @@ use Rattle.catalogue.specs.Entries.{plain_entry}
 use Rattle.catalogue.specs.laws.Kept.{entry_is}
 use Rattle.values.specs.TableView.{table_of}
 use Rattle.store_changes.specs.Appending.{added_to}
-use Rattle.store_changes.specs.inner.TableBuilder.{table_so_far}
 use Rattle.store_changes.specs.Tests.{decision_of}
 use Rattle.store_changes.proofs.Appended.{weighed_both, heavy_alone, appended_behind}
 use Rattle.store_runs.specs.Calls.{refused}
@@ -20,20 +19,19 @@ pass_new-requires g c = (entry_is (plain_entry c.args.entry.now) c.requires.soun
 pub returns-in-Some-clause-reads : goal.returns-in-Some-clause-reads
 returns-in-Some-clause-reads g c =
     let D = g.D.SectorDevice in
-    reads_ended D.size D.story D.failed D.tells c.decide_extension.result c.args.device.now c.gather_entry.new.device c.decide_extension.ensures.no_device c.in-Ok-gather_entry.ensures.reads
+    reads_ended D.size D.story D.failed D.tells c.decide_extension.result c.args.device.now c.weigh_entry.new.device c.decide_extension.ensures.no_device c.in-Ok-weigh_entry.ensures.reads
 
 pub returns-in-Some-clause-answers : goal.returns-in-Some-clause-answers
 returns-in-Some-clause-answers g c =
     let D = g.D.SectorDevice in
     let e = plain_entry c.args.entry.now in
-    let standing = c.in-Ok-gather_entry.standing in
-    let read = c.in-Ok-gather_entry.ensures.table in
+    let standing = c.in-Ok-weigh_entry.ensures.weight in
     let rows = (table_of c.in-Some.field-0.table).rows in
     let passed = rw c.in-Some.is at c.in-Ok.ensures.passed in
-    appended_behind D.tells (shown_image (now (D.story c.args.device.now))) (string_bytes c.args.name) e (added_to c.args.new e) rows (table_so_far standing) passed.0 read
+    appended_behind D.tells (shown_image (now (D.story c.args.device.now))) (string_bytes c.args.name) e (added_to c.args.new e) rows standing.0 passed.0 standing.1
     (decision_of c.decide_extension.result)
-    (standing.weight + c.in-Some.field-0.weight)
-    (weighed_both e (table_so_far standing) rows standing.weight c.in-Some.field-0.weight read.schema standing.weighs passed.1)
+    (c.in-Ok-weigh_entry.standing + c.in-Some.field-0.weight)
+    (weighed_both e standing.0 rows c.in-Ok-weigh_entry.standing c.in-Some.field-0.weight standing.1.schema standing.2 passed.1)
     c.decide_extension.ensures.answers
 
 pub returns-in-None-clause-answers : goal.returns-in-None-clause-answers
@@ -41,8 +39,9 @@ returns-in-None-clause-answers g c =
     let D = g.D.SectorDevice in
     let e = plain_entry c.args.entry.now in
     let passed = rw c.in-None.is at c.in-Ok.ensures.passed in
-    inr (inr (heavy_alone D.tells (shown_image (now (D.story c.args.device.now))) (string_bytes c.args.name) e (added_to c.args.new e) passed.0 (table_so_far c.in-Ok-gather_entry.standing) passed.1
-    c.in-Ok-gather_entry.ensures.table passed.2))
+    let standing = c.in-Ok-weigh_entry.ensures.weight in
+    inr (inr (heavy_alone D.tells (shown_image (now (D.story c.args.device.now))) (string_bytes c.args.name) e (added_to c.args.new e) passed.0 standing.0 passed.1
+    standing.1 passed.2))
 
 pub returns-in-Err-clause-reads : goal.returns-in-Err-clause-reads
 returns-in-Err-clause-reads g c =
@@ -65,18 +64,18 @@ returns-in-Some-clause-not_halted g c = c.decide_extension.ensures.not_halted
 
 pub returns-in-None-clause-reads : goal.returns-in-None-clause-reads
 returns-in-None-clause-reads g c =
-    let reads = c.in-Ok-gather_entry.ensures.reads in record { same = reads.same; moments = reads.moments; count = reads.count }
+    let reads = c.in-Ok-weigh_entry.ensures.reads in record { same = reads.same; moments = reads.moments; count = reads.count }
 
-pub returns-in-Err-gather_entry-clause-reads : goal.returns-in-Err-gather_entry-clause-reads
-returns-in-Err-gather_entry-clause-reads g c = c.in-Err-gather_entry.ensures.reads
+pub returns-in-Err-weigh_entry-clause-reads : goal.returns-in-Err-weigh_entry-clause-reads
+returns-in-Err-weigh_entry-clause-reads g c = c.in-Err-weigh_entry.ensures.reads
 
-pub returns-in-Err-gather_entry-clause-answers : goal.returns-in-Err-gather_entry-clause-answers
-returns-in-Err-gather_entry-clause-answers g c =
+pub returns-in-Err-weigh_entry-clause-answers : goal.returns-in-Err-weigh_entry-clause-answers
+returns-in-Err-weigh_entry-clause-answers g c =
     let D = g.D.SectorDevice in
     let e = plain_entry c.args.entry.now in
-    unread_told D.tells (shown_image (now (D.story c.args.device.now))) (string_bytes c.args.name) e (added_to c.args.new e) c.in-Ok.passed c.in-Err-gather_entry.refusal c.in-Ok.ensures.passed c.in-Err-gather_entry.ensures.unread
+    unread_told D.tells (shown_image (now (D.story c.args.device.now))) (string_bytes c.args.name) e (added_to c.args.new e) c.in-Ok.passed c.in-Err-weigh_entry.refusal c.in-Ok.ensures.passed c.in-Err-weigh_entry.ensures.unread
 
-pub returns-in-Err-gather_entry-clause-not_halted : goal.returns-in-Err-gather_entry-clause-not_halted
-returns-in-Err-gather_entry-clause-not_halted g c = λ is.
+pub returns-in-Err-weigh_entry-clause-not_halted : goal.returns-in-Err-weigh_entry-clause-not_halted
+returns-in-Err-weigh_entry-clause-not_halted g c = λ is.
     let D = g.D.SectorDevice in
-    subst (λ (r : Refusal). Unreads D.tells (shown_image (now (D.story c.args.device.now))) (plain_entry c.args.entry.now) r) is c.in-Err-gather_entry.ensures.unread
+    subst (λ (r : Refusal). Unreads D.tells (shown_image (now (D.story c.args.device.now))) (plain_entry c.args.entry.now) r) is c.in-Err-weigh_entry.ensures.unread

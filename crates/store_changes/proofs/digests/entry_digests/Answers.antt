@@ -9,7 +9,6 @@ use Rattle.store_runs.specs.Calls.{done, refused}
 use Rattle.store_runs.specs.Digesting.{AreDigests}
 use Rattle.store_changes.specs.ReadSegment.{runs_in}
 use Rattle.store_changes.specs.inner.Digesting.{LacksCopy}
-use Rattle.store_changes.specs.inner.TableBuilder.{table_so_far}
 use Rattle.store_changes.specs.laws.ReadTables.{reads_more, image_then}
 use Rattle.store_changes.proofs.Digesting.{digests_then, lacks_then, lacks_none}
 use Rattle.store_changes.proofs.digests.entry_digests.Goals as goal
@@ -20,7 +19,7 @@ segment_digests-requires-clause-size g c = ap is_size c.in-Ok.ensures.reads.same
 pub segment_digests-requires-clause-placed : goal.segment_digests-requires-clause-placed
 segment_digests-requires-clause-placed g c =
     let D = g.D.SectorDevice in
-    subst (λ (gs : List Segment). all_on_device (D.size c.gather_entry.new.device) (runs_in gs) ≡ true) (sym c.segments.ensures)
+    subst (λ (gs : List Segment). all_on_device (D.size c.weigh_entry.new.device) (runs_in gs) ≡ true) (sym c.segments.ensures)
     (subst (λ (n : ℕ). all_on_device n (runs_in (plain_entry c.args.entry.now).segments) ≡ true) (sym c.in-Ok.ensures.reads.same) c.requires.placed)
 
 pub segment_digests-requires-clause-sound : goal.segment_digests-requires-clause-sound
@@ -30,16 +29,16 @@ segment_digests-requires-clause-sound g c =
 pub returns-in-Ok-segment_digests-clause-reads : goal.returns-in-Ok-segment_digests-clause-reads
 returns-in-Ok-segment_digests-clause-reads g c =
     let D = g.D.SectorDevice in
-    reads_more D.size D.story D.failed D.tells done c.args.device.now c.gather_entry.new.device c.segment_digests.new.device c.in-Ok.ensures.reads c.in-Ok-segment_digests.ensures.reads
+    reads_more D.size D.story D.failed D.tells done c.args.device.now c.weigh_entry.new.device c.segment_digests.new.device c.in-Ok.ensures.reads c.in-Ok-segment_digests.ensures.reads
 
 pub returns-in-Ok-segment_digests-clause-read : goal.returns-in-Ok-segment_digests-clause-read
-returns-in-Ok-segment_digests-clause-read g c = (table_so_far c.in-Ok.gathered, c.in-Ok.ensures.table)
+returns-in-Ok-segment_digests-clause-read g c = (c.in-Ok.ensures.weight.0, c.in-Ok.ensures.weight.1)
 
 pub returns-in-Ok-segment_digests-clause-found : goal.returns-in-Ok-segment_digests-clause-found
 returns-in-Ok-segment_digests-clause-found g c =
     let D = g.D.SectorDevice in
     let before = D.story c.args.device.now in
-    let mid = D.story c.gather_entry.new.device in
+    let mid = D.story c.weigh_entry.new.device in
     let digests = c.in-Ok-segment_digests.digests.items in
     subst (λ (gs : List Segment). AreDigests D.tells (shown_image (now before)) gs digests) c.segments.ensures
     (digests_then D.tells (shown_image (now before)) (shown_image (now mid)) (λ told. image_then before mid (c.in-Ok.ensures.reads.moments told)) c.segments.result.now digests c.in-Ok-segment_digests.ensures.found)
@@ -47,15 +46,15 @@ returns-in-Ok-segment_digests-clause-found g c =
 pub returns-in-Err-segment_digests-clause-reads : goal.returns-in-Err-segment_digests-clause-reads
 returns-in-Err-segment_digests-clause-reads g c =
     let D = g.D.SectorDevice in
-    reads_more D.size D.story D.failed D.tells (refused c.in-Err-segment_digests.refusal) c.args.device.now c.gather_entry.new.device c.segment_digests.new.device c.in-Ok.ensures.reads c.in-Err-segment_digests.ensures.reads
+    reads_more D.size D.story D.failed D.tells (refused c.in-Err-segment_digests.refusal) c.args.device.now c.weigh_entry.new.device c.segment_digests.new.device c.in-Ok.ensures.reads c.in-Err-segment_digests.ensures.reads
 
 pub returns-in-Err-segment_digests-clause-unread : goal.returns-in-Err-segment_digests-clause-unread
 returns-in-Err-segment_digests-clause-unread g c =
     let D = g.D.SectorDevice in
     let before = D.story c.args.device.now in
-    let mid = D.story c.gather_entry.new.device in
+    let mid = D.story c.weigh_entry.new.device in
     let e = plain_entry c.args.entry.now in
     let r = c.in-Err-segment_digests.refusal in
-    lacks_none D.tells (shown_image (now before)) e (table_so_far c.in-Ok.gathered) c.in-Ok.ensures.table r
+    lacks_none D.tells (shown_image (now before)) e c.in-Ok.ensures.weight.0 c.in-Ok.ensures.weight.1 r
     (subst (λ (gs : List Segment). LacksCopy D.tells (shown_image (now before)) gs r) c.segments.ensures
     (lacks_then D.tells (shown_image (now before)) (shown_image (now mid)) (λ told. image_then before mid (c.in-Ok.ensures.reads.moments told)) c.segments.result.now r c.in-Err-segment_digests.ensures.told))

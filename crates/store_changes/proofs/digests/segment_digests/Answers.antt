@@ -1,21 +1,16 @@
 use Rattle.std.specs.Prelude.{get_or}
-use Rattle.std.specs.List.{list_all}
-use Rattle.std.proofs.Common.{◌≡◌, ◌<◌, Bool, true, false, ℕ, List, None, Result, Err, inr, length, refl, sym, ap, ◌∙◌, subst, arith, take_all}
-use Rattle.std.proofs.lemmas.Bool.{true≢false}
-use Rattle.std.proofs.lemmas.List.{get_or_default}
-use Rattle.std.proofs.lemmas.List.Folds.{list_all_at}
+use Rattle.std.proofs.Common.{ℕ, List, Result, Err, inr, length, refl, ap, ◌∙◌, subst, arith, take_all}
 use Rattle.std.proofs.lemmas.Option.{slice_get_read}
 use Rattle.sha2.specs.Sha256.{sha256}
 use Rattle.sector_dev.specs.Disk.{now, shown_image}
 use Rattle.catalogue.specs.declared.entry.Segment.{Segment}
-use Rattle.catalogue.specs.Entries.{is_segment}
-use Rattle.commit.specs.Standing.{is_size, is_on_device}
+use Rattle.commit.specs.Standing.{is_size}
 use Rattle.tables.specs.declared.refusal.Refusal.{Refusal}
 use Rattle.tables.specs.declared.refusal.Refusal.TheVariants as refusals
 use Rattle.store_runs.specs.Calls.{done, refused}
 use Rattle.store_runs.specs.Digesting.{AreDigests}
 use Rattle.store_changes.specs.laws.Digests.{copy_then}
-use Rattle.store_changes.specs.laws.ReadTables.{run_at, reads_more, reads_none, reads_ended, image_then}
+use Rattle.store_changes.specs.laws.ReadTables.{no_segment, at_place, placed_at, sound_at, reads_more, reads_none, reads_ended, image_then}
 use Rattle.store_changes.proofs.StepFound.{last_then}
 use Rattle.store_changes.proofs.Digesting.{digests_more}
 use Rattle.store_changes.proofs.digests.segment_digests.Goals as goal
@@ -23,13 +18,6 @@ use Rattle.store_changes.proofs.digests.segment_digests.Goals as goal
 -- memory was refused
 abbrev no_memory : Result ℕ Refusal
 no_memory = Err refusals.OutOfMemory
-
-abbrev no_segment : Segment
-no_segment = record { place = record { run = record { start = 0; count = 0 }; bytes = 0 }; rows = 0; digest = None }
-
--- the segment at a place, whatever stands for one past the end
-at_place : (segments : List Segment) (place : ℕ) (segment : Segment) → segment ≡ get_or segments place no_segment → place < length segments → segment ≡ get_or segments place segment
-at_place segments place segment is inside = is ∙ get_or_default segments place no_segment segment inside
 
 pub loop-place-init : goal.loop-place-init
 loop-place-init g c =
@@ -42,21 +30,10 @@ read_bytes-requires-clause-size g c = ap is_size c.loop-place.invariant.reads.sa
 pub read_bytes-requires-clause-placed : goal.read_bytes-requires-clause-placed
 read_bytes-requires-clause-placed g c =
     let D = g.D.SectorDevice in
-    let segments = c.args.segments.now in
-    let place = c.loop-place.place in
-    let segment = get_or segments place no_segment in
-    subst (λ (n : ℕ). is_on_device n segment.place.run ≡ true) (sym c.loop-place.invariant.reads.same)
-    (run_at (D.size c.args.device.now) segments place segment c.requires.placed c.loop-place-test.true (at_place segments place segment refl c.loop-place-test.true))
-
-sound_at : (here all : Bool) → all ≡ true → (here ≡ false → all ≡ false) → here ≡ true
-sound_at true all is other = refl
-sound_at false all is other = absurd (true≢false (sym is ∙ other refl))
+    placed_at c.args.segments.now c.loop-place.place c.loop-place-test.true (D.size c.args.device.now) (D.size c.loop-place.device) c.loop-place.invariant.reads.same c.requires.placed
 
 pub read_bytes-requires-clause-sound : goal.read_bytes-requires-clause-sound
-read_bytes-requires-clause-sound g c =
-    let segments = c.args.segments.now in
-    let place = c.loop-place.place in
-    sound_at (is_segment (get_or segments place no_segment)) (list_all is_segment segments) c.requires.sound (list_all_at is_segment segments place no_segment c.loop-place-test.true)
+read_bytes-requires-clause-sound g c = sound_at c.args.segments.now c.loop-place.place c.loop-place-test.true c.requires.sound
 
 pub loop-place-preserved : goal.loop-place-preserved
 loop-place-preserved g c =
@@ -69,7 +46,7 @@ loop-place-preserved g c =
     let copy = copy_then D.tells (shown_image (now before)) (shown_image (now mid)) (λ told. image_then before mid (c.loop-place.invariant.reads.moments told)) segment c.in-Ok.bytes.items c.in-Ok.ensures.copy in
     record {
       reads = reads_more D.size D.story D.failed D.tells done c.args.device.now c.loop-place.device c.read_bytes.new.device c.loop-place.invariant.reads c.in-Ok.ensures.reads;
-      own = digests_more D.tells (shown_image (now before)) segments place segment c.loop-place.digests.items c.push.new.self.items c.in-Ok.bytes.items c.digest_of.result c.loop-place-test.true (at_place segments place segment refl c.loop-place-test.true)
+      own = digests_more D.tells (shown_image (now before)) segments place segment c.loop-place.digests.items c.push.new.self.items c.in-Ok.bytes.items c.digest_of.result c.loop-place-test.true (at_place segments place c.loop-place-test.true segment refl)
           c.loop-place.invariant.own copy (c.digest_of.ensures ∙ ap sha256 c.deref.ensures.value) c.in-Ok-push.ensures.items;
     }
 
@@ -89,7 +66,7 @@ returns-in-Err-clause-told g c =
     inr (
       place,
       segment,
-      slice_get_read segments (length segments) place segment refl c.loop-place-test.true (at_place segments place segment refl c.loop-place-test.true),
+      slice_get_read segments (length segments) place segment refl c.loop-place-test.true (at_place segments place c.loop-place-test.true segment refl),
       last_then D.tells (shown_image (now before)) (shown_image (now mid)) (λ told. image_then before mid (c.loop-place.invariant.reads.moments told)) segment place c.in-Err.refusal c.in-Err.ensures.told,
     )
 

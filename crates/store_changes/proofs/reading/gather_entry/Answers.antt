@@ -1,4 +1,3 @@
-use Rattle.std.specs.Prelude.{sum_by}
 use Rattle.std.proofs.Common.{◌≡◌, true, List, refl, sym, ap, ◌∙◌, subst}
 use Rattle.sector_dev.specs.Disk.{now, shown_image}
 use Rattle.arrow_schema.specs.Column.{PlainSchema}
@@ -11,11 +10,12 @@ use Rattle.commit.specs.Standing.{all_on_device}
 use Rattle.ipc_write.specs.Written.{schema_message}
 use Rattle.tables.specs.declared.refusal.Refusal.TheVariants.{OutOfMemory}
 use Rattle.store_runs.specs.Calls.{refused}
+use Rattle.store_changes.specs.inner.ReadRows.{ReadsRows}
 use Rattle.store_changes.specs.inner.TableBuilder.{table_so_far}
 use Rattle.store_changes.specs.ReadSegment.{runs_in}
-use Rattle.store_runs.specs.Held.{rows_held}
-use Rattle.store_runs.specs.Reading.{HaveRead, Unreads}
-use Rattle.store_changes.specs.laws.ReadTables.{rows_of, read_is_held, reads_quiet}
+use Rattle.store_runs.specs.Reading.{Unreads}
+use Rattle.store_changes.specs.laws.ReadTables.{reads_quiet}
+use Rattle.store_changes.proofs.ReadRows.{rows_are_read}
 use Rattle.store_changes.proofs.reading.gather_entry.Goals as goal
 
 pub start_table-requires : goal.start_table-requires
@@ -29,16 +29,9 @@ returns-in-Ok-read_segments-clause-table g c =
     let start : (table_so_far c.in-Ok.empty).schema ≡ e.schema = ap (λ (t : PlainTable). t.schema) c.in-Ok.ensures.empty ∙ c.schema.ensures in
     let segments : c.segments.result.now ≡ e.segments = c.segments.ensures in
     let gathered = c.in-Ok-read_segments.gathered in
-    let schema : (table_so_far gathered).schema ≡ e.schema = c.in-Ok-read_segments.ensures.schema ∙ start in
-    record {
-      kept = gathered.kept;
-      schema = schema;
-      count = c.in-Ok-read_segments.ensures.count ∙ ap (sum_by rows_of) segments;
-      read =
-          subst (λ (gs : List Segment). HaveRead D.tells image e.schema gs (table_so_far gathered).rows) segments
-          (subst (λ (s : PlainSchema). HaveRead D.tells image s c.segments.result.now (table_so_far gathered).rows) start c.in-Ok-read_segments.ensures.read);
-      held = λ told. read_is_held c.table_laws.ensures image e (table_so_far gathered) gathered.kept schema ((λ i. rows_held (sym start i) (sym segments i) image) ∙ c.in-Ok-read_segments.ensures.rows told);
-    }
+    rows_are_read c.table_laws.ensures D.tells image e (table_so_far gathered) (c.in-Ok-read_segments.ensures.schema ∙ start)
+    (subst (λ (gs : List Segment). ReadsRows D.tells image e.schema gs (table_so_far gathered).rows) segments
+    (subst (λ (s : PlainSchema). ReadsRows D.tells image s c.segments.result.now (table_so_far gathered).rows) start c.in-Ok-read_segments.ensures.read))
 
 pub returns-in-Ok-clause-unread : goal.returns-in-Ok-clause-unread
 returns-in-Ok-clause-unread g c =

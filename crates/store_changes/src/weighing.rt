@@ -1,0 +1,109 @@
+// Weighs the rows of an entry's segments. One segment is kept at a time.
+ghost use Rattle.std.specs.Prelude.{◌≡◌, ◌≤◌, ℕ, true, List, Option, IfOk, IfErr};
+ghost use Rattle.std.specs.List.{list_all};
+ghost use Rattle.sector_dev.specs.Disk.{now, shown_image};
+ghost use Rattle.arrow_schema.specs.Column.{PlainSchema};
+ghost use Rattle.arrow_schema.specs.Limits.{IsWithinLimits};
+ghost use Rattle.cells.specs.Cell.{Cell, PlainTable};
+ghost use Rattle.cells.specs.Weight.{table_weight};
+ghost use Rattle.cells.specs.declared.limits.TheConstants.{MAX_TABLE_WEIGHT};
+ghost use Rattle.values.specs.Table.{IsTable};
+ghost use Rattle.ipc_write.specs.Written.{schema_message};
+ghost use Rattle.segments.specs.declared.extent.Extent.{Extent};
+ghost use Rattle.catalogue.specs.Entries.{is_segment, is_entry, plain_entry};
+ghost use Rattle.commit.specs.Standing.{is_size, is_on_device, all_on_device};
+ghost use Rattle.store_runs.specs.Changes.{rows_under};
+ghost use Rattle.store_runs.specs.Reading.{IsRead, Unreads, OnlyReadsDevice, ended};
+ghost use Rattle.store_changes.specs.ReadSegment.{UnreadsSegment, runs_in};
+ghost use Rattle.store_changes.specs.inner.ReadRows.{WeighsRows, WeighsNext};
+
+use crate::laws::table_laws;
+use crate::reading::read_next_segment;
+use catalogue::{Segment, TableEntry};
+use ipc_write::encode_schema;
+use sector_dev::SectorDevice;
+use std::alloc::Global;
+use tables::Refusal;
+
+// Reads the segment at this place of a table, whose rows before it weigh `before`. Returns the weight of all rows up to its end.
+fn weigh_next<D: SectorDevice>(
+    alloc: Global,
+    device: &mut D,
+    front: &[u8],
+    segment: Segment,
+    place: usize,
+    before: u64,
+) -> Result<u64, Refusal>
+    requires size { is_size (D.size device.old) ≡ true }
+    requires placed { is_on_device (D.size device.old) segment.place.run ≡ true }
+    requires sound { is_segment segment ≡ true }
+    requires light { before ≤ MAX_TABLE_WEIGHT }
+    ensures reads { OnlyReadsDevice D.size D.story D.failed D.tells (ended result) device.old device.new }
+    ensures light { IfOk result (λ w. w ≤ MAX_TABLE_WEIGHT) }
+    ensures weight { IfOk result (λ w. (s : PlainSchema) (rows : List (List Cell)) → front.now ≡ schema_message s → IsTable (rows_under s rows)
+        → before ≡ table_weight s rows → WeighsNext D.tells (shown_image (now (D.story device.old))) s rows segment w) }
+    ensures unread { IfErr result (λ e. (s : PlainSchema) (rows : List (List Cell)) → IsWithinLimits s → front.now ≡ schema_message s
+        → before ≡ table_weight s rows → UnreadsSegment D.tells (shown_image (now (D.story device.old))) s rows segment place e) }
+{
+    table_laws();
+    match read_next_segment(alloc, device, front, segment, place, before) {
+        Ok(next) => {
+            next.table.schema();
+            Ok(before + next.weight)
+        }
+        Err(refusal) => Err(refusal),
+    }
+}
+
+// Weighs the rows of all segments.
+fn weigh_segments<D: SectorDevice>(
+    alloc: Global,
+    device: &mut D,
+    front: &[u8],
+    segments: &[Segment],
+) -> Result<u64, Refusal>
+    requires size { is_size (D.size device.old) ≡ true }
+    requires placed { all_on_device (D.size device.old) (runs_in segments.now) ≡ true }
+    requires sound { list_all is_segment segments.now ≡ true }
+    ensures reads { OnlyReadsDevice D.size D.story D.failed D.tells (ended result) device.old device.new }
+    ensures weight { IfOk result (λ w. (s : PlainSchema) → IsWithinLimits s → front.now ≡ schema_message s
+        → WeighsRows D.tells (shown_image (now (D.story device.old))) s segments.now w) }
+    ensures unread { IfErr result (λ e. (s : PlainSchema) (name : List ℕ) (page : Option Extent) → IsWithinLimits s → front.now ≡ schema_message s
+        → Unreads D.tells (shown_image (now (D.story device.old))) (record { name = name; schema = s; segments = segments.now; page = page }) e) }
+{
+    let mut weight = 0;
+    for (place, segment) in segments.iter().enumerate() {
+        match weigh_next(alloc, device, front, *segment, place, weight) {
+            Ok(more) => weight = more,
+            Err(refusal) => return Err(refusal),
+        }
+    }
+    Ok(weight)
+}
+
+/// Reads the table of an entry segment by segment, keeps none, and returns what its rows weigh.
+///
+/// # Errors
+/// `SegmentUnread` or `SegmentDamaged` with the place of the first segment that fails; `Device`; `OutOfMemory`.
+pub fn weigh_entry<D: SectorDevice>(
+    alloc: Global,
+    device: &mut D,
+    entry: &TableEntry,
+) -> Result<u64, Refusal>
+    requires size { is_size (D.size device.old) ≡ true }
+    requires placed { all_on_device (D.size device.old) (runs_in (plain_entry entry.now).segments) ≡ true }
+    requires sound { is_entry (plain_entry entry.now) ≡ true }
+    ensures reads { OnlyReadsDevice D.size D.story D.failed D.tells (ended result) device.old device.new }
+    ensures weight { IfOk result (λ w. (table : PlainTable) × IsRead D.tells (shown_image (now (D.story device.old))) (plain_entry entry.now) table
+        × (w ≡ table_weight table.schema table.rows)) }
+    ensures unread { IfErr result (Unreads D.tells (shown_image (now (D.story device.old))) (plain_entry entry.now)) }
+{
+    table_laws();
+    match encode_schema(alloc, entry.schema()) {
+        Ok(front) => match weigh_segments(alloc, device, &front, entry.segments()) {
+            Ok(weight) => Ok(weight),
+            Err(refusal) => Err(refusal),
+        },
+        Err(_) => Err(Refusal::OutOfMemory),
+    }
+}
