@@ -1,5 +1,15 @@
 """Runs the built program as a user does, and compares its exit status, its lines and its bytes with what is wanted."""
+import re
 import subprocess
+import sys
+
+# Runs a program, and says at the end of what it said how many kilobytes of it were resident at most. What the script that runs it holds does not count.
+MEASURED = """
+import os, sys
+_, status, used = os.wait4(os.posix_spawn(sys.argv[1], sys.argv[1:], os.environ), 0)
+sys.stderr.write(f"peak {used.ru_maxrss}\\n")
+sys.exit(os.waitstatus_to_exitcode(status))
+"""
 
 
 class Answers:
@@ -20,6 +30,14 @@ class Answers:
         except subprocess.TimeoutExpired:
             return None, b"", b"no end within a minute"
         return done.returncode, done.stdout, done.stderr
+
+    def measured(self, words, path):
+        """Status, what is written and said, and the bytes that were resident at most. A run with next to no bytes takes 9 MB, most of it the interpreter
+        that starts it."""
+        with open(path, "rb") as given:
+            done = subprocess.run([sys.executable, "-IS", "-c", MEASURED, self.program, *words], stdin=given, capture_output=True, timeout=60)
+        said, peak = re.fullmatch(rb"(.*)peak (\d+)\n", done.stderr, re.DOTALL).groups()
+        return done.returncode, done.stdout, said, 1024 * int(peak)
 
     def accepted(self, what, given, wanted):
         self.compare(what, self.run(["recode"], given), (0, wanted, b""))

@@ -103,7 +103,7 @@ fn sentences_after<D: SectorDevice>(
     for table in &store.tables(alloc).ok()? {
         let name = table.0.as_str();
         if is_after {
-            match store.read(alloc, name) {
+            match store.weigh(alloc, name) {
                 Ok(_) => {}
                 Err(refusal) if is_of_segment(&refusal) => report_table(&mut sentences, name).ok()?,
                 Err(_) => return None,
