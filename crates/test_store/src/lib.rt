@@ -58,6 +58,4 @@ mod summaries;
 #[cfg(test)]
 mod versions;
 #[cfg(test)]
-mod weights;
-#[cfg(test)]
 mod without_memory;
